@@ -1,0 +1,20 @@
+-- When a device may answer that it failed: by its count of faults, or by its list of failed names.
+use Rattle.std.specs.Prelude.{◌≡◌, ℕ, ◌+◌, ◌-◌, ◌^◌, ◌≤◌, min, List, [], ◌∷◌, ◌++◌, Result, Ok, Err, OnOk, OnErr}
+use Rattle.mpm_port.specs.declared.files.FetchError.{FetchError}
+use Rattle.mpm_port.specs.declared.files.FetchError.TheVariants.{Failed, OutOfMemory}
+
+-- the count is above what it was, or stands at its last value
+abbrev pub Rose : ℕ → ℕ → Type 0
+Rose before now = min (before + 1) (2 ^ 64 - 1) ≤ now
+
+-- the count never falls, a success leaves it, and a failure has raised it
+pub record HasCause {A E : Type 0} (before now : ℕ) (result : Result A E) : Type 0 where
+  pub later : before ≤ now
+  pub stays : OnOk result (now ≡ before)
+  pub failed : OnErr result (Rose before now)
+
+-- the failed names after a call on a name: it joins them where the call answered that it failed
+abbrev pub names_after : {A : Type 0} → List (List ℕ) → List ℕ → Result A FetchError → List (List ℕ)
+names_after names name (Ok answer) = names
+names_after names name (Err Failed) = names ++ (name ∷ [])
+names_after names name (Err OutOfMemory) = names

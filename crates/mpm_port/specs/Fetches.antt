@@ -1,0 +1,30 @@
+-- What a fetch leaves in the vector, by what is told of the file.
+use Rattle.std.specs.Prelude.{◌≡◌, ℕ, ◌+◌, ◌<◌, ◌≤◌, List, ◌++◌, take, length, Option, Result, Ok, Err, MatchOption, ⊤}
+use Rattle.mpm_port.specs.Texts.{Begins}
+use Rattle.mpm_port.specs.declared.files.Fetched.{Fetched}
+use Rattle.mpm_port.specs.declared.files.Fetched.TheVariants.{Whole, Longer}
+use Rattle.mpm_port.specs.declared.files.FetchError.{FetchError}
+
+-- the whole contents were appended
+pub record TakesWhole (told : Option (List ℕ)) (limit : ℕ) (before after : List ℕ) : Type 0 where
+  pub kept : Begins before after
+  pub within : length after ≤ length before + limit
+  pub contents : MatchOption told ⊤ (λ file. after ≡ before ++ file)
+
+-- the first bytes were appended, as many as the limit, and there are more
+pub record TakesFirst (told : Option (List ℕ)) (limit : ℕ) (before after : List ℕ) : Type 0 where
+  pub kept : Begins before after
+  pub full : length after ≡ length before + limit
+  pub contents : MatchOption told ⊤ (λ file. after ≡ before ++ take limit file)
+  pub more : MatchOption told ⊤ (λ file. limit < length file)
+
+-- some first part of the contents was appended
+pub record TakesPart (told : Option (List ℕ)) (before after : List ℕ) : Type 0 where
+  pub kept : Begins before after
+  pub contents : MatchOption told ⊤ (λ file. Begins after (before ++ file))
+
+-- what each answer of a fetch says
+abbrev pub Fetches : Option (List ℕ) → ℕ → List ℕ → List ℕ → Result Fetched FetchError → Type 0
+Fetches told limit before after (Ok Whole) = TakesWhole told limit before after
+Fetches told limit before after (Ok Longer) = TakesFirst told limit before after
+Fetches told limit before after (Err refusal) = TakesPart told before after

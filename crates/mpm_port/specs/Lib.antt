@@ -1,0 +1,4 @@
+pub mod Causes
+pub mod Texts
+pub mod Fetches
+pub mod Disks

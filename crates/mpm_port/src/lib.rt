@@ -1,0 +1,20 @@
+//! The outside of the machine: files that are read, drives of sectors, and a sink for text.
+//!
+//! Each trait says what its device holds, where the device tells it, and when it may fail. The adapters over the
+//! real files and the real output stand in the program; here are those over memory, which tests use.
+#![tactic(auto)]
+
+mod drives;
+mod files;
+mod sink;
+
+pub use drives::Drives;
+pub use files::{FetchError, Fetched, Files};
+pub use sink::Sink;
+
+/// No memory was found: the allocator's own error.
+pub use std::alloc::AllocError as OutOfMemory;
+
+/// A device failed.
+#[derive(Clone, Copy, Debug, PartialEq, Eq)]
+pub struct Failed;

@@ -1,0 +1,20 @@
+ghost use Rattle.std.specs.Prelude.{◌≡◌, ℕ, List, Option, OnOk, OnErr};
+ghost use Rattle.mpm_port.specs.Causes.{HasCause};
+ghost use Rattle.mpm_port.specs.Texts.{appended, AppendsPart};
+
+use crate::Failed;
+
+/// Where the lines of consoles, printers and traces go.
+pub trait Sink {
+    /// All that was written, where it is told.
+    ghost written: { Self → Option (List ℕ) };
+
+    /// The count of faults, at most 2^64 - 1.
+    ghost faults: { Self → ℕ };
+
+    /// Writes the bytes behind what was written before. A failed call has written some first part of them.
+    fn put(&mut self, bytes: &[u8]) -> Result<(), Failed>
+        ensures cause { HasCause (faults self.old) (faults self.new) result }
+        ensures ok { OnOk result (written self.new ≡ appended (written self.old) bytes.now) }
+        ensures err { OnErr result (AppendsPart (written self.old) bytes.now (written self.new)) };
+}

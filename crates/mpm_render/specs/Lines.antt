@@ -1,0 +1,38 @@
+-- The lines of the output text: a label, the bytes as they are written, and how the line ends.
+use Rattle.std.specs.Prelude.{ℕ, ◌+◌, ◌-◌, ◌/◌, ◌%◌, List, [], ◌∷◌, ◌++◌, ◌==◌, ◌&&◌, nat_lt, nat_le, flat_map, codes, if◌then◌else◌}
+use Rattle.mpm_render.specs.declared.unit.Unit2.{Unit2}
+use Rattle.mpm_render.specs.declared.unit.Unit2.TheVariants.{Console, Printer}
+
+-- the places of the lines: eight consoles, then four printers
+abbrev pub place_of : Unit2 → ℕ
+place_of (Console n) = n
+place_of (Printer n) = 8 + n
+
+-- all the places, in the order in which unfinished lines are closed
+abbrev pub places : List ℕ
+places = 0 ∷ 1 ∷ 2 ∷ 3 ∷ 4 ∷ 5 ∷ 6 ∷ 7 ∷ 8 ∷ 9 ∷ 10 ∷ 11 ∷ []
+
+-- an upper-case hexadecimal digit
+abbrev pub hex_digit : ℕ → ℕ
+hex_digit n = if nat_lt n 10 then 48 + n else (55 + n)
+
+-- how a byte stands in a line
+unfoldable pub escaped : ℕ → List ℕ
+escaped byte =
+    if byte == 92 then codes "\\\\"
+    else (if byte == 13 then codes "\\r"
+    else (if byte == 9 then codes "\\t"
+    else (if nat_le 32 byte && nat_le byte 126 then byte ∷ []
+    else (codes "\\x" ++ (hex_digit (byte / 16) ∷ hex_digit (byte % 16) ∷ [])))))
+
+-- the words before a line: the kind of its unit, the unit's number, a space
+abbrev pub label : ℕ → List ℕ
+label place = if nat_lt place 8 then 99 ∷ (48 + place) ∷ 32 ∷ [] else (108 ∷ (40 + place) ∷ 32 ∷ [])
+
+-- a line that an LF ended
+unfoldable pub ended_line : ℕ → List ℕ → List ℕ
+ended_line place bytes = label place ++ (flat_map escaped bytes ++ (10 ∷ []))
+
+-- a line that was cut because it was full, or closed at the end of the run
+unfoldable pub cut_line : ℕ → List ℕ → List ℕ
+cut_line place bytes = label place ++ (flat_map escaped bytes ++ (92 ∷ 10 ∷ []))

@@ -1,0 +1,27 @@
+-- When a renderer and what its sink was given stand for a list of outputs.
+use Rattle.std.specs.Prelude.{◌≡◌, ℕ, ◌<◌, List, [], Option, Bool, length, slice_index_or}
+use Rattle.mpm_port.specs.Texts.{Begins, appended}
+use Rattle.mpm_render.specs.Outputs.{Output, pending, rendered}
+
+-- what a renderer keeps: the unfinished line of each place, and whether it traces
+pub record Kept : Type 0 where
+  pub lines : List (List ℕ)
+  pub trace : Bool
+
+-- the unfinished line of a place
+abbrev pub line_of : Kept → ℕ → List ℕ
+line_of kept place = slice_index_or kept.lines place []
+
+-- each place's line is what is pending there, and the sink was told the first text and then the outputs' text
+pub record Shows (kept : Kept) (told : Option (List ℕ)) (outputs : List Output) (first : Option (List ℕ)) : Type 0 where
+  pub lines : (place : ℕ) → place < 12 → line_of kept place ≡ pending place outputs
+  pub told_is : told ≡ appended first (rendered outputs)
+
+-- writing stopped: the sink was told the first text, then all of one text and a part of what another adds to it,
+-- which isn't empty
+pub record EndsBetween (told first : Option (List ℕ)) (from to : List ℕ) : Type 0 where
+  pub text : List ℕ
+  pub told_is : told ≡ appended first text
+  pub all_before : Begins from text
+  pub part : Begins text to
+  pub more : length from < length to
