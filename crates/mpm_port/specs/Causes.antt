@@ -18,3 +18,8 @@ abbrev pub names_after : {A : Type 0} → List (List ℕ) → List ℕ → Resul
 names_after names name (Ok answer) = names
 names_after names name (Err Failed) = names ++ (name ∷ [])
 names_after names name (Err OutOfMemory) = names
+
+-- the failed names after a call on a name was refused so
+abbrev pub names_with : List (List ℕ) → List ℕ → FetchError → List (List ℕ)
+names_with names name Failed = names ++ (name ∷ [])
+names_with names name OutOfMemory = names

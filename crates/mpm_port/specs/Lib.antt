@@ -2,3 +2,8 @@ pub mod Causes
 pub mod Texts
 pub mod Fetches
 pub mod Disks
+pub mod Calls
+pub mod MemoryText
+pub mod Named
+pub mod MemoryTable
+pub mod MemoryDisks

@@ -4,12 +4,22 @@
 //! real files and the real output stand in the program; here are those over memory, which tests use.
 #![tactic(auto)]
 
+mod calls;
 mod drives;
 mod files;
+mod links;
+mod memory_drives;
+mod memory_files;
+mod memory_sink;
+mod named;
 mod sink;
 
 pub use drives::Drives;
 pub use files::{FetchError, Fetched, Files};
+pub use memory_drives::MemoryDrives;
+pub use memory_files::MemoryFiles;
+pub use memory_sink::MemorySink;
+pub use named::FailedNames;
 pub use sink::Sink;
 
 /// No memory was found: the allocator's own error.
@@ -18,3 +28,6 @@ pub use std::alloc::AllocError as OutOfMemory;
 /// A device failed.
 #[derive(Clone, Copy, Debug, PartialEq, Eq)]
 pub struct Failed;
+
+#[cfg(test)]
+mod tests;

@@ -1,0 +1,71 @@
+-- The drives over memory.
+use Rattle.std.specs.Prelude.{◌≢◌, ℕ, List, [], Option, Some, option_map, unwrap_or, is_some, not, Bool, ◌||◌, if◌then◌else◌, length, Result, Ok, Err}
+use Rattle.mpm_port.specs.Calls.{Calls, one_more, next_is_listed, after_call, listing}
+use Rattle.mpm_port.specs.Causes.{names_with}
+use Rattle.mpm_port.specs.Disks.{Disks, image_of, with_sector}
+use Rattle.mpm_port.specs.Named.{contents_of, with_contents, name_of_drive, with_drive}
+use Rattle.mpm_port.specs.declared.named.Named.{Named}
+use Rattle.mpm_port.specs.declared.links.Link.{Link}
+use Rattle.mpm_port.specs.declared.files.FetchError.{FetchError}
+
+-- the images, the attached drives, the names on which attach answered that it failed, oldest first, the calls, and the
+-- count of faults
+pub record MemoryDisks : Type 0 where
+  pub images : List Named
+  pub links : List Link
+  pub failed : List (List ℕ)
+  pub calls : Calls
+  pub faults : ℕ
+
+-- no image is there, and no drive is attached
+abbrev pub no_disks : MemoryDisks
+no_disks = record { images = []; links = []; failed = []; calls = record { done = 0; failing = [] }; faults = 0 }
+
+-- the images by their names, and the name that each attached drive was attached by
+abbrev pub disks_of : MemoryDisks → Disks
+disks_of table = record { image = contents_of table.images; name_of = name_of_drive table.links }
+
+-- the size of an attached drive: attached images do not change their size
+abbrev pub size_of : MemoryDisks → ℕ → Option ℕ
+size_of table drive = option_map length (image_of (disks_of table) drive)
+
+-- no drive is attached by this name
+abbrev pub IsFree : MemoryDisks → List ℕ → Type 0
+IsFree table name = (drive : ℕ) → name_of_drive table.links drive ≢ Some name
+
+-- one more image is there, or another in the place of one that was
+abbrev pub with_image : MemoryDisks → List ℕ → List ℕ → MemoryDisks
+with_image table name image = record table { images = with_contents table.images name image }
+
+-- one more number is listed
+abbrev pub listing_call : MemoryDisks → ℕ → MemoryDisks
+listing_call table call = record table { calls = listing table.calls call }
+
+-- the next attach by this name fails: its number is listed, or there is no image of this name
+unfoldable pub attach_fails : MemoryDisks → List ℕ → Bool
+attach_fails table name = next_is_listed table.calls || not (is_some (contents_of table.images name))
+
+-- after an attach with this answer
+unfoldable pub after_attach : {A : Type 0} → MemoryDisks → ℕ → List ℕ → Result A FetchError → MemoryDisks
+after_attach table drive name (Ok _) =
+    record table { links = with_drive table.links drive name; calls = after_call table.calls }
+after_attach table drive name (Err refusal) =
+    record table { failed = names_with table.failed name refusal; calls = after_call table.calls }
+
+-- after a call that changes no image: where its number is listed it fails
+unfoldable pub after_access : MemoryDisks → MemoryDisks
+after_access table = record table {
+  calls = after_call table.calls;
+  faults = if next_is_listed table.calls then one_more table.faults else table.faults;
+}
+
+-- the images with other bytes in a sector of an attached drive
+unfoldable pub images_with_sector : MemoryDisks → ℕ → ℕ → List ℕ → List Named
+images_with_sector table drive sector bytes =
+    with_contents table.images (unwrap_or (name_of_drive table.links drive) []) (with_sector (unwrap_or (image_of (disks_of table) drive) []) sector bytes)
+
+-- after a write to a sector of an attached drive: where its number is listed it fails and writes nothing
+unfoldable pub after_write : MemoryDisks → ℕ → ℕ → List ℕ → MemoryDisks
+after_write table drive sector bytes = if next_is_listed table.calls
+    then after_access table
+    else record (after_access table) { images = images_with_sector table drive sector bytes }

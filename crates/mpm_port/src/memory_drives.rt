@@ -1,0 +1,210 @@
+ghost use Rattle.std.specs.Prelude.{◌≡◌, ◌≢◌, ◌⊎◌, ◌↔◌, ◌≤◌, ℕ, false, List, Some, IsSome, IfSome, IfOk, OnOk, OnErr, Err, is_ok, IsErr, IsTrue, IsOk, if◌then◌else◌};
+ghost use Rattle.mpm_port.specs.Calls.{next_is_listed};
+ghost use Rattle.mpm_port.specs.Causes.{HasCause, Rose, names_after};
+ghost use Rattle.mpm_port.specs.Disks.{IsInside, SameDisks, Attaches, Writes, Told, image_of, sector_of};
+ghost use Rattle.mpm_port.specs.MemoryDisks.{no_disks, disks_of, size_of, IsFree, with_image, listing_call, attach_fails, after_attach, after_access, after_write};
+ghost use Rattle.mpm_port.specs.Named.{contents_of};
+
+use crate::calls::Schedule;
+use crate::links::Links;
+use crate::named::{FailedNames, Shelf};
+use crate::{Drives, Failed, FetchError, OutOfMemory};
+use std::alloc::Global;
+use std::marker::Model;
+
+/// Drives whose images are kept in memory.
+///
+/// A call fails exactly where its number is listed or, in `attach`, no image has the name; a `write` that fails has
+/// written nothing. An `attach` may lack memory for the drive, or for the failed name.
+#[derive(Drop)]
+pub struct MemoryDrives {
+    images: Shelf,
+    links: Links,
+    failed: FailedNames,
+    calls: Schedule,
+    faults: u64,
+}
+
+impl Model for MemoryDrives {
+    ghost use Rattle.mpm_port.specs.MemoryDisks.{MemoryDisks};
+
+    ghost Value = { MemoryDisks };
+
+    ghost view = { λ d. record { images = d.images; links = d.links; failed = d.failed; calls = d.calls; faults = d.faults } };
+}
+
+impl MemoryDrives {
+    /// No image is there, no drive is attached, and no call is to fail.
+    #[tactic(auto, using(crate::proofs::Shelves::no_name))]
+    pub fn new(alloc: Global) -> MemoryDrives
+        ensures empty { result ≡ no_disks }
+        ensures free { (name : List ℕ) → IsFree result name }
+    {
+        MemoryDrives {
+            images: Shelf::new(alloc),
+            links: Links::new(alloc),
+            failed: FailedNames::new(alloc),
+            calls: Schedule::new(alloc),
+            faults: 0,
+        }
+    }
+
+    /// Adds an image, or replaces one that is there, to which no drive may be attached.
+    #[tactic(auto, using(crate::proofs::Shelves::contents_of_here, crate::proofs::Shelves::contents_of_other))]
+    pub fn add(&mut self, name: &str, bytes: &[u8]) -> Result<(), OutOfMemory>
+        requires { IsFree self.old name.now }
+        ensures after { self.new ≡ (if is_ok result then with_image self.old name.now bytes.now else self.old) }
+        ensures here { OnOk result (contents_of self.new.images name.now ≡ Some bytes.now) }
+        ensures others { (other : List ℕ) → other ≢ name.now → contents_of self.new.images other ≡ contents_of self.old.images other }
+        ensures sizes { (drive : ℕ) → size_of self.new drive ≡ size_of self.old drive }
+    {
+        self.images.set(name.as_bytes(), bytes)
+    }
+
+    /// Lists a call of `Drives` that is to fail, by its number, counted from 1.
+    pub fn fail_at(&mut self, call: u64) -> Result<(), OutOfMemory>
+        ensures { self.new ≡ (if is_ok result then listing_call self.old call else self.old) }
+    {
+        self.calls.fail_at(call)
+    }
+
+    #[tactic(auto, unfolding(crate::specs::MemoryDisks::after_access))]
+    /// Counts a call, and says whether it is to fail; where it is, a fault is counted too.
+    fn is_failing(&mut self) -> bool
+        ensures after { self.new ≡ after_access self.old }
+        ensures listed { result ≡ next_is_listed self.old.calls }
+        ensures rose { IsTrue result → Rose self.old.faults self.new.faults × (self.old.faults ≤ self.new.faults) }
+        ensures stays { result ≡ false → self.new.faults ≡ self.old.faults }
+        ensures names { self.new.failed ≡ self.old.failed }
+        ensures images { self.new.images ≡ self.old.images }
+        ensures links { self.new.links ≡ self.old.links }
+    {
+        let listed = self.calls.begin();
+        if listed {
+            self.faults = self.faults.saturating_add(1);
+        }
+        listed
+    }
+
+    /// The image of an attached drive.
+    fn image(&self, drive: u8) -> &[u8]
+        requires { IsSome (size_of self.now drive) }
+        ensures { image_of (disks_of self.now) drive ≡ Some result.now }
+    {
+        let Some(name) = self.links.name(drive) else {
+            unreachable!();
+        };
+        let Some(image) = self.images.get(name) else {
+            unreachable!();
+        };
+        image
+    }
+}
+
+impl Drives for MemoryDrives {
+    ghost attached = { size_of };
+
+    ghost disks = { λ d. Some (disks_of d) };
+
+    ghost faults = { λ d. d.faults };
+
+    ghost failed_names = { λ d. d.failed };
+
+    #[tactic(auto, using(crate::proofs::Shelves::name_of_here, crate::proofs::Shelves::name_of_other), unfolding(crate::specs::MemoryDisks::after_attach, crate::specs::MemoryDisks::attach_fails))]
+    fn attach(&mut self, drive: u8, name: &str) -> Result<(), FetchError>
+        ensures after { self.new ≡ after_attach self.old drive name.now result }
+        ensures failed { result ≡ Err FetchError.Failed → IsTrue (attach_fails self.old name.now) }
+        ensures fails { IsTrue (attach_fails self.old name.now) → IsErr result }
+        ensures names { self.new.failed ≡ names_after self.old.failed name.now result }
+        ensures count { self.new.faults ≡ self.old.faults }
+        ensures here { OnOk result (IsSome (size_of self.new drive)) }
+        ensures others { (other : ℕ) → other ≢ drive → size_of self.new other ≡ size_of self.old other }
+        ensures disks { OnOk result (Told (Attaches drive name.now (size_of self.new drive)) (Some (disks_of self.old)) (Some (disks_of self.new))) }
+        ensures err { OnErr result (size_of self.new drive ≡ size_of self.old drive) }
+        ensures same { OnErr result (Told SameDisks (Some (disks_of self.old)) (Some (disks_of self.new))) }
+    {
+        let listed = self.calls.begin();
+        if listed || self.images.get(name.as_bytes()).is_none() {
+            return Err(self.failed.refuse(name));
+        }
+        match self.links.set(drive, name.as_bytes()) {
+            Ok(()) => Ok(()),
+            Err(_) => Err(FetchError::OutOfMemory),
+        }
+    }
+
+    fn size(&mut self, drive: u8) -> Result<u64, Failed>
+        requires { IsSome (size_of self.old drive) }
+        ensures after { self.new ≡ after_access self.old }
+        ensures fails { IsErr result ↔ IsTrue (next_is_listed self.old.calls) }
+        ensures size { IfOk result (λ bytes. size_of self.old drive ≡ Some bytes) }
+        ensures cause { HasCause self.old.faults self.new.faults result }
+        ensures names { self.new.failed ≡ self.old.failed }
+        ensures drives { (other : ℕ) → size_of self.new other ≡ size_of self.old other }
+        ensures disks { Told SameDisks (Some (disks_of self.old)) (Some (disks_of self.new)) }
+    {
+        if self.is_failing() {
+            return Err(Failed);
+        }
+        Ok(self.image(drive).len() as u64)
+    }
+
+    fn read(&mut self, drive: u8, sector: u32, out: &mut [u8; 128]) -> Result<(), Failed>
+        requires { IsInside (size_of self.old drive) sector }
+        ensures after { self.new ≡ after_access self.old }
+        ensures fails { IsErr result ↔ IsTrue (next_is_listed self.old.calls) }
+        ensures bytes { OnOk result (IfSome (Some (disks_of self.old)) (λ told.
+            IfSome (image_of told drive) (λ image. out.new ≡ sector_of image sector))) }
+        ensures err { OnErr result (out.new ≡ out.old) }
+        ensures cause { HasCause self.old.faults self.new.faults result }
+        ensures names { self.new.failed ≡ self.old.failed }
+        ensures drives { (other : ℕ) → size_of self.new other ≡ size_of self.old other }
+        ensures disks { Told SameDisks (Some (disks_of self.old)) (Some (disks_of self.new)) }
+    {
+        if self.is_failing() {
+            return Err(Failed);
+        }
+        let from = 128 * sector as usize;
+        out.copy_from_slice(&self.image(drive)[from..from + 128]);
+        Ok(())
+    }
+
+    #[tactic(auto, using(crate::proofs::Shelves::sizes_kept), unfolding(crate::specs::MemoryDisks::after_write, crate::specs::MemoryDisks::after_access, crate::specs::MemoryDisks::images_with_sector))]
+    fn write(&mut self, drive: u8, sector: u32, bytes: &[u8; 128]) -> Result<(), Failed>
+        requires { IsInside (size_of self.old drive) sector }
+        ensures after { self.new ≡ after_write self.old drive sector bytes.now }
+        ensures fails { IsErr result ↔ IsTrue (next_is_listed self.old.calls) }
+        ensures ok { OnOk result (Told (Writes drive sector bytes.now) (Some (disks_of self.old)) (Some (disks_of self.new))) }
+        ensures err { OnErr result (Told SameDisks (Some (disks_of self.old)) (Some (disks_of self.new))
+            ⊎ Told (Writes drive sector bytes.now) (Some (disks_of self.old)) (Some (disks_of self.new))) }
+        ensures cause { HasCause self.old.faults self.new.faults result }
+        ensures names { self.new.failed ≡ self.old.failed }
+        ensures drives { (other : ℕ) → size_of self.new other ≡ size_of self.old other }
+    {
+        if self.is_failing() {
+            return Err(Failed);
+        }
+        let Some(name) = self.links.name(drive) else {
+            unreachable!();
+        };
+        self.images.write_sector(name, sector, bytes);
+        Ok(())
+    }
+
+    fn sync(&mut self, drive: u8) -> Result<(), Failed>
+        requires { IsSome (size_of self.old drive) }
+        ensures after { self.new ≡ after_access self.old }
+        ensures fails { IsErr result ↔ IsTrue (next_is_listed self.old.calls) }
+        ensures cause { HasCause self.old.faults self.new.faults result }
+        ensures names { self.new.failed ≡ self.old.failed }
+        ensures drives { (other : ℕ) → size_of self.new other ≡ size_of self.old other }
+        ensures disks { Told SameDisks (Some (disks_of self.old)) (Some (disks_of self.new)) }
+    {
+        let _ = drive;
+        if self.is_failing() {
+            Err(Failed)
+        } else {
+            Ok(())
+        }
+    }
+}
