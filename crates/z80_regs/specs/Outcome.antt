@@ -13,7 +13,7 @@ pub record Outcome : Type 0 where
   pub actions : List Action
 
 -- what the actions leave of a bus, by its two relations: what a write leaves, and what an input leaves
-pub Leaves : {B : Type 0} → (B → ℕ → ℕ → B → Type 0) → (B → ℕ → B → Type 0) → List Action → B → B → Type 0
+unfoldable pub Leaves : {B : Type 0} → (B → ℕ → ℕ → B → Type 0) → (B → ℕ → B → Type 0) → List Action → B → B → Type 0
 Leaves wrote took [] old new = new ≡ old
 Leaves wrote took (Write address byte ∷ rest) old new =
     (middle : _) × wrote old address byte middle × Leaves wrote took rest middle new

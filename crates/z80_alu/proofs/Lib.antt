@@ -1,0 +1,6 @@
+pub mod DecimalLaws
+pub mod Examples
+pub mod FlagLaws
+pub mod Kept
+pub mod Overflow
+pub mod Ranges

@@ -1,0 +1,4 @@
+pub mod Fields
+pub mod StackPairs
+pub mod Opcodes
+pub mod Decoding

@@ -1,0 +1,107 @@
+ghost use Rattle.std.specs.Prelude.{◌≡◌, ℕ};
+ghost use Rattle.z80_regs.specs.Outcome.{Leaves};
+ghost use Rattle.z80_exec.specs.Calculations.{
+  calculated,
+  incremented,
+  decremented,
+  pair_added,
+  rotate_of,
+  a_rotated,
+  decimal_adjusted,
+  complemented,
+};
+
+use crate::operands::{hl, pair_at, set_operand, set_pair};
+use z80_alu::{Logic, Rotate};
+use z80_decode::{Math, Operand, Pair, Rotation};
+use z80_regs::{Bus, Regs};
+
+/// ADD, ADC, SUB, SBC, AND, XOR, OR and CP of A and a byte.
+#[inline]
+pub fn calculate(math: Math, byte: u8, regs: &mut Regs)
+    ensures { regs.new ≡ calculated math byte regs.old }
+{
+    let carry = regs.f % 2 == 1;
+    let (value, flags) = match math {
+        Math::Add => z80_alu::add8(regs.a, byte, false, regs.f),
+        Math::AddCarry => z80_alu::add8(regs.a, byte, carry, regs.f),
+        Math::Subtract => z80_alu::sub8(regs.a, byte, false, regs.f),
+        Math::SubtractCarry => z80_alu::sub8(regs.a, byte, carry, regs.f),
+        Math::And => z80_alu::logic(Logic::And, regs.a, byte, regs.f),
+        Math::Xor => z80_alu::logic(Logic::Xor, regs.a, byte, regs.f),
+        Math::Or => z80_alu::logic(Logic::Or, regs.a, byte, regs.f),
+        Math::Compare => (regs.a, z80_alu::sub8(regs.a, byte, false, regs.f).1),
+    };
+    regs.a = value;
+    regs.f = flags;
+}
+
+/// INC r and INC (HL), of an operand whose byte is known.
+#[inline]
+pub fn increment<B: Bus>(operand: Operand, byte: u8, regs: &mut Regs, bus: &mut B)
+    ensures registers { regs.new ≡ (incremented operand byte regs.old).registers }
+    ensures bus { Leaves B.wrote B.took (incremented operand byte regs.old).actions bus.old bus.new }
+{
+    let (value, flags) = z80_alu::inc8(byte, regs.f);
+    regs.f = flags;
+    set_operand(operand, value, regs, bus);
+}
+
+/// DEC r and DEC (HL), of an operand whose byte is known.
+#[inline]
+pub fn decrement<B: Bus>(operand: Operand, byte: u8, regs: &mut Regs, bus: &mut B)
+    ensures registers { regs.new ≡ (decremented operand byte regs.old).registers }
+    ensures bus { Leaves B.wrote B.took (decremented operand byte regs.old).actions bus.old bus.new }
+{
+    let (value, flags) = z80_alu::dec8(byte, regs.f);
+    regs.f = flags;
+    set_operand(operand, value, regs, bus);
+}
+
+/// ADD HL,ss.
+#[inline]
+pub fn add_pair(pair: Pair, regs: &mut Regs)
+    ensures { regs.new ≡ pair_added pair regs.old }
+{
+    let (sum, flags) = z80_alu::add16(hl(regs), pair_at(regs, pair), regs.f);
+    set_pair(regs, Pair::HL, sum);
+    regs.f = flags;
+}
+
+/// Which rotation of a byte is made of A.
+#[inline]
+fn rotate_at(rotation: Rotation) -> Rotate
+    ensures { result ≡ rotate_of rotation }
+{
+    match rotation {
+        Rotation::LeftCircular => Rotate::Rlc,
+        Rotation::RightCircular => Rotate::Rrc,
+        Rotation::Left => Rotate::Rl,
+        Rotation::Right => Rotate::Rr,
+    }
+}
+
+/// RLCA, RRCA, RLA and RRA.
+#[inline]
+pub fn rotate(rotation: Rotation, regs: &mut Regs)
+    ensures { regs.new ≡ a_rotated rotation regs.old }
+{
+    (regs.a, regs.f) = z80_alu::rotate_a(rotate_at(rotation), regs.a, regs.f);
+}
+
+/// DAA.
+#[inline]
+pub fn decimal_adjust(regs: &mut Regs)
+    ensures { regs.new ≡ decimal_adjusted regs.old }
+{
+    (regs.a, regs.f) = z80_alu::daa(regs.a, regs.f);
+}
+
+/// CPL.
+#[inline]
+pub fn complement(regs: &mut Regs)
+    ensures { regs.new ≡ complemented regs.old }
+{
+    regs.a = 255 - regs.a;
+    regs.f = z80_alu::complement_flags(regs.f);
+}

@@ -1,0 +1,79 @@
+ghost use Rattle.std.specs.Prelude.{◌≡◌, ℕ};
+ghost use Rattle.z80_regs.specs.Outcome.{Leaves};
+ghost use Rattle.z80_exec.specs.Flow.{relative, jumped_if, decrement_jumped, called, called_if, returned, returned_if};
+
+use crate::loads::push;
+use crate::operands::word_at;
+use z80_regs::{Bus, Regs};
+
+/// The address that a relative jump goes to: a displacement of 80h or more is negative, 256 less.
+#[inline]
+pub fn relative_to(address: u16, displacement: u8) -> u16
+    ensures { result ≡ relative address displacement }
+{
+    if displacement < 128 {
+        address.wrapping_add(u16::from(displacement))
+    } else {
+        address.wrapping_sub(256 - u16::from(displacement))
+    }
+}
+
+/// A jump where a condition holds.
+#[inline]
+pub fn jump_if(is_met: bool, target: u16, regs: &mut Regs)
+    ensures { regs.new ≡ jumped_if is_met target regs.old }
+{
+    if is_met {
+        regs.pc = target;
+    }
+}
+
+/// DJNZ e.
+#[inline]
+pub fn decrement_jump(displacement: u8, regs: &mut Regs)
+    ensures { regs.new ≡ decrement_jumped displacement regs.old }
+{
+    regs.b = regs.b.wrapping_sub(1);
+    jump_if(regs.b != 0, relative_to(regs.pc, displacement), regs);
+}
+
+/// A call: PC is pushed, and is then an address.
+#[inline]
+pub fn call<B: Bus>(target: u16, regs: &mut Regs, bus: &mut B)
+    ensures registers { regs.new ≡ (called target regs.old).registers }
+    ensures bus { Leaves B.wrote B.took (called target regs.old).actions bus.old bus.new }
+{
+    push(regs.pc, regs, bus);
+    regs.pc = target;
+}
+
+/// A call where a condition holds.
+#[inline]
+#[tactic(auto, unfolding(z80_regs::specs::Outcome::Leaves))]
+pub fn call_if<B: Bus>(is_met: bool, target: u16, regs: &mut Regs, bus: &mut B)
+    ensures registers { regs.new ≡ (called_if is_met target regs.old).registers }
+    ensures bus { Leaves B.wrote B.took (called_if is_met target regs.old).actions bus.old bus.new }
+{
+    if is_met {
+        call(target, regs, bus);
+    }
+}
+
+/// A return: PC is popped.
+#[inline]
+pub fn return_to_caller<B: Bus>(regs: &mut Regs, bus: &B)
+    ensures { regs.new ≡ returned regs.old (B.byte bus.now) }
+{
+    regs.pc = word_at(bus, regs.sp);
+    regs.sp = regs.sp.wrapping_add(2);
+}
+
+/// A return where a condition holds.
+#[inline]
+pub fn return_if<B: Bus>(is_met: bool, regs: &mut Regs, bus: &B)
+    ensures { regs.new ≡ returned_if is_met regs.old (B.byte bus.now) }
+{
+    if is_met {
+        return_to_caller(regs, bus);
+    }
+}

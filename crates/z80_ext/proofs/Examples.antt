@@ -1,0 +1,58 @@
+-- Worked examples of what a step does.
+use Rattle.std.proofs.Common.{◌≡◌, ℕ, [], ◌∷◌, Some, None, true, false, rules}
+use Rattle.std.proofs.lemmas.Grind.{common_steps}
+use Rattle.z80_regs.specs.Outcome.{Write}
+use Rattle.z80_regs.specs.declared.regs.Regs.{Regs}
+use Rattle.z80_decode.specs.Opcodes.{form_of, low_quarter, high_quarter}
+use Rattle.z80_decode.specs.Decoding.{instr_of}
+use Rattle.z80_exec.specs.Performing.{performed, main_outcome}
+use Rattle.z80_ext.specs.Instruction.{risen, begun, instruction}
+
+-- CALL 0005h at 0100h, with SP at BEFEh: 01h goes to BEFDh, then 03h to BEFCh
+pub call_at_0100h : (regs : Regs) (memory ports : ℕ → ℕ) → regs.halted ≡ false → regs.pc ≡ 256 → regs.sp ≡ 48894 →
+    memory 256 ≡ 205 → memory 257 ≡ 5 → memory 258 ≡ 0 →
+    instruction regs memory ports ≡ Some (record {
+      registers = record (begun regs) { pc = 5; sp = 48892 };
+      actions = Write 48893 1 ∷ Write 48892 3 ∷ [];
+    })
+unfolding instruction instr_of form_of high_quarter main_outcome performed
+call_at_0100h regs memory ports runs at stack opcode low high = search (rules, common_steps)
+
+-- JR -2 goes to itself
+pub jump_to_itself : (regs : Regs) (memory ports : ℕ → ℕ) → regs.halted ≡ false → regs.pc ≡ 256 →
+    memory 256 ≡ 24 → memory 257 ≡ 254 →
+    instruction regs memory ports ≡ Some (record { registers = begun regs; actions = [] })
+unfolding instruction instr_of form_of low_quarter main_outcome performed
+jump_to_itself regs memory ports runs at opcode displacement = search (rules, common_steps)
+
+-- RET with SP at FFFFh: the low byte is at FFFFh, the high byte at 0000h
+pub return_around_the_end : (regs : Regs) (memory ports : ℕ → ℕ) → regs.halted ≡ false → regs.sp ≡ 65535 →
+    memory regs.pc ≡ 201 → memory 65535 ≡ 52 → memory 0 ≡ 18 →
+    instruction regs memory ports ≡ Some (record {
+      registers = record (begun regs) { pc = 4660; sp = 1 };
+      actions = [];
+    })
+unfolding instruction instr_of form_of high_quarter main_outcome performed
+return_around_the_end regs memory ports runs stack opcode low high = search (rules, common_steps)
+
+-- EX (SP),HL with SP at 8000h: the word there goes to HL, and HL there, high byte first
+pub exchange_with_the_stack : (regs : Regs) (memory ports : ℕ → ℕ) → regs.halted ≡ false → regs.pc ≡ 256 →
+    regs.sp ≡ 32768 → regs.h ≡ 18 → regs.l ≡ 52 → memory 256 ≡ 227 → memory 32768 ≡ 120 → memory 32769 ≡ 86 →
+    instruction regs memory ports ≡ Some (record {
+      registers = record (begun regs) { pc = 257; h = 86; l = 120 };
+      actions = Write 32769 18 ∷ Write 32768 52 ∷ [];
+    })
+unfolding instruction instr_of form_of high_quarter main_outcome performed
+exchange_with_the_stack regs memory ports runs at stack left right opcode low high = search (rules, common_steps)
+
+-- in a HALT R alone changes, also where no listed instruction is at PC
+pub halted_rests : (regs : Regs) (memory ports : ℕ → ℕ) → regs.halted ≡ true →
+    instruction regs memory ports ≡ Some (record { registers = risen regs; actions = [] })
+unfolding instruction
+halted_rests regs memory ports halted = search (rules, common_steps)
+
+-- EDh begins no listed instruction
+pub unlisted : (regs : Regs) (memory ports : ℕ → ℕ) → regs.halted ≡ false → memory regs.pc ≡ 237 →
+    instruction regs memory ports ≡ None
+unfolding instruction instr_of form_of high_quarter
+unlisted regs memory ports runs opcode = search (rules, common_steps)

@@ -1,0 +1,51 @@
+-- One step of the processor: the instruction at PC, or R alone where it stands in a HALT. (UM0080, "Z80 Instruction
+-- Description" and "HALT".)
+use Rattle.std.specs.Prelude.{ℕ, List, [], ◌∷◌, Option, None, Some, false, if◌then◌else◌}
+use Rattle.z80_regs.specs.Words.{onward, refreshed}
+use Rattle.z80_regs.specs.Outcome.{Action, Outcome}
+use Rattle.z80_regs.specs.declared.regs.Regs.{Regs}
+use Rattle.z80_decode.specs.declared.instr.Instr.{Instr}
+use Rattle.z80_decode.specs.declared.instr.Page.{Page}
+use Rattle.z80_decode.specs.declared.instr.Page.TheVariants.{Main}
+use Rattle.z80_decode.specs.Decoding.{instr_of}
+use Rattle.z80_exec.specs.Operands.{quiet}
+use Rattle.z80_exec.specs.Performing.{main_outcome}
+
+-- R one on
+abbrev pub risen : Regs → Regs
+risen regs = record regs { r = refreshed regs.r }
+
+-- an instruction begins: R is one on, and the shadow of an EI before it ends
+abbrev pub begun : Regs → Regs
+begun regs = record (risen regs) { shadow = false }
+
+-- the four bytes from an address on
+abbrev pub four_from : (ℕ → ℕ) → ℕ → List ℕ
+four_from memory address =
+    memory address ∷ memory (onward address 1) ∷ memory (onward address 2) ∷ memory (onward address 3) ∷ []
+
+-- the outcome of an instruction, by its page
+abbrev pub page_outcome : Page → Instr → Regs → (ℕ → ℕ) → (ℕ → ℕ) → Outcome
+page_outcome Main instr regs memory ports = main_outcome instr regs memory ports
+
+-- the outcome of an instruction, where there is one
+abbrev pub outcome_of : Option Instr → Regs → (ℕ → ℕ) → (ℕ → ℕ) → Option Outcome
+outcome_of None regs memory ports = None
+outcome_of (Some instr) regs memory ports = Some (page_outcome instr.page instr (begun regs) memory ports)
+
+-- the outcome of a step, from the registers, what each address reads and what each port reads as the step begins:
+-- no byte is read behind a write of the same step; None where no listed instruction is at PC
+unfoldable pub instruction : Regs → (ℕ → ℕ) → (ℕ → ℕ) → Option Outcome
+instruction regs memory ports =
+    if regs.halted then Some (quiet (risen regs))
+    else (outcome_of (instr_of (four_from memory regs.pc)) regs memory ports)
+
+-- the registers after a step: as they were where it had no outcome
+abbrev pub registers_after : Option Outcome → Regs → Regs
+registers_after None regs = regs
+registers_after (Some outcome) regs = outcome.registers
+
+-- what a step does to the bus: nothing where it had no outcome
+abbrev pub actions_of : Option Outcome → List Action
+actions_of None = []
+actions_of (Some outcome) = outcome.actions

@@ -1,0 +1,404 @@
+mod cases;
+
+ghost use Rattle.std.specs.Prelude.{◌≡◌, ◌<◌, ℕ, set, slice_index, nat_lt, if◌then◌else◌, vec_len};
+ghost use Rattle.std.proofs.Common.{rules};
+ghost use Rattle.std.proofs.lemmas.Grind.{common_steps};
+
+use super::*;
+use crate::tests::cases::{CALCULATIONS, EDGES, HIGH_QUARTER, LOW_QUARTER, MOVES, OTHERWISE};
+use std::alloc::{AllocError, Global};
+use std::test::Fail;
+
+/// A memory of 65,536 bytes, which keeps what is written below a limit. A port reads its own number.
+#[derive(Drop)]
+struct Memory {
+    bytes: Vec<u8>,
+    limit: u32,
+    /// The address and the byte of the write before the last, and of the last.
+    writes: [u32; 4],
+    ghost whole: { vec_len bytes ≡ 65536 },
+}
+
+impl Memory {
+    fn new(alloc: Global, limit: u32) -> Result<Memory, AllocError> {
+        let bytes = vec![in alloc; 0; 65536]?;
+        Ok(Memory {
+            bytes,
+            limit,
+            writes: [0; 4],
+        })
+    }
+
+    /// Places bytes from an address on, whether it keeps what is written or not.
+    fn place(&mut self, address: u16, bytes: &[u8]) {
+        let mut at = address;
+        for byte in bytes {
+            self.bytes[usize::from(at)] = *byte;
+            at = at.wrapping_add(1);
+        }
+    }
+}
+
+impl Bus for Memory {
+    ghost byte = { λ bus address. slice_index bus.bytes.items address };
+
+    ghost port_byte = { λ bus port. port };
+
+    ghost writable = { λ bus address. address < bus.limit };
+
+    ghost wrote = { λ old address value new. (new.limit ≡ old.limit) ×
+        (new.bytes.items ≡ (if nat_lt address old.limit then set old.bytes.items address value else old.bytes.items)) };
+
+    ghost took = { λ old port new. new ≡ old };
+
+    fn read(&self, address: u16) -> u8 {
+        self.bytes[usize::from(address)]
+    }
+
+    fn write(&mut self, address: u16, value: u8) {
+        self.writes = [
+            self.writes[2],
+            self.writes[3],
+            u32::from(address),
+            u32::from(value),
+        ];
+        if u32::from(address) < self.limit {
+            self.bytes[usize::from(address)] = value;
+        }
+    }
+
+    fn input(&mut self, port: u8) -> u8 {
+        port
+    }
+
+    fn output(&mut self, _port: u8, _value: u8) {}
+
+    ghost reads_back = { Prim.search (rules, common_steps) };
+
+    ghost write_keeps_bytes = { Prim.search (rules, common_steps) };
+
+    ghost write_keeps_ports = { Prim.search (rules, common_steps) };
+
+    ghost write_keeps_writable = { Prim.search (rules, common_steps) };
+
+    ghost input_keeps_bytes = { Prim.search (rules, common_steps) };
+
+    ghost input_keeps_writable = { Prim.search (rules, common_steps) };
+}
+
+/// Registers of which each has its own value, so that one that changes shows.
+fn fixture() -> Regs {
+    Regs {
+        a: 1,
+        f: 2,
+        b: 3,
+        c: 4,
+        d: 5,
+        e: 6,
+        h: 7,
+        l: 8,
+        a2: 9,
+        f2: 10,
+        b2: 11,
+        c2: 12,
+        d2: 13,
+        e2: 14,
+        h2: 15,
+        l2: 16,
+        ix: 0x1718,
+        iy: 0x191a,
+        sp: 0xbefe,
+        pc: 0x0100,
+        i: 0x1b,
+        r: 0xff,
+        iff1: true,
+        iff2: false,
+        mode: 1,
+        halted: false,
+        shadow: true,
+    }
+}
+
+/// What every instruction leaves of `fixture`: R has gone from FFh to 80h, and the shadow has ended.
+fn behind(pc: u16) -> Regs {
+    Regs {
+        pc,
+        r: 0x80,
+        shadow: false,
+        ..fixture()
+    }
+}
+
+/// What some steps make of `fixture`, the code being at 0100h.
+fn after(memory: &mut Memory, code: &[u8], steps: usize) -> Regs {
+    memory.place(0x0100, code);
+    let mut regs = fixture();
+    for _ in 0..steps {
+        step(&mut regs, memory);
+    }
+    regs
+}
+
+/// The low byte of a number.
+fn low_byte(number: u32) -> u8 {
+    (number % 256) as u8
+}
+
+/// The byte above it.
+fn high_byte(number: u32) -> u8 {
+    (number / 256 % 256) as u8
+}
+
+/// The low word of a number.
+fn word(number: u32) -> u16 {
+    (number % 65536) as u16
+}
+
+/// The value of a digit in hexadecimal.
+fn digit(byte: u8) -> Option<u32> {
+    match byte {
+        b'0'..=b'9' => Some(u32::from(byte - b'0')),
+        b'A'..=b'F' => Some(u32::from(byte - b'A') + 10),
+        _ => None,
+    }
+}
+
+/// The numbers of a line, apart from one another by anything else.
+fn numbers(line: &str) -> [u32; 13] {
+    let mut numbers = [0; 13];
+    let mut place = 0;
+    let mut is_inside = false;
+    for byte in line.as_bytes() {
+        match digit(*byte) {
+            Some(value) if place < 13 => {
+                let number: u32 = numbers[place];
+                numbers[place] = number.wrapping_mul(16).wrapping_add(value);
+                is_inside = true;
+            }
+            _ if is_inside && place < 13 => {
+                place += 1;
+                is_inside = false;
+            }
+            _ => {}
+        }
+    }
+    numbers
+}
+
+/// Places a case's instruction, and bytes where the registers and its word point to.
+fn prepare(memory: &mut Memory, case: &[u32; 13]) {
+    let [code, ..] = *case;
+    memory.place(
+        0x0100,
+        &[low_byte(code / 65536), high_byte(code), low_byte(code)],
+    );
+    memory.place(0x0304, &[0x91]);
+    memory.place(0x0586, &[0x7a]);
+    memory.place(0x4708, &[0x3c]);
+    memory.place(0x9234, &[0x5d, 0xa6]);
+    memory.place(0xbefe, &[0x2b, 0xc9]);
+    memory.writes = [0; 4];
+}
+
+/// A case's registers before, or what is wanted of them, from AF, BC, DE, HL, SP and PC.
+fn registers(words: [u32; 6]) -> Regs {
+    let [af, bc, de, hl, sp, pc] = words;
+    Regs {
+        a: high_byte(af),
+        f: low_byte(af),
+        b: high_byte(bc),
+        c: low_byte(bc),
+        d: high_byte(de),
+        e: low_byte(de),
+        h: high_byte(hl),
+        l: low_byte(hl),
+        sp: word(sp),
+        pc: word(pc),
+        ..fixture()
+    }
+}
+
+/// Whether a case comes out as it says.
+fn comes_out(line: &str, memory: &mut Memory) -> bool {
+    let case = numbers(line);
+    prepare(memory, &case);
+    let [
+        _,
+        af,
+        bc,
+        new_af,
+        new_bc,
+        de,
+        hl,
+        sp,
+        pc,
+        first,
+        one,
+        second,
+        other,
+    ] = case;
+    let mut regs = registers([af, bc, 0x0586, 0x4708, 0xbefe, 0x0100]);
+    let stepped = step(&mut regs, memory);
+    let mut want = registers([new_af, new_bc, de, hl, sp, pc]);
+    (want.r, want.shadow) = (0x80, false);
+    stepped == Stepped::Ran && regs == want && memory.writes == [first, one, second, other]
+}
+
+/// The first case that doesn't come out.
+fn first_failed(lines: &[&str], alloc: Global) -> Result<Option<usize>, AllocError> {
+    let mut memory = Memory::new(alloc, 65536)?;
+    for (place, line) in lines.iter().enumerate() {
+        if !comes_out(line, &mut memory) {
+            return Ok(Some(place));
+        }
+    }
+    Ok(None)
+}
+
+#[test]
+fn low_quarter(rt: HostRuntime) -> Result<(), Fail> {
+    assert_eq!(rt; first_failed(&LOW_QUARTER, rt.alloc())?, None);
+    Ok(())
+}
+
+#[test]
+fn moves(rt: HostRuntime) -> Result<(), Fail> {
+    assert_eq!(rt; first_failed(&MOVES, rt.alloc())?, None);
+    Ok(())
+}
+
+#[test]
+fn calculations(rt: HostRuntime) -> Result<(), Fail> {
+    assert_eq!(rt; first_failed(&CALCULATIONS, rt.alloc())?, None);
+    Ok(())
+}
+
+#[test]
+fn high_quarter(rt: HostRuntime) -> Result<(), Fail> {
+    assert_eq!(rt; first_failed(&HIGH_QUARTER, rt.alloc())?, None);
+    Ok(())
+}
+
+#[test]
+fn otherwise(rt: HostRuntime) -> Result<(), Fail> {
+    assert_eq!(rt; first_failed(&OTHERWISE, rt.alloc())?, None);
+    Ok(())
+}
+
+#[test]
+fn edges(rt: HostRuntime) -> Result<(), Fail> {
+    assert_eq!(rt; first_failed(&EDGES, rt.alloc())?, None);
+    Ok(())
+}
+
+/// The registers that no case shows: the alternate set, the flip-flops, the shadow of EI, and HALT.
+#[test]
+fn switches(rt: HostRuntime) -> Result<(), Fail> {
+    let mut memory = Memory::new(rt.alloc(), 65536)?;
+    let mut want = behind(0x0101);
+    (want.a, want.f, want.a2, want.f2) = (9, 10, 1, 2);
+    assert_eq!(rt; after(&mut memory, &[0x08], 1), want);
+
+    let mut want = behind(0x0101);
+    (want.b, want.c, want.b2, want.c2) = (11, 12, 3, 4);
+    (want.d, want.e, want.d2, want.e2) = (13, 14, 5, 6);
+    (want.h, want.l, want.h2, want.l2) = (15, 16, 7, 8);
+    assert_eq!(rt; after(&mut memory, &[0xd9], 1), want);
+
+    let mut want = behind(0x0101);
+    (want.iff1, want.iff2) = (false, false);
+    assert_eq!(rt; after(&mut memory, &[0xf3], 1), want);
+
+    let mut want = behind(0x0101);
+    (want.iff1, want.iff2, want.shadow) = (true, true, true);
+    assert_eq!(rt; after(&mut memory, &[0xfb], 1), want);
+
+    let mut want = behind(0x0102);
+    (want.iff1, want.iff2, want.r) = (true, true, 0x81);
+    assert_eq!(rt; after(&mut memory, &[0xfb, 0x00], 2), want);
+
+    let mut want = behind(0x0101);
+    want.halted = true;
+    assert_eq!(rt; after(&mut memory, &[0x76], 1), want);
+    Ok(())
+}
+
+#[test]
+fn calls_and_returns(rt: HostRuntime) -> Result<(), Fail> {
+    let mut memory = Memory::new(rt.alloc(), 65536)?;
+    memory.place(0x0005, &[0xc9]);
+    let mut want = behind(0x0005);
+    want.sp = 0xbefc;
+    let mut regs = after(&mut memory, &[0xcd, 0x05, 0x00], 1);
+    assert_eq!(rt; regs, want);
+    assert_eq!(rt; memory.read(0xbefd), 0x01);
+    assert_eq!(rt; memory.read(0xbefc), 0x03);
+
+    let mut want = behind(0x0103);
+    want.r = 0x81;
+    step(&mut regs, &mut memory);
+    assert_eq!(rt; regs, want);
+    Ok(())
+}
+
+/// SP goes from 0001h to FFFFh, where nothing is kept: the high byte alone is written, at 0000h.
+#[test]
+fn calls_around_the_end_of_memory(rt: HostRuntime) -> Result<(), Fail> {
+    let mut memory = Memory::new(rt.alloc(), 32768)?;
+    memory.place(0xfffe, &[0xcd, 0x34, 0x12]);
+    let mut regs = fixture();
+    (regs.sp, regs.pc) = (0x0001, 0xfffe);
+    let mut want = behind(0x1234);
+    want.sp = 0xffff;
+    step(&mut regs, &mut memory);
+    assert_eq!(rt; regs, want);
+    assert_eq!(rt; memory.read(0x0000), 0x00);
+    assert_eq!(rt; memory.read(0xffff), 0x34);
+    Ok(())
+}
+
+/// Nothing is kept from 8000h on: L alone is stored, and an increment there shows in the flags alone.
+#[test]
+fn stores_around_a_limit(rt: HostRuntime) -> Result<(), Fail> {
+    let mut memory = Memory::new(rt.alloc(), 32768)?;
+    assert_eq!(rt; after(&mut memory, &[0x22, 0xff, 0x7f], 1), behind(0x0103));
+    assert_eq!(rt; memory.read(0x7fff), 0x08);
+    assert_eq!(rt; memory.read(0x8000), 0x00);
+
+    memory.place(0x8000, &[0x7f]);
+    let mut want = behind(0x0104);
+    (want.h, want.l, want.f, want.r) = (0x80, 0x00, 0x94, 0x81);
+    assert_eq!(rt; after(&mut memory, &[0x21, 0x00, 0x80, 0x34], 2), want);
+    assert_eq!(rt; memory.read(0x8000), 0x7f);
+    Ok(())
+}
+
+/// Prefixes begin no instruction, and a halted processor stays.
+#[test]
+fn stands_still(rt: HostRuntime) -> Result<(), Fail> {
+    let mut memory = Memory::new(rt.alloc(), 65536)?;
+    for prefix in [0xcb, 0xdd, 0xed, 0xfd] {
+        memory.place(0x0100, &[prefix]);
+        let mut regs = fixture();
+        assert_eq!(rt; step(&mut regs, &mut memory), Stepped::Illegal);
+        assert_eq!(rt; regs, fixture());
+
+        let instr = Instr {
+            length: 1,
+            page: Page::Main,
+            opcode: prefix,
+            displacement: 0,
+            operand: 0,
+        };
+        main_page(&instr, &mut regs, &mut memory);
+        assert_eq!(rt; regs, fixture());
+    }
+
+    let mut regs = fixture();
+    regs.halted = true;
+    assert_eq!(rt; step(&mut regs, &mut memory), Stepped::Ran);
+    let mut want = fixture();
+    (want.r, want.halted) = (0x80, true);
+    assert_eq!(rt; regs, want);
+    Ok(())
+}
