@@ -1,5 +1,5 @@
 -- The lines of the output text: a label, the bytes as they are written, and how the line ends.
-use Rattle.std.specs.Prelude.{ℕ, ◌+◌, ◌-◌, ◌/◌, ◌%◌, List, [], ◌∷◌, ◌++◌, ◌==◌, ◌&&◌, nat_lt, nat_le, flat_map, codes, if◌then◌else◌}
+use Rattle.std.specs.Prelude.{ℕ, ◌+◌, ◌/◌, ◌%◌, List, [], ◌∷◌, ◌++◌, ◌<◌, ◌==◌, ◌&&◌, nat_lt, nat_le, length, flat_map, codes, if◌then◌else◌}
 use Rattle.mpm_render.specs.declared.unit.Unit2.{Unit2}
 use Rattle.mpm_render.specs.declared.unit.Unit2.TheVariants.{Console, Printer}
 
@@ -7,6 +7,11 @@ use Rattle.mpm_render.specs.declared.unit.Unit2.TheVariants.{Console, Printer}
 abbrev pub place_of : Unit2 → ℕ
 place_of (Console n) = n
 place_of (Printer n) = 8 + n
+
+-- there is a console, or a printer, of this number
+abbrev pub IsUnit : Unit2 → Type 0
+IsUnit (Console n) = n < 8
+IsUnit (Printer n) = n < 4
 
 -- all the places, in the order in which unfinished lines are closed
 abbrev pub places : List ℕ
@@ -36,3 +41,15 @@ ended_line place bytes = label place ++ (flat_map escaped bytes ++ (10 ∷ []))
 -- a line that was cut because it was full, or closed at the end of the run
 unfoldable pub cut_line : ℕ → List ℕ → List ℕ
 cut_line place bytes = label place ++ (flat_map escaped bytes ++ (92 ∷ 10 ∷ []))
+
+-- what a byte behind an unfinished line writes: an LF that line, a 200th byte that line with itself, cut
+unfoldable pub text_with : ℕ → ℕ → List ℕ → List ℕ
+text_with place byte kept =
+    if byte == 10 then ended_line place kept
+    else (if length kept == 199 then cut_line place (kept ++ (byte ∷ [])) else [])
+
+-- the unfinished line behind that byte
+unfoldable pub line_with : ℕ → List ℕ → List ℕ
+line_with byte kept =
+    if byte == 10 then []
+    else (if length kept == 199 then [] else (kept ++ (byte ∷ [])))

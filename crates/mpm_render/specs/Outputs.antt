@@ -1,6 +1,6 @@
 -- The outputs of a run, and the text that they are rendered to. Outputs are a list, newest first: what stands
 -- before a position is the list behind it.
-use Rattle.std.specs.Prelude.{ℕ, ◌+◌, ◌%◌, List, [], ◌∷◌, ◌++◌, ◌==◌, take, reverse, length, flat_map, if◌then◌else◌}
+use Rattle.std.specs.Prelude.{ℕ, ◌%◌, List, [], ◌∷◌, ◌++◌, ◌==◌, take, reverse, length, flat_map, if◌then◌else◌}
 use Rattle.mpm_render.specs.declared.unit.Unit2.{Unit2}
 use Rattle.mpm_render.specs.Lines.{place_of, places, ended_line, cut_line}
 

@@ -4,8 +4,13 @@
 //! are not empty are closed. Each line is written by one `put`, as it ends.
 #![tactic(auto)]
 
-
+mod line;
+mod render;
+mod text;
 mod unit;
 
-
+pub use render::Render;
 pub use unit::Unit2;
+
+#[cfg(test)]
+mod tests;

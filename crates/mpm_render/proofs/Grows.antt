@@ -1,0 +1,64 @@
+-- Laws on texts that grow, and on what is told of them.
+use Rattle.std.proofs.Common.{◌≡◌, ℕ, ◌<◌, ◌≤◌, List, [], ◌++◌, Option, Some, None, length, refl, sym, ap, ◌∙◌, append_assoc, length-append, arith}
+use Rattle.std.proofs.lemmas.List.{append-nil}
+use Rattle.mpm_port.specs.Texts.{Begins, appended, AppendsPart}
+use Rattle.mpm_render.specs.Shown.{EndsBetween}
+
+pub begins_refl : (a : List ℕ) → Begins a a
+begins_refl a = record { rest = []; whole_is = sym (append-nil a) }
+
+pub begins_more : (a more : List ℕ) → Begins a (a ++ more)
+begins_more a more = record { rest = more; whole_is = refl }
+
+pub begins_trans : (a b c : List ℕ) → Begins a b → Begins b c → Begins a c
+begins_trans a b c p q = record {
+  rest = p.rest ++ q.rest;
+  whole_is = q.whole_is ∙ ap (λ x. x ++ q.rest) p.whole_is ∙ append_assoc a p.rest q.rest;
+}
+
+-- the same text before both
+pub begins_behind : (a b c : List ℕ) → Begins b c → Begins (a ++ b) (a ++ c)
+begins_behind a b c p = record {
+  rest = p.rest;
+  whole_is = ap (λ x. a ++ x) p.whole_is ∙ sym (append_assoc a b p.rest);
+}
+
+pub begins_length : (a b : List ℕ) → Begins a b → length a ≤ length b
+begins_length a b p = omega (arith, ap length p.whole_is, length-append a p.rest)
+
+-- nothing more is told of a text behind which nothing stands
+pub appended_nil : (told : Option (List ℕ)) → appended told [] ≡ told
+appended_nil None = refl
+appended_nil (Some text) = ap Some (append-nil text)
+
+pub appended_twice : (told : Option (List ℕ)) (a b : List ℕ) → appended (appended told a) b ≡ appended told (a ++ b)
+appended_twice None a b = refl
+appended_twice (Some text) a b = ap Some (append_assoc text a b)
+
+-- a failed write stops between the text before and the text with all that was to be written
+pub ends_within : (old new first : Option (List ℕ)) (from more : List ℕ) → old ≡ appended first from → AppendsPart old more new → 0 < length more → EndsBetween new first from (from ++ more)
+ends_within old new first from more e p some = record {
+  text = from ++ p.part;
+  told_is = p.told ∙ ap (λ told. appended told p.part) e ∙ appended_twice first from p.part;
+  all_before = begins_more from p.part;
+  part = begins_behind from p.part more p.begins;
+  more = omega (arith, length-append from more);
+}
+
+-- what ends between two texts ends between wider ones
+pub widened : (told first : Option (List ℕ)) (a from to b : List ℕ) → Begins a from → Begins to b → EndsBetween told first from to → EndsBetween told first a b
+widened told first a from to b p q e = record {
+  text = e.text;
+  told_is = e.told_is;
+  all_before = begins_trans a from e.text p e.all_before;
+  part = begins_trans e.text to b e.part q;
+  more = omega (arith, begins_length a from p, begins_length to b q, e.more);
+}
+
+-- nothing is a part of all that was to be written
+pub appends_none : (told : Option (List ℕ)) (more : List ℕ) → AppendsPart told more told
+appends_none told more = record {
+  part = [];
+  begins = record { rest = more; whole_is = refl };
+  told = sym (appended_nil told);
+}

@@ -1,0 +1,180 @@
+-- Laws on outputs: their text grows, and a byte leaves its line, the other lines and the text as they are said.
+use Rattle.std.proofs.Common.{◌≡◌, ◌≢◌, ℕ, ◌+◌, ◌%◌, ◌<◌, List, [], ◌∷◌, ◌++◌, Option, Result, OnOk, OnErr, Ok, Err, length, take, drop, set, reverse, get_or, refl, sym, ap, ◌∙◌, inl, inr, suc, subst, arith}
+use Rattle.std.proofs.lemmas.Grind.{reverse_onto}
+use Rattle.std.proofs.lemmas.List.{length-reverse, length-take-le, take_more, take-append-drop, get_or_default, get_or-set_same, get_or-set_other}
+use Rattle.std.proofs.lemmas.Bool.{cases_eq}
+use Rattle.std.proofs.lemmas.Bool.Decides.{nat_tests}
+use Rattle.mpm_port.specs.Texts.{Begins, appended, AppendsPart}
+use Rattle.mpm_render.specs.declared.unit.Unit2.{Unit2}
+use Rattle.mpm_render.specs.declared.unit.Unit2.TheVariants.{Console, Printer}
+use Rattle.mpm_render.specs.Lines.{place_of, IsUnit, text_with, line_with}
+use Rattle.mpm_render.specs.Outputs.{Output, Said, said, since_end, pending, text_at, rendered, closed}
+use Rattle.mpm_render.specs.Shown.{Kept, line_of, Shows, EndsBetween}
+use Rattle.mpm_render.proofs.Grows.{begins_refl, begins_more, begins_trans, appended_nil, appended_twice, ends_within}
+
+pub rendered_grows : (o : Output) (os : List Output) → Begins (rendered os) (rendered (o ∷ os))
+unfolding rendered
+rendered_grows o os = begins_more (rendered os) (text_at o os)
+
+pub closed_grows : (os : List Output) → Begins (rendered os) (closed os)
+unfolding closed
+closed_grows os = record { rest = _; whole_is = refl }
+
+pub said_nil : (unit : Unit2) (os : List Output) → said unit [] os ≡ os
+unfolding said
+said_nil unit os = refl
+
+pub said_cons : (unit : Unit2) (byte : ℕ) (bytes : List ℕ) (os : List Output) → said unit (byte ∷ bytes) os ≡ said unit bytes (Said unit byte ∷ os)
+unfolding said
+said_cons unit byte bytes os = refl
+
+pub said_append : (unit : Unit2) (a b : List ℕ) (os : List Output) → said unit (a ++ b) os ≡ said unit b (said unit a os)
+unfolding said
+said_append unit [] b os = refl
+said_append unit (byte ∷ a) b os = said_append unit a b (Said unit byte ∷ os)
+
+pub said_grows : (unit : Unit2) (bytes : List ℕ) (os : List Output) → Begins (rendered os) (rendered (said unit bytes os))
+unfolding said
+said_grows unit [] os = begins_refl (rendered os)
+said_grows unit (byte ∷ bytes) os =
+    begins_trans _ (rendered (Said unit byte ∷ os)) _ (rendered_grows (Said unit byte) os) (said_grows unit bytes (Said unit byte ∷ os))
+
+-- one more byte at the end
+pub said_push : (unit : Unit2) (bytes : List ℕ) (byte : ℕ) (os : List Output) → said unit (bytes ++ byte ∷ []) os ≡ Said unit byte ∷ said unit bytes os
+said_push unit bytes byte os = said_append unit bytes (byte ∷ []) os ∙ said_cons unit byte [] (said unit bytes os) ∙ said_nil unit (Said unit byte ∷ said unit bytes os)
+
+-- in a loop over bytes: the byte at an index behind those before it
+pub said_take : (unit : Unit2) (bytes : List ℕ) (index other : ℕ) (os : List Output) → index < length bytes → said unit (take (index + 1) bytes) os ≡ Said unit (get_or bytes index other) ∷ said unit (take index bytes) os
+said_take unit bytes index other os inside =
+    ap (λ front. said unit front os) (take_more bytes index other inside) ∙ said_push unit (take index bytes) (get_or bytes index other) os
+
+-- the text of the first bytes begins the text of all
+pub said_begins : (unit : Unit2) (index : ℕ) (bytes : List ℕ) (os : List Output) → Begins (rendered (said unit (take index bytes) os)) (rendered (said unit bytes os))
+said_begins unit index bytes os =
+    let P : List ℕ → Type 0 = λ all. Begins (rendered (said unit (take index bytes) os)) (rendered (said unit all os)) in
+    let Q : List Output → Type 0 = λ all. Begins (rendered (said unit (take index bytes) os)) (rendered all) in
+    subst P (take-append-drop index bytes) (subst Q (sym (said_append unit (take index bytes) (drop index bytes) os)) (said_grows unit (drop index bytes) (said unit (take index bytes) os)))
+
+-- a unit's place is one of the twelve
+pub place_small : (unit : Unit2) → IsUnit unit → place_of unit < 12
+place_small (Console n) h = omega arith
+place_small (Printer n) h = omega arith
+
+-- what a byte writes, by its own line alone
+pub rendered_said : (unit : Unit2) (byte : ℕ) (os : List Output) → rendered (Said unit byte ∷ os) ≡ rendered os ++ text_with (place_of unit) byte (pending (place_of unit) os)
+unfolding rendered text_at text_with
+rendered_said unit byte os = refl
+
+-- the bytes of a place since its last LF, after one more byte
+since_same : (unit : Unit2) (byte : ℕ) (os : List Output) → byte ≢ 10 → since_end (place_of unit) (Said unit byte ∷ os) ≡ byte ∷ since_end (place_of unit) os
+unfolding since_end
+since_same unit byte os other = grind (arith, nat_tests)
+
+since_lf : (unit : Unit2) (byte : ℕ) (os : List Output) → byte ≡ 10 → since_end (place_of unit) (Said unit byte ∷ os) ≡ []
+unfolding since_end
+since_lf unit byte os lf = grind (arith, nat_tests)
+
+since_other : (place : ℕ) (unit : Unit2) (byte : ℕ) (os : List Output) → place_of unit ≢ place → since_end place (Said unit byte ∷ os) ≡ since_end place os
+unfolding since_end
+since_other place unit byte os other = grind (arith, nat_tests)
+
+-- of bytes, newest first, those that no cut line has written, in order
+abbrev uncut : List ℕ → List ℕ
+uncut bytes = reverse (take (length bytes % 200) bytes)
+
+length_uncut : (bytes : List ℕ) → length (uncut bytes) ≡ length bytes % 200
+length_uncut bytes = length-reverse (take (length bytes % 200) bytes) ∙ length-take-le (length bytes % 200) bytes (omega arith)
+
+uncut_full : (byte : ℕ) (bytes : List ℕ) → length (uncut bytes) ≡ 199 → uncut (byte ∷ bytes) ≡ []
+uncut_full byte bytes full =
+    let none : length (byte ∷ bytes) % 200 ≡ 0 = omega (arith, length_uncut bytes) in
+    ap (λ n. reverse (take n (byte ∷ bytes))) none
+
+uncut_more : (byte : ℕ) (bytes : List ℕ) → length (uncut bytes) ≢ 199 → uncut (byte ∷ bytes) ≡ uncut bytes ++ byte ∷ []
+uncut_more byte bytes room =
+    let more : length (byte ∷ bytes) % 200 ≡ suc (length bytes % 200) = omega (arith, length_uncut bytes) in
+    ap (λ n. reverse (take n (byte ∷ bytes))) more ∙ reverse_onto (take (length bytes % 200) bytes) byte []
+
+-- a byte leaves its own line with itself
+pub pending_same : (unit : Unit2) (byte : ℕ) (os : List Output) → pending (place_of unit) (Said unit byte ∷ os) ≡ line_with byte (pending (place_of unit) os)
+unfolding pending line_with
+pending_same unit byte os =
+    let before = since_end (place_of unit) os in
+    elim (cases_eq byte 10) [
+      | inl lf ↦ ap uncut (since_lf unit byte os lf) ∙ grind (arith, nat_tests)
+      | inr other ↦ elim (cases_eq (length (uncut before)) 199) [
+        | inl full ↦ ap uncut (since_same unit byte os other) ∙ uncut_full byte before full ∙ grind (arith, nat_tests)
+        | inr room ↦ ap uncut (since_same unit byte os other) ∙ uncut_more byte before room ∙ grind (arith, nat_tests)
+      ]
+    ]
+
+-- a byte leaves the other lines
+pub pending_other : (place : ℕ) (unit : Unit2) (byte : ℕ) (os : List Output) → place_of unit ≢ place → pending place (Said unit byte ∷ os) ≡ pending place os
+unfolding pending
+pending_other place unit byte os other = ap uncut (since_other place unit byte os other)
+
+-- a line is shorter than 200 bytes
+pub pending_short : (place : ℕ) (os : List Output) → length (pending place os) < 200
+unfolding pending
+pending_short place os = omega (arith, length_uncut (since_end place os))
+
+pub pending_none : (place : ℕ) → pending place [] ≡ []
+unfolding pending since_end
+pending_none place = refl
+
+pub rendered_none : rendered [] ≡ []
+unfolding rendered
+rendered_none = refl
+
+-- empty lines show that nothing was said
+pub shows_none : (kept : Kept) (told : Option (List ℕ)) → ((place : ℕ) → place < 12 → line_of kept place ≡ []) → Shows kept told [] told
+shows_none kept told none = record {
+  lines = λ place h. none place h ∙ sym (pending_none place);
+  told_is = sym (ap (appended told) rendered_none ∙ appended_nil told);
+}
+
+-- a byte that is put to its line, and the text that it writes, keep what is shown
+pub shows_said : (old new : Kept) (told now first : Option (List ℕ)) (unit : Unit2) (byte : ℕ) (os : List Output) → IsUnit unit → length old.lines ≡ 12 → new.lines ≡ set old.lines (place_of unit) (line_with byte (line_of old (place_of unit))) → now ≡ appended told (text_with (place_of unit) byte (line_of old (place_of unit))) → Shows old told os first → Shows new now (Said unit byte ∷ os) first
+shows_said old new told now first unit byte os is twelve changed written s =
+    let here = place_of unit in
+    let small : here < 12 = place_small unit is in
+    let line : line_of old here ≡ pending here os = s.lines here small in
+    let inside : here < length old.lines = omega arith in
+    record {
+      lines = λ place h. ap (λ lines. get_or lines place []) changed ∙ elim (cases_eq place here) [
+        | inl same ↦ ap (λ at. get_or (set old.lines here (line_with byte (line_of old here))) at []) same ∙ get_or-set_same old.lines here _ [] inside ∙ ap (line_with byte) line ∙ sym (pending_same unit byte os) ∙ ap (λ at. pending at (Said unit byte ∷ os)) (sym same)
+        | inr other ↦ get_or-set_other old.lines here place _ [] other ∙ s.lines place h ∙ sym (pending_other place unit byte os (λ e. other (sym e)))
+      ];
+      told_is = written ∙ ap (λ line. appended told (text_with here byte line)) line ∙ ap (λ t. appended t (text_with here byte (pending here os))) s.told_is ∙ appended_twice first (rendered os) _ ∙ ap (appended first) (sym (rendered_said unit byte os));
+    }
+
+-- a failed write of a byte's text stops between the texts before and after it
+pub ends_said : (old : Kept) (told now first : Option (List ℕ)) (unit : Unit2) (byte : ℕ) (os : List Output) → IsUnit unit → AppendsPart told (text_with (place_of unit) byte (line_of old (place_of unit))) now → 0 < length (text_with (place_of unit) byte (line_of old (place_of unit))) → Shows old told os first → EndsBetween now first (rendered os) (rendered (Said unit byte ∷ os))
+ends_said old told now first unit byte os is part some s =
+    let here = place_of unit in
+    let line : line_of old here ≡ pending here os = s.lines here (place_small unit is) in
+    let P : List ℕ → Type 0 = λ text. EndsBetween now first (rendered os) text in
+    subst P (ap (λ line. rendered os ++ text_with here byte line) line ∙ sym (rendered_said unit byte os)) (ends_within told now first (rendered os) _ s.told_is part some)
+
+-- the same, as a line answers that has been picked by its place
+same_line : (lines : List (List ℕ)) (unit : Unit2) (place : ℕ) (other : List ℕ) → IsUnit unit → place ≡ place_of unit → length lines ≡ 12 → get_or lines place other ≡ get_or lines (place_of unit) []
+same_line lines unit place other is at twelve =
+    let small = place_small unit is in
+    get_or_default lines place other [] (omega arith) ∙ ap (λ p. get_or lines p []) at
+
+pub ok_said : {A E : Type 0} (result : Result A E) (old new : Kept) (told now first : Option (List ℕ)) (unit : Unit2) (byte place : ℕ) (other after : List ℕ) (os : List Output) → IsUnit unit → place ≡ place_of unit → length old.lines ≡ 12 → OnOk result (after ≡ line_with byte (get_or old.lines place other)) → new.lines ≡ set old.lines place after → OnOk result (now ≡ appended told (text_with place byte (get_or old.lines place other))) → Shows old told os first → OnOk result (Shows new now (Said unit byte ∷ os) first)
+ok_said (Err e) old new told now first unit byte place other after os is at twelve kept changed written s = tt
+ok_said (Ok x) old new told now first unit byte place other after os is at twelve kept changed written s =
+    let line = same_line old.lines unit place other is at twelve in
+    shows_said old new told now first unit byte os is twelve
+    (changed ∙ ap (λ p. set old.lines p after) at ∙ ap (set old.lines (place_of unit)) (kept ∙ ap (line_with byte) line))
+    (written ∙ ap (λ p. appended told (text_with p byte (get_or old.lines place other))) at ∙ ap (λ l. appended told (text_with (place_of unit) byte l)) line)
+    s
+
+pub err_said : {A E : Type 0} (result : Result A E) (old : Kept) (told now first : Option (List ℕ)) (unit : Unit2) (byte place : ℕ) (other : List ℕ) (os : List Output) → IsUnit unit → place ≡ place_of unit → length old.lines ≡ 12 → OnErr result (AppendsPart told (text_with place byte (get_or old.lines place other)) now) → OnErr result (0 < length (text_with place byte (get_or old.lines place other))) → Shows old told os first → OnErr result (EndsBetween now first (rendered os) (rendered (Said unit byte ∷ os)))
+err_said (Ok x) old told now first unit byte place other os is at twelve part some s = tt
+err_said (Err e) old told now first unit byte place other os is at twelve part some s =
+    let P : List ℕ → Type 0 = λ text. AppendsPart told text now in
+    let Q : List ℕ → Type 0 = λ text. 0 < length text in
+    let text = ap (λ p. text_with p byte (get_or old.lines place other)) at ∙ ap (text_with (place_of unit) byte) (same_line old.lines unit place other is at twelve) in
+    ends_said old told now first unit byte os is (subst P text part) (subst Q text some) s

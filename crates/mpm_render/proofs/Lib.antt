@@ -1,0 +1,4 @@
+pub mod Grows
+pub mod Laws
+pub mod Closings
+pub mod Examples

@@ -1,0 +1,48 @@
+use Rattle.std.proofs.Common.{◌≡◌, ◌<◌, [], length, refl, sym, ap, ◌∙◌, arith, rules}
+use Rattle.std.proofs.lemmas.List.{get_or_default, get_or-set_other}
+use Rattle.mpm_port.specs.Texts.{appended}
+use Rattle.mpm_render.specs.Shown.{line_of}
+use Rattle.mpm_render.proofs.Grows.{appended_nil}
+use Rattle.mpm_render.proofs.Closings.{closings, closings_none, none_below, told_closed, err_closed, written_more}
+use Rattle.mpm_render.proofs.render.Render.finish.Goals as goal
+
+pub loop-place-init : goal.loop-place-init
+loop-place-init g c = record {
+  written = sym (ap (appended _) (closings_none (line_of c.args.self.now)) ∙ appended_nil _);
+  faults = refl;
+  trace = ap (λ kept. kept.trace) c.self.view_is;
+  below = λ place h. absurd (omega arith);
+  above = λ place h. ap (λ kept. line_of kept place) c.self.view_is;
+}
+
+pub returns-in_err-close-clause-err : goal.returns-in_err-close-clause-err
+returns-in_err-close-clause-err g c os first s =
+    let inv = c.loop-place.invariant in
+    let place = c.loop-place.place in
+    let lines = c.loop-place.self-inside.lines in
+    let small : place < 12 = omega arith in
+    let twelve : length lines ≡ 12 = search rules in
+    let inside : place < length lines = omega arith in
+    err_closed c.from_residual.result c.args.self.now _ _ _ first place _ os small (get_or_default lines place c.index-self-place.result [] inside ∙ inv.above place (omega arith)) inv.written c.in_err-close.ensures.err c.in_err-close.ensures.some s
+
+pub loop-place-preserved : goal.loop-place-preserved
+loop-place-preserved g c =
+    let inv = c.loop-place.invariant in
+    let place = c.loop-place.place in
+    let lines = c.loop-place.self-inside.lines in
+    let small : place < 12 = omega arith in
+    let twelve : length lines ≡ 12 = search rules in
+    let inside : place < length lines = omega arith in
+    record {
+      written = written_more c.args.self.now _ _ _ place _ (get_or_default lines place c.index-self-place.result [] inside ∙ inv.above place (omega arith)) inv.written c.in_ok-close.ensures.ok;
+      faults = c.in_ok-close.ensures.cause.stays ∙ inv.faults;
+      trace = inv.trace;
+      below = none_below lines place _ inside c.in_ok-close.ensures.line inv.below;
+      above = λ q h. get_or-set_other lines place q _ [] (omega arith) ∙ inv.above q (omega arith);
+    }
+
+pub returns-clause-ok : goal.returns-clause-ok
+returns-clause-ok g c os first s =
+    let inv = c.loop-place.invariant in
+    let all : c.loop-place.place ≡ 12 = omega arith in
+    told_closed c.args.self.now _ _ first os (inv.written ∙ ap (λ n. appended (g.S.Sink.written c.args.sink.now) (closings (line_of c.args.self.now) n)) all) s

@@ -1,0 +1,74 @@
+ghost use Rattle.std.specs.Prelude.{◌≡◌, ℕ, ◌<◌, List, [], ◌∷◌, Option, OnOk, OnErr};
+ghost use Rattle.mpm_port.specs.Causes.{HasCause};
+ghost use Rattle.mpm_port.specs.Texts.{appended};
+
+use crate::Unit2;
+use crate::line::Line;
+use mpm_port::{Failed, Sink};
+use std::marker::Model;
+
+/// The lines of a machine's consoles and printers as they grow.
+#[derive(Drop)]
+pub struct Render {
+    lines: [Line; 12],
+    trace: bool,
+}
+
+impl Model for Render {
+    ghost use Rattle.mpm_render.specs.Shown.{Kept};
+
+    ghost Value = { Kept };
+
+    ghost view = { λ render. record { lines = render.lines; trace = render.trace } };
+}
+
+impl Render {
+    ghost use Rattle.mpm_render.specs.Lines.{IsUnit};
+    ghost use Rattle.mpm_render.specs.Outputs.{Output, Said, rendered, closed};
+    ghost use Rattle.mpm_render.specs.Shown.{Shows, EndsBetween, line_of};
+
+    /// Empty lines; `trace` says whether trace records are written.
+    pub fn new(trace: bool) -> Render
+        ensures fresh { (told : Option (List ℕ)) → Shows result told [] told }
+        ensures trace { result.trace ≡ trace }
+    {
+        Render {
+            lines: Default::default(),
+            trace,
+        }
+    }
+
+    /// Gives a byte to a console (below 8) or printer (below 4). An LF, or the 200th byte since the last end of line,
+    /// writes the line with one `put`. If that fails, the lines stay as they were.
+    pub fn put<S: Sink>(&mut self, stream: Unit2, byte: u8, sink: &mut S) -> Result<(), Failed>
+        requires { IsUnit stream }
+        ensures ok { (os : List Output) (first : Option (List ℕ)) → Shows self.old (S.written sink.old) os first
+            → OnOk result (Shows self.new (S.written sink.new) (Said stream byte ∷ os) first) }
+        ensures err { (os : List Output) (first : Option (List ℕ)) → Shows self.old (S.written sink.old) os first
+            → OnErr result (EndsBetween (S.written sink.new) first (rendered os) (rendered (Said stream byte ∷ os))) }
+        ensures cause { HasCause (S.faults sink.old) (S.faults sink.new) result }
+        ensures lines { OnErr result (self.new ≡ self.old) }
+        ensures trace { self.new.trace ≡ self.old.trace }
+    {
+        let place = stream.place();
+        let line = &mut self.lines[place as usize];
+        line.put(place, byte, sink)
+    }
+
+    /// Writes each line that isn't empty, consoles first, by number, each with one `put`.
+    pub fn finish<S: Sink>(&mut self, sink: &mut S) -> Result<(), Failed>
+        ensures ok { (os : List Output) (first : Option (List ℕ)) → Shows self.old (S.written sink.old) os first
+            → OnOk result (S.written sink.new ≡ appended first (closed os)) }
+        ensures err { (os : List Output) (first : Option (List ℕ)) → Shows self.old (S.written sink.old) os first
+            → OnErr result (EndsBetween (S.written sink.new) first (rendered os) (closed os)) }
+        ensures cause { HasCause (S.faults sink.old) (S.faults sink.new) result }
+        ensures empty { OnOk result ((place : ℕ) → place < 12 → line_of self.new place ≡ []) }
+        ensures trace { self.new.trace ≡ self.old.trace }
+    {
+        for place in 0..12 {
+            let line = &mut self.lines[place as usize];
+            line.close(place, sink)?;
+        }
+        Ok(())
+    }
+}
