@@ -1,0 +1,50 @@
+//! MP/M II as a machine: runs what its words ask, over the host's files and its standard output.
+#![tactic(auto)]
+
+mod ending;
+mod files;
+mod sink;
+
+use crate::files::RealFiles;
+use crate::sink::RealSink;
+use mpm_port::MemoryDrives;
+use mpm_top::{Status, run_words};
+use std::alloc::{AllocError, Global};
+use std::env;
+use std::io::ErrorKind;
+use std::process::ExitCode;
+
+/// The words after the program's name.
+fn words_after_name(alloc: Global, rt: &HostRuntime) -> Result<Vec<String>, Status> {
+    let mut arguments = match env::args(rt) {
+        Ok(arguments) => arguments,
+        Err(error) if error.kind() == ErrorKind::OutOfMemory => return Err(Status::OutOfMemory),
+        Err(_) => return Err(Status::Usage),
+    };
+    let _name = arguments.next();
+    let mut words = Vec::new(alloc);
+    for word in arguments {
+        if words.push(word).is_err() {
+            return Err(Status::OutOfMemory);
+        }
+    }
+    Ok(words)
+}
+
+fn main(rt: HostRuntime) -> ExitCode {
+    let alloc = rt.alloc();
+    let status = match words_after_name(alloc, &rt) {
+        Ok(words) => {
+            let mut files = RealFiles::new(rt);
+            let mut drives = MemoryDrives::new(alloc);
+            let mut sink = RealSink::new(&rt);
+            run_words(alloc, words.as_slice(), &mut files, &mut drives, &mut sink)
+        }
+        Err(status) => status,
+    };
+    ending::report(&rt, status);
+    ExitCode::from(ending::number(status))
+}
+
+#[cfg(test)]
+mod tests;

@@ -1,0 +1,66 @@
+ghost use Rattle.std.specs.Prelude.{◌≡◌, ℕ, None, OnOk, OnErr};
+ghost use Rattle.std.specs.Io.KnownBytes.{Appends};
+
+use mpm_port::{Failed, Sink};
+use std::io::{Stdout, Write};
+use std::marker::Model;
+
+/// The standard output, which is written without a buffer: each put is a call of the system, and its fault is seen
+/// in that put.
+#[derive(Drop)]
+pub struct RealSink {
+    output: Stdout,
+    faults: u64,
+}
+
+impl Model for RealSink {
+    ghost use Rattle.std.specs.Prelude.{ℕ};
+
+    ghost Value = { ℕ };
+
+    ghost view = { λ s. s.faults };
+}
+
+impl RealSink {
+    /// No call has failed.
+    pub fn new(host: &HostRuntime) -> RealSink
+        ensures { result ≡ 0 }
+    {
+        RealSink {
+            output: host.stdout(),
+            faults: 0,
+        }
+    }
+}
+
+impl Sink for RealSink {
+    ghost written = { λ _. None };
+
+    ghost faults = { λ s. s };
+
+    fn put(&mut self, bytes: &[u8]) -> Result<(), Failed> {
+        let written = write_whole(&mut self.output, bytes);
+        if written.is_err() {
+            self.faults = self.faults.saturating_add(1);
+        }
+        written
+    }
+}
+
+/// Writes all the bytes. A write that takes nothing of them is a failure.
+#[tactic(auto, using(crate::proofs::Known::nothing_written, crate::proofs::Known::more_written, crate::proofs::Known::all_written))]
+fn write_whole<W: Write>(to: &mut W, bytes: &[u8]) -> Result<(), Failed>
+    ensures { OnOk result (Appends (W.contents to.old) (W.contents to.new) bytes.now) }
+{
+    let mut rest = bytes;
+    for _ in 0..u64::MAX {
+        if rest.is_empty() {
+            return Ok(());
+        }
+        match to.write(rest) {
+            Ok(0) | Err(_) => return Err(Failed),
+            Ok(count) => rest = &rest[count..],
+        }
+    }
+    Err(Failed)
+}

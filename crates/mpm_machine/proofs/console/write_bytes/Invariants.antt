@@ -1,0 +1,11 @@
+use Rattle.std.proofs.Common.{◌≡◌, take}
+use Rattle.mpm_machine.specs.Columns.{columns_after}
+use Rattle.mpm_machine.specs.Writing.{spoken, Showed}
+use Rattle.mpm_machine.proofs.console.write_bytes.Given as goal
+
+abbrev pub invariant-loop-byte : goal.invariant-loop-byte
+invariant-loop-byte g l = record {
+  column : l.column ≡ columns_after l.initial.column (take l.byte-index l.bytes);
+  shown : Showed l.initial.render (g.S.Sink.written l.initial.sink) l.render (g.S.Sink.written l.sink) (spoken (take l.byte-index l.bytes));
+  faults : g.S.Sink.faults l.sink ≡ g.S.Sink.faults l.initial.sink;
+}

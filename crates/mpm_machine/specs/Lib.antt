@@ -1,0 +1,5 @@
+pub mod Memory
+pub mod Columns
+pub mod Call
+pub mod Writing
+pub mod State

@@ -1,0 +1,4 @@
+pub mod DecimalLaws
+pub mod CommandLaws
+pub mod RunLaws
+pub mod Examples
