@@ -6,7 +6,8 @@ use Rattle.std.proofs.lemmas.List.{take-append-le, take-take}
 use Rattle.std.proofs.lemmas.Grind.{common_steps}
 use Rattle.mpm_port.specs.Texts.{Begins}
 use Rattle.mpm_port.specs.Fetches.{TakesWhole, TakesFirst, TakesPart}
-use Rattle.std.specs.Io.KnownBytes.{Appends, Consumes, IsAtEnd}
+use Rattle.std.specs.Io.KnownBytes.{Appends, Consumes, IsAtEnd, Keeps}
+use Rattle.mpm.specs.Known.{WritesPart}
 
 pub record Written (before now : Option (List ℕ)) (bytes rest : List ℕ) : Type 0 where
   pub done : List ℕ
@@ -33,6 +34,18 @@ more_written a b c bytes rest n w h within = record {
 pub all_written : (a b : Option (List ℕ)) (bytes rest : List ℕ) → Written a b bytes rest → rest ≡ [] → Appends a b bytes
 all_written a b bytes rest w h =
     let same : bytes ≡ w.done = grind (arith, common_steps, w.split) in rw same w.taken
+
+pub part_written : (a b : Option (List ℕ)) (bytes rest : List ℕ) → Written a b bytes rest → WritesPart a b bytes
+part_written a b bytes rest w = record { part = w.done; begins = record { rest = rest; whole_is = w.split }; taken = w.taken }
+
+appends_kept : (a b c : Option (List ℕ)) (xs : List ℕ) → Appends a b xs → Keeps b c → Appends a c xs
+appends_kept None b c xs h k = tt
+appends_kept (Some held) (Some more) (Some same) xs h k = k ∙ h
+appends_kept (Some held) (Some more) None xs h k = k
+appends_kept (Some held) None c xs h k = absurd h
+
+pub part_stays : (a b c : Option (List ℕ)) (bytes rest : List ℕ) → Written a b bytes rest → Keeps b c → WritesPart a c bytes
+part_stays a b c bytes rest w k = record { part = w.done; begins = record { rest = rest; whole_is = w.split }; taken = appends_kept a b c w.done w.taken k }
 
 pub record Taken (before now : Option (List ℕ)) (start out : List ℕ) (room limit : ℕ) : Type 0 where
   pub done : List ℕ
@@ -102,8 +115,9 @@ first_taken a b c start out room limit piece n t h k r =
       more = first.1;
     })
 
-pub part_taken : (a b : Option (List ℕ)) (start out : List ℕ) (room limit : ℕ) → Taken a b start out room limit → TakesPart a start out
+pub part_taken : (a b : Option (List ℕ)) (start out : List ℕ) (room limit : ℕ) → Taken a b start out room limit → TakesPart a limit start out
 part_taken a b start out room limit t = rw t.appended (record {
   kept = record { rest = t.done; whole_is = refl };
+  within = omega (arith, t.within, length-append start t.done);
   contents = part_of a b start t.done t.taken;
 })

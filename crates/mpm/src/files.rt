@@ -37,6 +37,8 @@ impl RealFiles {
 impl Files for RealFiles {
     ghost contents = { λ _ _. None };
 
+    ghost missing = { λ _ _. ⊥ };
+
     ghost failed_names = { λ f. f };
 
     fn fetch(

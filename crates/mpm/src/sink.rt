@@ -1,5 +1,6 @@
-ghost use Rattle.std.specs.Prelude.{◌≡◌, ℕ, None, OnOk, OnErr};
+ghost use Rattle.std.specs.Prelude.{◌≡◌, ◌+◌, ◌-◌, ◌^◌, min, ℕ, None, OnOk, OnErr};
 ghost use Rattle.std.specs.Io.KnownBytes.{Appends};
+ghost use Rattle.mpm.specs.Known.{WritesPart};
 
 use mpm_port::{Failed, Sink};
 use std::io::{Stdout, Write};
@@ -38,6 +39,11 @@ impl Sink for RealSink {
 
     ghost faults = { λ s. s };
 
+    ghost took = { λ old _ new. new ≡ old };
+
+    ghost dropped = { λ old _ new. new ≡ min (old + 1) (2 ^ 64 - 1) };
+
+    #[tactic(auto, using(mpm_port::proofs::Faults::rose))]
     fn put(&mut self, bytes: &[u8]) -> Result<(), Failed> {
         let written = write_whole(&mut self.output, bytes);
         if written.is_err() {
@@ -47,10 +53,12 @@ impl Sink for RealSink {
     }
 }
 
-/// Writes all the bytes. A write that takes nothing of them is a failure.
-#[tactic(auto, using(crate::proofs::Known::nothing_written, crate::proofs::Known::more_written, crate::proofs::Known::all_written))]
+/// Writes all the bytes. A write that takes nothing of them is a failure. A failed call has written some first part of
+/// them.
+#[tactic(auto, using(crate::proofs::Known::nothing_written, crate::proofs::Known::more_written, crate::proofs::Known::all_written, crate::proofs::Known::part_written, crate::proofs::Known::part_stays))]
 fn write_whole<W: Write>(to: &mut W, bytes: &[u8]) -> Result<(), Failed>
-    ensures { OnOk result (Appends (W.contents to.old) (W.contents to.new) bytes.now) }
+    ensures ok { OnOk result (Appends (W.contents to.old) (W.contents to.new) bytes.now) }
+    ensures err { OnErr result (WritesPart (W.contents to.old) (W.contents to.new) bytes.now) }
 {
     let mut rest = bytes;
     for _ in 0..u64::MAX {

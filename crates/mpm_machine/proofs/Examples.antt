@@ -9,7 +9,7 @@ use Rattle.mpm_machine.specs.Memory.{byte_at, port_byte, acted, zeros, base_page
 use Rattle.mpm_machine.specs.Columns.{column_after, columns_after, tab_text, expanded}
 use Rattle.mpm_machine.specs.Call.{string_from, console_text, answer_of, returned, illegal_text}
 use Rattle.mpm_machine.specs.Writing.{spoken}
-use Rattle.mpm_machine.specs.State.{State, speaking, called, instructed, performed, next, opening_registers}
+use Rattle.mpm_machine.specs.State.{State, speaking, called, instructed, process_change, next, opening_registers}
 
 -- the registers of a program at an address
 abbrev at : ℕ → Regs
@@ -22,7 +22,7 @@ state_of process memory =
 
 -- no process lives: a step only counts
 pub idle_step : (next (state_of None [])).core ≡ record { steps = 8; process = None; memory = []; column = 3 }
-unfolding next performed
+unfolding next process_change
 idle_step = refl
 
 -- a process in a HALT: R alone changes
@@ -33,7 +33,7 @@ halted_outcome = halted_rests (record (at 0) { halted = true }) (byte_at []) por
 
 pub halted_step : (next (state_of (Some (record (at 0) { halted = true })) [])).core
     ≡ record { steps = 8; process = Some (record (at 0) { halted = true; r = 1 }); memory = []; column = 3 }
-unfolding next performed instructed acted opening_registers
+unfolding next process_change instructed acted opening_registers
 halted_step = rw halted_outcome refl
 
 -- an opcode that isn't listed
@@ -46,12 +46,12 @@ pub unlisted_step : next (state_of (Some (at 0)) (237 ∷ 36 ∷ []))
       core = record { steps = 8; process = None; memory = 237 ∷ 36 ∷ []; column = 0 };
       outputs = spoken (codes "Illegal instruction at 0000" ++ (13 ∷ 10 ∷ []));
     }
-unfolding next performed instructed speaking illegal_text columns_after column_after spoken said opening_registers
+unfolding next process_change instructed speaking illegal_text columns_after column_after spoken said opening_registers
 unlisted_step = rw unlisted_outcome refl
 
 -- the gate that ends the process
 pub end_step : next (state_of (Some (at 48899)) []) ≡ record { core = record { steps = 8; process = None; memory = []; column = 3 }; outputs = [] }
-unfolding next performed opening_registers
+unfolding next process_change opening_registers
 end_step = refl
 
 -- the gate of calls, with the return address 1234h on the stack
@@ -69,7 +69,7 @@ pub letter_step : next (state_of (Some (calling 2 65)) (52 ∷ 18 ∷ []))
       };
       outputs = Said (Console 0) 65 ∷ [];
     }
-unfolding next performed called speaking console_text answer_of returned expanded tab_text columns_after column_after spoken said opening_registers
+unfolding next process_change called speaking console_text answer_of returned expanded tab_text columns_after column_after spoken said opening_registers
 letter_step = refl
 
 -- function 240 isn't there: it says nothing and answers FFFFh
@@ -83,12 +83,12 @@ pub unknown_step : next (state_of (Some (calling 240 65)) (52 ∷ 18 ∷ []))
       };
       outputs = [];
     }
-unfolding next performed called speaking console_text answer_of returned expanded tab_text columns_after column_after spoken said opening_registers
+unfolding next process_change called speaking console_text answer_of returned expanded tab_text columns_after column_after spoken said opening_registers
 unknown_step = refl
 
 -- function 0 ends the process
 pub terminate_step : (next (state_of (Some (calling 0 65)) (52 ∷ 18 ∷ []))).core ≡ record { steps = 8; process = None; memory = 52 ∷ 18 ∷ []; column = 3 }
-unfolding next performed called opening_registers
+unfolding next process_change called opening_registers
 terminate_step = refl
 
 -- tabs

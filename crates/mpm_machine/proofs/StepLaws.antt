@@ -5,11 +5,11 @@ use Rattle.z80_regs.specs.Outcome.{Outcome}
 use Rattle.mpm_render.specs.Outputs.{rendered}
 use Rattle.mpm_render.specs.Shown.{Kept, Shows, EndsBetween}
 use Rattle.mpm_machine.specs.Writing.{Showed, Stopped}
-use Rattle.mpm_machine.specs.State.{Core, State, Change, speaking, counted, called, instructed, performed, next, after, StandsFor, EndsInStep}
+use Rattle.mpm_machine.specs.State.{Core, State, Change, speaking, counted, called, instructed, process_change, next, after, StandsFor, EndsInStep}
 
 -- what a step makes of a core
 abbrev pub step_of : Core → Change
-step_of core = performed core.process (counted core)
+step_of core = process_change core.process (counted core)
 
 pub step_stands : (core : Core) (kept : Kept) (told : Option (List ℕ)) (core' : Core) (kept' : Kept) (told' : Option (List ℕ))
     (s : State) (first : Option (List ℕ)) → core' ≡ (step_of core).core → Showed kept told kept' told' (step_of core).news
@@ -45,10 +45,10 @@ unfolding instructed speaking
 instructed_steps None regs core = refl
 instructed_steps (Some outcome) regs core = refl
 
-pub performed_steps : (process : Option Regs) (core : Core) → (performed process core).core.steps ≡ core.steps
-unfolding performed
-performed_steps None core = refl
-performed_steps (Some regs) core =
+pub process_change_steps : (process : Option Regs) (core : Core) → (process_change process core).core.steps ≡ core.steps
+unfolding process_change
+process_change_steps None core = refl
+process_change_steps (Some regs) core =
     if_steps (regs.pc == 48899) _ _ core.steps refl
     (if_steps (regs.pc == 48902) _ _ core.steps (called_steps regs core) (instructed_steps _ regs core))
 

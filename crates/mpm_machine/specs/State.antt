@@ -58,9 +58,9 @@ instructed (Some outcome) regs core =
     silent (record core { process = Some outcome.registers; memory = acted outcome.actions core.memory })
 
 -- what a process does at these registers: BF03h ends it, BF06h is the kernel's gate, elsewhere an instruction stands
-unfoldable pub performed : Option Regs → Core → Change
-performed None core = silent core
-performed (Some regs) core =
+unfoldable pub process_change : Option Regs → Core → Change
+process_change None core = silent core
+process_change (Some regs) core =
     if regs.pc == 48899 then silent (ended core)
     else (if regs.pc == 48902 then called regs core
     else (instructed (instruction regs (byte_at core.memory) port_byte) regs core))
@@ -68,7 +68,7 @@ performed (Some regs) core =
 -- one step
 unfoldable pub next : State → State
 next s =
-    let change = performed s.core.process (counted s.core) in
+    let change = process_change s.core.process (counted s.core) in
     record { core = change.core; outputs = change.news ++ s.outputs }
 
 -- n steps

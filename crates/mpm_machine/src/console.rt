@@ -33,6 +33,7 @@ fn write_byte<S: Sink>(
     ensures ok { OnOk result (Showed render.old (S.written sink.old) render.new (S.written sink.new) (spoken (byte ∷ []))) }
     ensures err { OnErr result (Stopped render.old (S.written sink.old) (S.written sink.new) (spoken (byte ∷ []))) }
     ensures cause { HasCause (S.faults sink.old) (S.faults sink.new) result }
+    ensures trace { render.new.trace ≡ render.old.trace }
 {
     render.put(Unit2::Console { n: 0 }, byte, sink)?;
     *column = column_after(*column, byte);
@@ -50,6 +51,7 @@ pub(crate) fn write_bytes<S: Sink>(
     ensures ok { OnOk result (Showed render.old (S.written sink.old) render.new (S.written sink.new) (spoken bytes.now)) }
     ensures err { OnErr result (Stopped render.old (S.written sink.old) (S.written sink.new) (spoken bytes.now)) }
     ensures cause { HasCause (S.faults sink.old) (S.faults sink.new) result }
+    ensures trace { render.new.trace ≡ render.old.trace }
 {
     for &byte in bytes {
         write_byte(column, byte, render, sink)?;
@@ -64,6 +66,7 @@ fn write_tab<S: Sink>(column: &mut u16, render: &mut Render, sink: &mut S) -> Re
     ensures ok { OnOk result (Showed render.old (S.written sink.old) render.new (S.written sink.new) (spoken (replicate (8 - column.old % 8) 32))) }
     ensures err { OnErr result (Stopped render.old (S.written sink.old) (S.written sink.new) (spoken (replicate (8 - column.old % 8) 32))) }
     ensures cause { HasCause (S.faults sink.old) (S.faults sink.new) result }
+    ensures trace { render.new.trace ≡ render.old.trace }
 {
     let spaces = [b' '; 8];
     let count = 8 - usize::from(*column % 8);
@@ -82,6 +85,7 @@ pub(crate) fn write_tabbed<S: Sink>(
     ensures ok { OnOk result (Showed render.old (S.written sink.old) render.new (S.written sink.new) (spoken (tab_text column.old byte))) }
     ensures err { OnErr result (Stopped render.old (S.written sink.old) (S.written sink.new) (spoken (tab_text column.old byte))) }
     ensures cause { HasCause (S.faults sink.old) (S.faults sink.new) result }
+    ensures trace { render.new.trace ≡ render.old.trace }
 {
     if byte == b'\t' {
         write_tab(column, render, sink)
@@ -104,6 +108,7 @@ pub(crate) fn write_string<S: Sink>(
     ensures err { OnErr result (Stopped render.old (S.written sink.old) (S.written sink.new)
         (spoken (expanded column.old (string_from memory.now address 65536)))) }
     ensures cause { HasCause (S.faults sink.old) (S.faults sink.new) result }
+    ensures trace { render.new.trace ≡ render.old.trace }
 {
     for offset in 0..65_536u32 {
         let byte = memory.read(address.wrapping_add(offset as u16));
@@ -130,6 +135,7 @@ pub(crate) fn write_call<S: Sink>(
     ensures err { OnErr result (Stopped render.old (S.written sink.old) (S.written sink.new)
         (spoken (expanded column.old (console_text regs.now memory.now)))) }
     ensures cause { HasCause (S.faults sink.old) (S.faults sink.new) result }
+    ensures trace { render.new.trace ≡ render.old.trace }
 {
     match regs.c {
         2 => write_tabbed(column, regs.e, render, sink),

@@ -99,13 +99,14 @@ impl Machine {
     ghost use Rattle.mpm_render.specs.Shown.{EndsBetween};
     ghost use Rattle.mpm_machine.specs.Memory.{byte_at, port_byte};
     ghost use Rattle.mpm_machine.specs.Writing.{Showed, Stopped};
-    ghost use Rattle.mpm_machine.specs.State.{Core, State, Change, performed, called, instructed, counted, next, after, opening_core, StandsFor, EndsInStep};
+    ghost use Rattle.mpm_machine.specs.State.{Core, State, Change, process_change, called, instructed, counted, next, after, opening_core, StandsFor, EndsInStep};
 
     /// The machine as a program begins, of at most 48,512 bytes.
     #[tactic(auto, unfolding(crate::specs::State::opening_core, crate::specs::State::opening_registers))]
     pub fn boot_program(alloc: Global, program: &[u8]) -> Result<Machine, BootError>
         requires { length program.now ≤ 48512 }
-        ensures { IfOk result (λ machine. machine ≡ opening_core program.now) }
+        ensures opening { IfOk result (λ machine. machine ≡ opening_core program.now) }
+        ensures start { IfOk result (λ machine. machine.steps ≡ 0) }
     {
         match Memory::boot(alloc, program) {
             Ok(memory) => Ok(Machine {
@@ -132,7 +133,8 @@ impl Machine {
             → OnOk result (StandsFor self.new render.new (S.written sink.new) (next s) first) }
         ensures err { (s : State) (first : Option (List ℕ)) → StandsFor self.old render.old (S.written sink.old) s first
             → OnErr result (EndsBetween (S.written sink.new) first (rendered s.outputs) (rendered (next s).outputs)) }
-        ensures count { OnOk result (self.new.steps ≡ self.old.steps + 1) }
+        ensures count { self.new.steps ≡ self.old.steps + 1 }
+        ensures trace { render.new.trace ≡ render.old.trace }
         ensures cause { HasCause (S.faults sink.old) (S.faults sink.new) result }
     {
         self.steps += 1;
@@ -143,14 +145,16 @@ impl Machine {
     }
 
     /// What the process does in this step.
-    #[tactic(auto, unfolding(crate::specs::State::performed))]
+    #[tactic(auto, unfolding(crate::specs::State::process_change))]
     fn perform<S: Sink>(&mut self, render: &mut Render, sink: &mut S) -> Result<(), Failed>
-        ensures core { OnOk result (self.new ≡ (performed self.old.process self.old).core) }
+        ensures core { OnOk result (self.new ≡ (process_change self.old.process self.old).core) }
         ensures ok { OnOk result (Showed render.old (S.written sink.old) render.new (S.written sink.new)
-            (performed self.old.process self.old).news) }
+            (process_change self.old.process self.old).news) }
         ensures err { OnErr result (Stopped render.old (S.written sink.old) (S.written sink.new)
-            (performed self.old.process self.old).news) }
+            (process_change self.old.process self.old).news) }
         ensures cause { HasCause (S.faults sink.old) (S.faults sink.new) result }
+        ensures trace { render.new.trace ≡ render.old.trace }
+        ensures steps { self.new.steps ≡ self.old.steps }
     {
         let Some(regs) = &self.process else {
             return Ok(());
@@ -180,6 +184,8 @@ impl Machine {
         ensures ok { OnOk result (Showed render.old (S.written sink.old) render.new (S.written sink.new) (called regs.now self.old).news) }
         ensures err { OnErr result (Stopped render.old (S.written sink.old) (S.written sink.new) (called regs.now self.old).news) }
         ensures cause { HasCause (S.faults sink.old) (S.faults sink.new) result }
+        ensures trace { render.new.trace ≡ render.old.trace }
+        ensures steps { self.new.steps ≡ self.old.steps }
     {
         if regs.c == 0 {
             self.process = None;
@@ -200,6 +206,8 @@ impl Machine {
         ensures err { (regs : Regs) → self.old.process ≡ Some regs → OnErr result (Stopped render.old (S.written sink.old) (S.written sink.new)
             (instructed (instruction regs (byte_at self.old.memory) port_byte) regs self.old).news) }
         ensures cause { HasCause (S.faults sink.old) (S.faults sink.new) result }
+        ensures trace { render.new.trace ≡ render.old.trace }
+        ensures steps { self.new.steps ≡ self.old.steps }
     {
         let Some(regs) = &mut self.process else {
             return Ok(());
@@ -227,6 +235,8 @@ impl Machine {
         ensures err { (s : State) (first : Option (List ℕ)) → StandsFor self.old render.old (S.written sink.old) s first
             → IfErr result (λ fault. EndsInStep (S.written sink.new) first s n fault.step) }
         ensures count { OnOk result (self.new.steps ≡ self.old.steps + n) }
+        ensures fault { IfErr result (λ fault. fault.step ≡ self.new.steps) }
+        ensures trace { render.new.trace ≡ render.old.trace }
         ensures cause { HasCause (S.faults sink.old) (S.faults sink.new) result }
     {
         for done in 0..n {
@@ -245,6 +255,7 @@ impl Machine {
         ensures err { (s : State) (first : Option (List ℕ)) → StandsFor self.old render.old (S.written sink.old) s first
             → OnErr result (EndsBetween (S.written sink.new) first (rendered s.outputs) (closed s.outputs)) }
         ensures machine { self.new ≡ self.old }
+        ensures trace { render.new.trace ≡ render.old.trace }
         ensures cause { HasCause (S.faults sink.old) (S.faults sink.new) result }
     {
         match render.finish(sink) {

@@ -18,13 +18,14 @@ pub record TakesFirst (told : Option (List ℕ)) (limit : ℕ) (before after : L
   pub contents : MatchOption told ⊤ (λ file. after ≡ before ++ take limit file)
   pub more : MatchOption told ⊤ (λ file. limit < length file)
 
--- some first part of the contents was appended
-pub record TakesPart (told : Option (List ℕ)) (before after : List ℕ) : Type 0 where
+-- some first part of the contents was appended, of no more bytes than the limit
+pub record TakesPart (told : Option (List ℕ)) (limit : ℕ) (before after : List ℕ) : Type 0 where
   pub kept : Begins before after
+  pub within : length after ≤ length before + limit
   pub contents : MatchOption told ⊤ (λ file. Begins after (before ++ file))
 
 -- what each answer of a fetch says
 abbrev pub Fetches : Option (List ℕ) → ℕ → List ℕ → List ℕ → Result Fetched FetchError → Type 0
 Fetches told limit before after (Ok Whole) = TakesWhole told limit before after
 Fetches told limit before after (Ok Longer) = TakesFirst told limit before after
-Fetches told limit before after (Err refusal) = TakesPart told before after
+Fetches told limit before after (Err refusal) = TakesPart told limit before after

@@ -1,5 +1,6 @@
 -- The drives over memory.
-use Rattle.std.specs.Prelude.{◌≢◌, ℕ, List, [], Option, Some, option_map, unwrap_or, is_some, not, Bool, ◌||◌, if◌then◌else◌, length, Result, Ok, Err}
+use Rattle.std.specs.Prelude.{◌≡◌, ◌≢◌, ℕ, List, [], Option, Some, None, IsSomeAnd, option_map, unwrap_or, is_some, not, Bool, ◌||◌, if◌then◌else◌, length, Result, Ok, Err, IfSome}
+use Rattle.std.proofs.Common.{ap, subst}
 use Rattle.mpm_port.specs.Calls.{Calls, one_more, next_is_listed, after_call, listing}
 use Rattle.mpm_port.specs.Causes.{names_with}
 use Rattle.mpm_port.specs.Disks.{Disks, image_of, with_sector}
@@ -28,6 +29,16 @@ disks_of table = record { image = contents_of table.images; name_of = name_of_dr
 -- the size of an attached drive: attached images do not change their size
 abbrev pub size_of : MemoryDisks → ℕ → Option ℕ
 size_of table drive = option_map length (image_of (disks_of table) drive)
+
+sizes_found : (found : Option (List ℕ)) (bytes : ℕ) → option_map length found ≡ Some bytes → IsSomeAnd found (λ image. length image ≡ bytes)
+sizes_found None bytes h = subst (λ (size : Option ℕ). IfSome size (λ n. ⊥)) h tt
+sizes_found (Some image) bytes h = ap (λ size. unwrap_or size 0) h
+
+-- the size of an attached drive is that of its image
+pub sizes_told : (table : MemoryDisks) (told : Disks) (drive bytes : ℕ) → Some (disks_of table) ≡ Some told → size_of table drive ≡ Some bytes → IsSomeAnd (image_of told drive) (λ image. length image ≡ bytes)
+sizes_told table told drive bytes same size =
+    let P : Option Disks → Type 0 = λ t. IsSomeAnd t (λ disks. IsSomeAnd (image_of disks drive) (λ image. length image ≡ bytes)) in
+    subst P same (sizes_found (image_of (disks_of table) drive) bytes size)
 
 -- no drive is attached by this name
 abbrev pub IsFree : MemoryDisks → List ℕ → Type 0

@@ -1,4 +1,4 @@
-ghost use Rattle.std.specs.Prelude.{◌≡◌, ◌≢◌, ℕ, List, Option, Some, IsSome, IfOk, IfSome, OnOk, OnErr, ◌⊎◌};
+ghost use Rattle.std.specs.Prelude.{◌≡◌, ◌≢◌, ℕ, List, Option, Some, IsSome, IsSomeAnd, IfOk, IfSome, OnOk, OnErr, ◌⊎◌, length};
 ghost use Rattle.mpm_port.specs.Causes.{HasCause, names_after};
 ghost use Rattle.mpm_port.specs.Disks.{Disks, IsInside, SameDisks, Attaches, Writes, Told, image_of, sector_of};
 
@@ -64,4 +64,8 @@ pub trait Drives {
         ensures names { failed_names self.new ≡ failed_names self.old }
         ensures drives { (other : ℕ) → attached self.new other ≡ attached self.old other }
         ensures disks { Told SameDisks (disks self.old) (disks self.new) };
+
+    /// Where the images are told, an attached drive's is there, and has the size that the drive was attached with.
+    ghost sizes: { (drives : Self) (told : Disks) (drive bytes : ℕ) → disks drives ≡ Some told → attached drives drive ≡ Some bytes
+        → IsSomeAnd (image_of told drive) (λ image. length image ≡ bytes) };
 }

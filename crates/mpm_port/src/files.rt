@@ -1,4 +1,4 @@
-ghost use Rattle.std.specs.Prelude.{◌≡◌, ℕ, List, Option};
+ghost use Rattle.std.specs.Prelude.{◌≡◌, ◌↔◌, ℕ, List, Option, IsErr};
 ghost use Rattle.mpm_port.specs.Causes.{names_after};
 ghost use Rattle.mpm_port.specs.Fetches.{Fetches};
 
@@ -25,6 +25,9 @@ pub trait Files {
     /// What each file holds, where it is told; nothing is told of a missing file.
     ghost contents: { Self → List ℕ → Option (List ℕ) };
 
+    /// The file is told to be missing.
+    ghost missing: { Self → List ℕ → Type 0 };
+
     /// The names on which a call answered Failed, oldest first.
     ghost failed_names: { Self → List (List ℕ) };
 
@@ -32,5 +35,7 @@ pub trait Files {
     fn fetch(&mut self, name: &str, limit: usize, out: &mut Vec<u8>) -> Result<Fetched, FetchError>
         ensures bytes { Fetches (contents self.old name.now) limit out.old.items out.new.items result }
         ensures names { failed_names self.new ≡ names_after (failed_names self.old) name.now result }
+        ensures missing { missing self.old name.now → IsErr result }
+        ensures stays_missing { (other : List ℕ) → missing self.new other ↔ missing self.old other }
         ensures stays { (other : List ℕ) → contents self.new other ≡ contents self.old other };
 }

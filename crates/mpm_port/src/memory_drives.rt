@@ -2,7 +2,7 @@ ghost use Rattle.std.specs.Prelude.{◌≡◌, ◌≢◌, ◌⊎◌, ◌↔◌, 
 ghost use Rattle.mpm_port.specs.Calls.{next_is_listed};
 ghost use Rattle.mpm_port.specs.Causes.{HasCause, Rose, names_after};
 ghost use Rattle.mpm_port.specs.Disks.{IsInside, SameDisks, Attaches, Writes, Told, image_of, sector_of};
-ghost use Rattle.mpm_port.specs.MemoryDisks.{no_disks, disks_of, size_of, IsFree, with_image, listing_call, attach_fails, after_attach, after_access, after_write};
+ghost use Rattle.mpm_port.specs.MemoryDisks.{no_disks, disks_of, size_of, IsFree, with_image, listing_call, attach_fails, after_attach, after_access, after_write, sizes_told};
 ghost use Rattle.mpm_port.specs.Named.{contents_of};
 
 use crate::calls::Schedule;
@@ -68,8 +68,8 @@ impl MemoryDrives {
         self.calls.fail_at(call)
     }
 
-    #[tactic(auto, unfolding(crate::specs::MemoryDisks::after_access))]
     /// Counts a call, and says whether it is to fail; where it is, a fault is counted too.
+    #[tactic(auto, using(crate::proofs::Faults::rose), unfolding(crate::specs::MemoryDisks::after_access))]
     fn is_failing(&mut self) -> bool
         ensures after { self.new ≡ after_access self.old }
         ensures listed { result ≡ next_is_listed self.old.calls }
@@ -109,6 +109,8 @@ impl Drives for MemoryDrives {
     ghost faults = { λ d. d.faults };
 
     ghost failed_names = { λ d. d.failed };
+
+    ghost sizes = { sizes_told };
 
     #[tactic(auto, using(crate::proofs::Shelves::name_of_here, crate::proofs::Shelves::name_of_other), unfolding(crate::specs::MemoryDisks::after_attach, crate::specs::MemoryDisks::attach_fails))]
     fn attach(&mut self, drive: u8, name: &str) -> Result<(), FetchError>

@@ -1,4 +1,4 @@
-ghost use Rattle.std.specs.Prelude.{◌≡◌, ◌≢◌, ◌+◌, ◌≤◌, ℕ, List, Some, OnOk, Err, is_ok, IsOk, IsErr, IsTrue, false, if◌then◌else◌, vec_len, vec_capacity};
+ghost use Rattle.std.specs.Prelude.{◌≡◌, ◌≢◌, ◌+◌, ◌≤◌, ℕ, List, Some, None, ◌↔◌, OnOk, Err, is_ok, IsOk, IsErr, IsTrue, false, if◌then◌else◌, vec_len, vec_capacity};
 ghost use Rattle.mpm_port.specs.Causes.{names_after};
 ghost use Rattle.mpm_port.specs.Fetches.{Fetches};
 ghost use Rattle.mpm_port.specs.MemoryTable.{empty_table, with_file, listing_fetch, fetch_fails, after_fetch};
@@ -62,6 +62,8 @@ impl MemoryFiles {
 impl Files for MemoryFiles {
     ghost contents = { λ f. contents_of f.files };
 
+    ghost missing = { λ f name. contents_of f.files name ≡ None };
+
     ghost failed_names = { λ f. f.failed };
 
     #[tactic(auto, unfolding(crate::specs::MemoryTable::after_fetch, crate::specs::MemoryTable::fetch_fails))]
@@ -72,6 +74,8 @@ impl Files for MemoryFiles {
         ensures room { fetch_fails self.old name.now ≡ false → vec_len out.old + limit ≤ vec_capacity out.old → IsOk result }
         ensures bytes { Fetches (contents_of self.old.files name.now) limit out.old.items out.new.items result }
         ensures names { self.new.failed ≡ names_after self.old.failed name.now result }
+        ensures missing { contents_of self.old.files name.now ≡ None → IsErr result }
+        ensures stays_missing { (other : List ℕ) → (contents_of self.new.files other ≡ None) ↔ (contents_of self.old.files other ≡ None) }
         ensures stays { (other : List ℕ) → contents_of self.new.files other ≡ contents_of self.old.files other }
     {
         let listed = self.calls.begin();

@@ -1,4 +1,4 @@
-ghost use Rattle.std.specs.Prelude.{◌≡◌, ◌+◌, ◌≤◌, ◌↔◌, ℕ, List, Option, Some, OnOk, OnErr, IfOk, IsErr, IsTrue, is_ok, if◌then◌else◌, vec_capacity, length};
+ghost use Rattle.std.specs.Prelude.{◌≡◌, ◌+◌, ◌≤◌, ◌↔◌, ℕ, List, Option, Some, false, OnOk, OnErr, IfOk, IsErr, IsTrue, is_ok, if◌then◌else◌, vec_capacity, length};
 ghost use Rattle.mpm_port.specs.Causes.{HasCause};
 ghost use Rattle.mpm_port.specs.Texts.{appended, AppendsPart};
 ghost use Rattle.mpm_port.specs.MemoryText.{empty_text, put_fails, after_put, listing_put};
@@ -65,10 +65,16 @@ impl Sink for MemorySink {
 
     ghost faults = { λ s. s.faults };
 
-    #[tactic(auto, unfolding(crate::specs::MemoryText::after_put, crate::specs::MemoryText::put_fails))]
+    ghost took = { λ old bytes new. (put_fails old bytes ≡ false) × (new ≡ after_put old bytes) };
+
+    ghost dropped = { λ old bytes new. IsTrue (put_fails old bytes) × (new ≡ after_put old bytes) };
+
+    #[tactic(auto, using(crate::proofs::Faults::rose), unfolding(crate::specs::MemoryText::after_put, crate::specs::MemoryText::put_fails))]
     fn put(&mut self, bytes: &[u8]) -> Result<(), Failed>
         ensures after { self.new ≡ after_put self.old bytes.now }
         ensures fails { IsErr result ↔ IsTrue (put_fails self.old bytes.now) }
+        ensures took { OnOk result ((put_fails self.old bytes.now ≡ false) × (self.new ≡ after_put self.old bytes.now)) }
+        ensures dropped { OnErr result (IsTrue (put_fails self.old bytes.now) × (self.new ≡ after_put self.old bytes.now)) }
         ensures cause { HasCause self.old.faults self.new.faults result }
         ensures ok { OnOk result (Some self.new.text ≡ appended (Some self.old.text) bytes.now) }
         ensures err { OnErr result (AppendsPart (Some self.old.text) bytes.now (Some self.new.text)) }

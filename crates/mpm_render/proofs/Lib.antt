@@ -1,4 +1,5 @@
 pub mod Grows
 pub mod Laws
+pub mod Putting
 pub mod Closings
 pub mod Examples

@@ -1,5 +1,5 @@
 -- The lines of the output text: a label, the bytes as they are written, and how the line ends.
-use Rattle.std.specs.Prelude.{ℕ, ◌+◌, ◌/◌, ◌%◌, List, [], ◌∷◌, ◌++◌, ◌<◌, ◌==◌, ◌&&◌, nat_lt, nat_le, length, flat_map, codes, if◌then◌else◌}
+use Rattle.std.specs.Prelude.{ℕ, ◌+◌, ◌-◌, ◌/◌, ◌%◌, List, [], ◌∷◌, ◌++◌, ◌<◌, ◌==◌, ◌&&◌, nat_lt, nat_le, length, flat_map, codes, if◌then◌else◌}
 use Rattle.mpm_render.specs.declared.unit.Unit2.{Unit2}
 use Rattle.mpm_render.specs.declared.unit.Unit2.TheVariants.{Console, Printer}
 
@@ -32,7 +32,7 @@ escaped byte =
 
 -- the words before a line: the kind of its unit, the unit's number, a space
 abbrev pub label : ℕ → List ℕ
-label place = if nat_lt place 8 then 99 ∷ (48 + place) ∷ 32 ∷ [] else (108 ∷ (40 + place) ∷ 32 ∷ [])
+label place = if nat_lt place 8 then 99 ∷ (48 + place) ∷ 32 ∷ [] else (108 ∷ (48 + (place - 8)) ∷ 32 ∷ [])
 
 -- a line that an LF ended
 unfoldable pub ended_line : ℕ → List ℕ → List ℕ

@@ -2,7 +2,7 @@
 -- before a position is the list behind it.
 use Rattle.std.specs.Prelude.{ℕ, ◌%◌, List, [], ◌∷◌, ◌++◌, ◌==◌, take, reverse, length, flat_map, if◌then◌else◌}
 use Rattle.mpm_render.specs.declared.unit.Unit2.{Unit2}
-use Rattle.mpm_render.specs.Lines.{place_of, places, ended_line, cut_line}
+use Rattle.mpm_render.specs.Lines.{place_of, places, cut_line, text_with}
 
 -- a byte to a console or a printer
 pub data Output : Type 0 where
@@ -25,13 +25,9 @@ unfoldable pub pending : ℕ → List Output → List ℕ
 pending place outputs =
     let bytes = since_end place outputs in reverse (take (length bytes % 200) bytes)
 
--- what an output writes: an LF its unit's line, a 200th byte that line with itself, cut
+-- what an output writes, behind those before it
 unfoldable pub text_at : Output → List Output → List ℕ
-text_at (Said unit byte) before =
-    let place = place_of unit in
-    let kept = pending place before in
-    if byte == 10 then ended_line place kept
-    else (if length kept == 199 then cut_line place (kept ++ (byte ∷ [])) else [])
+text_at (Said unit byte) before = text_with (place_of unit) byte (pending (place_of unit) before)
 
 -- the text of the outputs
 unfoldable pub rendered : List Output → List ℕ

@@ -1,4 +1,4 @@
-ghost use Rattle.std.specs.Prelude.{◌≡◌, ℕ, ◌<◌, List, [], ◌∷◌, Option, OnOk, OnErr};
+ghost use Rattle.std.specs.Prelude.{◌≡◌, ◌≢◌, ℕ, ◌<◌, List, [], ◌∷◌, Option, OnOk, OnErr};
 ghost use Rattle.mpm_port.specs.Causes.{HasCause};
 ghost use Rattle.mpm_port.specs.Texts.{appended};
 
@@ -26,6 +26,7 @@ impl Render {
     ghost use Rattle.mpm_render.specs.Lines.{IsUnit};
     ghost use Rattle.mpm_render.specs.Outputs.{Output, Said, rendered, closed};
     ghost use Rattle.mpm_render.specs.Shown.{Shows, EndsBetween, line_of};
+    ghost use Rattle.mpm_render.specs.Puts.{PutsLine, PutsEach, StopsAt, text_put, texts_closed};
 
     /// Empty lines; `trace` says whether trace records are written.
     pub fn new(trace: bool) -> Render
@@ -39,13 +40,16 @@ impl Render {
     }
 
     /// Gives a byte to a console (below 8) or printer (below 4). An LF, or the 200th byte since the last end of line,
-    /// writes the line with one `put`. If that fails, the lines stay as they were.
+    /// writes the line with one `put`; any other byte puts nothing. If the `put` fails, the lines stay as they were.
     pub fn put<S: Sink>(&mut self, stream: Unit2, byte: u8, sink: &mut S) -> Result<(), Failed>
         requires { IsUnit stream }
         ensures ok { (os : List Output) (first : Option (List ℕ)) → Shows self.old (S.written sink.old) os first
             → OnOk result (Shows self.new (S.written sink.new) (Said stream byte ∷ os) first) }
         ensures err { (os : List Output) (first : Option (List ℕ)) → Shows self.old (S.written sink.old) os first
             → OnErr result (EndsBetween (S.written sink.new) first (rendered os) (rendered (Said stream byte ∷ os))) }
+        ensures puts { OnOk result (PutsLine S.took (text_put stream byte self.old) sink.old sink.new) }
+        ensures drops { OnErr result (S.dropped sink.old (text_put stream byte self.old) sink.new) }
+        ensures some { OnErr result (text_put stream byte self.old ≢ []) }
         ensures cause { HasCause (S.faults sink.old) (S.faults sink.new) result }
         ensures lines { OnErr result (self.new ≡ self.old) }
         ensures trace { self.new.trace ≡ self.old.trace }
@@ -55,12 +59,14 @@ impl Render {
         line.put(place, byte, sink)
     }
 
-    /// Writes each line that isn't empty, consoles first, by number, each with one `put`.
+    /// Writes each line that isn't empty, consoles first, by number, each with one `put`, up to the first that fails.
     pub fn finish<S: Sink>(&mut self, sink: &mut S) -> Result<(), Failed>
         ensures ok { (os : List Output) (first : Option (List ℕ)) → Shows self.old (S.written sink.old) os first
             → OnOk result (S.written sink.new ≡ appended first (closed os)) }
         ensures err { (os : List Output) (first : Option (List ℕ)) → Shows self.old (S.written sink.old) os first
             → OnErr result (EndsBetween (S.written sink.new) first (rendered os) (closed os)) }
+        ensures puts { OnOk result (PutsEach S.took (texts_closed self.old) sink.old sink.new) }
+        ensures stops { OnErr result (StopsAt S.took S.dropped (texts_closed self.old) sink.old sink.new) }
         ensures cause { HasCause (S.faults sink.old) (S.faults sink.new) result }
         ensures empty { OnOk result ((place : ℕ) → place < 12 → line_of self.new place ≡ []) }
         ensures trace { self.new.trace ≡ self.old.trace }

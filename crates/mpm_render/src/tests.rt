@@ -1,4 +1,4 @@
-ghost use Rattle.std.specs.Prelude.{ℕ, Option, Some, ◌≡◌, ◌≤◌, OnOk};
+ghost use Rattle.std.specs.Prelude.{ℕ, Option, Some, ◌≡◌, ◌≤◌, ◌+◌, ◌-◌, ◌^◌, min, OnOk};
 ghost use Rattle.mpm_port.specs.Texts.{appended};
 ghost use Rattle.mpm_render.specs.Lines.{IsUnit};
 
@@ -27,7 +27,11 @@ impl Sink for Paper {
 
     ghost faults = { λ sink. sink.faults };
 
-    #[tactic(auto, using(crate::proofs::Grows::appends_none))]
+    ghost took = { λ old _ new. new.puts ≡ min (old.puts + 1) (2 ^ 64 - 1) };
+
+    ghost dropped = { λ old _ new. new.puts ≡ min (old.puts + 1) (2 ^ 64 - 1) };
+
+    #[tactic(auto, using(crate::proofs::Grows::appends_none, mpm_port::proofs::Faults::rose))]
     fn put(&mut self, bytes: &[u8]) -> Result<(), Failed> {
         self.puts = self.puts.saturating_add(1);
         if bytes.len() > self.room || self.bytes.try_extend_from_slice(bytes).is_err() {

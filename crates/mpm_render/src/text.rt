@@ -1,5 +1,5 @@
 ghost use Rattle.std.specs.Prelude.{◌≡◌, ℕ, ◌+◌, ◌*◌, ◌/◌, ◌%◌, ◌<◌, ◌≤◌, List, [], ◌∷◌, ◌++◌, length, flat_map};
-ghost use Rattle.mpm_render.specs.Lines.{escaped, label, hex_digit};
+ghost use Rattle.mpm_render.specs.Lines.{escaped, label, hex_digit, cut_line};
 
 use arrayvec::ArrayVec;
 use std::marker::Model;
@@ -28,6 +28,20 @@ impl LineText {
         for byte in bytes {
             text.push_escaped(*byte);
         }
+        text
+    }
+
+    /// The text of a full line, cut: of a line's place, 0 to 11, its first 199 bytes and the last one.
+    #[tactic(auto, unfolding(crate::specs::Lines::cut_line))]
+    pub fn full(place: u8, bytes: &[u8], last: u8) -> LineText
+        requires place { place < 12 }
+        requires few { length bytes.now ≡ 199 }
+        ensures text { result ≡ cut_line place (bytes.now ++ (last ∷ [])) }
+        ensures size { 0 < length result }
+    {
+        let mut text = LineText::begin(place, bytes);
+        text.push_escaped(last);
+        text.cut();
         text
     }
 

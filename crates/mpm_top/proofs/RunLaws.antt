@@ -11,10 +11,6 @@ pub stands_opening : (core : Core) (kept : Kept) (told : Option (List ℕ)) (pro
 unfolding opening
 stands_opening core kept told program e shows = record { parts = e; shown = shows }
 
-pub opening_steps : (program : List ℕ) → (opening_core program).steps ≡ 0
-unfolding opening_core
-opening_steps program = refl
-
 pub stops_in_step : (s : State) (steps : ℕ) (first told : Option (List ℕ)) (step : ℕ) → EndsInStep told first s steps step → StopsAt s steps first told step
 stops_in_step s steps first told step h = inl h
 

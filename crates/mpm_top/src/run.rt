@@ -67,6 +67,8 @@ pub fn run_words<F: Files, D: Drives, S: Sink>(
     ensures read { (file : List ℕ) (steps : ℕ) → command_of (texts words.now) ≡ Some (Program file steps) → result ≡ Status.ReadFault
         → F.failed_names files.new ≡ F.failed_names files.old ++ (file ∷ []) }
     ensures names { result ≢ Status.ReadFault → F.failed_names files.new ≡ F.failed_names files.old }
+    ensures missing { (file : List ℕ) (steps : ℕ) → command_of (texts words.now) ≡ Some (Program file steps)
+        → F.missing files.old file → (result ≡ Status.ReadFault) ⊎ (result ≡ Status.OutOfMemory) }
 
     // WriteFault comes only where the sink's count rose, in the step and behind the text that it says.
     ensures write { (step : ℕ) → result ≡ Status.WriteFault step → Rose (S.faults sink.old) (S.faults sink.new) }
@@ -111,6 +113,7 @@ fn run_program<F: Files, S: Sink>(
         → (result ≡ Status.TooLong Input.ProgramBytes) ⊎ (result ≡ Status.OutOfMemory) }
     ensures read { result ≡ Status.ReadFault → F.failed_names files.new ≡ F.failed_names files.old ++ (file.now ∷ []) }
     ensures names { result ≢ Status.ReadFault → F.failed_names files.new ≡ F.failed_names files.old }
+    ensures missing { F.missing files.old file.now → (result ≡ Status.ReadFault) ⊎ (result ≡ Status.OutOfMemory) }
     ensures write { (step : ℕ) → result ≡ Status.WriteFault step → Rose (S.faults sink.old) (S.faults sink.new) }
     ensures write_text { (step : ℕ) → result ≡ Status.WriteFault step
         → WritesPart (F.contents files.old file.now) steps (S.written sink.old) (S.written sink.new) step }
@@ -133,7 +136,6 @@ fn run_program<F: Files, S: Sink>(
 }
 
 /// Boots a program and runs it for so many steps.
-#[tactic(auto, using(crate::proofs::RunLaws::opening_steps))]
 fn boot_and_run<S: Sink>(alloc: Global, program: &[u8], steps: u64, sink: &mut S) -> Status
     requires room { length program.now ≤ 48512 }
     requires limit { steps ≤ 4000000000 }

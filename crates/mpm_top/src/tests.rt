@@ -9,6 +9,9 @@ const HI: &[u8] = b"\x0E\x09\x11\x0D\x01\xCD\x05\x00\x0E\x00\xCD\x05\x00Hi\r\n$"
 /// Says `A` by function 2 and ends by function 0.
 const LETTER: &[u8] = b"\x0E\x02\x1E\x41\xCD\x05\x00\x0E\x00\xCD\x05\x00";
 
+/// Says the sum of 06h and 3Bh, an `A`, by function 2 and ends by function 0.
+const SUM: &[u8] = b"\x3E\x06\xC6\x3B\x5F\x0E\x02\xCD\x05\x00\x0E\x00\xCD\x05\x00";
+
 /// Says a string with a tab at column 2 by function 9.
 const TAB_IN_STRING: &[u8] = b"\x0E\x09\x11\x08\x01\xCD\x05\x00ab\tc$";
 
@@ -48,7 +51,7 @@ fn run(
 
 #[test]
 fn programs_write_their_text(rt: HostRuntime) -> Result<(), Fail> {
-    let rows: [(&[u8], &str, &[u8]); 9] = [
+    let rows: [(&[u8], &str, &[u8]); 10] = [
         (HI, "9", b"c0 Hi\\r\n"),
         (HI, "5", b"c0 Hi\\r\n"),
         (HI, "4", b""),
@@ -56,6 +59,7 @@ fn programs_write_their_text(rt: HostRuntime) -> Result<(), Fail> {
         (b"\xDD\x24", "3", b"c0 Illegal instruction at 0100\\r\n"),
         (b"", "50000", b""),
         (LETTER, "9", b"c0 A\\\n"),
+        (SUM, "11", b"c0 A\\\n"),
         (TAB_IN_STRING, "5", b"c0 ab      c\\\n"),
         (TAB_ALONE, "5", b"c0         \\\n"),
     ];

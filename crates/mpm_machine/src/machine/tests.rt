@@ -7,7 +7,6 @@ use std::test::Fail;
 /// LD C,F0h; CALL 0005h.
 const UNKNOWN_FUNCTION: &[u8] = b"\x0E\xF0\xCD\x05\x00";
 
-#[tactic(auto, unfolding(crate::specs::State::opening_core))]
 #[test]
 fn an_unknown_function_answers_ffff(rt: HostRuntime) -> Result<(), Fail> {
     let mut machine = Machine::boot_program(rt.alloc(), UNKNOWN_FUNCTION)?;

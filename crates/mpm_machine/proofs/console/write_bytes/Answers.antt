@@ -6,7 +6,7 @@ use Rattle.mpm_machine.proofs.WritingLaws.{spoke_nothing, spoke_more, stopped_mo
 use Rattle.mpm_machine.proofs.console.write_bytes.Goals as goal
 
 pub loop-byte-init : goal.loop-byte-init
-loop-byte-init g c = record { column = sym (columns_nil _); shown = spoke_nothing _ _; faults = refl }
+loop-byte-init g c = record { column = sym (columns_nil _); shown = spoke_nothing _ _; faults = refl; trace = refl }
 
 pub loop-byte-preserved : goal.loop-byte-preserved
 loop-byte-preserved g c =
@@ -21,6 +21,7 @@ loop-byte-preserved g c =
           ∙ ap (columns_after c.args.column.now) (sym more);
       shown = spoke_more _ _ _ _ _ _ (take i bytes) (byte ∷ []) _ more c.loop-byte.invariant.shown c.in_ok-write_byte.ensures.ok;
       faults = c.in_ok-write_byte.ensures.cause.stays ∙ c.loop-byte.invariant.faults;
+      trace = c.in_ok-write_byte.ensures.trace ∙ c.loop-byte.invariant.trace;
     }
 
 pub returns-in_err-write_byte-clause-err : goal.returns-in_err-write_byte-clause-err

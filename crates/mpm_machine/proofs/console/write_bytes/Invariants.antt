@@ -8,4 +8,5 @@ invariant-loop-byte g l = record {
   column : l.column ≡ columns_after l.initial.column (take l.byte-index l.bytes);
   shown : Showed l.initial.render (g.S.Sink.written l.initial.sink) l.render (g.S.Sink.written l.sink) (spoken (take l.byte-index l.bytes));
   faults : g.S.Sink.faults l.sink ≡ g.S.Sink.faults l.initial.sink;
+  trace : l.render.trace ≡ l.initial.render.trace;
 }

@@ -10,7 +10,7 @@ loop-offset-init g c =
     let start : onward c.args.address 0 ≡ c.args.address = onward_nothing c.args.address (omega arith) in
     let P : ℕ → Type 0 = λ a. WrittenTo c.args.render.now (g.S.Sink.written c.args.sink.now) c.args.column.now c.args.render.now (g.S.Sink.written c.args.sink.now) c.args.column.now
     (string_from c.args.memory.now c.args.address 65536) (string_from c.args.memory.now a 65536) in
-    record { written = subst P (sym start) (written_nothing _ _ _ _); faults = refl }
+    record { written = subst P (sym start) (written_nothing _ _ _ _); faults = refl; trace = refl }
 
 pub loop-offset-preserved : goal.loop-offset-preserved
 loop-offset-preserved g c =
@@ -28,6 +28,7 @@ loop-offset-preserved g c =
           ∙ ap (λ b. b ∷ string_from c.args.memory.now (onward c.args.address (c.loop-offset.offset + 1)) (65536 - (c.loop-offset.offset + 1))) (sym byte))
           c.loop-offset.invariant.written c.in_ok-write_tabbed.ensures.column c.in_ok-write_tabbed.ensures.ok;
       faults = c.in_ok-write_tabbed.ensures.cause.stays ∙ c.loop-offset.invariant.faults;
+      trace = c.in_ok-write_tabbed.ensures.trace ∙ c.loop-offset.invariant.trace;
     }
 
 pub returns-in_err-write_tabbed-clause-err : goal.returns-in_err-write_tabbed-clause-err

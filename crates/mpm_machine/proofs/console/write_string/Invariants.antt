@@ -9,4 +9,5 @@ invariant-loop-offset g l = record {
   written : WrittenTo l.initial.render (g.S.Sink.written l.initial.sink) l.initial.column l.render (g.S.Sink.written l.sink) l.column
       (string_from l.memory l.address 65536) (string_from l.memory (onward l.address l.offset) (65536 - l.offset));
   faults : g.S.Sink.faults l.sink ≡ g.S.Sink.faults l.initial.sink;
+  trace : l.render.trace ≡ l.initial.render.trace;
 }

@@ -10,6 +10,7 @@ loop-done-init g c = record {
       subst P (sym (after_nothing s)) stands;
   steps = omega arith;
   faults = refl;
+  trace = refl;
 }
 
 pub loop-done-preserved : goal.loop-done-preserved
@@ -20,6 +21,7 @@ loop-done-preserved g c = record {
       (c.in_default.ensures.ok (after c.loop-done.done s) first (c.loop-done.invariant.stands s first stands));
   steps = omega (arith, c.in_default.ensures.count, c.loop-done.invariant.steps);
   faults = c.in_default.ensures.cause.stays ∙ c.loop-done.invariant.faults;
+  trace = c.in_default.ensures.trace ∙ c.loop-done.invariant.trace;
 }
 
 pub returns-in-Err-clause-err : goal.returns-in-Err-clause-err

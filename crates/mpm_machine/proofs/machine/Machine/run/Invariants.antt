@@ -8,4 +8,5 @@ invariant-loop-done g l = record {
       → StandsFor l.self l.render (g.S.Sink.written l.sink) (after l.done s) first;
   steps : l.self.steps ≡ l.initial.self.steps + l.done;
   faults : g.S.Sink.faults l.sink ≡ g.S.Sink.faults l.initial.sink;
+  trace : l.render.trace ≡ l.initial.render.trace;
 }

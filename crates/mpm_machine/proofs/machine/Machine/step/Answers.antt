@@ -1,7 +1,7 @@
 use Rattle.std.proofs.Common.{◌∙◌, ap, subst, ℕ}
 use Rattle.mpm_machine.specs.Writing.{Showed, Stopped}
 use Rattle.mpm_machine.specs.State.{Core, counted}
-use Rattle.mpm_machine.proofs.StepLaws.{step_of, step_stands, step_stops, performed_steps}
+use Rattle.mpm_machine.proofs.StepLaws.{step_of, step_stands, step_stops, process_change_steps}
 use Rattle.mpm_machine.proofs.machine.Machine.step.Goals as goal
 
 pub returns-in-Ok-clause-ok : goal.returns-in-Ok-clause-ok
@@ -16,7 +16,7 @@ pub returns-in-Ok-clause-count : goal.returns-in-Ok-clause-count
 returns-in-Ok-clause-count g c =
     let steps : Core → ℕ = λ core. core.steps in
     ap steps (c.in-Ok.ensures.core ∙ ap (λ core. (step_of core).core) c.self.view_is)
-    ∙ performed_steps c.args.self.now.process (counted c.args.self.now)
+    ∙ process_change_steps c.args.self.now.process (counted c.args.self.now)
 
 pub returns-in-Err-clause-err : goal.returns-in-Err-clause-err
 returns-in-Err-clause-err g c s first stands =

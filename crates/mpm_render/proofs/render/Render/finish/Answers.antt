@@ -1,14 +1,17 @@
-use Rattle.std.proofs.Common.{◌≡◌, ◌<◌, [], length, refl, sym, ap, ◌∙◌, arith, rules}
+use Rattle.std.proofs.Common.{◌≡◌, ◌<◌, [], length, refl, sym, ap, ◌∙◌, ℕ, List, take, subst, arith, rules}
 use Rattle.std.proofs.lemmas.List.{get_or_default, get_or-set_other}
 use Rattle.mpm_port.specs.Texts.{appended}
 use Rattle.mpm_render.specs.Shown.{line_of}
 use Rattle.mpm_render.proofs.Grows.{appended_nil}
+use Rattle.mpm_render.specs.Puts.{PutsEach, texts_closed}
+use Rattle.mpm_render.proofs.Putting.{each_none, each_closed, stops_closed, all_texts}
 use Rattle.mpm_render.proofs.Closings.{closings, closings_none, none_below, told_closed, err_closed, written_more}
 use Rattle.mpm_render.proofs.render.Render.finish.Goals as goal
 
 pub loop-place-init : goal.loop-place-init
 loop-place-init g c = record {
   written = sym (ap (appended _) (closings_none (line_of c.args.self.now)) ∙ appended_nil _);
+  puts = each_none g.S.Sink.took (texts_closed c.args.self.now) c.args.sink.now;
   faults = refl;
   trace = ap (λ kept. kept.trace) c.self.view_is;
   below = λ place h. absurd (omega arith);
@@ -35,6 +38,7 @@ loop-place-preserved g c =
     let inside : place < length lines = omega arith in
     record {
       written = written_more c.args.self.now _ _ _ place _ (get_or_default lines place c.index-self-place.result [] inside ∙ inv.above place (omega arith)) inv.written c.in_ok-close.ensures.ok;
+      puts = each_closed g.S.Sink.took c.args.self.now place _ _ _ _ small (get_or_default lines place c.index-self-place.result [] inside ∙ inv.above place (omega arith)) inv.puts c.in_ok-close.ensures.puts;
       faults = c.in_ok-close.ensures.cause.stays ∙ inv.faults;
       trace = inv.trace;
       below = none_below lines place _ inside c.in_ok-close.ensures.line inv.below;
@@ -46,3 +50,19 @@ returns-clause-ok g c os first s =
     let inv = c.loop-place.invariant in
     let all : c.loop-place.place ≡ 12 = omega arith in
     told_closed c.args.self.now _ _ first os (inv.written ∙ ap (λ n. appended (g.S.Sink.written c.args.sink.now) (closings (line_of c.args.self.now) n)) all) s
+
+pub returns-in_err-close-clause-stops : goal.returns-in_err-close-clause-stops
+returns-in_err-close-clause-stops g c =
+    let inv = c.loop-place.invariant in
+    let place = c.loop-place.place in
+    let lines = c.loop-place.self-inside.lines in
+    let small : place < 12 = omega arith in
+    let twelve : length lines ≡ 12 = search rules in
+    let inside : place < length lines = omega arith in
+    stops_closed c.from_residual.result g.S.Sink.took g.S.Sink.dropped c.args.self.now place _ _ _ _ small (get_or_default lines place c.index-self-place.result [] inside ∙ inv.above place (omega arith)) inv.puts c.in_err-close.ensures.some c.in_err-close.ensures.drops
+
+pub returns-clause-puts : goal.returns-clause-puts
+returns-clause-puts g c =
+    let all : c.loop-place.place ≡ 12 = omega arith in
+    let P : List (List ℕ) → Type 0 = λ texts. PutsEach g.S.Sink.took texts c.args.sink.now c.loop-place.sink in
+    subst P (ap (λ n. take n (texts_closed c.args.self.now)) all ∙ all_texts c.args.self.now) c.loop-place.invariant.puts

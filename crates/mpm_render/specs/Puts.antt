@@ -1,0 +1,33 @@
+-- The puts of a sink that write lines, by what a put leaves of it.
+use Rattle.std.specs.Prelude.{◌≡◌, ◌≢◌, ℕ, ◌<◌, List, [], ◌∷◌, length, take, map, slice_index_or}
+use Rattle.mpm_render.specs.declared.unit.Unit2.{Unit2}
+use Rattle.mpm_render.specs.Lines.{place_of, places, text_with}
+use Rattle.mpm_render.specs.Outputs.{closing}
+use Rattle.mpm_render.specs.Shown.{Kept, line_of}
+
+-- a text by one put; where there is no text, nothing is put
+unfoldable pub PutsLine : {S : Type 0} → (S → List ℕ → S → Type 0) → List ℕ → S → S → Type 0
+PutsLine took [] old new = new ≡ old
+PutsLine took (byte ∷ text) old new = took old (byte ∷ text) new
+
+-- the texts that aren't empty in order, each by one put
+unfoldable pub PutsEach : {S : Type 0} → (S → List ℕ → S → Type 0) → List (List ℕ) → S → S → Type 0
+PutsEach took [] old new = new ≡ old
+PutsEach took (text ∷ texts) old new = (middle : _) × PutsLine took text old middle × PutsEach took texts middle new
+
+-- the texts before one of the texts were put so, and the put of that one failed
+pub record StopsAt {S : Type 0} (took dropped : S → List ℕ → S → Type 0) (texts : List (List ℕ)) (old new : S) : Type 0 where
+  pub number : ℕ
+  pub inside : number < length texts
+  pub middle : S
+  pub before : PutsEach took (take number texts) old middle
+  pub some : slice_index_or texts number [] ≢ []
+  pub failed : dropped middle (slice_index_or texts number []) new
+
+-- what a byte to a console or a printer writes, behind the unfinished line that is kept of it
+abbrev pub text_put : Unit2 → ℕ → Kept → List ℕ
+text_put unit byte kept = text_with (place_of unit) byte (line_of kept (place_of unit))
+
+-- what closing writes of each place, in order
+abbrev pub texts_closed : Kept → List (List ℕ)
+texts_closed kept = map (λ place. closing place (line_of kept place)) places
