@@ -6,8 +6,7 @@ use mpm_port::{Failed, Sink};
 use std::io::{Stdout, Write};
 use std::marker::Model;
 
-/// The standard output, which is written without a buffer: each put is a call of the system, and its fault is seen
-/// in that put.
+/// The standard output, which is written without a buffer: a fault is seen in the put that meets it.
 #[derive(Drop)]
 pub struct RealSink {
     output: Stdout,

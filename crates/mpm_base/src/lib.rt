@@ -1,0 +1,9 @@
+//! Plain values of the system that several crates name.
+#![tactic(auto)]
+
+mod kind;
+
+pub use kind::Kind;
+
+#[cfg(test)]
+mod tests;

@@ -1,0 +1,58 @@
+-- A block that is claimed or freed: what is free then, and how many are.
+use Rattle.std.proofs.Common.{◌≡◌, ◌≢◌, ℕ, ◌+◌, ◌<◌, Bool, true, false, not, cond, Some, length, get_or, ap, arith, refl, sym}
+use Rattle.std.proofs.lemmas.Bool.{false≢true}
+use Rattle.std.proofs.lemmas.List.{get_or-set_same, get_or-set_other}
+use Rattle.std.proofs.lemmas.List.Quantifiers.{position-Some}
+use Rattle.std.proofs.lemmas.List.Sums.{sum_by-set}
+use Rattle.mpm_blocks.specs.Maps.{Blocks, is_used, least_of, free_count, claimed, freed}
+
+not_true_only : (b : Bool) → not b ≡ true → b ≡ false
+not_true_only true h = absurd (false≢true h)
+not_true_only false h = refl
+
+not_false_only : (b : Bool) → not b ≡ false → b ≡ true
+not_false_only true h = refl
+not_false_only false h = absurd (false≢true (sym h))
+
+pub claimed_is_used : (blocks : Blocks) (block : ℕ) → block < length blocks.used → is_used (claimed blocks block) block ≡ true
+claimed_is_used blocks block h = get_or-set_same blocks.used block true true h
+
+pub freed_is_free : (blocks : Blocks) (block : ℕ) → block < length blocks.used → is_used (freed blocks block) block ≡ false
+freed_is_free blocks block h = get_or-set_same blocks.used block false true h
+
+pub claimed_keeps_others : (blocks : Blocks) (block other : ℕ) → other ≢ block → is_used (claimed blocks block) other ≡ is_used blocks other
+claimed_keeps_others blocks block other apart = get_or-set_other blocks.used block other true true apart
+
+pub freed_keeps_others : (blocks : Blocks) (block other : ℕ) → other ≢ block → is_used (freed blocks block) other ≡ is_used blocks other
+freed_keeps_others blocks block other apart = get_or-set_other blocks.used block other false true apart
+
+-- what a place adds to the count
+abbrev free_bit : Bool → ℕ
+free_bit used = cond (not used) 1 0
+
+one_less : (a b c : ℕ) → a + c ≡ b + 0 → c ≡ 1 → a + 1 ≡ b
+one_less a b c h k = omega arith
+
+one_more : (a b c : ℕ) → a + c ≡ b + 1 → c ≡ 0 → a ≡ b + 1
+one_more a b c h k = omega arith
+
+-- a free block that is claimed leaves one less
+pub claimed_count : (blocks : Blocks) (block : ℕ) → block < length blocks.used → is_used blocks block ≡ false → free_count (claimed blocks block) + 1 ≡ free_count blocks
+claimed_count blocks block h was_free =
+    one_less _ _ (free_bit (get_or blocks.used block true)) (sum_by-set free_bit blocks.used block true true h) (ap free_bit was_free)
+
+-- a used block that is freed leaves one more
+pub freed_count : (blocks : Blocks) (block : ℕ) → block < length blocks.used → is_used blocks block ≡ true → free_count (freed blocks block) ≡ free_count blocks + 1
+freed_count blocks block h was_used =
+    one_more _ _ (free_bit (get_or blocks.used block true)) (sum_by-set free_bit blocks.used block false true h) (ap free_bit was_used)
+
+-- the lowest free block is one of the disk's
+pub least_within : (blocks : Blocks) (block : ℕ) → least_of blocks ≡ Some block → block < length blocks.used
+least_within blocks block found = (position-Some not blocks.used block true found).0
+
+-- it is free, and each block below it is used
+pub least_is_free : (blocks : Blocks) (block : ℕ) → least_of blocks ≡ Some block → is_used blocks block ≡ false
+least_is_free blocks block found = not_true_only (is_used blocks block) ((position-Some not blocks.used block true found).1)
+
+pub below_least : (blocks : Blocks) (block other : ℕ) → least_of blocks ≡ Some block → other < block → is_used blocks other ≡ true
+below_least blocks block other found below = not_false_only (is_used blocks other) ((position-Some not blocks.used block true found).2 other below)

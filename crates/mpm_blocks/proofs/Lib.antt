@@ -1,0 +1,6 @@
+pub mod Skew
+pub mod Positions
+pub mod Sizes
+pub mod UsedTo
+pub mod Laws
+pub mod Examples

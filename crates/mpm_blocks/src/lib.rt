@@ -1,0 +1,17 @@
+//! The geometries of disks: their sizes, where their sectors are in an image, and which of their blocks are used. (CP/M
+//! Alteration Guide, "Disk Parameter Tables".)
+#![tactic(auto)]
+
+mod blocks;
+mod disk;
+mod parameters;
+
+pub use blocks::BlockMap;
+pub use disk::{geometry, place};
+pub use parameters::Geometry;
+
+/// No memory was found: the allocator's own error.
+pub use std::alloc::AllocError as OutOfMemory;
+
+#[cfg(test)]
+mod tests;

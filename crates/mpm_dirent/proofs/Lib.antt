@@ -1,0 +1,4 @@
+pub mod Maps
+pub mod Sorts
+pub mod Back
+pub mod Examples

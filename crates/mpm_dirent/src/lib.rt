@@ -1,0 +1,14 @@
+//! Directory entries of 32 bytes: what the bytes mean, and the bytes of an entry. (MP/M II Programmer's Guide, "Directory
+//! Entries" and "Extended File Control Blocks".)
+#![tactic(auto)]
+
+mod kinds;
+mod read;
+mod write;
+
+pub use kinds::{Entry, FileEntry, LabelEntry, XfcbEntry};
+pub use read::read_entry;
+pub use write::write_entry;
+
+#[cfg(test)]
+mod tests;
