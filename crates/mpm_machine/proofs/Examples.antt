@@ -39,7 +39,7 @@ halted_step = rw halted_outcome refl
 -- an opcode that isn't listed
 unlisted_outcome : instruction (at 0) (byte_at (237 ∷ 36 ∷ [])) port_byte ≡ None
 unfolding opening_registers
-unlisted_outcome = unlisted (at 0) (byte_at (237 ∷ 36 ∷ [])) port_byte refl refl
+unlisted_outcome = unlisted (at 0) (byte_at (237 ∷ 36 ∷ [])) port_byte refl refl refl
 
 pub unlisted_step : next (state_of (Some (at 0)) (237 ∷ 36 ∷ []))
     ≡ record {

@@ -1,4 +1,5 @@
 pub mod Fields
 pub mod StackPairs
 pub mod Opcodes
+pub mod PageOpcodes
 pub mod Decoding

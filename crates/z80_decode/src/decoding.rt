@@ -1,9 +1,25 @@
-ghost use Rattle.std.specs.Prelude.{◌≡◌};
-ghost use Rattle.z80_decode.specs.Decoding.{tail_of, instr_with, instr_of};
+ghost use Rattle.std.specs.Prelude.{◌≡◌, ◌<◌, ℕ, IfSome};
+ghost use Rattle.z80_decode.specs.Decoding.{
+  tail_of,
+  extended_tail_of,
+  index_tail_of,
+  instr_with,
+  bit_instr_by,
+  extended_instr_by,
+  index_instr_by,
+  index_bit_instr_by,
+  index_instr_of,
+  prefixed_instr_of,
+  main_instr_of,
+  instr_of,
+};
+ghost use Rattle.z80_decode.specs.PageOpcodes.{bit_form_of, extended_form_of, index_form_of};
 
 use crate::forms::{Form, Tail};
 use crate::instr::{Instr, Page};
 use crate::opcodes::main_form;
+use crate::page_forms::{ExtendedForm, IndexForm};
+use crate::page_opcodes::{bit_form, extended_form, index_form};
 
 /// What stands behind the opcode in a form.
 #[inline(always)]
@@ -19,36 +35,140 @@ fn tail(form: Form) -> Tail
     }
 }
 
-/// The instruction of an opcode, and of the two bytes behind it.
+/// What stands behind the opcode in a form behind EDh.
+fn extended_tail(form: ExtendedForm) -> Tail
+    ensures { result ≡ extended_tail_of form }
+{
+    match form {
+        ExtendedForm::StorePair(_) | ExtendedForm::LoadPair(_) => Tail::Word,
+        _ => Tail::Nothing,
+    }
+}
+
+/// What stands behind the opcode in a form behind DDh and FDh.
+fn index_tail(form: IndexForm) -> Tail
+    ensures { result ≡ index_tail_of form }
+{
+    match form {
+        IndexForm::LoadNumber | IndexForm::Store | IndexForm::Load => Tail::Word,
+        IndexForm::IncrementAt | IndexForm::DecrementAt => Tail::Displacement,
+        IndexForm::LoadFrom(_) | IndexForm::StoreTo(_) => Tail::Displacement,
+        IndexForm::Calculate(_) => Tail::Displacement,
+        IndexForm::StoreNumber => Tail::DisplacementByte,
+        _ => Tail::Nothing,
+    }
+}
+
+/// The instruction of a page whose opcode is its byte of a number, from 1, and of the two bytes behind the opcode.
 #[inline(always)]
-fn assemble(tail: Tail, opcode: u8, first: u8, second: u8) -> Instr
-    ensures { result ≡ instr_with tail opcode first second }
+fn assemble(tail: Tail, page: Page, place: u8, opcode: u8, first: u8, second: u8) -> Instr
+    requires { place < 254 }
+    ensures { result ≡ instr_with tail page place opcode first second }
 {
     let (length, displacement, operand) = match tail {
-        Tail::Nothing => (1, 0, 0),
-        Tail::Byte => (2, 0, u16::from(first)),
-        Tail::Word => (3, 0, u16::from_le_bytes([first, second])),
-        Tail::Displacement => (2, first, 0),
+        Tail::Nothing => (place, 0, 0),
+        Tail::Byte => (place + 1, 0, u16::from(first)),
+        Tail::Word => (place + 2, 0, u16::from_le_bytes([first, second])),
+        Tail::Displacement => (place + 1, first, 0),
+        Tail::DisplacementByte => (place + 2, first, u16::from(second)),
     };
     Instr {
         length,
-        page: Page::Main,
+        page,
         opcode,
         displacement,
         operand,
     }
 }
 
+/// The instruction behind CBh.
+fn decode_bits(opcode: u8) -> Option<Instr>
+    ensures { result ≡ bit_instr_by (bit_form_of opcode) opcode }
+{
+    match bit_form(opcode) {
+        None => None,
+        Some(_) => Some(assemble(Tail::Nothing, Page::Cb, 2, opcode, 0, 0)),
+    }
+}
+
+/// The instruction behind EDh.
+fn decode_extended(opcode: u8, first: u8, second: u8) -> Option<Instr>
+    ensures { result ≡ extended_instr_by (extended_form_of opcode) opcode first second }
+{
+    match extended_form(opcode) {
+        None => None,
+        Some(form) => Some(assemble(extended_tail(form), Page::Ed, 2, opcode, first, second)),
+    }
+}
+
+/// The instruction behind DDh CBh or FDh CBh: the displacement, then the opcode.
+fn decode_index_bits(page: Page, displacement: u8, opcode: u8) -> Option<Instr>
+    ensures { result ≡ index_bit_instr_by (bit_form_of opcode) page displacement opcode }
+{
+    match bit_form(opcode) {
+        Some(_) if opcode % 8 == 6 => Some(Instr {
+            length: 4,
+            page,
+            opcode,
+            displacement,
+            operand: 0,
+        }),
+        _ => None,
+    }
+}
+
+/// The instruction behind DDh or FDh, by its page and the page that a CBh opens.
+#[tactic(auto, unfolding(crate::specs::Decoding::index_instr_of))]
+fn decode_index(page: Page, bits: Page, second: u8, third: u8, fourth: u8) -> Option<Instr>
+    ensures { result ≡ index_instr_of page bits second third fourth }
+{
+    if second == 0xcb {
+        return decode_index_bits(bits, third, fourth);
+    }
+    match index_form(second) {
+        None => None,
+        Some(form) => Some(assemble(index_tail(form), page, 2, second, third, fourth)),
+    }
+}
+
+/// The instruction behind the prefixes CBh, EDh, DDh and FDh, or None where it isn't listed. The first byte is a prefix.
+#[inline(never)]
+#[tactic(auto, unfolding(crate::specs::Decoding::prefixed_instr_of))]
+pub fn decode_prefixed(bytes: [u8; 4]) -> Option<Instr>
+    ensures { result ≡ prefixed_instr_of bytes }
+{
+    let [first, second, third, fourth] = bytes;
+    match first {
+        0xcb => decode_bits(second),
+        0xed => decode_extended(second, third, fourth),
+        0xdd => decode_index(Page::Ix, Page::IxCb, second, third, fourth),
+        _ => decode_index(Page::Iy, Page::IyCb, second, third, fourth),
+    }
+}
+
+/// The instruction without prefix that some bytes begin with, or None where the first is a prefix.
+#[inline(always)]
+#[tactic(auto, unfolding(crate::specs::Decoding::main_instr_of))]
+pub fn decode_main(bytes: [u8; 4]) -> Option<Instr>
+    ensures instr { result ≡ main_instr_of bytes }
+    ensures page { IfSome result (λ instr. instr.page ≡ Page.Main) }
+{
+    let [opcode, first, second, _] = bytes;
+    match main_form(opcode) {
+        None => None,
+        Some(form) => Some(assemble(tail(form), Page::Main, 1, opcode, first, second)),
+    }
+}
+
 /// The instruction that some bytes begin with: those at PC and the three behind it. None where they begin with no
-/// listed instruction, as with a prefix (CBh, DDh, EDh, FDh).
+/// listed instruction.
 #[inline(always)]
 #[tactic(auto, unfolding(crate::specs::Decoding::instr_of))]
 pub fn decode(bytes: [u8; 4]) -> Option<Instr>
     ensures { result ≡ instr_of bytes }
 {
-    let [opcode, first, second, _] = bytes;
-    match main_form(opcode) {
-        None => None,
-        Some(form) => Some(assemble(tail(form), opcode, first, second)),
+    match decode_main(bytes) {
+        None => decode_prefixed(bytes),
+        Some(instr) => Some(instr),
     }
 }

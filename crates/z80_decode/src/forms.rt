@@ -168,6 +168,8 @@ pub enum Tail {
     Byte,
     /// The word nn, low byte first.
     Word,
-    /// The displacement e.
+    /// The displacement e or d.
     Displacement,
+    /// The displacement d, then the byte n.
+    DisplacementByte,
 }

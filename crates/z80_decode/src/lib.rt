@@ -6,11 +6,16 @@ mod fields;
 mod forms;
 mod instr;
 mod opcodes;
+mod page_forms;
+mod page_opcodes;
 
-pub use decoding::decode;
+pub use decoding::{decode, decode_main, decode_prefixed};
+pub use fields::operand_at;
 pub use forms::{Condition, Form, Math, Operand, Pair, Rotation, StackPair};
 pub use instr::{Instr, Page};
 pub use opcodes::main_form;
+pub use page_forms::{BitChange, BitForm, Direction, ExtendedForm, IndexForm, Shift, Transfer};
+pub use page_opcodes::{bit_form, extended_form, index_form};
 
 #[cfg(test)]
 mod tests;

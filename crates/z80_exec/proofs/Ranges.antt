@@ -12,14 +12,15 @@ use Rattle.z80_decode.specs.Opcodes.{form_of}
 use Rattle.z80_decode.specs.declared.forms.Operand.{Operand}
 use Rattle.z80_decode.specs.declared.forms.Operand.TheVariants.{B, C, D, E, H, L, Memory, A}
 use Rattle.z80_exec.specs.Operands.{hl_of, operand_byte, with_operand}
+use Rattle.z80_exec.specs.Loads.{word_written, top_replaced}
 use Rattle.z80_exec.specs.Performing.{behind, performed, outcome_by, main_outcome}
 
 -- HL
-hl_fits : (regs : Regs) → RegistersFit regs → hl_of regs < 65536
+pub hl_fits : (regs : Regs) → RegistersFit regs → hl_of regs < 65536
 hl_fits regs fit = omega (arith, fit.h, fit.l)
 
 -- the byte of an operand
-byte_fits : (operand : Operand) (regs : Regs) (memory : ℕ → ℕ) → RegistersFit regs → ReadsBytes 65536 memory →
+pub byte_fits : (operand : Operand) (regs : Regs) (memory : ℕ → ℕ) → RegistersFit regs → ReadsBytes 65536 memory →
     operand_byte operand regs memory < 256
 byte_fits B regs memory fit reads = fit.b
 byte_fits C regs memory fit reads = fit.c
@@ -31,7 +32,7 @@ byte_fits Memory regs memory fit reads = reads (hl_of regs) (hl_fits regs fit)
 byte_fits A regs memory fit reads = fit.a
 
 -- a byte that goes to an operand
-set_fits : (operand : Operand) (byte : ℕ) (regs : Regs) → hl_of regs < 65536 → byte < 256 →
+pub set_fits : (operand : Operand) (byte : ℕ) (regs : Regs) → hl_of regs < 65536 → byte < 256 →
     All ActionFits (with_operand operand byte regs).actions
 set_fits B byte regs address small = search (rules, common_steps)
 set_fits C byte regs address small = search (rules, common_steps)
@@ -42,8 +43,16 @@ set_fits L byte regs address small = search (rules, common_steps)
 set_fits Memory byte regs address small = search (rules, common_steps)
 set_fits A byte regs address small = search (rules, common_steps)
 
+-- a word that goes to memory
+pub word_fits : (address word : ℕ) → address < 65536 → word < 65536 → All ActionFits (word_written address word)
+word_fits address word small other = search (rules, common_steps)
+
+-- a word in the place of that on the stack
+pub top_fits : (word : ℕ) (regs : Regs) → RegistersFit regs → word < 65536 → All ActionFits (top_replaced word regs)
+top_fits word regs fit small = search (rules, common_steps)
+
 -- the registers once PC is behind the instruction
-behind_fits : (length : ℕ) (regs : Regs) → RegistersFit regs → RegistersFit (behind length regs)
+pub behind_fits : (length : ℕ) (regs : Regs) → RegistersFit regs → RegistersFit (behind length regs)
 behind_fits length regs fit = search (arith, rules)
 
 -- what the instruction of each form does
@@ -60,7 +69,8 @@ performed_fits (LoadPair pair) instr regs memory ports fit small reads takes = s
 performed_fits (AddPair pair) instr regs memory ports fit small reads takes = search (rules, common_steps)
 performed_fits (StoreAAt pair) instr regs memory ports fit small reads takes = search (rules, common_steps)
 performed_fits (LoadAFrom pair) instr regs memory ports fit small reads takes = search (rules, common_steps)
-performed_fits StoreHl instr regs memory ports fit small reads takes = search (rules, common_steps)
+performed_fits StoreHl instr regs memory ports fit small reads takes =
+    word_fits instr.operand (hl_of regs) small (hl_fits regs fit)
 performed_fits LoadHl instr regs memory ports fit small reads takes = search (rules, common_steps)
 performed_fits StoreA instr regs memory ports fit small reads takes = search (rules, common_steps)
 performed_fits LoadA instr regs memory ports fit small reads takes = search (rules, common_steps)
@@ -89,7 +99,8 @@ performed_fits (JumpIf condition) instr regs memory ports fit small reads takes 
 performed_fits Jump instr regs memory ports fit small reads takes = search (rules, common_steps)
 performed_fits Output instr regs memory ports fit small reads takes = search (rules, common_steps)
 performed_fits Input instr regs memory ports fit small reads takes = search (rules, common_steps)
-performed_fits ExchangeStack instr regs memory ports fit small reads takes = search (rules, common_steps)
+performed_fits ExchangeStack instr regs memory ports fit small reads takes =
+    top_fits (hl_of regs) regs fit (hl_fits regs fit)
 performed_fits ExchangeDe instr regs memory ports fit small reads takes = search (rules, common_steps)
 performed_fits DisableInterrupts instr regs memory ports fit small reads takes = search (rules, common_steps)
 performed_fits EnableInterrupts instr regs memory ports fit small reads takes = search (rules, common_steps)

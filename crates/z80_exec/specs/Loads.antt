@@ -1,19 +1,20 @@
 -- Loads of HL, exchanges, the stack, and input. (UM0080, "16-Bit Load Group", "Exchange, Block Transfer, and Search
 -- Group", "Input and Output Group".)
-use Rattle.std.specs.Prelude.{ℕ, [], ◌∷◌}
-use Rattle.z80_regs.specs.Words.{onward, back}
-use Rattle.z80_regs.specs.Outcome.{Write, Input, Outcome}
+use Rattle.std.specs.Prelude.{ℕ, List, [], ◌∷◌}
+use Rattle.z80_regs.specs.Words.{onward, back, low, high}
+use Rattle.z80_regs.specs.Outcome.{Action, Write, Input, Outcome}
 use Rattle.z80_regs.specs.declared.regs.Regs.{Regs}
+use Rattle.z80_decode.specs.declared.forms.Pair.TheVariants.{HL}
 use Rattle.z80_decode.specs.declared.forms.StackPair.{StackPair}
-use Rattle.z80_exec.specs.Operands.{word_from}
+use Rattle.z80_exec.specs.Operands.{word_from, hl_of, with_pair}
 use Rattle.z80_exec.specs.StackPairs.{stack_pair_word, with_stack_pair, pushed}
 
--- LD (nn),HL: L first
-abbrev pub hl_stored : ℕ → Regs → Outcome
-hl_stored address regs = record {
-  registers = regs;
-  actions = Write address regs.l ∷ Write (onward address 1) regs.h ∷ [];
-}
+-- a word goes to memory, low byte first: LD (nn),HL and its kin
+abbrev pub word_written : ℕ → ℕ → List Action
+word_written address word = Write address (low word) ∷ Write (onward address 1) (high word) ∷ []
+
+abbrev pub word_stored : ℕ → ℕ → Regs → Outcome
+word_stored address word regs = record { registers = regs; actions = word_written address word }
 
 -- EX AF,AF'
 abbrev pub af_exchanged : Regs → Regs
@@ -40,11 +41,15 @@ set_exchanged regs = record regs {
 abbrev pub de_exchanged : Regs → Regs
 de_exchanged regs = record regs { d = regs.h; e = regs.l; h = regs.d; l = regs.e }
 
--- EX (SP),HL: both bytes are read, then the high byte is written, then the low byte
+-- a word in the place of that on the stack, high byte first
+abbrev pub top_replaced : ℕ → Regs → List Action
+top_replaced word regs = Write (onward regs.sp 1) (high word) ∷ Write regs.sp (low word) ∷ []
+
+-- EX (SP),HL: both bytes are read before one is written
 abbrev pub stack_exchanged : Regs → (ℕ → ℕ) → Outcome
 stack_exchanged regs memory = record {
-  registers = record regs { h = memory (onward regs.sp 1); l = memory regs.sp };
-  actions = Write (onward regs.sp 1) regs.h ∷ Write regs.sp regs.l ∷ [];
+  registers = with_pair HL (word_from memory regs.sp) regs;
+  actions = top_replaced (hl_of regs) regs;
 }
 
 -- PUSH qq

@@ -12,7 +12,7 @@ use Rattle.z80_decode.specs.declared.forms.Form.TheVariants.{Nop, ExchangeAf, De
 use Rattle.z80_decode.specs.Opcodes.{form_of}
 use Rattle.z80_exec.specs.Operands.{quiet, stored, word_from, hl_of, pair_word, with_pair, operand_byte, with_operand}
 use Rattle.z80_exec.specs.Conditions.{holds}
-use Rattle.z80_exec.specs.Loads.{hl_stored, af_exchanged, set_exchanged, de_exchanged, stack_exchanged, pair_pushed, pair_popped, a_input}
+use Rattle.z80_exec.specs.Loads.{word_stored, af_exchanged, set_exchanged, de_exchanged, stack_exchanged, pair_pushed, pair_popped, a_input}
 use Rattle.z80_exec.specs.Calculations.{calculated, incremented, decremented, pair_added, a_rotated, decimal_adjusted, complemented}
 use Rattle.z80_exec.specs.Flow.{relative, jumped_if, decrement_jumped, called, called_if, returned, returned_if}
 
@@ -38,7 +38,7 @@ performed (StoreAAt pair) instr regs memory ports = stored (pair_word pair regs)
 performed (LoadAFrom pair) instr regs memory ports = quiet (record regs { a = memory (pair_word pair regs) })
 performed StoreA instr regs memory ports = stored instr.operand regs.a regs
 performed LoadA instr regs memory ports = quiet (record regs { a = memory instr.operand })
-performed StoreHl instr regs memory ports = hl_stored instr.operand regs
+performed StoreHl instr regs memory ports = word_stored instr.operand (hl_of regs) regs
 performed LoadHl instr regs memory ports = quiet (with_pair HL (word_from memory instr.operand) regs)
 performed LoadSpHl instr regs memory ports = quiet (record regs { sp = hl_of regs })
 performed ExchangeAf instr regs memory ports = quiet (af_exchanged regs)

@@ -1,30 +1,33 @@
 ghost use Rattle.std.specs.Prelude.{◌≡◌, ℕ};
 ghost use Rattle.z80_regs.specs.Words.{back};
 ghost use Rattle.z80_regs.specs.Outcome.{Leaves};
+ghost use Rattle.z80_exec.specs.Operands.{word_from};
 ghost use Rattle.z80_exec.specs.StackPairs.{pushed};
 ghost use Rattle.z80_exec.specs.Loads.{
-  hl_stored,
+  word_written,
   af_exchanged,
   set_exchanged,
   de_exchanged,
+  top_replaced,
   stack_exchanged,
   pair_pushed,
   pair_popped,
   a_input,
 };
 
-use crate::operands::{set_stack_pair, stack_pair_at, word_at};
-use z80_decode::StackPair;
+use crate::operands::{hl, set_pair, set_stack_pair, stack_pair_at, word_at};
+use z80_decode::{Pair, StackPair};
 use z80_regs::{Bus, Regs};
 
-/// LD (nn),HL.
+/// Writes a word to memory, low byte first, as LD (nn),HL and its kin do.
 #[inline]
 #[tactic(auto, unfolding(z80_regs::specs::Outcome::Leaves))]
-pub fn store_hl<B: Bus>(address: u16, regs: &Regs, bus: &mut B)
-    ensures { Leaves B.wrote B.took (hl_stored address regs.now).actions bus.old bus.new }
+pub fn store_word<B: Bus>(address: u16, word: u16, bus: &mut B)
+    ensures { Leaves B.wrote B.took (word_written address word) bus.old bus.new }
 {
-    bus.write(address, regs.l);
-    bus.write(address.wrapping_add(1), regs.h);
+    let [low, high] = word.to_le_bytes();
+    bus.write(address, low);
+    bus.write(address.wrapping_add(1), high);
 }
 
 /// EX AF,AF'.
@@ -58,19 +61,29 @@ pub fn exchange_de(regs: &mut Regs)
     (regs.e, regs.l) = (regs.l, regs.e);
 }
 
-/// EX (SP),HL.
+/// Writes a word in the place of that on the stack, high byte first, and answers the one that stood there.
 #[inline]
 #[tactic(auto, unfolding(z80_regs::specs::Outcome::Leaves))]
+pub fn replace_top<B: Bus>(word: u16, regs: &Regs, bus: &mut B) -> u16
+    ensures value { result ≡ word_from (B.byte bus.old) regs.now.sp }
+    ensures bus { Leaves B.wrote B.took (top_replaced word regs.now) bus.old bus.new }
+{
+    let sp = regs.sp;
+    let top = word_at(bus, sp);
+    let [low, high] = word.to_le_bytes();
+    bus.write(sp.wrapping_add(1), high);
+    bus.write(sp, low);
+    top
+}
+
+/// EX (SP),HL.
+#[inline]
 pub fn exchange_stack<B: Bus>(regs: &mut Regs, bus: &mut B)
     ensures registers { regs.new ≡ (stack_exchanged regs.old (B.byte bus.old)).registers }
     ensures bus { Leaves B.wrote B.took (stack_exchanged regs.old (B.byte bus.old)).actions bus.old bus.new }
 {
-    let low = bus.read(regs.sp);
-    let high = bus.read(regs.sp.wrapping_add(1));
-    bus.write(regs.sp.wrapping_add(1), regs.h);
-    bus.write(regs.sp, regs.l);
-    regs.h = high;
-    regs.l = low;
+    let top = replace_top(hl(regs), regs, bus);
+    set_pair(regs, Pair::HL, top);
 }
 
 /// Writes a word below SP, high byte first.

@@ -9,7 +9,8 @@ use crate::flow::{
     call, call_if, decrement_jump, jump_if, relative_to, return_if, return_to_caller,
 };
 use crate::loads::{
-    exchange_af, exchange_de, exchange_set, exchange_stack, input_a, pop_pair, push_pair, store_hl,
+    exchange_af, exchange_de, exchange_set, exchange_stack, input_a, pop_pair, push_pair,
+    store_word,
 };
 use crate::operands::{hl, is_met, operand, pair_at, set_operand, set_pair, word_at};
 use z80_decode::{Form, Instr, Page, Pair, main_form};
@@ -17,7 +18,7 @@ use z80_regs::{Bus, Regs};
 
 /// The byte n of an instruction.
 #[inline]
-fn number_at(instr: &Instr) -> u8
+pub fn number_at(instr: &Instr) -> u8
     ensures { result ≡ number instr.now }
 {
     (instr.operand % 256) as u8
@@ -43,7 +44,7 @@ fn perform<B: Bus>(form: Form, instr: &Instr, regs: &mut Regs, bus: &mut B)
         Form::LoadAFrom(pair) => regs.a = bus.read(pair_at(regs, pair)),
         Form::StoreA => bus.write(instr.operand, regs.a),
         Form::LoadA => regs.a = bus.read(instr.operand),
-        Form::StoreHl => store_hl(instr.operand, regs, bus),
+        Form::StoreHl => store_word(instr.operand, hl(regs), bus),
         Form::LoadHl => set_pair(regs, Pair::HL, word_at(bus, instr.operand)),
         Form::LoadSpHl => regs.sp = hl(regs),
         Form::ExchangeAf => exchange_af(regs),

@@ -1,11 +1,16 @@
 -- Worked examples of what a step does.
 use Rattle.std.proofs.Common.{◌≡◌, ℕ, [], ◌∷◌, Some, None, true, false, rules}
 use Rattle.std.proofs.lemmas.Grind.{common_steps}
+use Rattle.z80_regs.specs.Words.{onward}
 use Rattle.z80_regs.specs.Outcome.{Write}
 use Rattle.z80_regs.specs.declared.regs.Regs.{Regs}
+use Rattle.z80_alu.specs.Single.{block_load_flags_of, bit_test_flags}
 use Rattle.z80_decode.specs.Opcodes.{form_of, low_quarter, high_quarter}
-use Rattle.z80_decode.specs.Decoding.{instr_of}
+use Rattle.z80_decode.specs.PageOpcodes.{bit_form_of, third_quarter, transfer_of, extended_form_of}
+use Rattle.z80_decode.specs.Decoding.{index_instr_of, prefixed_instr_of, main_instr_of, instr_of}
 use Rattle.z80_exec.specs.Performing.{performed, main_outcome}
+use Rattle.z80_ext.specs.Extended.{extended_outcome, extended_performed}
+use Rattle.z80_ext.specs.Index.{index_bits_outcome}
 use Rattle.z80_ext.specs.Instruction.{risen, begun, instruction}
 
 -- CALL 0005h at 0100h, with SP at BEFEh: 01h goes to BEFDh, then 03h to BEFCh
@@ -15,14 +20,14 @@ pub call_at_0100h : (regs : Regs) (memory ports : ℕ → ℕ) → regs.halted �
       registers = record (begun regs) { pc = 5; sp = 48892 };
       actions = Write 48893 1 ∷ Write 48892 3 ∷ [];
     })
-unfolding instruction instr_of form_of high_quarter main_outcome performed
+unfolding instruction instr_of main_instr_of form_of high_quarter main_outcome performed
 call_at_0100h regs memory ports runs at stack opcode low high = search (rules, common_steps)
 
 -- JR -2 goes to itself
 pub jump_to_itself : (regs : Regs) (memory ports : ℕ → ℕ) → regs.halted ≡ false → regs.pc ≡ 256 →
     memory 256 ≡ 24 → memory 257 ≡ 254 →
     instruction regs memory ports ≡ Some (record { registers = begun regs; actions = [] })
-unfolding instruction instr_of form_of low_quarter main_outcome performed
+unfolding instruction instr_of main_instr_of form_of low_quarter main_outcome performed
 jump_to_itself regs memory ports runs at opcode displacement = search (rules, common_steps)
 
 -- RET with SP at FFFFh: the low byte is at FFFFh, the high byte at 0000h
@@ -32,7 +37,7 @@ pub return_around_the_end : (regs : Regs) (memory ports : ℕ → ℕ) → regs.
       registers = record (begun regs) { pc = 4660; sp = 1 };
       actions = [];
     })
-unfolding instruction instr_of form_of high_quarter main_outcome performed
+unfolding instruction instr_of main_instr_of form_of high_quarter main_outcome performed
 return_around_the_end regs memory ports runs stack opcode low high = search (rules, common_steps)
 
 -- EX (SP),HL with SP at 8000h: the word there goes to HL, and HL there, high byte first
@@ -42,7 +47,7 @@ pub exchange_with_the_stack : (regs : Regs) (memory ports : ℕ → ℕ) → reg
       registers = record (begun regs) { pc = 257; h = 86; l = 120 };
       actions = Write 32769 18 ∷ Write 32768 52 ∷ [];
     })
-unfolding instruction instr_of form_of high_quarter main_outcome performed
+unfolding instruction instr_of main_instr_of form_of high_quarter main_outcome performed
 exchange_with_the_stack regs memory ports runs at stack left right opcode low high = search (rules, common_steps)
 
 -- in a HALT R alone changes, also where no listed instruction is at PC
@@ -51,8 +56,30 @@ pub halted_rests : (regs : Regs) (memory ports : ℕ → ℕ) → regs.halted �
 unfolding instruction
 halted_rests regs memory ports halted = search (rules, common_steps)
 
--- EDh begins no listed instruction
+-- EDh 24h begins no listed instruction
 pub unlisted : (regs : Regs) (memory ports : ℕ → ℕ) → regs.halted ≡ false → memory regs.pc ≡ 237 →
-    instruction regs memory ports ≡ None
-unfolding instruction instr_of form_of high_quarter
-unlisted regs memory ports runs opcode = search (rules, common_steps)
+    memory (onward regs.pc 1) ≡ 36 → instruction regs memory ports ≡ None
+unfolding instruction instr_of main_instr_of form_of high_quarter prefixed_instr_of extended_form_of
+unlisted regs memory ports runs prefix opcode = search (rules, common_steps)
+
+-- LDIR at 0100h with 0002h in BC: the byte at HL goes to DE, HL and DE go up, and PC stays
+pub load_repeated : (regs : Regs) (memory ports : ℕ → ℕ) → regs.halted ≡ false → regs.pc ≡ 256 →
+    regs.b ≡ 0 → regs.c ≡ 2 → regs.d ≡ 2 → regs.e ≡ 0 → regs.h ≡ 3 → regs.l ≡ 255 →
+    memory 256 ≡ 237 → memory 257 ≡ 176 → memory 1023 ≡ 17 →
+    instruction regs memory ports ≡ Some (record {
+      registers = record (begun regs) { c = 1; e = 1; h = 4; l = 0; f = block_load_flags_of true regs.f };
+      actions = Write 512 17 ∷ [];
+    })
+unfolding instruction instr_of main_instr_of form_of high_quarter prefixed_instr_of extended_form_of third_quarter transfer_of
+    extended_outcome extended_performed
+load_repeated regs memory ports runs at b c d e h l prefix opcode byte = search (rules, common_steps)
+
+-- BIT 7,(IY+1) of a byte that has it clear: Z and H are set, N is 0, the rest of F is kept
+pub bit_tested_indexed : (regs : Regs) (memory ports : ℕ → ℕ) → regs.halted ≡ false → regs.pc ≡ 256 → regs.iy ≡ 4096 →
+    memory 256 ≡ 253 → memory 257 ≡ 203 → memory 258 ≡ 1 → memory 259 ≡ 126 → memory 4097 ≡ 127 →
+    instruction regs memory ports ≡ Some (record {
+      registers = record (begun regs) { pc = 260; f = bit_test_flags true regs.f };
+      actions = [];
+    })
+unfolding instruction instr_of main_instr_of form_of high_quarter prefixed_instr_of index_instr_of bit_form_of index_bits_outcome
+bit_tested_indexed regs memory ports runs at iy prefix bits displacement opcode byte = search (rules, common_steps)

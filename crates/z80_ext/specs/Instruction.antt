@@ -6,10 +6,14 @@ use Rattle.z80_regs.specs.Outcome.{Action, Outcome}
 use Rattle.z80_regs.specs.declared.regs.Regs.{Regs}
 use Rattle.z80_decode.specs.declared.instr.Instr.{Instr}
 use Rattle.z80_decode.specs.declared.instr.Page.{Page}
-use Rattle.z80_decode.specs.declared.instr.Page.TheVariants.{Main}
+use Rattle.z80_decode.specs.declared.instr.Page.TheVariants.{Main, Cb, Ed, Ix, Iy, IxCb, IyCb}
 use Rattle.z80_decode.specs.Decoding.{instr_of}
 use Rattle.z80_exec.specs.Operands.{quiet}
 use Rattle.z80_exec.specs.Performing.{main_outcome}
+use Rattle.z80_ext.specs.declared.index.IndexRegister.TheVariants as index
+use Rattle.z80_ext.specs.Bits.{bits_outcome}
+use Rattle.z80_ext.specs.Extended.{extended_outcome}
+use Rattle.z80_ext.specs.Index.{index_outcome, index_bits_outcome}
 
 -- R one on
 abbrev pub risen : Regs → Regs
@@ -27,6 +31,12 @@ four_from memory address =
 -- the outcome of an instruction, by its page
 abbrev pub page_outcome : Page → Instr → Regs → (ℕ → ℕ) → (ℕ → ℕ) → Outcome
 page_outcome Main instr regs memory ports = main_outcome instr regs memory ports
+page_outcome Cb instr regs memory ports = bits_outcome instr regs memory
+page_outcome Ed instr regs memory ports = extended_outcome instr regs memory ports
+page_outcome Ix instr regs memory ports = index_outcome index.Ix instr regs memory
+page_outcome Iy instr regs memory ports = index_outcome index.Iy instr regs memory
+page_outcome IxCb instr regs memory ports = index_bits_outcome index.Ix instr regs memory
+page_outcome IyCb instr regs memory ports = index_bits_outcome index.Iy instr regs memory
 
 -- the outcome of an instruction, where there is one
 abbrev pub outcome_of : Option Instr → Regs → (ℕ → ℕ) → (ℕ → ℕ) → Option Outcome

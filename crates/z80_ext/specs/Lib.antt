@@ -1,1 +1,5 @@
+pub mod Bits
+pub mod Block
+pub mod Extended
+pub mod Index
 pub mod Instruction

@@ -1,12 +1,20 @@
 //! One instruction step of a Z80, over any bus.
 #![tactic(auto)]
 
+mod bits;
+mod block;
+mod extended;
+mod index;
+
 ghost use Rattle.std.specs.Prelude.{◌≡◌, ◌↔◌, IsNone, false};
 ghost use Rattle.z80_regs.specs.Words.{refreshed};
 ghost use Rattle.z80_regs.specs.Outcome.{Leaves};
-ghost use Rattle.z80_ext.specs.Instruction.{begun, four_from, page_outcome, instruction, registers_after, actions_of};
+ghost use Rattle.z80_ext.specs.Instruction.{begun, four_from, page_outcome, outcome_of, instruction, registers_after, actions_of};
 
-use z80_decode::{Instr, Page, decode};
+use crate::bits::bits_page;
+use crate::extended::extended_page;
+use crate::index::{IndexRegister, index_bits_page, index_page};
+use z80_decode::{Instr, Page, decode_main, decode_prefixed};
 use z80_exec::main_page;
 use z80_regs::{Bus, Regs};
 
@@ -50,7 +58,6 @@ fn four_at<B: Bus>(bus: &B, address: u16) -> [u8; 4]
 }
 
 /// Acts as an instruction, by its page.
-#[inline(always)]
 fn act<B: Bus>(instr: &Instr, regs: &mut Regs, bus: &mut B)
     ensures registers { regs.new ≡ (page_outcome instr.now.page instr.now regs.old (B.byte bus.old) (B.port_byte bus.old)).registers }
     ensures bus { Leaves B.wrote B.took
@@ -58,13 +65,39 @@ fn act<B: Bus>(instr: &Instr, regs: &mut Regs, bus: &mut B)
 {
     match instr.page {
         Page::Main => main_page(instr, regs, bus),
+        Page::Cb => bits_page(instr, regs, bus),
+        Page::Ed => extended_page(instr, regs, bus),
+        Page::Ix => index_page(IndexRegister::Ix, instr, regs, bus),
+        Page::Iy => index_page(IndexRegister::Iy, instr, regs, bus),
+        Page::IxCb => index_bits_page(IndexRegister::Ix, instr, regs, bus),
+        Page::IyCb => index_bits_page(IndexRegister::Iy, instr, regs, bus),
+    }
+}
+
+/// Acts as an instruction with prefix, where there is one.
+#[inline(never)]
+#[tactic(auto, unfolding(z80_regs::specs::Outcome::Leaves))]
+fn act_where_listed<B: Bus>(instr: Option<Instr>, regs: &mut Regs, bus: &mut B) -> Stepped
+    ensures illegal { (result ≡ Stepped.Illegal) ↔ IsNone (outcome_of instr regs.old (B.byte bus.old) (B.port_byte bus.old)) }
+    ensures registers { regs.new ≡
+        registers_after (outcome_of instr regs.old (B.byte bus.old) (B.port_byte bus.old)) regs.old }
+    ensures bus { Leaves B.wrote B.took (actions_of (outcome_of instr regs.old (B.byte bus.old) (B.port_byte bus.old)))
+        bus.old bus.new }
+{
+    match instr {
+        None => Stepped::Illegal,
+        Some(instr) => {
+            begin(regs);
+            act(&instr, regs, bus);
+            Stepped::Ran
+        }
     }
 }
 
 /// One step: the instruction at PC, or, where the processor stands in a HALT, R alone rises. Where no listed instruction
 /// is at PC it answers `Illegal`, and nothing has changed. (UM0080, "Z80 Instruction Description".)
 #[inline(always)]
-#[tactic(auto, unfolding(crate::specs::Instruction::instruction, z80_regs::specs::Outcome::Leaves))]
+#[tactic(auto, unfolding(crate::specs::Instruction::instruction, z80_decode::specs::Decoding::instr_of, z80_regs::specs::Outcome::Leaves))]
 pub fn step<B: Bus>(regs: &mut Regs, bus: &mut B) -> Stepped
     ensures illegal { (result ≡ Stepped.Illegal) ↔ IsNone (instruction regs.old (B.byte bus.old) (B.port_byte bus.old)) }
     ensures registers { regs.new ≡ registers_after (instruction regs.old (B.byte bus.old) (B.port_byte bus.old)) regs.old }
@@ -75,11 +108,12 @@ pub fn step<B: Bus>(regs: &mut Regs, bus: &mut B) -> Stepped
         refresh(regs);
         return Stepped::Ran;
     }
-    match decode(four_at(bus, regs.pc)) {
-        None => Stepped::Illegal,
+    let bytes = four_at(bus, regs.pc);
+    match decode_main(bytes) {
+        None => act_where_listed(decode_prefixed(bytes), regs, bus),
         Some(instr) => {
             begin(regs);
-            act(&instr, regs, bus);
+            main_page(&instr, regs, bus);
             Stepped::Ran
         }
     }

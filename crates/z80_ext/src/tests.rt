@@ -1,4 +1,5 @@
 mod cases;
+mod page_cases;
 
 ghost use Rattle.std.specs.Prelude.{◌≡◌, ◌<◌, ℕ, set, slice_index, nat_lt, if◌then◌else◌, vec_len};
 ghost use Rattle.std.proofs.Common.{rules};
@@ -6,6 +7,10 @@ ghost use Rattle.std.proofs.lemmas.Grind.{common_steps};
 
 use super::*;
 use crate::tests::cases::{CALCULATIONS, EDGES, HIGH_QUARTER, LOW_QUARTER, MOVES, OTHERWISE};
+use crate::tests::page_cases::{
+    BITS_IX, BITS_IY, EXTENDED, HIGH_RESETS, HIGH_SETS, HIGH_TESTS, INDEX_IX, INDEX_IY, LOW_RESETS,
+    LOW_SETS, LOW_TESTS, PAGE_EDGES, SHIFTS,
+};
 use std::alloc::{AllocError, Global};
 use std::test::Fail;
 
@@ -164,18 +169,18 @@ fn digit(byte: u8) -> Option<u32> {
 }
 
 /// The numbers of a line, apart from one another by anything else.
-fn numbers(line: &str) -> [u32; 13] {
-    let mut numbers = [0; 13];
+fn numbers(line: &str) -> [u32; 17] {
+    let mut numbers = [0; 17];
     let mut place = 0;
     let mut is_inside = false;
     for byte in line.as_bytes() {
         match digit(*byte) {
-            Some(value) if place < 13 => {
+            Some(value) if place < 17 => {
                 let number: u32 = numbers[place];
                 numbers[place] = number.wrapping_mul(16).wrapping_add(value);
                 is_inside = true;
             }
-            _ if is_inside && place < 13 => {
+            _ if is_inside && place < 17 => {
                 place += 1;
                 is_inside = false;
             }
@@ -185,17 +190,14 @@ fn numbers(line: &str) -> [u32; 13] {
     numbers
 }
 
-/// Places a case's instruction, and bytes where the registers and its word point to.
-fn prepare(memory: &mut Memory, case: &[u32; 13]) {
-    let [code, ..] = *case;
-    memory.place(
-        0x0100,
-        &[low_byte(code / 65536), high_byte(code), low_byte(code)],
-    );
+/// Places bytes where the registers of a case, its word and its displacement point to.
+fn prepare(memory: &mut Memory) {
     memory.place(0x0304, &[0x91]);
     memory.place(0x0586, &[0x7a]);
     memory.place(0x4708, &[0x3c]);
     memory.place(0x9234, &[0x5d, 0xa6]);
+    memory.place(0x169d, &[0xb9]);
+    memory.place(0x189f, &[0x6e]);
     memory.place(0xbefe, &[0x2b, 0xc9]);
     memory.writes = [0; 4];
 }
@@ -220,10 +222,8 @@ fn registers(words: [u32; 6]) -> Regs {
 
 /// Whether a case comes out as it says.
 fn comes_out(line: &str, memory: &mut Memory) -> bool {
-    let case = numbers(line);
-    prepare(memory, &case);
     let [
-        _,
+        code,
         af,
         bc,
         new_af,
@@ -236,12 +236,71 @@ fn comes_out(line: &str, memory: &mut Memory) -> bool {
         one,
         second,
         other,
-    ] = case;
+        ..
+    ] = numbers(line);
+    memory.place(
+        0x0100,
+        &[low_byte(code / 65536), high_byte(code), low_byte(code)],
+    );
+    prepare(memory);
     let mut regs = registers([af, bc, 0x0586, 0x4708, 0xbefe, 0x0100]);
     let stepped = step(&mut regs, memory);
     let mut want = registers([new_af, new_bc, de, hl, sp, pc]);
     (want.r, want.shadow) = (0x80, false);
     stepped == Stepped::Ran && regs == want && memory.writes == [first, one, second, other]
+}
+
+/// Whether a case of the other pages comes out as it says.
+fn page_comes_out(line: &str, memory: &mut Memory) -> bool {
+    let [
+        code,
+        af,
+        bc,
+        new_af,
+        new_bc,
+        de,
+        hl,
+        sp,
+        pc,
+        ix,
+        iy,
+        ir,
+        switches,
+        first,
+        one,
+        second,
+        other,
+    ] = numbers(line);
+    let [upper, lower] = [code / 65536, code % 65536];
+    memory.place(
+        0x0100,
+        &[
+            high_byte(upper),
+            low_byte(upper),
+            high_byte(lower),
+            low_byte(lower),
+        ],
+    );
+    prepare(memory);
+    let mut regs = registers([af, bc, 0x0586, 0x4708, 0xbefe, 0x0100]);
+    let stepped = step(&mut regs, memory);
+    let mut want = registers([new_af, new_bc, de, hl, sp, pc]);
+    (want.ix, want.iy) = (word(ix), word(iy));
+    (want.i, want.r) = (high_byte(ir), low_byte(ir));
+    (want.iff1, want.mode) = (switches >= 16, low_byte(switches % 16));
+    want.shadow = false;
+    stepped == Stepped::Ran && regs == want && memory.writes == [first, one, second, other]
+}
+
+/// The first case of the other pages that doesn't come out.
+fn first_page_failed(lines: &[&str], alloc: Global) -> Result<Option<usize>, AllocError> {
+    let mut memory = Memory::new(alloc, 65536)?;
+    for (place, line) in lines.iter().enumerate() {
+        if !page_comes_out(line, &mut memory) {
+            return Ok(Some(place));
+        }
+    }
+    Ok(None)
 }
 
 /// The first case that doesn't come out.
@@ -373,16 +432,159 @@ fn stores_around_a_limit(rt: HostRuntime) -> Result<(), Fail> {
     Ok(())
 }
 
-/// Prefixes begin no instruction, and a halted processor stays.
+#[test]
+fn bits(rt: HostRuntime) -> Result<(), Fail> {
+    assert_eq!(rt; first_page_failed(&SHIFTS, rt.alloc())?, None);
+    assert_eq!(rt; first_page_failed(&LOW_TESTS, rt.alloc())?, None);
+    assert_eq!(rt; first_page_failed(&HIGH_TESTS, rt.alloc())?, None);
+    assert_eq!(rt; first_page_failed(&LOW_RESETS, rt.alloc())?, None);
+    assert_eq!(rt; first_page_failed(&HIGH_RESETS, rt.alloc())?, None);
+    assert_eq!(rt; first_page_failed(&LOW_SETS, rt.alloc())?, None);
+    assert_eq!(rt; first_page_failed(&HIGH_SETS, rt.alloc())?, None);
+    Ok(())
+}
+
+#[test]
+fn extended(rt: HostRuntime) -> Result<(), Fail> {
+    assert_eq!(rt; first_page_failed(&EXTENDED, rt.alloc())?, None);
+    assert_eq!(rt; first_page_failed(&PAGE_EDGES, rt.alloc())?, None);
+    Ok(())
+}
+
+#[test]
+fn indexed(rt: HostRuntime) -> Result<(), Fail> {
+    assert_eq!(rt; first_page_failed(&INDEX_IX, rt.alloc())?, None);
+    assert_eq!(rt; first_page_failed(&INDEX_IY, rt.alloc())?, None);
+    assert_eq!(rt; first_page_failed(&BITS_IX, rt.alloc())?, None);
+    assert_eq!(rt; first_page_failed(&BITS_IY, rt.alloc())?, None);
+    Ok(())
+}
+
+/// Registers that are all 0 but PC.
+fn zeros(pc: u16) -> Regs {
+    Regs {
+        a: 0,
+        f: 0,
+        b: 0,
+        c: 0,
+        d: 0,
+        e: 0,
+        h: 0,
+        l: 0,
+        a2: 0,
+        f2: 0,
+        b2: 0,
+        c2: 0,
+        d2: 0,
+        e2: 0,
+        h2: 0,
+        l2: 0,
+        ix: 0,
+        iy: 0,
+        sp: 0,
+        pc,
+        i: 0,
+        r: 0,
+        iff1: false,
+        iff2: false,
+        mode: 0,
+        halted: false,
+        shadow: false,
+    }
+}
+
+/// LDIR of three bytes, one a step; a negative displacement around the end of memory; EI, then HALT.
+#[test]
+fn worked_programs(rt: HostRuntime) -> Result<(), Fail> {
+    let mut memory = Memory::new(rt.alloc(), 65536)?;
+    memory.place(0x0300, &[0x11, 0x22, 0x33]);
+    memory.place(
+        0x0100,
+        &[
+            0x21, 0x00, 0x03, 0x11, 0x00, 0x02, 0x01, 0x03, 0x00, 0xed, 0xb0,
+        ],
+    );
+    let mut regs = zeros(0x0100);
+    for _ in 0..5 {
+        step(&mut regs, &mut memory);
+    }
+    let mut want = zeros(0x0109);
+    (want.c, want.d, want.e, want.h, want.l) = (1, 2, 2, 3, 2);
+    (want.f, want.r) = (0x04, 5);
+    assert_eq!(rt; regs, want);
+    step(&mut regs, &mut memory);
+    (want.c, want.e, want.l, want.f, want.r, want.pc) = (0, 3, 3, 0, 6, 0x010b);
+    assert_eq!(rt; regs, want);
+    assert_eq!(rt; memory.read(0x0202), 0x33);
+
+    memory.place(0x0100, &[0xdd, 0x7e, 0xfe]);
+    memory.place(0xfffe, &[0x5a]);
+    let mut regs = zeros(0x0100);
+    step(&mut regs, &mut memory);
+    let mut want = zeros(0x0103);
+    (want.a, want.r) = (0x5a, 1);
+    assert_eq!(rt; regs, want);
+
+    memory.place(0x0200, &[0xfb, 0x76]);
+    let mut regs = zeros(0x0200);
+    step(&mut regs, &mut memory);
+    let mut want = zeros(0x0201);
+    (want.iff1, want.iff2, want.shadow, want.r) = (true, true, true, 1);
+    assert_eq!(rt; regs, want);
+    step(&mut regs, &mut memory);
+    (want.pc, want.shadow, want.halted, want.r) = (0x0202, false, true, 2);
+    assert_eq!(rt; regs, want);
+    Ok(())
+}
+
+/// Whether a prefix and a second byte begin a listed instruction, the fourth byte being 00h.
+fn is_listed(prefix: u8, second: u8) -> bool {
+    match (prefix, second) {
+        (0xcb, 0x30..=0x37) => false,
+        (0xcb, _) => true,
+        (0xed, 0x40..=0x4b | 0x4d | 0x4f..=0x53 | 0x56..=0x5b | 0x5e..=0x63) => true,
+        (0xed, 0x67..=0x6b | 0x6f | 0x72 | 0x73 | 0x78..=0x7b) => true,
+        (0xed, 0xa0..=0xa3 | 0xa8..=0xab | 0xb0..=0xb3 | 0xb8..=0xbb) => true,
+        (0xed, _) => false,
+        (_, 0x09 | 0x19 | 0x21 | 0x22 | 0x23 | 0x29 | 0x2a | 0x2b | 0x34 | 0x35 | 0x36) => true,
+        (_, 0x39 | 0x46 | 0x4e | 0x56 | 0x5e | 0x66 | 0x6e | 0x70..=0x75 | 0x77 | 0x7e) => true,
+        (_, 0x86 | 0x8e | 0x96 | 0x9e | 0xa6 | 0xae | 0xb6 | 0xbe) => true,
+        (_, 0xe1 | 0xe3 | 0xe5 | 0xe9 | 0xf9) => true,
+        _ => false,
+    }
+}
+
+/// Whether a step on four bytes answers `Illegal` and changes nothing.
+fn is_refused(code: &[u8; 4], memory: &mut Memory) -> bool {
+    memory.place(0x0100, code);
+    memory.writes = [0; 4];
+    let mut regs = fixture();
+    step(&mut regs, memory) == Stepped::Illegal && regs == fixture() && memory.writes == [0; 4]
+}
+
+/// Behind the prefixes all bytes that aren't listed are refused, and no others.
+#[test]
+fn unlisted_bytes(rt: HostRuntime) -> Result<(), Fail> {
+    let mut memory = Memory::new(rt.alloc(), 65536)?;
+    for byte in 0..=255 {
+        for prefix in [0xcb, 0xdd, 0xed, 0xfd] {
+            let is_refused = is_refused(&[prefix, byte, 0x00, 0x00], &mut memory);
+            assert_eq!(rt; is_refused, !is_listed(prefix, byte));
+        }
+        for prefix in [0xdd, 0xfd] {
+            let is_refused = is_refused(&[prefix, 0xcb, 0x05, byte], &mut memory);
+            assert_eq!(rt; is_refused, byte % 8 != 6 || byte == 0x36);
+        }
+    }
+    Ok(())
+}
+
+/// A prefix alone is no instruction of the main page, and a halted processor stays.
 #[test]
 fn stands_still(rt: HostRuntime) -> Result<(), Fail> {
     let mut memory = Memory::new(rt.alloc(), 65536)?;
     for prefix in [0xcb, 0xdd, 0xed, 0xfd] {
-        memory.place(0x0100, &[prefix]);
         let mut regs = fixture();
-        assert_eq!(rt; step(&mut regs, &mut memory), Stepped::Illegal);
-        assert_eq!(rt; regs, fixture());
-
         let instr = Instr {
             length: 1,
             page: Page::Main,

@@ -1,0 +1,128 @@
+use crate::forms::{Math, Operand, Pair};
+
+/// How a byte is rotated or shifted: RLC, RRC, RL, RR, SLA, SRA and SRL.
+#[derive(Clone, Copy)]
+pub enum Shift {
+    LeftCircular,
+    RightCircular,
+    Left,
+    Right,
+    LeftArithmetic,
+    RightArithmetic,
+    RightLogical,
+}
+
+/// What becomes of a byte on the page CBh.
+#[derive(Clone, Copy)]
+pub enum BitChange {
+    /// RLC and its kin.
+    Rotate(Shift),
+    /// RES, with the bit's weight.
+    Reset(u8),
+    /// SET, with the bit's weight.
+    Set(u8),
+}
+
+/// The forms of the instructions behind CBh, DDh CBh and FDh CBh (UM0080, "Rotate and Shift Group", "Bit Set, Reset,
+/// and Test Group").
+#[derive(Clone, Copy)]
+pub enum BitForm {
+    /// BIT, with the bit's weight.
+    Test(u8),
+    Change(BitChange),
+}
+
+/// What one step of a block instruction does: LD, CP, IN or OUT.
+#[derive(Clone, Copy)]
+pub enum Transfer {
+    Load,
+    Compare,
+    Input,
+    Output,
+}
+
+/// Which way the addresses of a block instruction go.
+#[derive(Clone, Copy)]
+pub enum Direction {
+    Up,
+    Down,
+}
+
+/// The forms of the instructions behind EDh (UM0080, "Z80 Instruction Description").
+#[derive(Clone, Copy)]
+pub enum ExtendedForm {
+    /// IN r,(C).
+    Input(Operand),
+    /// OUT (C),r.
+    Output(Operand),
+    /// SBC HL,ss.
+    SubtractPair(Pair),
+    /// ADC HL,ss.
+    AddPair(Pair),
+    /// LD (nn),dd.
+    StorePair(Pair),
+    /// LD dd,(nn).
+    LoadPair(Pair),
+    /// NEG.
+    Negate,
+    /// RETN.
+    ReturnNonmaskable,
+    /// RETI.
+    ReturnInterrupt,
+    /// IM 0, IM 1 and IM 2.
+    Mode(u8),
+    /// LD I,A.
+    StoreI,
+    /// LD R,A.
+    StoreR,
+    /// LD A,I.
+    LoadI,
+    /// LD A,R.
+    LoadR,
+    /// RRD.
+    RotateRight,
+    /// RLD.
+    RotateLeft,
+    /// LDI and its kin: one step, and whether it is repeated.
+    Block(Transfer, Direction, bool),
+}
+
+/// The forms of the instructions behind DDh and FDh, in which IX or IY stands for HL (UM0080, "Z80 Instruction
+/// Description").
+#[derive(Clone, Copy)]
+pub enum IndexForm {
+    /// ADD IX,pp, where HL stands for IX.
+    AddPair(Pair),
+    /// LD IX,nn.
+    LoadNumber,
+    /// LD (nn),IX.
+    Store,
+    /// LD IX,(nn).
+    Load,
+    /// INC IX.
+    Increment,
+    /// DEC IX.
+    Decrement,
+    /// INC (IX+d).
+    IncrementAt,
+    /// DEC (IX+d).
+    DecrementAt,
+    /// LD (IX+d),n.
+    StoreNumber,
+    /// LD r,(IX+d).
+    LoadFrom(Operand),
+    /// LD (IX+d),r.
+    StoreTo(Operand),
+    /// ADD A,(IX+d) and its kin.
+    Calculate(Math),
+    /// POP IX.
+    Pop,
+    /// EX (SP),IX.
+    ExchangeStack,
+    /// PUSH IX.
+    Push,
+    /// JP (IX).
+    Jump,
+    /// LD SP,IX.
+    LoadSp,
+}

@@ -1,0 +1,128 @@
+-- What the instructions behind DDh and FDh do: IX or IY stands for HL, and (IX+d) or (IY+d) for (HL). (UM0080, "Z80
+-- Instruction Description", "Indexed Addressing".)
+use Rattle.std.specs.Prelude.{ℕ, false, Option, None, Some}
+use Rattle.z80_regs.specs.Words.{onward, back}
+use Rattle.z80_regs.specs.Outcome.{Outcome}
+use Rattle.z80_regs.specs.declared.regs.Regs.{Regs}
+use Rattle.z80_alu.specs.Bytes.{sum_of, difference_of, increment_flags, decrement_flags}
+use Rattle.z80_alu.specs.Pairs.{word_sum_of, word_add_flags}
+use Rattle.z80_decode.specs.declared.instr.Instr.{Instr}
+use Rattle.z80_decode.specs.declared.forms.Pair.{Pair}
+use Rattle.z80_decode.specs.declared.forms.Pair.TheVariants.{BC, DE, HL, SP}
+use Rattle.z80_decode.specs.declared.page_forms.BitForm.{BitForm}
+use Rattle.z80_decode.specs.declared.page_forms.IndexForm.{IndexForm}
+use Rattle.z80_decode.specs.declared.page_forms.IndexForm.TheVariants.{AddPair, LoadNumber, Store, Load, Increment, Decrement, IncrementAt, DecrementAt, StoreNumber, LoadFrom, StoreTo, Calculate, Pop, ExchangeStack, Push, Jump, LoadSp}
+use Rattle.z80_decode.specs.PageOpcodes.{bit_form_of, index_form_of}
+use Rattle.z80_exec.specs.Operands.{quiet, stored, word_from, pair_word, operand_byte, with_operand}
+use Rattle.z80_exec.specs.StackPairs.{pushed}
+use Rattle.z80_exec.specs.Loads.{word_stored, top_replaced}
+use Rattle.z80_exec.specs.Calculations.{calculated}
+use Rattle.z80_exec.specs.Flow.{relative}
+use Rattle.z80_exec.specs.Performing.{behind, number}
+use Rattle.z80_ext.specs.declared.index.IndexRegister.{IndexRegister}
+use Rattle.z80_ext.specs.declared.index.IndexRegister.TheVariants.{Ix, Iy}
+use Rattle.z80_ext.specs.Bits.{memory_bits}
+
+-- IX or IY
+abbrev pub index_word : IndexRegister → Regs → ℕ
+index_word Ix regs = regs.ix
+index_word Iy regs = regs.iy
+
+-- the registers with a word in it
+abbrev pub with_index : IndexRegister → ℕ → Regs → Regs
+with_index Ix word regs = record regs { ix = word }
+with_index Iy word regs = record regs { iy = word }
+
+-- the word in a pair, where it stands for HL
+abbrev pub index_pair_word : IndexRegister → Pair → Regs → ℕ
+index_pair_word index BC regs = pair_word BC regs
+index_pair_word index DE regs = pair_word DE regs
+index_pair_word index HL regs = index_word index regs
+index_pair_word index SP regs = pair_word SP regs
+
+-- IX+d or IY+d: a displacement of 80h or more is negative, 256 less
+abbrev pub indexed_address : IndexRegister → Instr → Regs → ℕ
+indexed_address index instr regs = relative (index_word index regs) instr.displacement
+
+-- ADD IX,pp
+abbrev pub index_added : IndexRegister → Pair → Regs → Regs
+index_added index pair regs =
+    let one = index_word index regs in
+    let other = index_pair_word index pair regs in
+    record (with_index index (word_sum_of one other false) regs) { f = word_add_flags one other regs.f }
+
+-- INC and DEC of the byte at an address
+abbrev pub byte_incremented : ℕ → ℕ → Regs → Outcome
+byte_incremented address byte regs =
+    stored address (sum_of byte 1 false) (record regs { f = increment_flags byte regs.f })
+
+abbrev pub byte_decremented : ℕ → ℕ → Regs → Outcome
+byte_decremented address byte regs =
+    stored address (difference_of byte 1 false) (record regs { f = decrement_flags byte regs.f })
+
+-- EX (SP),IX
+abbrev pub index_exchanged : IndexRegister → Regs → (ℕ → ℕ) → Outcome
+index_exchanged index regs memory = record {
+  registers = with_index index (word_from memory regs.sp) regs;
+  actions = top_replaced (index_word index regs) regs;
+}
+
+-- PUSH IX
+abbrev pub index_pushed : IndexRegister → Regs → Outcome
+index_pushed index regs = record {
+  registers = record regs { sp = back regs.sp 2 };
+  actions = pushed (index_word index regs) regs;
+}
+
+-- POP IX
+abbrev pub index_popped : IndexRegister → Regs → (ℕ → ℕ) → Regs
+index_popped index regs memory = with_index index (word_from memory regs.sp) (record regs { sp = onward regs.sp 2 })
+
+-- a form's instruction; its loads of H and L use H and L themselves
+unfoldable pub index_performed : IndexForm → IndexRegister → Instr → Regs → (ℕ → ℕ) → Outcome
+index_performed (AddPair pair) index instr regs memory = quiet (index_added index pair regs)
+index_performed LoadNumber index instr regs memory = quiet (with_index index instr.operand regs)
+index_performed Store index instr regs memory = word_stored instr.operand (index_word index regs) regs
+index_performed Load index instr regs memory = quiet (with_index index (word_from memory instr.operand) regs)
+index_performed Increment index instr regs memory =
+    quiet (with_index index (onward (index_word index regs) 1) regs)
+index_performed Decrement index instr regs memory = quiet (with_index index (back (index_word index regs) 1) regs)
+index_performed IncrementAt index instr regs memory =
+    let address = indexed_address index instr regs in
+    byte_incremented address (memory address) regs
+index_performed DecrementAt index instr regs memory =
+    let address = indexed_address index instr regs in
+    byte_decremented address (memory address) regs
+index_performed StoreNumber index instr regs memory =
+    stored (indexed_address index instr regs) (number instr) regs
+index_performed (LoadFrom operand) index instr regs memory =
+    with_operand operand (memory (indexed_address index instr regs)) regs
+index_performed (StoreTo operand) index instr regs memory =
+    stored (indexed_address index instr regs) (operand_byte operand regs memory) regs
+index_performed (Calculate math) index instr regs memory =
+    quiet (calculated math (memory (indexed_address index instr regs)) regs)
+index_performed Pop index instr regs memory = quiet (index_popped index regs memory)
+index_performed ExchangeStack index instr regs memory = index_exchanged index regs memory
+index_performed Push index instr regs memory = index_pushed index regs
+index_performed Jump index instr regs memory = quiet (record regs { pc = index_word index regs })
+index_performed LoadSp index instr regs memory = quiet (record regs { sp = index_word index regs })
+
+-- an instruction by its form
+abbrev pub index_by : Option IndexForm → IndexRegister → Instr → Regs → (ℕ → ℕ) → Outcome
+index_by None index instr regs memory = quiet regs
+index_by (Some form) index instr regs memory = index_performed form index instr (behind instr.length regs) memory
+
+-- an instruction behind DDh or FDh
+unfoldable pub index_outcome : IndexRegister → Instr → Regs → (ℕ → ℕ) → Outcome
+index_outcome index instr regs memory = index_by (index_form_of instr.opcode) index instr regs memory
+
+-- an instruction behind DDh CBh or FDh CBh by its form
+abbrev pub index_bits_by : Option BitForm → IndexRegister → Instr → Regs → (ℕ → ℕ) → Outcome
+index_bits_by None index instr regs memory = quiet regs
+index_bits_by (Some form) index instr regs memory =
+    let address = indexed_address index instr regs in
+    memory_bits form address (memory address) (behind instr.length regs)
+
+-- an instruction behind DDh CBh or FDh CBh
+unfoldable pub index_bits_outcome : IndexRegister → Instr → Regs → (ℕ → ℕ) → Outcome
+index_bits_outcome index instr regs memory = index_bits_by (bit_form_of instr.opcode) index instr regs memory

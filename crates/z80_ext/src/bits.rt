@@ -1,0 +1,103 @@
+ghost use Rattle.std.specs.Prelude.{◌≡◌, ℕ};
+ghost use Rattle.z80_regs.specs.Outcome.{Leaves};
+ghost use Rattle.z80_ext.specs.Bits.{
+  kind_of,
+  changed_byte,
+  changed_flags,
+  bits_changed,
+  bit_tested,
+  operand_bits,
+  memory_bits,
+  bits_outcome,
+};
+
+use z80_alu::Rotate;
+use z80_decode::{BitChange, BitForm, Instr, Operand, Shift, bit_form, operand_at};
+use z80_exec::{operand, set_operand};
+use z80_regs::{Bus, Regs};
+
+/// Which rotation or shift of a byte a form names.
+fn kind(shift: Shift) -> Rotate
+    ensures { result ≡ kind_of shift }
+{
+    match shift {
+        Shift::LeftCircular => Rotate::Rlc,
+        Shift::RightCircular => Rotate::Rrc,
+        Shift::Left => Rotate::Rl,
+        Shift::Right => Rotate::Rr,
+        Shift::LeftArithmetic => Rotate::Sla,
+        Shift::RightArithmetic => Rotate::Sra,
+        Shift::RightLogical => Rotate::Srl,
+    }
+}
+
+/// What a rotation, a shift, RES or SET makes of a byte, and the new F.
+fn changed(change: BitChange, byte: u8, f: u8) -> (u8, u8)
+    ensures byte { result.0 ≡ changed_byte change byte f }
+    ensures flags { result.1 ≡ changed_flags change byte f }
+{
+    match change {
+        BitChange::Rotate(shift) => z80_alu::rotate(kind(shift), byte, f),
+        BitChange::Reset(weight) => (byte & (255 - weight), f),
+        BitChange::Set(weight) => (byte | weight, f),
+    }
+}
+
+/// BIT of a byte.
+fn test_bit(weight: u8, byte: u8, regs: &mut Regs)
+    ensures { regs.new ≡ bit_tested weight byte regs.old }
+{
+    regs.f = z80_alu::bit_flags(byte & weight == 0, regs.f);
+}
+
+/// Acts on an operand whose byte is known.
+#[tactic(auto, unfolding(z80_regs::specs::Outcome::Leaves))]
+fn act_on_operand<B: Bus>(form: BitForm, at: Operand, byte: u8, regs: &mut Regs, bus: &mut B)
+    ensures registers { regs.new ≡ (operand_bits form at byte regs.old).registers }
+    ensures bus { Leaves B.wrote B.took (operand_bits form at byte regs.old).actions bus.old bus.new }
+{
+    match form {
+        BitForm::Test(weight) => test_bit(weight, byte, regs),
+        BitForm::Change(change) => {
+            let (value, flags) = changed(change, byte, regs.f);
+            regs.f = flags;
+            set_operand(at, value, regs, bus);
+        }
+    }
+}
+
+/// Acts on the byte at an address.
+#[tactic(auto, unfolding(z80_regs::specs::Outcome::Leaves))]
+pub fn act_on_memory<B: Bus>(form: BitForm, address: u16, regs: &mut Regs, bus: &mut B)
+    ensures registers { regs.new ≡ (memory_bits form address (B.byte bus.old address) regs.old).registers }
+    ensures bus { Leaves B.wrote B.took (memory_bits form address (B.byte bus.old address) regs.old).actions
+        bus.old bus.new }
+{
+    let byte = bus.read(address);
+    match form {
+        BitForm::Test(weight) => test_bit(weight, byte, regs),
+        BitForm::Change(change) => {
+            let (value, flags) = changed(change, byte, regs.f);
+            regs.f = flags;
+            bus.write(address, value);
+        }
+    }
+}
+
+/// Acts as an instruction behind CBh: PC goes behind it, and what it does is done. (UM0080, "Rotate and Shift Group",
+/// "Bit Set, Reset, and Test Group".)
+#[inline(never)]
+#[tactic(auto, unfolding(crate::specs::Bits::bits_outcome, z80_regs::specs::Outcome::Leaves))]
+pub fn bits_page<B: Bus>(instr: &Instr, regs: &mut Regs, bus: &mut B)
+    ensures registers { regs.new ≡ (bits_outcome instr.now regs.old (B.byte bus.old)).registers }
+    ensures bus { Leaves B.wrote B.took (bits_outcome instr.now regs.old (B.byte bus.old)).actions bus.old bus.new }
+{
+    match bit_form(instr.opcode) {
+        None => {}
+        Some(form) => {
+            regs.pc = regs.pc.wrapping_add(u16::from(instr.length));
+            let at = operand_at(instr.opcode % 8);
+            act_on_operand(form, at, operand(at, regs, bus), regs, bus);
+        }
+    }
+}

@@ -1,0 +1,158 @@
+ghost use Rattle.std.specs.Prelude.{◌≡◌, ℕ};
+ghost use Rattle.z80_regs.specs.Outcome.{Leaves};
+ghost use Rattle.z80_exec.specs.Operands.{hl_of};
+ghost use Rattle.z80_ext.specs.Extended.{
+  operand_input,
+  pair_added_with_carry,
+  pair_subtracted,
+  negated,
+  nonmaskable_returned,
+  a_loaded,
+  digits_right,
+  digits_left,
+  extended_performed,
+  extended_outcome,
+};
+
+use crate::block::transfer;
+use z80_decode::{ExtendedForm, Instr, Operand, Pair, extended_form};
+use z80_exec::{
+    hl, operand, pair_at, return_to_caller, set_operand, set_pair, store_word, word_at,
+};
+use z80_regs::{Bus, Regs};
+
+/// IN r,(C).
+#[tactic(auto, unfolding(z80_regs::specs::Outcome::Leaves))]
+fn input_operand<B: Bus>(to: Operand, regs: &mut Regs, bus: &mut B)
+    ensures registers { regs.new ≡ (operand_input to regs.old (B.port_byte bus.old)).registers }
+    ensures bus { Leaves B.wrote B.took (operand_input to regs.old (B.port_byte bus.old)).actions bus.old bus.new }
+{
+    let value = bus.input(regs.c);
+    regs.f = z80_alu::value_flags(value, regs.f);
+    set_operand(to, value, regs, bus);
+}
+
+/// ADC HL,ss.
+fn add_pair_with_carry(pair: Pair, regs: &mut Regs)
+    ensures { regs.new ≡ pair_added_with_carry pair regs.old }
+{
+    let (sum, flags) = z80_alu::adc16(hl(regs), pair_at(regs, pair), regs.f);
+    set_pair(regs, Pair::HL, sum);
+    regs.f = flags;
+}
+
+/// SBC HL,ss.
+fn subtract_pair(pair: Pair, regs: &mut Regs)
+    ensures { regs.new ≡ pair_subtracted pair regs.old }
+{
+    let (difference, flags) = z80_alu::sbc16(hl(regs), pair_at(regs, pair), regs.f);
+    set_pair(regs, Pair::HL, difference);
+    regs.f = flags;
+}
+
+/// NEG.
+fn negate(regs: &mut Regs)
+    ensures { regs.new ≡ negated regs.old }
+{
+    (regs.a, regs.f) = z80_alu::sub8(0, regs.a, false, regs.f);
+}
+
+/// RETN.
+fn return_from_nonmaskable<B: Bus>(regs: &mut Regs, bus: &B)
+    ensures { regs.new ≡ nonmaskable_returned regs.old (B.byte bus.now) }
+{
+    return_to_caller(regs, bus);
+    regs.iff1 = regs.iff2;
+}
+
+/// LD A,I and LD A,R, of the value.
+fn load_a(value: u8, regs: &mut Regs)
+    ensures { regs.new ≡ a_loaded value regs.old }
+{
+    regs.a = value;
+    regs.f = z80_alu::load_flags(value, regs.iff2, regs.f);
+}
+
+/// RRD.
+#[tactic(auto, unfolding(z80_regs::specs::Outcome::Leaves))]
+fn rotate_digits_right<B: Bus>(regs: &mut Regs, bus: &mut B)
+    ensures registers { regs.new ≡ (digits_right (B.byte bus.old (hl_of regs.old)) regs.old).registers }
+    ensures bus { Leaves B.wrote B.took
+        (digits_right (B.byte bus.old (hl_of regs.old)) regs.old).actions bus.old bus.new }
+{
+    let byte = bus.read(hl(regs));
+    bus.write(hl(regs), regs.a % 16 * 16 + byte / 16);
+    regs.a = regs.a / 16 * 16 + byte % 16;
+    regs.f = z80_alu::value_flags(regs.a, regs.f);
+}
+
+/// RLD.
+#[tactic(auto, unfolding(z80_regs::specs::Outcome::Leaves))]
+fn rotate_digits_left<B: Bus>(regs: &mut Regs, bus: &mut B)
+    ensures registers { regs.new ≡ (digits_left (B.byte bus.old (hl_of regs.old)) regs.old).registers }
+    ensures bus { Leaves B.wrote B.took (digits_left (B.byte bus.old (hl_of regs.old)) regs.old).actions
+        bus.old bus.new }
+{
+    let byte = bus.read(hl(regs));
+    bus.write(hl(regs), byte % 16 * 16 + regs.a % 16);
+    regs.a = regs.a / 16 * 16 + byte / 16;
+    regs.f = z80_alu::value_flags(regs.a, regs.f);
+}
+
+/// OUT (C),r.
+fn output_operand<B: Bus>(from: Operand, regs: &Regs, bus: &mut B)
+    ensures { bus.new ≡ bus.old }
+{
+    let value = operand(from, regs, bus);
+    bus.output(regs.c, value);
+}
+
+/// Acts as a form's instruction, which PC is behind.
+#[tactic(auto, unfolding(crate::specs::Extended::extended_performed, z80_regs::specs::Outcome::Leaves))]
+fn perform<B: Bus>(form: ExtendedForm, instr: &Instr, regs: &mut Regs, bus: &mut B)
+    ensures registers { regs.new ≡
+        (extended_performed form instr.now regs.old (B.byte bus.old) (B.port_byte bus.old)).registers }
+    ensures bus { Leaves B.wrote B.took
+        (extended_performed form instr.now regs.old (B.byte bus.old) (B.port_byte bus.old)).actions bus.old bus.new }
+{
+    match form {
+        ExtendedForm::Input(to) => input_operand(to, regs, bus),
+        ExtendedForm::Output(from) => output_operand(from, regs, bus),
+        ExtendedForm::SubtractPair(pair) => subtract_pair(pair, regs),
+        ExtendedForm::AddPair(pair) => add_pair_with_carry(pair, regs),
+        ExtendedForm::StorePair(pair) => store_word(instr.operand, pair_at(regs, pair), bus),
+        ExtendedForm::LoadPair(pair) => set_pair(regs, pair, word_at(bus, instr.operand)),
+        ExtendedForm::Negate => negate(regs),
+        ExtendedForm::ReturnNonmaskable => return_from_nonmaskable(regs, bus),
+        ExtendedForm::ReturnInterrupt => return_to_caller(regs, bus),
+        ExtendedForm::Mode(mode) => regs.mode = mode,
+        ExtendedForm::StoreI => regs.i = regs.a,
+        ExtendedForm::StoreR => regs.r = regs.a,
+        ExtendedForm::LoadI => load_a(regs.i, regs),
+        ExtendedForm::LoadR => load_a(regs.r, regs),
+        ExtendedForm::RotateRight => rotate_digits_right(regs, bus),
+        ExtendedForm::RotateLeft => rotate_digits_left(regs, bus),
+        ExtendedForm::Block(kind, direction, repeats) => transfer(
+            kind, direction, repeats, regs, bus,
+        ),
+    }
+}
+
+/// Acts as an instruction behind EDh: PC goes behind it, and what it does is done. (UM0080, "Z80 Instruction
+/// Description".)
+#[inline(never)]
+#[tactic(auto, unfolding(crate::specs::Extended::extended_outcome, z80_regs::specs::Outcome::Leaves))]
+pub fn extended_page<B: Bus>(instr: &Instr, regs: &mut Regs, bus: &mut B)
+    ensures registers { regs.new ≡
+        (extended_outcome instr.now regs.old (B.byte bus.old) (B.port_byte bus.old)).registers }
+    ensures bus { Leaves B.wrote B.took
+        (extended_outcome instr.now regs.old (B.byte bus.old) (B.port_byte bus.old)).actions bus.old bus.new }
+{
+    match extended_form(instr.opcode) {
+        None => {}
+        Some(form) => {
+            regs.pc = regs.pc.wrapping_add(u16::from(instr.length));
+            perform(form, instr, regs, bus);
+        }
+    }
+}

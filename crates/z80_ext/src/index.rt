@@ -1,0 +1,210 @@
+ghost use Rattle.std.specs.Prelude.{◌≡◌, ℕ};
+ghost use Rattle.z80_regs.specs.Outcome.{Leaves};
+ghost use Rattle.z80_ext.specs.Index.{
+  index_word,
+  with_index,
+  index_pair_word,
+  indexed_address,
+  index_added,
+  byte_incremented,
+  byte_decremented,
+  index_exchanged,
+  index_pushed,
+  index_popped,
+  index_performed,
+  index_outcome,
+  index_bits_outcome,
+};
+
+use crate::bits::act_on_memory;
+use z80_decode::{IndexForm, Instr, Pair, bit_form, index_form};
+use z80_exec::{
+    calculate, number_at, operand, pair_at, push, relative_to, replace_top, set_operand,
+    store_word, word_at,
+};
+use z80_regs::{Bus, Regs};
+
+/// The register that stands for HL.
+#[derive(Clone, Copy)]
+pub enum IndexRegister {
+    /// Behind DDh.
+    Ix,
+    /// Behind FDh.
+    Iy,
+}
+
+/// The word in an index register.
+fn index_at(regs: &Regs, index: IndexRegister) -> u16
+    ensures { result ≡ index_word index regs.now }
+{
+    match index {
+        IndexRegister::Ix => regs.ix,
+        IndexRegister::Iy => regs.iy,
+    }
+}
+
+/// Sets an index register.
+fn set_index(regs: &mut Regs, index: IndexRegister, word: u16)
+    ensures { regs.new ≡ with_index index word regs.old }
+{
+    match index {
+        IndexRegister::Ix => regs.ix = word,
+        IndexRegister::Iy => regs.iy = word,
+    }
+}
+
+/// The word in a pair, where an index register stands for HL.
+fn index_pair_at(regs: &Regs, index: IndexRegister, pair: Pair) -> u16
+    ensures { result ≡ index_pair_word index pair regs.now }
+{
+    match pair {
+        Pair::HL => index_at(regs, index),
+        _ => pair_at(regs, pair),
+    }
+}
+
+/// IX+d or IY+d.
+fn address_at(index: IndexRegister, instr: &Instr, regs: &Regs) -> u16
+    ensures { result ≡ indexed_address index instr.now regs.now }
+{
+    relative_to(index_at(regs, index), instr.displacement)
+}
+
+/// ADD IX,pp.
+fn add_pair(index: IndexRegister, pair: Pair, regs: &mut Regs)
+    ensures { regs.new ≡ index_added index pair regs.old }
+{
+    let (sum, flags) = z80_alu::add16(
+        index_at(regs, index),
+        index_pair_at(regs, index, pair),
+        regs.f,
+    );
+    set_index(regs, index, sum);
+    regs.f = flags;
+}
+
+/// INC of the byte at an address.
+#[tactic(auto, unfolding(z80_regs::specs::Outcome::Leaves))]
+fn increment_at<B: Bus>(address: u16, regs: &mut Regs, bus: &mut B)
+    ensures registers { regs.new ≡ (byte_incremented address (B.byte bus.old address) regs.old).registers }
+    ensures bus { Leaves B.wrote B.took (byte_incremented address (B.byte bus.old address) regs.old).actions
+        bus.old bus.new }
+{
+    let (value, flags) = z80_alu::inc8(bus.read(address), regs.f);
+    regs.f = flags;
+    bus.write(address, value);
+}
+
+/// DEC of the byte at an address.
+#[tactic(auto, unfolding(z80_regs::specs::Outcome::Leaves))]
+fn decrement_at<B: Bus>(address: u16, regs: &mut Regs, bus: &mut B)
+    ensures registers { regs.new ≡ (byte_decremented address (B.byte bus.old address) regs.old).registers }
+    ensures bus { Leaves B.wrote B.took (byte_decremented address (B.byte bus.old address) regs.old).actions
+        bus.old bus.new }
+{
+    let (value, flags) = z80_alu::dec8(bus.read(address), regs.f);
+    regs.f = flags;
+    bus.write(address, value);
+}
+
+/// EX (SP),IX.
+fn exchange_stack<B: Bus>(index: IndexRegister, regs: &mut Regs, bus: &mut B)
+    ensures registers { regs.new ≡ (index_exchanged index regs.old (B.byte bus.old)).registers }
+    ensures bus { Leaves B.wrote B.took (index_exchanged index regs.old (B.byte bus.old)).actions bus.old bus.new }
+{
+    let top = replace_top(index_at(regs, index), regs, bus);
+    set_index(regs, index, top);
+}
+
+/// PUSH IX.
+fn push_index<B: Bus>(index: IndexRegister, regs: &mut Regs, bus: &mut B)
+    ensures registers { regs.new ≡ (index_pushed index regs.old).registers }
+    ensures bus { Leaves B.wrote B.took (index_pushed index regs.old).actions bus.old bus.new }
+{
+    push(index_at(regs, index), regs, bus);
+}
+
+/// POP IX.
+fn pop_index<B: Bus>(index: IndexRegister, regs: &mut Regs, bus: &B)
+    ensures { regs.new ≡ index_popped index regs.old (B.byte bus.now) }
+{
+    let word = word_at(bus, regs.sp);
+    regs.sp = regs.sp.wrapping_add(2);
+    set_index(regs, index, word);
+}
+
+/// Acts as a form's instruction, which PC is behind.
+#[tactic(auto, unfolding(crate::specs::Index::index_performed, z80_regs::specs::Outcome::Leaves))]
+fn perform<B: Bus>(
+    form: IndexForm,
+    index: IndexRegister,
+    instr: &Instr,
+    regs: &mut Regs,
+    bus: &mut B,
+)
+    ensures registers { regs.new ≡ (index_performed form index instr.now regs.old (B.byte bus.old)).registers }
+    ensures bus { Leaves B.wrote B.took (index_performed form index instr.now regs.old (B.byte bus.old)).actions
+        bus.old bus.new }
+{
+    let word = index_at(regs, index);
+    let address = address_at(index, instr, regs);
+    match form {
+        IndexForm::AddPair(pair) => add_pair(index, pair, regs),
+        IndexForm::LoadNumber => set_index(regs, index, instr.operand),
+        IndexForm::Store => store_word(instr.operand, word, bus),
+        IndexForm::Load => set_index(regs, index, word_at(bus, instr.operand)),
+        IndexForm::Increment => set_index(regs, index, word.wrapping_add(1)),
+        IndexForm::Decrement => set_index(regs, index, word.wrapping_sub(1)),
+        IndexForm::IncrementAt => increment_at(address, regs, bus),
+        IndexForm::DecrementAt => decrement_at(address, regs, bus),
+        IndexForm::StoreNumber => bus.write(address, number_at(instr)),
+        IndexForm::LoadFrom(to) => set_operand(to, bus.read(address), regs, bus),
+        IndexForm::StoreTo(from) => {
+            let value = operand(from, regs, bus);
+            bus.write(address, value);
+        }
+        IndexForm::Calculate(math) => calculate(math, bus.read(address), regs),
+        IndexForm::Pop => pop_index(index, regs, bus),
+        IndexForm::ExchangeStack => exchange_stack(index, regs, bus),
+        IndexForm::Push => push_index(index, regs, bus),
+        IndexForm::Jump => regs.pc = word,
+        IndexForm::LoadSp => regs.sp = word,
+    }
+}
+
+/// Acts as an instruction behind DDh or FDh: PC goes behind it, and what it does is done. (UM0080, "Z80 Instruction
+/// Description".)
+#[inline(never)]
+#[tactic(auto, unfolding(crate::specs::Index::index_outcome, z80_regs::specs::Outcome::Leaves))]
+pub fn index_page<B: Bus>(index: IndexRegister, instr: &Instr, regs: &mut Regs, bus: &mut B)
+    ensures registers { regs.new ≡ (index_outcome index instr.now regs.old (B.byte bus.old)).registers }
+    ensures bus { Leaves B.wrote B.took (index_outcome index instr.now regs.old (B.byte bus.old)).actions
+        bus.old bus.new }
+{
+    match index_form(instr.opcode) {
+        None => {}
+        Some(form) => {
+            regs.pc = regs.pc.wrapping_add(u16::from(instr.length));
+            perform(form, index, instr, regs, bus);
+        }
+    }
+}
+
+/// Acts as an instruction behind DDh CBh or FDh CBh: PC goes behind it, and what it does is done. (UM0080, "Rotate and
+/// Shift Group", "Bit Set, Reset, and Test Group".)
+#[inline(never)]
+#[tactic(auto, unfolding(crate::specs::Index::index_bits_outcome, z80_regs::specs::Outcome::Leaves))]
+pub fn index_bits_page<B: Bus>(index: IndexRegister, instr: &Instr, regs: &mut Regs, bus: &mut B)
+    ensures registers { regs.new ≡ (index_bits_outcome index instr.now regs.old (B.byte bus.old)).registers }
+    ensures bus { Leaves B.wrote B.took (index_bits_outcome index instr.now regs.old (B.byte bus.old)).actions
+        bus.old bus.new }
+{
+    match bit_form(instr.opcode) {
+        None => {}
+        Some(form) => {
+            let address = address_at(index, instr, regs);
+            regs.pc = regs.pc.wrapping_add(u16::from(instr.length));
+            act_on_memory(form, address, regs, bus);
+        }
+    }
+}
