@@ -1,0 +1,7 @@
+pub mod SegmentLaws
+pub mod ActionLaws
+pub mod RangeLaws
+pub mod RangeBytes
+pub mod WrittenBytes
+pub mod WindowLaws
+pub mod Examples

@@ -1,0 +1,10 @@
+pub mod Memory
+pub mod Ranges
+pub mod Allocations
+pub mod Ports
+pub mod Actions
+pub mod Lending
+pub mod Windows
+pub mod Bus
+pub mod MemoryLaws
+pub mod BusLaws

@@ -1,0 +1,90 @@
+ghost use Rattle.std.specs.Prelude.{◌≡◌, ◌-◌, ◌<◌, ◌≤◌, IfOk, length, slice_get, slice_index, slice_range, slice_set};
+ghost use Rattle.std.specs.Borrow.{sem};
+
+use crate::OutOfMemory;
+use std::alloc::Global;
+use std::marker::Model;
+
+/// The bytes of a segment or of common memory. Contracts see the list.
+#[derive(Drop)]
+pub(crate) struct Bytes {
+    items: Vec<u8>,
+}
+
+impl Model for Bytes {
+    ghost use Rattle.std.specs.Prelude.{ℕ, List};
+
+    ghost Value = { List ℕ };
+
+    ghost view = { λ bytes. bytes.items.items };
+}
+
+impl Bytes {
+    ghost use Rattle.mpm_banks.specs.Lending.{LendsRange};
+    ghost use Rattle.mpm_banks.specs.Allocations.{zeros};
+
+    /// So many bytes, all 0.
+    #[tactic(auto, unfolding(crate::specs::Allocations::zeros))]
+    pub fn zeros(alloc: Global, count: usize) -> Result<Bytes, OutOfMemory>
+        requires { count ≤ 65536 }
+        ensures { IfOk result (λ bytes. bytes ≡ zeros count) }
+    {
+        let mut items = Vec::with_capacity(alloc, count)?;
+        items.resize(count, 0)?;
+        Ok(Bytes { items })
+    }
+
+    #[inline(always)]
+    pub fn len(&self) -> usize
+        ensures { result ≡ length self.now }
+    {
+        self.items.len()
+    }
+
+    /// The byte at an index.
+    #[inline(always)]
+    pub fn at(&self, index: usize) -> u8
+        requires { index < length self.now }
+        ensures { result ≡ slice_index self.now index }
+    {
+        self.items[index]
+    }
+
+    /// The byte at an index, where there is one.
+    #[inline(always)]
+    pub fn get(&self, index: usize) -> Option<u8>
+        ensures { result ≡ slice_get self.now index }
+    {
+        self.items.get(index).copied()
+    }
+
+    /// Writes the byte at an index, where there is one.
+    #[inline(always)]
+    pub fn set(&mut self, index: usize, value: u8)
+        ensures { self.new ≡ slice_set self.old index value }
+    {
+        if index < self.items.len() {
+            self.items[index] = value;
+        }
+    }
+
+    /// The bytes of a range.
+    pub fn range(&self, from: usize, to: usize) -> &[u8]
+        requires order { from ≤ to }
+        requires inside { to ≤ length self.now }
+        ensures { result.now ≡ slice_range self.now from to }
+    {
+        &self.items[from..to]
+    }
+
+    /// Lends the bytes of a range.
+    pub fn range_mut(&mut self, from: usize, to: usize) -> &mut [u8]
+        requires order { from ≤ to }
+        requires inside { to ≤ length self.old }
+        ensures* lends { sem 𝓛 (LendsRange self.entry from result) }
+        ensures value { result.now ≡ slice_range self.old from to }
+        ensures size { length result.now ≡ to - from }
+    {
+        self.items.slice_mut(from..to)
+    }
+}

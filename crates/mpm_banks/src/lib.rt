@@ -1,0 +1,19 @@
+//! Banked memory: segments, of which each process has one, and common memory, which all of them share.
+#![tactic(auto)]
+
+mod banks;
+mod bus;
+mod bytes;
+mod range;
+mod segment;
+mod window;
+
+pub use banks::Banks;
+pub use bus::BankBus;
+pub use window::Window;
+
+/// No memory was found: the allocator's own error.
+pub use std::alloc::AllocError as OutOfMemory;
+
+#[cfg(test)]
+mod tests;

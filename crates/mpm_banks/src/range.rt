@@ -1,0 +1,17 @@
+ghost use Rattle.std.specs.Prelude.{◌≡◌, ◌≤◌, ◌-◌};
+
+/// What an address reaches into.
+#[derive(Clone, Copy)]
+pub(crate) enum Space {
+    Common,
+    /// The segment of this number.
+    InSegment(u8),
+}
+
+/// A range of bytes of one space, by their indexes.
+#[derive(Clone, Copy)]
+pub(crate) struct Range {
+    pub space: Space,
+    pub from: usize,
+    pub to: usize,
+}

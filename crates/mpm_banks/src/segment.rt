@@ -1,0 +1,113 @@
+ghost use Rattle.std.specs.Prelude.{◌≡◌, ◌+◌, ◌≤◌, ◌<◌, ◌-◌, ◌*◌, IfOk, length};
+
+use crate::OutOfMemory;
+use crate::bytes::Bytes;
+use crate::range::{Range, Space};
+use mpm_base::{Pid, Seg, SegmentSpec};
+use std::alloc::Global;
+
+/// Who has a segment.
+#[derive(Clone, Copy, Debug, PartialEq, Eq)]
+pub(crate) enum Allocation {
+    /// Nobody.
+    Free,
+    /// A process reserved it.
+    Reserved(Pid),
+    /// A process lives in it.
+    Occupied,
+}
+
+/// A memory segment: its first page, its number of pages, who has it, and 256 bytes for each page.
+#[derive(Drop)]
+pub(crate) struct Segment {
+    pub base: u8,
+    pub pages: u8,
+    pub allocation: Allocation,
+    pub bytes: Bytes,
+}
+
+impl Segment {
+    ghost use Rattle.mpm_banks.specs.Memory.{IsSegment, byte_within, put_within};
+    ghost use Rattle.mpm_banks.specs.Ranges.{range_from};
+    ghost use Rattle.mpm_banks.specs.Allocations.{new_segment, fits, freed};
+
+    /// A free segment, all of whose bytes are 0.
+    pub fn new(alloc: Global, spec: SegmentSpec) -> Result<Segment, OutOfMemory>
+        ensures { IfOk result (λ segment. segment ≡ new_segment spec) }
+    {
+        Ok(Segment {
+            base: spec.base,
+            pages: spec.pages,
+            allocation: Allocation::Free,
+            bytes: Bytes::zeros(alloc, 256 * usize::from(spec.pages))?,
+        })
+    }
+
+    /// Whether it is free, of at least so many pages, and of that base page if one is given.
+    pub fn fits(&self, base: Option<u8>, pages: u8) -> bool
+        ensures { result ≡ fits base pages self.now }
+    {
+        let has_base = match base {
+            None => true,
+            Some(asked) => self.base == asked,
+        };
+        self.allocation == Allocation::Free && pages <= self.pages && has_base
+    }
+
+    /// Gives it back, if the process reserved it.
+    pub fn release(&mut self, owner: Pid)
+        ensures { self.new ≡ freed owner self.old }
+    {
+        if self.allocation == Allocation::Reserved(owner) {
+            self.allocation = Allocation::Free;
+        }
+    }
+
+    /// The byte at an address below common memory; FFh where it isn't in the segment.
+    #[inline(always)]
+    pub fn byte(&self, address: u16) -> u8
+        requires { IsSegment self.now }
+        ensures { result ≡ byte_within (256 * self.now.base) self.now.bytes address }
+    {
+        let index = index_behind(self.base, address);
+        self.bytes.get(index).unwrap_or(0xFF)
+    }
+
+    /// Writes the byte at an address below common memory; it is lost where it isn't in the segment.
+    #[inline(always)]
+    pub fn put(&mut self, address: u16, value: u8)
+        requires { IsSegment self.old }
+        ensures { self.new ≡ record self.old { bytes = put_within (256 * self.old.base) self.old.bytes address value } }
+    {
+        let index = index_behind(self.base, address);
+        self.bytes.set(index, value);
+    }
+
+    /// The range that `size` addresses from one on name in this segment, which has the number `seg`; none where they
+    /// aren't all its own.
+    pub fn range(&self, seg: Seg, address: u16, size: u16) -> Option<Range>
+        requires { IsSegment self.now }
+        ensures { result ≡ range_from (Space.InSegment seg) (256 * self.now.base) (256 * self.now.base + length self.now.bytes) address size }
+    {
+        let first = 256 * usize::from(self.base);
+        let from = usize::from(address);
+        let to = from + usize::from(size);
+        if from < first || first + self.bytes.len() < to {
+            return None;
+        }
+        Some(Range {
+            space: Space::InSegment(seg.0),
+            from: from - first,
+            to: to - first,
+        })
+    }
+}
+
+/// How far an address is behind the first of a page; below that page, more than all memory.
+#[inline(always)]
+fn index_behind(base: u8, address: u16) -> usize
+    ensures behind { 256 * base ≤ address → result ≡ address - 256 * base }
+    ensures below { address < 256 * base → 65536 ≤ result }
+{
+    usize::from(address).wrapping_sub(256 * usize::from(base))
+}

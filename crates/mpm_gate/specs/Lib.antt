@@ -1,0 +1,5 @@
+pub mod Bytes
+pub mod Texts
+pub mod Reads
+pub mod Calls
+pub mod Replies

@@ -1,0 +1,97 @@
+-- How many processes live, and in how many slots nobody does.
+use Rattle.std.proofs.Common.{◌≡◌, ◌≢◌, ◌∙◌, ℕ, ◌+◌, ◌<◌, ◌≤◌, Bool, true, false, not, cond, List, [], ◌∷◌, Some, None, inl, inr, length, get_or, refl, sym, ap, arith}
+use Rattle.std.specs.Prelude.{◌↔◌, count_by}
+use Rattle.std.specs.List.{position_or_len}
+use Rattle.std.proofs.lemmas.Bool.{false≢true, cases_lt, lt-ltb, le-ltb}
+use Rattle.std.proofs.lemmas.List.Sums.{sum_by-set, sum_by-cons, count_by-le-length}
+use Rattle.mpm_procs.specs.declared.process.NewProcess.{NewProcess}
+use Rattle.mpm_procs.specs.Table.{Table, HasSlots, lives, Lives, lowest_free, free_slots, living, added, without}
+
+abbrev bit : Bool → ℕ
+bit b = cond b 1 0
+
+abbrev free_bit : Bool → ℕ
+free_bit b = cond (not b) 1 0
+
+-- a process more, one fewer
+one_more : (a b c : ℕ) → a + c ≡ b + 1 → c ≡ 0 → a ≡ b + 1
+one_more a b c h k = omega arith
+
+one_less : (a b c : ℕ) → a + c ≡ b + 0 → c ≡ 1 → a + 1 ≡ b
+one_less a b c h k = omega arith
+
+pub living_added : (table : Table) (p : ℕ) (new : NewProcess) → p < length table.alive → lives table p ≡ false → living (added table p new) ≡ living table + 1
+unfolding living added
+living_added table p new within free =
+    one_more _ _ (bit (get_or table.alive p false)) (sum_by-set bit table.alive p true false within) (ap bit free)
+
+pub living_without : (table : Table) (p : ℕ) → p < length table.alive → Lives table p → living (without table p) + 1 ≡ living table
+unfolding living without
+living_without table p within alive =
+    one_less _ _ (bit (get_or table.alive p false)) (sum_by-set bit table.alive p false false within) (ap bit alive)
+
+-- the slots are those where a process lives and the free ones
+abbrev live_count : List Bool → ℕ
+live_count bs = count_by (λ b. b) bs
+
+live_more : (bs : List Bool) → live_count (true ∷ bs) ≡ 1 + live_count bs
+live_more bs = sum_by-cons bit true bs
+
+live_same : (bs : List Bool) → live_count (false ∷ bs) ≡ 0 + live_count bs
+live_same bs = sum_by-cons bit false bs
+
+free_same : (bs : List Bool) → count_by not (true ∷ bs) ≡ 0 + count_by not bs
+free_same bs = sum_by-cons free_bit true bs
+
+free_more : (bs : List Bool) → count_by not (false ∷ bs) ≡ 1 + count_by not bs
+free_more bs = sum_by-cons free_bit false bs
+
+parted : (bs : List Bool) → live_count bs + count_by not bs ≡ length bs
+parted [] = refl
+parted (true ∷ bs) = omega (arith, parted bs, live_more bs, free_same bs)
+parted (false ∷ bs) = omega (arith, parted bs, live_same bs, free_more bs)
+
+pub living_and_free : (table : Table) → HasSlots table → living table + free_slots table ≡ 32
+unfolding living free_slots
+living_and_free table slots = parted table.alive ∙ slots.alive
+
+-- no slot is free exactly where 32 processes live
+full_end : (bs : List Bool) → live_count bs ≡ length bs → position_or_len not bs ≡ length bs
+full_end [] all = refl
+full_end (true ∷ bs) all =
+    let more : position_or_len not (true ∷ bs) ≡ 1 + position_or_len not bs = refl in
+    omega (arith, full_end bs (omega (arith, live_more bs)))
+full_end (false ∷ bs) all = absurd (omega (arith, live_same bs, count_by-le-length (λ b. b) bs))
+
+end_full : (bs : List Bool) → length bs ≤ position_or_len not bs → live_count bs ≡ length bs
+end_full [] all = refl
+end_full (true ∷ bs) all =
+    let more : position_or_len not (true ∷ bs) ≡ 1 + position_or_len not bs = refl in
+    omega (arith, live_more bs, end_full bs (omega arith))
+end_full (false ∷ bs) all =
+    let here : position_or_len not (false ∷ bs) ≡ 0 = refl in
+    absurd (omega arith)
+
+pub full_from_none : (table : Table) → HasSlots table → lowest_free table ≡ None → living table ≡ 32
+unfolding living lowest_free
+full_from_none table slots none =
+    elim (cases_lt (position_or_len not table.alive) (length table.alive)) [
+      | inl h ↦ absurd (let some = ap (λ (b : Bool). cond b (Some (position_or_len not table.alive)) None) (lt-ltb _ _ h) in let wrong = sym some ∙ none in cc)
+      | inr h ↦ end_full table.alive h ∙ slots.alive
+    ]
+
+pub none_from_full : (table : Table) → HasSlots table → living table ≡ 32 → lowest_free table ≡ None
+unfolding living lowest_free
+none_from_full table slots full =
+    let at : position_or_len not table.alive ≡ length table.alive = full_end table.alive (full ∙ sym slots.alive) in
+    ap (λ (b : Bool). cond b (Some (position_or_len not table.alive)) None) (le-ltb _ _ (omega arith))
+
+pub room_from_some : (table : Table) (p : ℕ) → HasSlots table → lowest_free table ≡ Some p → living table ≢ 32
+room_from_some table p slots some full = let wrong = sym some ∙ none_from_full table slots full in cc
+
+-- a refusal stands for a full table, an answer for one with room
+pub refused_full : (table : Table) → HasSlots table → lowest_free table ≡ None → (true ≡ true) ↔ (living table ≡ 32)
+refused_full table slots none = ((λ _. full_from_none table slots none), (λ _. refl))
+
+pub taken_room : (table : Table) (p : ℕ) → HasSlots table → lowest_free table ≡ Some p → (false ≡ true) ↔ (living table ≡ 32)
+taken_room table p slots some = ((λ wrong. absurd (false≢true wrong)), (λ full. absurd (room_from_some table p slots some full)))

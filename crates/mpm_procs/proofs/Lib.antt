@@ -1,0 +1,4 @@
+pub mod MapLaws
+pub mod CountLaws
+pub mod Finding
+pub mod BlankLaws

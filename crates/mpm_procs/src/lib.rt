@@ -1,0 +1,12 @@
+//! The processes: a finite map from the numbers of the 32 slots.
+#![tactic(auto)]
+
+mod process;
+mod procs;
+
+pub use process::{NewProcess, Process};
+pub use procs::{NoSlot, Procs};
+pub use std::alloc::AllocError as OutOfMemory;
+
+#[cfg(test)]
+mod tests;

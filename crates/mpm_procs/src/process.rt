@@ -1,0 +1,143 @@
+ghost use Rattle.std.specs.Prelude.{◌≡◌};
+ghost use Rattle.mpm_procs.specs.Opening.{opening_registers as registers_at_opening};
+
+use mpm_base::{Name8, Seg};
+use z80_regs::Regs;
+
+/// A process. (MP/M II Programmer's Guide, "Process Descriptor".)
+#[derive(Clone, Copy)]
+pub struct Process {
+    pub name: Name8,
+    /// 0 is best, 255 worst.
+    pub priority: u8,
+    /// The number of its console.
+    pub console: u8,
+    /// The memory segment that it lives in; a resident process has none.
+    pub seg: Option<Seg>,
+    /// The user, 0 to 15.
+    pub user: u8,
+    /// The current drive, 0 for A to 15 for P.
+    pub drive: u8,
+    pub regs: Regs,
+    /// The number of its printer.
+    pub printer: u8,
+    /// The DMA address.
+    pub dma: u16,
+    /// The multi-sector count, 1 to 16.
+    pub multi: u8,
+    /// What becomes of an extended error: FFh and FEh answer it, FEh also writes it; others write it and end the process.
+    pub error_mode: u8,
+    /// The default password.
+    pub password: [u8; 8],
+    /// It ends as soon as nothing holds that off any more.
+    pub abort_due: bool,
+    /// The queue of the resident procedure that it is in.
+    pub procedure: Option<u8>,
+    /// The message of that queue.
+    pub kept: u16,
+    /// The address to which that procedure returns.
+    pub back: u16,
+    /// The line of an unfinished console line input.
+    pub line: [u8; 255],
+    /// How many bytes that line has.
+    pub line_length: u8,
+}
+
+/// What a new process begins with.
+#[derive(Clone, Copy, Default)]
+pub struct NewProcess {
+    pub name: Name8,
+    pub priority: u8,
+    pub console: u8,
+    pub seg: Option<Seg>,
+    pub pc: u16,
+    pub sp: u16,
+    pub dma: u16,
+    pub user: u8,
+    pub drive: u8,
+}
+
+impl Process {
+    ghost use Rattle.mpm_procs.specs.Opening.{opening, blank};
+
+    /// A process as it begins.
+    #[tactic(auto, unfolding(crate::specs::Opening::opening, crate::specs::Opening::zeros))]
+    pub(crate) fn begin(new: &NewProcess) -> Process
+        ensures { result ≡ opening new.now }
+    {
+        Process {
+            name: new.name,
+            priority: new.priority,
+            console: new.console,
+            seg: new.seg,
+            user: new.user,
+            drive: new.drive,
+            regs: opening_registers(new.pc, new.sp),
+            printer: 0,
+            dma: new.dma,
+            multi: 1,
+            error_mode: 0,
+            password: [0; 8],
+            abort_due: false,
+            procedure: None,
+            kept: 0,
+            back: 0,
+            line: [0; 255],
+            line_length: 0,
+        }
+    }
+
+    /// What stands in a slot where no process lives.
+    #[tactic(auto, unfolding(crate::specs::Opening::blank, crate::specs::Opening::zeros))]
+    pub(crate) fn none() -> Process
+        ensures { result ≡ blank }
+    {
+        Process::begin(&NewProcess {
+            name: Name8([0; 8]),
+            priority: 0,
+            console: 0,
+            seg: None,
+            pc: 0,
+            sp: 0,
+            dma: 0,
+            user: 0,
+            drive: 0,
+        })
+    }
+}
+
+/// The registers as a process begins: all 0 but PC and SP, interrupts on.
+#[tactic(auto, unfolding(crate::specs::Opening::opening_registers))]
+fn opening_registers(pc: u16, sp: u16) -> Regs
+    ensures { result ≡ registers_at_opening pc sp }
+{
+    Regs {
+        a: 0,
+        f: 0,
+        b: 0,
+        c: 0,
+        d: 0,
+        e: 0,
+        h: 0,
+        l: 0,
+        a2: 0,
+        f2: 0,
+        b2: 0,
+        c2: 0,
+        d2: 0,
+        e2: 0,
+        h2: 0,
+        l2: 0,
+        ix: 0,
+        iy: 0,
+        sp,
+        pc,
+        i: 0,
+        r: 0,
+        iff1: true,
+        iff2: true,
+        mode: 0,
+        halted: false,
+        shadow: false,
+    }
+}
