@@ -1,11 +1,12 @@
 -- How many processes live, and in how many slots nobody does.
-use Rattle.std.proofs.Common.{◌≡◌, ◌≢◌, ◌∙◌, ℕ, ◌+◌, ◌<◌, ◌≤◌, Bool, true, false, not, cond, List, [], ◌∷◌, Some, None, inl, inr, length, get_or, refl, sym, ap, arith}
-use Rattle.std.specs.Prelude.{◌↔◌, count_by}
+use Rattle.std.proofs.Common.{◌≡◌, ◌≢◌, ◌∙◌, ℕ, ◌+◌, ◌<◌, ◌≤◌, Bool, true, false, not, cond, List, [], ◌∷◌, Option, Some, None, inl, inr, length, get_or, refl, sym, ap, arith}
+use Rattle.std.specs.Prelude.{◌↔◌, IfSome, IsNone, count_by}
 use Rattle.std.specs.List.{position_or_len}
 use Rattle.std.proofs.lemmas.Bool.{false≢true, cases_lt, lt-ltb, le-ltb}
 use Rattle.std.proofs.lemmas.List.Sums.{sum_by-set, sum_by-cons, count_by-le-length}
 use Rattle.mpm_procs.specs.declared.process.NewProcess.{NewProcess}
 use Rattle.mpm_procs.specs.Table.{Table, HasSlots, lives, Lives, lowest_free, free_slots, living, added, without}
+use Rattle.mpm_procs.proofs.MapLaws.{free_below}
 
 abbrev bit : Bool → ℕ
 bit b = cond b 1 0
@@ -89,9 +90,15 @@ none_from_full table slots full =
 pub room_from_some : (table : Table) (p : ℕ) → HasSlots table → lowest_free table ≡ Some p → living table ≢ 32
 room_from_some table p slots some full = let wrong = sym some ∙ none_from_full table slots full in cc
 
--- a refusal stands for a full table, an answer for one with room
-pub refused_full : (table : Table) → HasSlots table → lowest_free table ≡ None → (true ≡ true) ↔ (living table ≡ 32)
-refused_full table slots none = ((λ _. full_from_none table slots none), (λ _. refl))
+-- the lowest free slot is one of the 32, and there is none exactly where 32 processes live
+pub free_in : (table : Table) (result : Option ℕ) → HasSlots table → result ≡ lowest_free table → IfSome result (λ slot. slot < 32)
+free_in table None slots is = tt
+free_in table (Some slot) slots is =
+    let within = free_below table slot (sym is) in
+    let size = slots.alive in
+    omega arith
 
-pub taken_room : (table : Table) (p : ℕ) → HasSlots table → lowest_free table ≡ Some p → (false ≡ true) ↔ (living table ≡ 32)
-taken_room table p slots some = ((λ wrong. absurd (false≢true wrong)), (λ full. absurd (room_from_some table p slots some full)))
+pub full_exactly : (table : Table) (result : Option ℕ) → HasSlots table → result ≡ lowest_free table → IsNone result ↔ (living table ≡ 32)
+full_exactly table None slots is = ((λ _. full_from_none table slots (sym is)), (λ _. refl))
+full_exactly table (Some slot) slots is =
+    ((λ wrong. absurd (false≢true (sym wrong))), (λ full. absurd (room_from_some table slot slots (sym is) full)))

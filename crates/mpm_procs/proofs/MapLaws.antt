@@ -1,19 +1,32 @@
 -- The table of processes is a finite map: what is changed in a slot is read back there, and every other slot stays.
-use Rattle.std.proofs.Common.{◌≡◌, ◌≢◌, ◌∙◌, ℕ, ◌<◌, Bool, true, false, not, Some, inl, inr, length, refl, arith}
+use Rattle.std.proofs.Common.{◌≡◌, ◌≢◌, ◌∙◌, ℕ, ◌<◌, Bool, true, false, not, Some, inl, inr, length, replicate, refl, arith}
 use Rattle.std.proofs.lemmas.Bool.{cases_lt}
 use Rattle.std.proofs.lemmas.List.Quantifiers.{position-Some}
-use Rattle.std.proofs.lemmas.List.{get_or-set_same, get_or-set_other, get_or_past, length-set}
+use Rattle.std.proofs.lemmas.List.{get_or-set_same, get_or-set_other, get_or_past, get_or-replicate, length-set, length-replicate}
 use Rattle.mpm_base.specs.Calls.{Taken, no_call}
 use Rattle.mpm_procs.specs.declared.process.Process.{Process}
 use Rattle.mpm_procs.specs.declared.process.NewProcess.{NewProcess}
 use Rattle.mpm_procs.specs.Opening.{opening, blank}
-use Rattle.mpm_procs.specs.Table.{Table, HasSlots, lives, Lives, process_in, call_of, with_process, with_call, lowest_free, added, without}
+use Rattle.mpm_procs.specs.Table.{Table, HasSlots, lives, Lives, process_in, call_of, with_process, with_call, lowest_free, added, without, no_processes}
 
 -- a process that lives has one of the slots
 pub lives_below : (table : Table) (p : ℕ) → HasSlots table → Lives table p → p < 32
 lives_below table p slots h = elim (cases_lt p 32) [
   | inl below ↦ below
   | inr past ↦ absurd (grind (arith, get_or_past table.alive p false (omega (arith, slots.alive)), h))
+]
+
+-- nobody lives
+
+pub slots_none : HasSlots no_processes
+unfolding no_processes
+slots_none = record { alive = length-replicate 32 false; processes = length-replicate 32 blank; calls = length-replicate 32 no_call }
+
+pub nobody_lives : (p : ℕ) → lives no_processes p ≡ false
+unfolding no_processes
+nobody_lives p = elim (cases_lt p 32) [
+  | inl below ↦ get_or-replicate 32 p false false below
+  | inr past ↦ get_or_past (replicate 32 false) p false (omega (arith, length-replicate 32 false))
 ]
 
 -- one process changed

@@ -1,4 +1,4 @@
-ghost use Rattle.std.specs.Prelude.{◌≡◌, Some, None, ◌<◌, ◌↔◌, IsErr, IfOk, OnErr, false, not, position, replicate};
+ghost use Rattle.std.specs.Prelude.{◌≡◌, Some, None, ◌<◌, ◌↔◌, IsErr, IsNone, IfSome, IfOk, OnErr, false, not, position, replicate};
 ghost use Rattle.mpm_base.specs.Calls.{no_call};
 ghost use Rattle.std.specs.Borrow.{sem};
 ghost use Rattle.mpm_procs.specs.Opening.{blank};
@@ -114,14 +114,14 @@ impl Procs {
     ///
     /// # Errors
     /// `NoSlot` where 32 processes live; then nothing changes.
-    #[tactic(auto, unfolding(crate::specs::Table::added, crate::specs::Table::lowest_free))]
+    #[tactic(auto, unfolding(crate::specs::Table::added))]
     pub fn add(&mut self, new: NewProcess) -> Result<Pid, NoSlot>
         ensures slot { IfOk result (λ p. lowest_free self.old ≡ Some p) }
         ensures table { IfOk result (λ p. self.new ≡ added self.old p new) }
         ensures refused { OnErr result ((lowest_free self.old ≡ None) × (self.new ≡ self.old)) }
         ensures full { IsErr result ↔ (living self.old ≡ 32) }
     {
-        match first_free(self.alive.as_slice()) {
+        match self.lowest_free() {
             Some(slot) => {
                 self.alive[slot] = true;
                 self.processes[slot] = Process::begin(&new);
@@ -130,6 +130,16 @@ impl Procs {
             }
             None => Err(NoSlot),
         }
+    }
+
+    /// The lowest slot in which nobody lives; none exactly where 32 processes live.
+    #[tactic(auto, unfolding(crate::specs::Table::lowest_free))]
+    fn lowest_free(&self) -> Option<usize>
+        ensures slot { result ≡ lowest_free self.now }
+        ensures below { IfSome result (λ slot. slot < 32) }
+        ensures full { IsNone result ↔ (living self.now ≡ 32) }
+    {
+        first_free(self.alive.as_slice())
     }
 
     /// The process ends; its slot is free.

@@ -1,0 +1,6 @@
+pub mod KeyLaws
+pub mod ArrayLaws
+pub mod OrderLaws
+pub mod LimitLaws
+pub mod MachineLaws
+pub mod Examples

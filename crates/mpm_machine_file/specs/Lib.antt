@@ -1,0 +1,5 @@
+pub mod Reading
+pub mod Fields
+pub mod Segments
+pub mod Drives
+pub mod MachineFiles

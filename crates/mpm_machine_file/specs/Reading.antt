@@ -1,0 +1,22 @@
+-- What a reading answers.
+use Rattle.std.specs.Prelude.{◌≡◌, Option, Some, None, Result, Ok, Err, option_and_then}
+use Rattle.mpm_machine_file.specs.declared.error.MachineError.{MachineError}
+use Rattle.mpm_machine_file.specs.declared.error.MachineError.TheVariants.{Fault, OutOfMemory}
+
+infixl 10 ◌>>=◌
+abbrev pub ◌>>=◌ : {A B : Type 0} → Option A → (A → Option B) → Option B
+found >>= more = option_and_then more found
+
+-- a fault exactly where nothing is found; want of memory may come in any case
+abbrev pub Fails : {A : Type 0} → MachineError → Option A → Type 0
+Fails Fault found = found ≡ None
+Fails OutOfMemory found = Unit {0}
+
+-- a value that is seen as the one that is found, or a failure
+abbrev pub Gives : {X A : Type 0} → (X → A) → Result X MachineError → Option A → Type 0
+Gives view (Ok value) found = found ≡ Some (view value)
+Gives view (Err error) found = Fails error found
+
+-- the value that is found, or a failure
+abbrev pub Reads : {A : Type 0} → Result A MachineError → Option A → Type 0
+Reads = Gives (λ value. value)

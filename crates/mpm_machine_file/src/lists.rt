@@ -1,0 +1,72 @@
+ghost use Rattle.std.specs.Prelude.{◌≡◌, List};
+ghost use Rattle.mpm_base.specs.declared.segment.SegmentSpec.{SegmentSpec};
+
+use crate::text::Text;
+use mpm_base::{Kind, SegmentSpec};
+use std::marker::Model;
+
+/// The memory segments of a machine. Contracts see the list of them.
+#[derive(Debug, Drop)]
+pub struct Segments {
+    items: Vec<SegmentSpec>,
+}
+
+impl Model for Segments {
+    ghost Value = { List SegmentSpec };
+
+    ghost view = { λ segments. segments.items.items };
+}
+
+impl Segments {
+    /// Keeps some segments.
+    pub fn of(items: Vec<SegmentSpec>) -> Segments
+        ensures { result ≡ items.items }
+    {
+        Segments { items }
+    }
+
+    pub fn as_slice(&self) -> &[SegmentSpec]
+        ensures { result.now ≡ self.now }
+    {
+        self.items.as_slice()
+    }
+}
+
+/// A disk drive: its letter, the kind of its disk, and the name of the image that holds it.
+#[derive(Debug, Drop)]
+pub struct DriveSpec {
+    /// The letter as a character, `A` to `P`.
+    pub letter: u8,
+    pub kind: Kind,
+    pub image: Text,
+}
+
+/// The disk drives of a machine. Contracts see the list of them.
+#[derive(Debug, Drop)]
+pub struct DriveSpecs {
+    items: Vec<DriveSpec>,
+}
+
+impl Model for DriveSpecs {
+    ghost use Rattle.std.specs.Prelude.{List};
+    ghost use Rattle.mpm_machine_file.specs.declared.lists.DriveSpec.{DriveSpec};
+
+    ghost Value = { List DriveSpec };
+
+    ghost view = { λ drives. drives.items.items };
+}
+
+impl DriveSpecs {
+    /// Keeps some drives.
+    pub fn of(items: Vec<DriveSpec>) -> DriveSpecs
+        ensures { result ≡ items.items }
+    {
+        DriveSpecs { items }
+    }
+
+    pub fn as_slice(&self) -> &[DriveSpec]
+        ensures { result.now ≡ self.now }
+    {
+        self.items.as_slice()
+    }
+}
