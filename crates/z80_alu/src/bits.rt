@@ -40,7 +40,7 @@ fn is_and_kind(kind: Logic) -> bool
 }
 
 /// AND, OR and XOR: the result, and the new F (UM0080, "8-Bit Arithmetic Group").
-#[inline]
+#[inline(always)]
 #[tactic(auto, unfolding(crate::specs::Bits::logic_flags))]
 pub fn logic(kind: Logic, a: u8, b: u8, f: u8) -> (u8, u8)
     ensures value { result.0 ≡ combined kind a b }

@@ -52,7 +52,7 @@ fn is_sub_overflow(a: u8, b: u8, carry: bool) -> bool
 }
 
 /// ADD and ADC: a + b + carry, and the new F (UM0080, "8-Bit Arithmetic Group").
-#[inline]
+#[inline(always)]
 #[tactic(auto, unfolding(crate::specs::Bytes::sum_flags))]
 pub fn add8(a: u8, b: u8, carry: bool, f: u8) -> (u8, u8)
     ensures sum { result.0 ≡ sum_of a b carry }
@@ -71,7 +71,7 @@ pub fn add8(a: u8, b: u8, carry: bool, f: u8) -> (u8, u8)
 }
 
 /// SUB, SBC, CP and NEG: a - b - carry, and the new F (UM0080, "8-Bit Arithmetic Group").
-#[inline]
+#[inline(always)]
 #[tactic(auto, unfolding(crate::specs::Bytes::difference_flags))]
 pub fn sub8(a: u8, b: u8, carry: bool, f: u8) -> (u8, u8)
     ensures difference { result.0 ≡ difference_of a b carry }
@@ -90,7 +90,7 @@ pub fn sub8(a: u8, b: u8, carry: bool, f: u8) -> (u8, u8)
 }
 
 /// INC of a byte: a + 1, and the new F (UM0080, "8-Bit Arithmetic Group").
-#[inline]
+#[inline(always)]
 #[tactic(auto, unfolding(crate::specs::Bytes::increment_flags))]
 pub fn inc8(a: u8, f: u8) -> (u8, u8)
     ensures sum { result.0 ≡ sum_of a 1 false }
@@ -107,7 +107,7 @@ pub fn inc8(a: u8, f: u8) -> (u8, u8)
 }
 
 /// DEC of a byte: a - 1, and the new F (UM0080, "8-Bit Arithmetic Group").
-#[inline]
+#[inline(always)]
 #[tactic(auto, unfolding(crate::specs::Bytes::decrement_flags))]
 pub fn dec8(a: u8, f: u8) -> (u8, u8)
     ensures difference { result.0 ≡ difference_of a 1 false }

@@ -1,4 +1,5 @@
-ghost use Rattle.std.specs.Prelude.{◌≡◌, ◌<◌, ℕ, IfSome};
+ghost use Rattle.std.specs.Prelude.{◌≡◌, ◌<◌, ◌+◌, ℕ, IfSome};
+ghost use Rattle.z80_regs.specs.Words.{onward};
 ghost use Rattle.z80_decode.specs.Decoding.{
   tail_of,
   extended_tail_of,
@@ -20,10 +21,11 @@ use crate::instr::{Instr, Page};
 use crate::opcodes::main_form;
 use crate::page_forms::{ExtendedForm, IndexForm};
 use crate::page_opcodes::{bit_form, extended_form, index_form};
+use z80_regs::Bus;
 
 /// What stands behind the opcode in a form.
 #[inline(always)]
-fn tail(form: Form) -> Tail
+pub fn tail(form: Form) -> Tail
     ensures { result ≡ tail_of form }
 {
     match form {
@@ -36,7 +38,8 @@ fn tail(form: Form) -> Tail
 }
 
 /// What stands behind the opcode in a form behind EDh.
-fn extended_tail(form: ExtendedForm) -> Tail
+#[inline]
+pub fn extended_tail(form: ExtendedForm) -> Tail
     ensures { result ≡ extended_tail_of form }
 {
     match form {
@@ -46,7 +49,8 @@ fn extended_tail(form: ExtendedForm) -> Tail
 }
 
 /// What stands behind the opcode in a form behind DDh and FDh.
-fn index_tail(form: IndexForm) -> Tail
+#[inline]
+pub fn index_tail(form: IndexForm) -> Tail
     ensures { result ≡ index_tail_of form }
 {
     match form {
@@ -78,6 +82,47 @@ fn assemble(tail: Tail, page: Page, place: u8, opcode: u8, first: u8, second: u8
         opcode,
         displacement,
         operand,
+    }
+}
+
+/// How many bytes an instruction without prefix has: its opcode, and what stands behind it.
+#[inline(always)]
+pub fn main_length(form: Form) -> u8
+    ensures { (opcode first second : ℕ) → result ≡ (instr_with (tail_of form) Page.Main 1 opcode first second).length }
+{
+    match tail(form) {
+        Tail::Nothing => 1,
+        Tail::Byte | Tail::Displacement => 2,
+        Tail::Word | Tail::DisplacementByte => 3,
+    }
+}
+
+/// The same instruction as by `assemble`, at an address: of the bytes behind the opcode only those are read that stand
+/// there.
+#[inline(always)]
+pub fn read_instr<B: Bus>(
+    tail: Tail,
+    page: Page,
+    place: u8,
+    opcode: u8,
+    address: u16,
+    bus: &B,
+) -> Instr
+    requires { place < 254 }
+    ensures instr { result ≡ instr_with tail page place opcode (B.byte bus.now (onward address place))
+        (B.byte bus.now (onward address (place + 1))) }
+    ensures page { result.page ≡ page }
+    ensures opcode { result.opcode ≡ opcode }
+{
+    let behind = address.wrapping_add(u16::from(place));
+    match tail {
+        Tail::Nothing => assemble(tail, page, place, opcode, 0, 0),
+        Tail::Byte | Tail::Displacement => assemble(tail, page, place, opcode, bus.read(behind), 0),
+        Tail::Word | Tail::DisplacementByte => {
+            let first = bus.read(behind);
+            let second = bus.read(behind.wrapping_add(1));
+            assemble(tail, page, place, opcode, first, second)
+        }
     }
 }
 

@@ -9,7 +9,9 @@ use Rattle.z80_decode.specs.declared.instr.Instr.{Instr}
 use Rattle.z80_decode.specs.declared.forms.Pair.TheVariants.{HL}
 use Rattle.z80_decode.specs.declared.forms.Form.{Form}
 use Rattle.z80_decode.specs.declared.forms.Form.TheVariants.{Nop, ExchangeAf, DecrementJump, JumpRelative, JumpRelativeIf, LoadPair, AddPair, StoreAAt, LoadAFrom, StoreHl, LoadHl, StoreA, LoadA, IncrementPair, DecrementPair, Increment, Decrement, LoadNumber, Rotate, DecimalAdjust, Complement, SetCarry, ComplementCarry, Load, Halt, Calculate, CalculateNumber, ReturnIf, Pop, Return, Exchange, JumpHl, LoadSpHl, JumpIf, Jump, Output, Input, ExchangeStack, ExchangeDe, DisableInterrupts, EnableInterrupts, CallIf, Push, Call, Restart}
+use Rattle.z80_decode.specs.declared.instr.Page.TheVariants.{Main}
 use Rattle.z80_decode.specs.Opcodes.{form_of}
+use Rattle.z80_decode.specs.Decoding.{tail_of, instr_with}
 use Rattle.z80_exec.specs.Operands.{quiet, stored, word_from, hl_of, pair_word, with_pair, operand_byte, with_operand}
 use Rattle.z80_exec.specs.Conditions.{holds}
 use Rattle.z80_exec.specs.Loads.{word_stored, af_exchanged, set_exchanged, de_exchanged, stack_exchanged, pair_pushed, pair_popped, a_input}
@@ -90,3 +92,10 @@ outcome_by (Some form) instr regs memory ports = performed form instr (behind in
 -- an instruction without prefix
 unfoldable pub main_outcome : Instr → Regs → (ℕ → ℕ) → (ℕ → ℕ) → Outcome
 main_outcome instr regs memory ports = outcome_by (form_of instr.opcode) instr regs memory ports
+
+-- the same by the form of the opcode at PC, and by what stands behind it in memory
+abbrev pub next_by : Option Form → ℕ → Regs → (ℕ → ℕ) → (ℕ → ℕ) → Outcome
+next_by None opcode regs memory ports = quiet regs
+next_by (Some form) opcode regs memory ports =
+    let instr = instr_with (tail_of form) Main 1 opcode (memory (onward regs.pc 1)) (memory (onward regs.pc 2)) in
+    performed form instr (behind instr.length regs) memory ports

@@ -1,5 +1,6 @@
 ghost use Rattle.std.specs.Prelude.{◌≡◌, ℕ};
 ghost use Rattle.z80_regs.specs.Outcome.{Leaves};
+ghost use Rattle.z80_exec.specs.Operands.{operand_byte};
 ghost use Rattle.z80_exec.specs.Calculations.{
   calculated,
   incremented,
@@ -11,13 +12,13 @@ ghost use Rattle.z80_exec.specs.Calculations.{
   complemented,
 };
 
-use crate::operands::{hl, pair_at, set_operand, set_pair};
+use crate::operands::{hl, operand, pair_at, set_operand, set_pair};
 use z80_alu::{Logic, Rotate};
 use z80_decode::{Math, Operand, Pair, Rotation};
 use z80_regs::{Bus, Regs};
 
 /// ADD, ADC, SUB, SBC, AND, XOR, OR and CP of A and a byte.
-#[inline]
+#[inline(always)]
 pub fn calculate(math: Math, byte: u8, regs: &mut Regs)
     ensures { regs.new ≡ calculated math byte regs.old }
 {
@@ -36,8 +37,25 @@ pub fn calculate(math: Math, byte: u8, regs: &mut Regs)
     regs.f = flags;
 }
 
+/// The same with an operand. Each row reads it by itself, so that it is known where a step has jumped by its opcode.
+#[inline(always)]
+pub fn calculate_operand<B: Bus>(math: Math, from: Operand, regs: &mut Regs, bus: &B)
+    ensures { regs.new ≡ calculated math (operand_byte from regs.old (B.byte bus.now)) regs.old }
+{
+    match math {
+        Math::Add => calculate(Math::Add, operand(from, regs, bus), regs),
+        Math::AddCarry => calculate(Math::AddCarry, operand(from, regs, bus), regs),
+        Math::Subtract => calculate(Math::Subtract, operand(from, regs, bus), regs),
+        Math::SubtractCarry => calculate(Math::SubtractCarry, operand(from, regs, bus), regs),
+        Math::And => calculate(Math::And, operand(from, regs, bus), regs),
+        Math::Xor => calculate(Math::Xor, operand(from, regs, bus), regs),
+        Math::Or => calculate(Math::Or, operand(from, regs, bus), regs),
+        Math::Compare => calculate(Math::Compare, operand(from, regs, bus), regs),
+    }
+}
+
 /// INC r and INC (HL), of an operand whose byte is known.
-#[inline]
+#[inline(always)]
 pub fn increment<B: Bus>(operand: Operand, byte: u8, regs: &mut Regs, bus: &mut B)
     ensures registers { regs.new ≡ (incremented operand byte regs.old).registers }
     ensures bus { Leaves B.wrote B.took (incremented operand byte regs.old).actions bus.old bus.new }
@@ -48,7 +66,7 @@ pub fn increment<B: Bus>(operand: Operand, byte: u8, regs: &mut Regs, bus: &mut 
 }
 
 /// DEC r and DEC (HL), of an operand whose byte is known.
-#[inline]
+#[inline(always)]
 pub fn decrement<B: Bus>(operand: Operand, byte: u8, regs: &mut Regs, bus: &mut B)
     ensures registers { regs.new ≡ (decremented operand byte regs.old).registers }
     ensures bus { Leaves B.wrote B.took (decremented operand byte regs.old).actions bus.old bus.new }
@@ -59,7 +77,7 @@ pub fn decrement<B: Bus>(operand: Operand, byte: u8, regs: &mut Regs, bus: &mut 
 }
 
 /// ADD HL,ss.
-#[inline]
+#[inline(always)]
 pub fn add_pair(pair: Pair, regs: &mut Regs)
     ensures { regs.new ≡ pair_added pair regs.old }
 {
@@ -69,7 +87,7 @@ pub fn add_pair(pair: Pair, regs: &mut Regs)
 }
 
 /// Which rotation of a byte is made of A.
-#[inline]
+#[inline(always)]
 fn rotate_at(rotation: Rotation) -> Rotate
     ensures { result ≡ rotate_of rotation }
 {
@@ -82,7 +100,7 @@ fn rotate_at(rotation: Rotation) -> Rotate
 }
 
 /// RLCA, RRCA, RLA and RRA.
-#[inline]
+#[inline(always)]
 pub fn rotate(rotation: Rotation, regs: &mut Regs)
     ensures { regs.new ≡ a_rotated rotation regs.old }
 {
@@ -90,7 +108,7 @@ pub fn rotate(rotation: Rotation, regs: &mut Regs)
 }
 
 /// DAA.
-#[inline]
+#[inline(always)]
 pub fn decimal_adjust(regs: &mut Regs)
     ensures { regs.new ≡ decimal_adjusted regs.old }
 {
@@ -98,7 +116,7 @@ pub fn decimal_adjust(regs: &mut Regs)
 }
 
 /// CPL.
-#[inline]
+#[inline(always)]
 pub fn complement(regs: &mut Regs)
     ensures { regs.new ≡ complemented regs.old }
 {

@@ -1,13 +1,13 @@
 ghost use Rattle.std.specs.Prelude.{◌≡◌, ℕ};
 ghost use Rattle.z80_regs.specs.Outcome.{Leaves};
-ghost use Rattle.z80_exec.specs.Flow.{relative, jumped_if, decrement_jumped, called, called_if, returned, returned_if};
+ghost use Rattle.z80_exec.specs.Flow.{relative, jumped_if, decrement_jumped, called, returned, returned_if};
 
 use crate::loads::push;
 use crate::operands::word_at;
 use z80_regs::{Bus, Regs};
 
 /// The address that a relative jump goes to: a displacement of 80h or more is negative, 256 less.
-#[inline]
+#[inline(always)]
 pub fn relative_to(address: u16, displacement: u8) -> u16
     ensures { result ≡ relative address displacement }
 {
@@ -19,7 +19,7 @@ pub fn relative_to(address: u16, displacement: u8) -> u16
 }
 
 /// A jump where a condition holds.
-#[inline]
+#[inline(always)]
 pub fn jump_if(is_met: bool, target: u16, regs: &mut Regs)
     ensures { regs.new ≡ jumped_if is_met target regs.old }
 {
@@ -29,7 +29,7 @@ pub fn jump_if(is_met: bool, target: u16, regs: &mut Regs)
 }
 
 /// DJNZ e.
-#[inline]
+#[inline(always)]
 pub fn decrement_jump(displacement: u8, regs: &mut Regs)
     ensures { regs.new ≡ decrement_jumped displacement regs.old }
 {
@@ -38,7 +38,7 @@ pub fn decrement_jump(displacement: u8, regs: &mut Regs)
 }
 
 /// A call: PC is pushed, and is then an address.
-#[inline]
+#[inline(always)]
 pub fn call<B: Bus>(target: u16, regs: &mut Regs, bus: &mut B)
     ensures registers { regs.new ≡ (called target regs.old).registers }
     ensures bus { Leaves B.wrote B.took (called target regs.old).actions bus.old bus.new }
@@ -47,20 +47,8 @@ pub fn call<B: Bus>(target: u16, regs: &mut Regs, bus: &mut B)
     regs.pc = target;
 }
 
-/// A call where a condition holds.
-#[inline]
-#[tactic(auto, unfolding(z80_regs::specs::Outcome::Leaves))]
-pub fn call_if<B: Bus>(is_met: bool, target: u16, regs: &mut Regs, bus: &mut B)
-    ensures registers { regs.new ≡ (called_if is_met target regs.old).registers }
-    ensures bus { Leaves B.wrote B.took (called_if is_met target regs.old).actions bus.old bus.new }
-{
-    if is_met {
-        call(target, regs, bus);
-    }
-}
-
 /// A return: PC is popped.
-#[inline]
+#[inline(always)]
 pub fn return_to_caller<B: Bus>(regs: &mut Regs, bus: &B)
     ensures { regs.new ≡ returned regs.old (B.byte bus.now) }
 {
@@ -69,7 +57,7 @@ pub fn return_to_caller<B: Bus>(regs: &mut Regs, bus: &B)
 }
 
 /// A return where a condition holds.
-#[inline]
+#[inline(always)]
 pub fn return_if<B: Bus>(is_met: bool, regs: &mut Regs, bus: &B)
     ensures { regs.new ≡ returned_if is_met regs.old (B.byte bus.now) }
 {

@@ -1,7 +1,7 @@
 ghost use Rattle.std.specs.Prelude.{◌≡◌, ℕ};
 ghost use Rattle.z80_regs.specs.Words.{back};
 ghost use Rattle.z80_regs.specs.Outcome.{Leaves};
-ghost use Rattle.z80_exec.specs.Operands.{word_from};
+ghost use Rattle.z80_exec.specs.Operands.{word_from, operand_byte, with_operand};
 ghost use Rattle.z80_exec.specs.StackPairs.{pushed};
 ghost use Rattle.z80_exec.specs.Loads.{
   word_written,
@@ -15,12 +15,12 @@ ghost use Rattle.z80_exec.specs.Loads.{
   a_input,
 };
 
-use crate::operands::{hl, set_pair, set_stack_pair, stack_pair_at, word_at};
-use z80_decode::{Pair, StackPair};
+use crate::operands::{hl, operand, set_pair, set_stack_pair, stack_pair_at, word_at};
+use z80_decode::{Operand, Pair, StackPair};
 use z80_regs::{Bus, Regs};
 
 /// Writes a word to memory, low byte first, as LD (nn),HL and its kin do.
-#[inline]
+#[inline(always)]
 #[tactic(auto, unfolding(z80_regs::specs::Outcome::Leaves))]
 pub fn store_word<B: Bus>(address: u16, word: u16, bus: &mut B)
     ensures { Leaves B.wrote B.took (word_written address word) bus.old bus.new }
@@ -30,8 +30,32 @@ pub fn store_word<B: Bus>(address: u16, word: u16, bus: &mut B)
     bus.write(address.wrapping_add(1), high);
 }
 
+/// LD r,r', LD r,(HL) and LD (HL),r. Each operand that is set reads the other by itself, so that both are known where a
+/// step has jumped by its opcode.
+#[inline(always)]
+#[tactic(auto, unfolding(z80_regs::specs::Outcome::Leaves))]
+pub fn load<B: Bus>(to: Operand, from: Operand, regs: &mut Regs, bus: &mut B)
+    ensures registers { regs.new ≡ (with_operand to (operand_byte from regs.old (B.byte bus.old)) regs.old).registers }
+    ensures bus { Leaves B.wrote B.took (with_operand to (operand_byte from regs.old (B.byte bus.old)) regs.old).actions
+        bus.old bus.new }
+{
+    match to {
+        Operand::B => regs.b = operand(from, regs, bus),
+        Operand::C => regs.c = operand(from, regs, bus),
+        Operand::D => regs.d = operand(from, regs, bus),
+        Operand::E => regs.e = operand(from, regs, bus),
+        Operand::H => regs.h = operand(from, regs, bus),
+        Operand::L => regs.l = operand(from, regs, bus),
+        Operand::Memory => {
+            let value = operand(from, regs, bus);
+            bus.write(hl(regs), value);
+        }
+        Operand::A => regs.a = operand(from, regs, bus),
+    }
+}
+
 /// EX AF,AF'.
-#[inline]
+#[inline(always)]
 pub fn exchange_af(regs: &mut Regs)
     ensures { regs.new ≡ af_exchanged regs.old }
 {
@@ -40,7 +64,7 @@ pub fn exchange_af(regs: &mut Regs)
 }
 
 /// EXX.
-#[inline]
+#[inline(always)]
 pub fn exchange_set(regs: &mut Regs)
     ensures { regs.new ≡ set_exchanged regs.old }
 {
@@ -53,7 +77,7 @@ pub fn exchange_set(regs: &mut Regs)
 }
 
 /// EX DE,HL.
-#[inline]
+#[inline(always)]
 pub fn exchange_de(regs: &mut Regs)
     ensures { regs.new ≡ de_exchanged regs.old }
 {
@@ -62,7 +86,7 @@ pub fn exchange_de(regs: &mut Regs)
 }
 
 /// Writes a word in the place of that on the stack, high byte first, and answers the one that stood there.
-#[inline]
+#[inline(always)]
 #[tactic(auto, unfolding(z80_regs::specs::Outcome::Leaves))]
 pub fn replace_top<B: Bus>(word: u16, regs: &Regs, bus: &mut B) -> u16
     ensures value { result ≡ word_from (B.byte bus.old) regs.now.sp }
@@ -77,7 +101,7 @@ pub fn replace_top<B: Bus>(word: u16, regs: &Regs, bus: &mut B) -> u16
 }
 
 /// EX (SP),HL.
-#[inline]
+#[inline(always)]
 pub fn exchange_stack<B: Bus>(regs: &mut Regs, bus: &mut B)
     ensures registers { regs.new ≡ (stack_exchanged regs.old (B.byte bus.old)).registers }
     ensures bus { Leaves B.wrote B.took (stack_exchanged regs.old (B.byte bus.old)).actions bus.old bus.new }
@@ -87,7 +111,7 @@ pub fn exchange_stack<B: Bus>(regs: &mut Regs, bus: &mut B)
 }
 
 /// Writes a word below SP, high byte first.
-#[inline]
+#[inline(always)]
 #[tactic(auto, unfolding(z80_regs::specs::Outcome::Leaves))]
 pub fn push<B: Bus>(word: u16, regs: &mut Regs, bus: &mut B)
     ensures registers { regs.new ≡ record regs.old { sp = back regs.old.sp 2 } }
@@ -100,7 +124,7 @@ pub fn push<B: Bus>(word: u16, regs: &mut Regs, bus: &mut B)
 }
 
 /// PUSH qq.
-#[inline]
+#[inline(always)]
 pub fn push_pair<B: Bus>(pair: StackPair, regs: &mut Regs, bus: &mut B)
     ensures registers { regs.new ≡ (pair_pushed pair regs.old).registers }
     ensures bus { Leaves B.wrote B.took (pair_pushed pair regs.old).actions bus.old bus.new }
@@ -109,7 +133,7 @@ pub fn push_pair<B: Bus>(pair: StackPair, regs: &mut Regs, bus: &mut B)
 }
 
 /// POP qq.
-#[inline]
+#[inline(always)]
 pub fn pop_pair<B: Bus>(pair: StackPair, regs: &mut Regs, bus: &B)
     ensures { regs.new ≡ pair_popped pair regs.old (B.byte bus.now) }
 {
@@ -119,7 +143,7 @@ pub fn pop_pair<B: Bus>(pair: StackPair, regs: &mut Regs, bus: &B)
 }
 
 /// IN A,(n).
-#[inline]
+#[inline(always)]
 #[tactic(auto, unfolding(z80_regs::specs::Outcome::Leaves))]
 pub fn input_a<B: Bus>(port: u8, regs: &mut Regs, bus: &mut B)
     ensures registers { regs.new ≡ (a_input port regs.old (B.port_byte bus.old)).registers }

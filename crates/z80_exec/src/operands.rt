@@ -8,7 +8,7 @@ use z80_decode::{Condition, Operand, Pair, StackPair};
 use z80_regs::{Bus, Regs};
 
 /// The word at an address, low byte first.
-#[inline]
+#[inline(always)]
 pub fn word_at<B: Bus>(bus: &B, address: u16) -> u16
     ensures { result ≡ word_from (B.byte bus.now) address }
 {
@@ -18,7 +18,7 @@ pub fn word_at<B: Bus>(bus: &B, address: u16) -> u16
 }
 
 /// The word in HL.
-#[inline]
+#[inline(always)]
 pub fn hl(regs: &Regs) -> u16
     ensures { result ≡ hl_of regs.now }
 {
@@ -26,7 +26,7 @@ pub fn hl(regs: &Regs) -> u16
 }
 
 /// The word in a pair.
-#[inline]
+#[inline(always)]
 pub fn pair_at(regs: &Regs, pair: Pair) -> u16
     ensures { result ≡ pair_word pair regs.now }
 {
@@ -39,7 +39,7 @@ pub fn pair_at(regs: &Regs, pair: Pair) -> u16
 }
 
 /// Sets a pair.
-#[inline]
+#[inline(always)]
 pub fn set_pair(regs: &mut Regs, pair: Pair, word: u16)
     ensures { regs.new ≡ with_pair pair word regs.old }
 {
@@ -62,7 +62,7 @@ pub fn set_pair(regs: &mut Regs, pair: Pair, word: u16)
 }
 
 /// The word in a pair that is pushed.
-#[inline]
+#[inline(always)]
 pub fn stack_pair_at(regs: &Regs, pair: StackPair) -> u16
     ensures { result ≡ stack_pair_word pair regs.now }
 {
@@ -75,7 +75,7 @@ pub fn stack_pair_at(regs: &Regs, pair: StackPair) -> u16
 }
 
 /// Sets a pair that is popped.
-#[inline]
+#[inline(always)]
 pub fn set_stack_pair(regs: &mut Regs, pair: StackPair, word: u16)
     ensures { regs.new ≡ with_stack_pair pair word regs.old }
 {
@@ -101,7 +101,7 @@ pub fn set_stack_pair(regs: &mut Regs, pair: StackPair, word: u16)
 }
 
 /// The byte of an operand.
-#[inline]
+#[inline(always)]
 pub fn operand<B: Bus>(operand: Operand, regs: &Regs, bus: &B) -> u8
     ensures { result ≡ operand_byte operand regs.now (B.byte bus.now) }
 {
@@ -118,7 +118,7 @@ pub fn operand<B: Bus>(operand: Operand, regs: &Regs, bus: &B) -> u8
 }
 
 /// Sets an operand.
-#[inline]
+#[inline(always)]
 #[tactic(auto, unfolding(z80_regs::specs::Outcome::Leaves))]
 pub fn set_operand<B: Bus>(operand: Operand, value: u8, regs: &mut Regs, bus: &mut B)
     ensures registers { regs.new ≡ (with_operand operand value regs.old).registers }
@@ -137,7 +137,7 @@ pub fn set_operand<B: Bus>(operand: Operand, value: u8, regs: &mut Regs, bus: &m
 }
 
 /// Whether a condition holds.
-#[inline]
+#[inline(always)]
 pub fn is_met(condition: Condition, f: u8) -> bool
     ensures { result ≡ holds condition f }
 {

@@ -1,19 +1,20 @@
 ghost use Rattle.std.specs.Prelude.{◌≡◌, ℕ, true, false};
 ghost use Rattle.z80_regs.specs.Outcome.{Leaves};
-ghost use Rattle.z80_exec.specs.Performing.{number, performed, main_outcome};
+ghost use Rattle.z80_decode.specs.Opcodes.{form_of};
+ghost use Rattle.z80_exec.specs.Performing.{number, performed, main_outcome, next_by};
 
 use crate::calculations::{
-    add_pair, calculate, complement, decimal_adjust, decrement, increment, rotate,
+    add_pair, calculate, calculate_operand, complement, decimal_adjust, decrement, increment,
+    rotate,
 };
-use crate::flow::{
-    call, call_if, decrement_jump, jump_if, relative_to, return_if, return_to_caller,
-};
+use crate::flow::{call, decrement_jump, relative_to, return_if, return_to_caller};
 use crate::loads::{
-    exchange_af, exchange_de, exchange_set, exchange_stack, input_a, pop_pair, push_pair,
+    exchange_af, exchange_de, exchange_set, exchange_stack, input_a, load, pop_pair, push_pair,
     store_word,
 };
 use crate::operands::{hl, is_met, operand, pair_at, set_operand, set_pair, word_at};
-use z80_decode::{Form, Instr, Page, Pair, main_form};
+use crate::source::{Source, Unread};
+use z80_decode::{Form, Instr, Page, Pair, main_form, main_length};
 use z80_regs::{Bus, Regs};
 
 /// The byte n of an instruction.
@@ -27,9 +28,9 @@ pub fn number_at(instr: &Instr) -> u8
 /// Acts as a form's instruction, which PC is behind.
 #[inline(always)]
 #[tactic(auto, unfolding(crate::specs::Performing::performed, z80_regs::specs::Outcome::Leaves))]
-fn perform<B: Bus>(form: Form, instr: &Instr, regs: &mut Regs, bus: &mut B)
-    ensures registers { regs.new ≡ (performed form instr.now regs.old (B.byte bus.old) (B.port_byte bus.old)).registers }
-    ensures bus { Leaves B.wrote B.took (performed form instr.now regs.old (B.byte bus.old) (B.port_byte bus.old)).actions
+fn perform<S: Source, B: Bus>(form: Form, source: &S, regs: &mut Regs, bus: &mut B)
+    ensures registers { regs.new ≡ (performed form (S.instr source.now form (B.byte bus.old)) regs.old (B.byte bus.old) (B.port_byte bus.old)).registers }
+    ensures bus { Leaves B.wrote B.took (performed form (S.instr source.now form (B.byte bus.old)) regs.old (B.byte bus.old) (B.port_byte bus.old)).actions
         bus.old bus.new }
 {
     match form {
@@ -37,15 +38,15 @@ fn perform<B: Bus>(form: Form, instr: &Instr, regs: &mut Regs, bus: &mut B)
         Form::Halt => regs.halted = true,
         Form::DisableInterrupts => (regs.iff1, regs.iff2) = (false, false),
         Form::EnableInterrupts => (regs.iff1, regs.iff2, regs.shadow) = (true, true, true),
-        Form::Load(to, from) => set_operand(to, operand(from, regs, bus), regs, bus),
-        Form::LoadNumber(to) => set_operand(to, number_at(instr), regs, bus),
-        Form::LoadPair(pair) => set_pair(regs, pair, instr.operand),
+        Form::Load(to, from) => load(to, from, regs, bus),
+        Form::LoadNumber(to) => set_operand(to, source.byte(form, bus), regs, bus),
+        Form::LoadPair(pair) => set_pair(regs, pair, source.word(form, bus)),
         Form::StoreAAt(pair) => bus.write(pair_at(regs, pair), regs.a),
         Form::LoadAFrom(pair) => regs.a = bus.read(pair_at(regs, pair)),
-        Form::StoreA => bus.write(instr.operand, regs.a),
-        Form::LoadA => regs.a = bus.read(instr.operand),
-        Form::StoreHl => store_word(instr.operand, hl(regs), bus),
-        Form::LoadHl => set_pair(regs, Pair::HL, word_at(bus, instr.operand)),
+        Form::StoreA => bus.write(source.word(form, bus), regs.a),
+        Form::LoadA => regs.a = bus.read(source.word(form, bus)),
+        Form::StoreHl => store_word(source.word(form, bus), hl(regs), bus),
+        Form::LoadHl => set_pair(regs, Pair::HL, word_at(bus, source.word(form, bus))),
         Form::LoadSpHl => regs.sp = hl(regs),
         Form::ExchangeAf => exchange_af(regs),
         Form::Exchange => exchange_set(regs),
@@ -53,8 +54,8 @@ fn perform<B: Bus>(form: Form, instr: &Instr, regs: &mut Regs, bus: &mut B)
         Form::ExchangeStack => exchange_stack(regs, bus),
         Form::Push(pair) => push_pair(pair, regs, bus),
         Form::Pop(pair) => pop_pair(pair, regs, bus),
-        Form::Calculate(math, from) => calculate(math, operand(from, regs, bus), regs),
-        Form::CalculateNumber(math) => calculate(math, number_at(instr), regs),
+        Form::Calculate(math, from) => calculate_operand(math, from, regs, bus),
+        Form::CalculateNumber(math) => calculate(math, source.byte(form, bus), regs),
         Form::Increment(at) => increment(at, operand(at, regs, bus), regs, bus),
         Form::Decrement(at) => decrement(at, operand(at, regs, bus), regs, bus),
         Form::IncrementPair(pair) => set_pair(regs, pair, pair_at(regs, pair).wrapping_add(1)),
@@ -65,22 +66,28 @@ fn perform<B: Bus>(form: Form, instr: &Instr, regs: &mut Regs, bus: &mut B)
         Form::Complement => complement(regs),
         Form::SetCarry => regs.f = z80_alu::set_carry_flags(regs.f),
         Form::ComplementCarry => regs.f = z80_alu::complement_carry_flags(regs.f),
-        Form::Jump => regs.pc = instr.operand,
+        Form::Jump => regs.pc = source.word(form, bus),
         Form::JumpHl => regs.pc = hl(regs),
-        Form::JumpIf(condition) => jump_if(is_met(condition, regs.f), instr.operand, regs),
-        Form::JumpRelative => regs.pc = relative_to(regs.pc, instr.displacement),
-        Form::JumpRelativeIf(condition) => {
-            let target = relative_to(regs.pc, instr.displacement);
-            jump_if(is_met(condition, regs.f), target, regs);
+        Form::JumpIf(condition) if is_met(condition, regs.f) => regs.pc = source.word(form, bus),
+        Form::JumpIf(_) => {}
+        Form::JumpRelative => regs.pc = relative_to(regs.pc, source.displacement(form, bus)),
+        Form::JumpRelativeIf(condition) if is_met(condition, regs.f) => {
+            regs.pc = relative_to(regs.pc, source.displacement(form, bus));
         }
-        Form::DecrementJump => decrement_jump(instr.displacement, regs),
-        Form::Call => call(instr.operand, regs, bus),
-        Form::CallIf(condition) => call_if(is_met(condition, regs.f), instr.operand, regs, bus),
+        Form::JumpRelativeIf(_) => {}
+        Form::DecrementJump => decrement_jump(source.displacement(form, bus), regs),
+        Form::Call => call(source.word(form, bus), regs, bus),
+        Form::CallIf(condition) if is_met(condition, regs.f) => call(
+            source.word(form, bus),
+            regs,
+            bus,
+        ),
+        Form::CallIf(_) => {}
         Form::Restart(address) => call(u16::from(address), regs, bus),
         Form::Return => return_to_caller(regs, bus),
         Form::ReturnIf(condition) => return_if(is_met(condition, regs.f), regs, bus),
-        Form::Input => input_a(number_at(instr), regs, bus),
-        Form::Output => bus.output(number_at(instr), regs.a),
+        Form::Input => input_a(source.byte(form, bus), regs, bus),
+        Form::Output => bus.output(source.byte(form, bus), regs.a),
     }
 }
 
@@ -99,6 +106,28 @@ pub fn main_page<B: Bus>(instr: &Instr, regs: &mut Regs, bus: &mut B)
         Some(form) => {
             regs.pc = regs.pc.wrapping_add(u16::from(instr.length));
             perform(form, instr, regs, bus);
+        }
+    }
+}
+
+/// Acts as the instruction without prefix at PC, whose opcode is read; what stands behind it is read where it is needed.
+/// Where the opcode is a prefix nothing changes. (UM0080, "Z80 Instruction Description".)
+#[inline(always)]
+#[tactic(auto, unfolding(z80_regs::specs::Outcome::Leaves))]
+pub fn main_next<B: Bus>(opcode: u8, regs: &mut Regs, bus: &mut B)
+    ensures registers { regs.new ≡ (next_by (form_of opcode) opcode regs.old (B.byte bus.old) (B.port_byte bus.old)).registers }
+    ensures bus { Leaves B.wrote B.took
+        (next_by (form_of opcode) opcode regs.old (B.byte bus.old) (B.port_byte bus.old)).actions bus.old bus.new }
+{
+    match main_form(opcode) {
+        None => {}
+        Some(form) => {
+            let unread = Unread {
+                opcode,
+                address: regs.pc,
+            };
+            regs.pc = regs.pc.wrapping_add(u16::from(main_length(form)));
+            perform(form, &unread, regs, bus);
         }
     }
 }

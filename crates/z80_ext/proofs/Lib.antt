@@ -1,3 +1,4 @@
 pub mod Examples
 pub mod PageRanges
 pub mod Ranges
+pub mod Next

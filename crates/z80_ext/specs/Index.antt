@@ -7,6 +7,8 @@ use Rattle.z80_regs.specs.declared.regs.Regs.{Regs}
 use Rattle.z80_alu.specs.Bytes.{sum_of, difference_of, increment_flags, decrement_flags}
 use Rattle.z80_alu.specs.Pairs.{word_sum_of, word_add_flags}
 use Rattle.z80_decode.specs.declared.instr.Instr.{Instr}
+use Rattle.z80_decode.specs.declared.instr.Page.{Page}
+use Rattle.z80_decode.specs.declared.instr.Page.TheVariants as page
 use Rattle.z80_decode.specs.declared.forms.Pair.{Pair}
 use Rattle.z80_decode.specs.declared.forms.Pair.TheVariants.{BC, DE, HL, SP}
 use Rattle.z80_decode.specs.declared.page_forms.BitForm.{BitForm}
@@ -22,6 +24,16 @@ use Rattle.z80_exec.specs.Performing.{behind, number}
 use Rattle.z80_ext.specs.declared.index.IndexRegister.{IndexRegister}
 use Rattle.z80_ext.specs.declared.index.IndexRegister.TheVariants.{Ix, Iy}
 use Rattle.z80_ext.specs.Bits.{memory_bits}
+
+-- the page behind its prefix, DDh or FDh
+abbrev pub page_of : IndexRegister → Page
+page_of Ix = page.Ix
+page_of Iy = page.Iy
+
+-- the page behind DDh CBh or FDh CBh
+abbrev pub bits_page_of : IndexRegister → Page
+bits_page_of Ix = page.IxCb
+bits_page_of Iy = page.IyCb
 
 -- IX or IY
 abbrev pub index_word : IndexRegister → Regs → ℕ

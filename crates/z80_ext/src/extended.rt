@@ -1,5 +1,9 @@
-ghost use Rattle.std.specs.Prelude.{◌≡◌, ℕ};
+ghost use Rattle.std.specs.Prelude.{◌≡◌, ◌↔◌, ℕ, IsNone};
+ghost use Rattle.z80_regs.specs.Words.{onward};
 ghost use Rattle.z80_regs.specs.Outcome.{Leaves};
+ghost use Rattle.z80_decode.specs.PageOpcodes.{extended_form_of};
+ghost use Rattle.z80_decode.specs.Decoding.{extended_instr_by};
+ghost use Rattle.z80_ext.specs.Instruction.{outcome_of, registers_after, actions_of};
 ghost use Rattle.z80_exec.specs.Operands.{hl_of};
 ghost use Rattle.z80_ext.specs.Extended.{
   operand_input,
@@ -11,11 +15,13 @@ ghost use Rattle.z80_ext.specs.Extended.{
   digits_right,
   digits_left,
   extended_performed,
-  extended_outcome,
 };
 
 use crate::block::transfer;
-use z80_decode::{ExtendedForm, Instr, Operand, Pair, extended_form};
+use crate::stepped::{Stepped, begin_behind};
+use z80_decode::{
+    ExtendedForm, Instr, Operand, Page, Pair, extended_form, extended_tail, read_instr,
+};
 use z80_exec::{
     hl, operand, pair_at, return_to_caller, set_operand, set_pair, store_word, word_at,
 };
@@ -138,21 +144,25 @@ fn perform<B: Bus>(form: ExtendedForm, instr: &Instr, regs: &mut Regs, bus: &mut
     }
 }
 
-/// Acts as an instruction behind EDh: PC goes behind it, and what it does is done. (UM0080, "Z80 Instruction
-/// Description".)
-#[inline(never)]
+/// One step where EDh is at PC. (UM0080, "Z80 Instruction Description".)
 #[tactic(auto, unfolding(crate::specs::Extended::extended_outcome, z80_regs::specs::Outcome::Leaves))]
-pub fn extended_page<B: Bus>(instr: &Instr, regs: &mut Regs, bus: &mut B)
-    ensures registers { regs.new ≡
-        (extended_outcome instr.now regs.old (B.byte bus.old) (B.port_byte bus.old)).registers }
-    ensures bus { Leaves B.wrote B.took
-        (extended_outcome instr.now regs.old (B.byte bus.old) (B.port_byte bus.old)).actions bus.old bus.new }
+pub fn step_extended<B: Bus>(regs: &mut Regs, bus: &mut B) -> Stepped
+    ensures illegal { let opcode = B.byte bus.old (onward regs.old.pc 1) in (result ≡ Stepped.Illegal) ↔ IsNone
+        (outcome_of (extended_instr_by (extended_form_of opcode) opcode (B.byte bus.old (onward regs.old.pc 2)) (B.byte bus.old (onward regs.old.pc 3))) regs.old (B.byte bus.old) (B.port_byte bus.old)) }
+    ensures registers { let opcode = B.byte bus.old (onward regs.old.pc 1) in regs.new ≡ registers_after
+        (outcome_of (extended_instr_by (extended_form_of opcode) opcode (B.byte bus.old (onward regs.old.pc 2)) (B.byte bus.old (onward regs.old.pc 3))) regs.old (B.byte bus.old) (B.port_byte bus.old)) regs.old }
+    ensures bus { let opcode = B.byte bus.old (onward regs.old.pc 1) in Leaves B.wrote B.took
+        (actions_of (outcome_of (extended_instr_by (extended_form_of opcode) opcode (B.byte bus.old (onward regs.old.pc 2)) (B.byte bus.old (onward regs.old.pc 3))) regs.old (B.byte bus.old) (B.port_byte bus.old)))
+        bus.old bus.new }
 {
-    match extended_form(instr.opcode) {
-        None => {}
+    let opcode = bus.read(regs.pc.wrapping_add(1));
+    match extended_form(opcode) {
+        None => Stepped::Illegal,
         Some(form) => {
-            regs.pc = regs.pc.wrapping_add(u16::from(instr.length));
-            perform(form, instr, regs, bus);
+            let instr = read_instr(extended_tail(form), Page::Ed, 2, opcode, regs.pc, bus);
+            begin_behind(instr.length, regs);
+            perform(form, &instr, regs, bus);
+            Stepped::Ran
         }
     }
 }

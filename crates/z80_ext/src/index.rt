@@ -1,5 +1,9 @@
-ghost use Rattle.std.specs.Prelude.{◌≡◌, ℕ};
+ghost use Rattle.std.specs.Prelude.{◌≡◌, ◌↔◌, ℕ, IsNone};
+ghost use Rattle.z80_regs.specs.Words.{onward};
 ghost use Rattle.z80_regs.specs.Outcome.{Leaves};
+ghost use Rattle.z80_decode.specs.PageOpcodes.{bit_form_of};
+ghost use Rattle.z80_decode.specs.Decoding.{index_bit_instr_by, index_instr_of};
+ghost use Rattle.z80_ext.specs.Instruction.{outcome_of, registers_after, actions_of};
 ghost use Rattle.z80_ext.specs.Index.{
   index_word,
   with_index,
@@ -12,12 +16,13 @@ ghost use Rattle.z80_ext.specs.Index.{
   index_pushed,
   index_popped,
   index_performed,
-  index_outcome,
-  index_bits_outcome,
+  page_of,
+  bits_page_of,
 };
 
 use crate::bits::act_on_memory;
-use z80_decode::{IndexForm, Instr, Pair, bit_form, index_form};
+use crate::stepped::{Stepped, begin_behind};
+use z80_decode::{IndexForm, Instr, Page, Pair, bit_form, index_form, index_tail, read_instr};
 use z80_exec::{
     calculate, number_at, operand, pair_at, push, relative_to, replace_top, set_operand,
     store_word, word_at,
@@ -172,39 +177,72 @@ fn perform<B: Bus>(
     }
 }
 
-/// Acts as an instruction behind DDh or FDh: PC goes behind it, and what it does is done. (UM0080, "Z80 Instruction
-/// Description".)
-#[inline(never)]
-#[tactic(auto, unfolding(crate::specs::Index::index_outcome, z80_regs::specs::Outcome::Leaves))]
-pub fn index_page<B: Bus>(index: IndexRegister, instr: &Instr, regs: &mut Regs, bus: &mut B)
-    ensures registers { regs.new ≡ (index_outcome index instr.now regs.old (B.byte bus.old)).registers }
-    ensures bus { Leaves B.wrote B.took (index_outcome index instr.now regs.old (B.byte bus.old)).actions
-        bus.old bus.new }
+/// The page that the register's prefix opens.
+fn page(index: IndexRegister) -> Page
+    ensures { result ≡ page_of index }
 {
-    match index_form(instr.opcode) {
-        None => {}
-        Some(form) => {
-            regs.pc = regs.pc.wrapping_add(u16::from(instr.length));
-            perform(form, index, instr, regs, bus);
-        }
+    match index {
+        IndexRegister::Ix => Page::Ix,
+        IndexRegister::Iy => Page::Iy,
     }
 }
 
-/// Acts as an instruction behind DDh CBh or FDh CBh: PC goes behind it, and what it does is done. (UM0080, "Rotate and
-/// Shift Group", "Bit Set, Reset, and Test Group".)
-#[inline(never)]
-#[tactic(auto, unfolding(crate::specs::Index::index_bits_outcome, z80_regs::specs::Outcome::Leaves))]
-pub fn index_bits_page<B: Bus>(index: IndexRegister, instr: &Instr, regs: &mut Regs, bus: &mut B)
-    ensures registers { regs.new ≡ (index_bits_outcome index instr.now regs.old (B.byte bus.old)).registers }
-    ensures bus { Leaves B.wrote B.took (index_bits_outcome index instr.now regs.old (B.byte bus.old)).actions
+/// The page that CBh behind it opens.
+fn bits_page(index: IndexRegister) -> Page
+    ensures { result ≡ bits_page_of index }
+{
+    match index {
+        IndexRegister::Ix => Page::IxCb,
+        IndexRegister::Iy => Page::IyCb,
+    }
+}
+
+/// One step where DDh CBh or FDh CBh is at PC. (UM0080, "Rotate and Shift Group", "Bit Set, Reset, and Test Group".)
+#[tactic(auto, using(crate::proofs::Next::index_bits_page), unfolding(crate::specs::Index::index_bits_outcome, z80_regs::specs::Outcome::Leaves))]
+fn step_index_bits<B: Bus>(index: IndexRegister, regs: &mut Regs, bus: &mut B) -> Stepped
+    ensures illegal { let opcode = B.byte bus.old (onward regs.old.pc 3) in (result ≡ Stepped.Illegal) ↔ IsNone
+        (outcome_of (index_bit_instr_by (bit_form_of opcode) (bits_page_of index) (B.byte bus.old (onward regs.old.pc 2)) opcode) regs.old (B.byte bus.old) (B.port_byte bus.old)) }
+    ensures registers { let opcode = B.byte bus.old (onward regs.old.pc 3) in regs.new ≡ registers_after
+        (outcome_of (index_bit_instr_by (bit_form_of opcode) (bits_page_of index) (B.byte bus.old (onward regs.old.pc 2)) opcode) regs.old (B.byte bus.old) (B.port_byte bus.old)) regs.old }
+    ensures bus { let opcode = B.byte bus.old (onward regs.old.pc 3) in Leaves B.wrote B.took
+        (actions_of (outcome_of (index_bit_instr_by (bit_form_of opcode) (bits_page_of index) (B.byte bus.old (onward regs.old.pc 2)) opcode) regs.old (B.byte bus.old) (B.port_byte bus.old)))
         bus.old bus.new }
 {
-    match bit_form(instr.opcode) {
-        None => {}
-        Some(form) => {
-            let address = address_at(index, instr, regs);
-            regs.pc = regs.pc.wrapping_add(u16::from(instr.length));
+    let opcode = bus.read(regs.pc.wrapping_add(3));
+    match bit_form(opcode) {
+        Some(form) if opcode % 8 == 6 => {
+            let displacement = bus.read(regs.pc.wrapping_add(2));
+            let address = relative_to(index_at(regs, index), displacement);
+            begin_behind(4, regs);
             act_on_memory(form, address, regs, bus);
+            Stepped::Ran
+        }
+        _ => Stepped::Illegal,
+    }
+}
+
+/// One step where DDh or FDh is at PC. (UM0080, "Z80 Instruction Description".)
+#[tactic(auto, using(crate::proofs::Next::index_page), unfolding(z80_decode::specs::Decoding::index_instr_of, crate::specs::Index::index_outcome, z80_regs::specs::Outcome::Leaves))]
+pub fn step_index<B: Bus>(index: IndexRegister, regs: &mut Regs, bus: &mut B) -> Stepped
+    ensures illegal { (result ≡ Stepped.Illegal) ↔ IsNone
+        (outcome_of (index_instr_of (page_of index) (bits_page_of index) (B.byte bus.old (onward regs.old.pc 1)) (B.byte bus.old (onward regs.old.pc 2)) (B.byte bus.old (onward regs.old.pc 3))) regs.old (B.byte bus.old) (B.port_byte bus.old)) }
+    ensures registers { regs.new ≡ registers_after
+        (outcome_of (index_instr_of (page_of index) (bits_page_of index) (B.byte bus.old (onward regs.old.pc 1)) (B.byte bus.old (onward regs.old.pc 2)) (B.byte bus.old (onward regs.old.pc 3))) regs.old (B.byte bus.old) (B.port_byte bus.old)) regs.old }
+    ensures bus { Leaves B.wrote B.took
+        (actions_of (outcome_of (index_instr_of (page_of index) (bits_page_of index) (B.byte bus.old (onward regs.old.pc 1)) (B.byte bus.old (onward regs.old.pc 2)) (B.byte bus.old (onward regs.old.pc 3))) regs.old (B.byte bus.old) (B.port_byte bus.old)))
+        bus.old bus.new }
+{
+    let opcode = bus.read(regs.pc.wrapping_add(1));
+    if opcode == 0xcb {
+        return step_index_bits(index, regs, bus);
+    }
+    match index_form(opcode) {
+        None => Stepped::Illegal,
+        Some(form) => {
+            let instr = read_instr(index_tail(form), page(index), 2, opcode, regs.pc, bus);
+            begin_behind(instr.length, regs);
+            perform(form, index, &instr, regs, bus);
+            Stepped::Ran
         }
     }
 }

@@ -13,6 +13,8 @@ use crate::tests::page_cases::{
 };
 use std::alloc::{AllocError, Global};
 use std::test::Fail;
+use z80_decode::{Instr, Page};
+use z80_exec::main_page;
 
 /// A memory of 65,536 bytes, which keeps what is written below a limit. A port reads its own number.
 #[derive(Drop)]

@@ -1,0 +1,68 @@
+-- The step that reads by the opcode does the instruction that four bytes begin with.
+use Rattle.std.proofs.Common.{◌≡◌, ℕ, List, ◌∷◌, Option, None, Some, ap, refl, rules}
+use Rattle.std.specs.Prelude.{IsNone}
+use Rattle.std.proofs.lemmas.Grind.{common_steps}
+use Rattle.z80_regs.specs.Words.{onward}
+use Rattle.z80_regs.specs.declared.regs.Regs.{Regs}
+use Rattle.z80_decode.specs.declared.instr.Instr.{Instr}
+use Rattle.z80_decode.specs.declared.instr.Page.TheVariants.{Main}
+use Rattle.z80_decode.specs.declared.forms.Form.{Form}
+use Rattle.z80_decode.specs.declared.forms.Tail.{Tail}
+use Rattle.z80_decode.specs.declared.forms.Tail.TheVariants.{Nothing, Byte, Word, Displacement, DisplacementByte}
+use Rattle.z80_decode.specs.Opcodes.{form_of}
+use Rattle.z80_decode.specs.Decoding.{tail_of, instr_with, prefixed_instr_of, main_instr_by, main_instr_of, main_or_prefixed, instr_of}
+use Rattle.z80_exec.specs.Performing.{behind, performed, next_by, main_outcome}
+use Rattle.z80_ext.specs.declared.index.IndexRegister.{IndexRegister}
+use Rattle.z80_ext.specs.declared.index.IndexRegister.TheVariants.{Ix, Iy}
+use Rattle.z80_ext.specs.Index.{page_of, bits_page_of, index_outcome, index_bits_outcome}
+use Rattle.z80_ext.specs.Instruction.{begun, four_from, page_outcome, outcome_of}
+
+-- the pages of the index registers
+pub index_page : (index : IndexRegister) (instr : Instr) (regs : Regs) (memory ports : ℕ → ℕ) →
+    page_outcome (page_of index) instr regs memory ports ≡ index_outcome index instr regs memory
+index_page Ix instr regs memory ports = refl
+index_page Iy instr regs memory ports = refl
+
+pub index_bits_page : (index : IndexRegister) (instr : Instr) (regs : Regs) (memory ports : ℕ → ℕ) →
+    page_outcome (bits_page_of index) instr regs memory ports ≡ index_bits_outcome index instr regs memory
+index_bits_page Ix instr regs memory ports = refl
+index_bits_page Iy instr regs memory ports = refl
+
+-- an instruction without prefix, by what stands behind its opcode
+by_tail : (tail : Tail) (form : Form) (opcode first second : ℕ) (regs : Regs) (memory ports : ℕ → ℕ) →
+    form_of opcode ≡ Some form →
+    let instr = instr_with tail Main 1 opcode first second in
+    page_outcome instr.page instr regs memory ports ≡ performed form instr (behind instr.length regs) memory ports
+unfolding main_outcome
+by_tail Nothing form opcode first second regs memory ports known = search (rules, common_steps)
+by_tail Byte form opcode first second regs memory ports known = search (rules, common_steps)
+by_tail Word form opcode first second regs memory ports known = search (rules, common_steps)
+by_tail Displacement form opcode first second regs memory ports known = search (rules, common_steps)
+by_tail DisplacementByte form opcode first second regs memory ports known = search (rules, common_steps)
+
+-- where the opcode is a prefix
+by_none : (form : Option Form) (opcode : ℕ) (first second : ℕ) (bytes : List ℕ) → IsNone form →
+    main_or_prefixed (main_instr_by form opcode first second) bytes ≡ prefixed_instr_of bytes
+by_none None opcode first second bytes none = refl
+by_none (Some form) opcode first second bytes none = search rules
+
+pub prefixed : (memory : ℕ → ℕ) (pc : ℕ) → IsNone (form_of (memory pc)) →
+    instr_of (four_from memory pc) ≡ prefixed_instr_of (four_from memory pc)
+unfolding instr_of main_instr_of
+prefixed memory pc none = by_none (form_of (memory pc)) _ _ _ (four_from memory pc) none
+
+-- where it isn't
+by_some : (form : Option Form) (opcode : ℕ) (bytes : List ℕ) (regs : Regs) (memory ports : ℕ → ℕ) →
+    form_of opcode ≡ form → (IsNone form → ⊥) →
+    outcome_of (main_or_prefixed (main_instr_by form opcode (memory (onward regs.pc 1)) (memory (onward regs.pc 2))) bytes)
+    regs memory ports ≡ Some (next_by form opcode (begun regs) memory ports)
+by_some None opcode bytes regs memory ports known some = search rules
+by_some (Some form) opcode bytes regs memory ports known some =
+    ap Some (by_tail (tail_of form) form opcode _ _ (begun regs) memory ports known)
+
+pub listed : (regs : Regs) (memory ports : ℕ → ℕ) → (IsNone (form_of (memory regs.pc)) → ⊥) →
+    outcome_of (instr_of (four_from memory regs.pc)) regs memory ports
+    ≡ Some (next_by (form_of (memory regs.pc)) (memory regs.pc) (begun regs) memory ports)
+unfolding instr_of main_instr_of
+listed regs memory ports some =
+    by_some (form_of (memory regs.pc)) (memory regs.pc) (four_from memory regs.pc) regs memory ports refl some

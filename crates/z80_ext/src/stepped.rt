@@ -1,0 +1,41 @@
+ghost use Rattle.std.specs.Prelude.{◌≡◌, ℕ, false};
+ghost use Rattle.z80_regs.specs.Words.{refreshed};
+ghost use Rattle.z80_exec.specs.Performing.{behind};
+ghost use Rattle.z80_ext.specs.Instruction.{risen, begun};
+
+use z80_regs::Regs;
+
+/// What a step met.
+#[derive(Clone, Copy, Debug, PartialEq, Eq)]
+pub enum Stepped {
+    /// The instruction at PC ran, or the processor stands in a HALT.
+    Ran,
+    /// No listed instruction is at PC; nothing has changed.
+    Illegal,
+}
+
+/// The refresh register goes one on: its low seven bits count, bit 7 stays.
+#[inline(always)]
+pub fn refresh(regs: &mut Regs)
+    ensures { regs.new ≡ risen regs.old }
+{
+    regs.r = regs.r / 128 * 128 + (regs.r % 128 + 1) % 128;
+}
+
+/// An instruction begins: R rises, and the shadow of an EI before it ends.
+#[inline(always)]
+pub fn begin(regs: &mut Regs)
+    ensures { regs.new ≡ begun regs.old }
+{
+    refresh(regs);
+    regs.shadow = false;
+}
+
+/// An instruction of that many bytes begins, and PC goes behind it.
+#[inline(always)]
+pub fn begin_behind(length: u8, regs: &mut Regs)
+    ensures { regs.new ≡ behind length (begun regs.old) }
+{
+    begin(regs);
+    regs.pc = regs.pc.wrapping_add(u16::from(length));
+}
