@@ -1,7 +1,8 @@
 -- A block that is claimed or freed: what is free then, and how many are.
-use Rattle.std.proofs.Common.{◌≡◌, ◌≢◌, ℕ, ◌+◌, ◌<◌, Bool, true, false, not, cond, Some, length, get_or, ap, arith, refl, sym}
+use Rattle.std.proofs.Common.{◌≡◌, ◌≢◌, ℕ, ◌+◌, ◌<◌, Bool, true, false, not, cond, List, Some, length, get_or, ap, ◌∙◌, arith, refl, sym}
+use Rattle.std.specs.Prelude.{slice_set}
 use Rattle.std.proofs.lemmas.Bool.{false≢true}
-use Rattle.std.proofs.lemmas.List.{get_or-set_same, get_or-set_other}
+use Rattle.std.proofs.lemmas.List.{get_or-set_same, get_or-set_other, set-get_or}
 use Rattle.std.proofs.lemmas.List.Quantifiers.{position-Some}
 use Rattle.std.proofs.lemmas.List.Sums.{sum_by-set}
 use Rattle.mpm_blocks.specs.Maps.{Blocks, is_used, least_of, free_count, claimed, freed}
@@ -25,6 +26,15 @@ claimed_keeps_others blocks block other apart = get_or-set_other blocks.used blo
 
 pub freed_keeps_others : (blocks : Blocks) (block other : ℕ) → other ≢ block → is_used (freed blocks block) other ≡ is_used blocks other
 freed_keeps_others blocks block other apart = get_or-set_other blocks.used block other false true apart
+
+-- a used block that is claimed, and a free one that is freed, change nothing
+pub claimed_again : (blocks : Blocks) (block : ℕ) → is_used blocks block ≡ true → claimed blocks block ≡ blocks
+claimed_again blocks block was =
+    ap (λ (used : List Bool). record blocks { used = used }) (ap (slice_set blocks.used block) (sym was) ∙ set-get_or blocks.used block true)
+
+pub freed_again : (blocks : Blocks) (block : ℕ) → is_used blocks block ≡ false → freed blocks block ≡ blocks
+freed_again blocks block was =
+    ap (λ (used : List Bool). record blocks { used = used }) (ap (slice_set blocks.used block) (sym was) ∙ set-get_or blocks.used block true)
 
 -- what a place adds to the count
 abbrev free_bit : Bool → ℕ

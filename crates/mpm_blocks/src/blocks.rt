@@ -1,4 +1,4 @@
-ghost use Rattle.std.specs.Prelude.{◌≡◌, ◌≤◌, ℕ, IfOk, not, vec_len, length, position, count_by};
+ghost use Rattle.std.specs.Prelude.{◌≡◌, ◌≤◌, ◌<◌, ℕ, IfOk, IfSome, not, vec_len, length, position, count_by};
 ghost use Rattle.mpm_blocks.specs.Geometries.{last_block};
 ghost use Rattle.mpm_blocks.specs.Maps.{used_to, new_map, is_used, least_of, free_count, claimed, freed};
 
@@ -41,7 +41,8 @@ impl BlockMap {
     /// The lowest free block; none exactly where no block is free.
     #[tactic(auto, using(crate::proofs::Sizes::last_small))]
     pub fn least(&self) -> Option<u16>
-        ensures { result ≡ least_of self.now }
+        ensures least { result ≡ least_of self.now }
+        ensures within { IfSome result (λ block. block ≤ last_block self.now.kind) }
     {
         first_free(self.used.as_slice())
     }
@@ -89,7 +90,8 @@ fn used_below(alloc: Global, bound: u16, count: u16) -> Result<Vec<bool>, OutOfM
 /// The lowest place that is free.
 fn first_free(used: &[bool]) -> Option<u16>
     requires { length used.now ≤ 65535 }
-    ensures { result ≡ position not used.now }
+    ensures place { result ≡ position not used.now }
+    ensures within { IfSome result (λ block. block < length used.now) }
 {
     for (block, is_used) in used.iter().enumerate() {
         if !*is_used {

@@ -31,6 +31,7 @@ fn sectors_of_a_floppy_are_six_apart(rt: HostRuntime) {
     assert_eq!(rt; place(Kind::Ibm3740, 16) * 128, 9_088);
     assert_eq!(rt; place(Kind::Ibm3740, 25), 52 + 21);
     assert_eq!(rt; place(Kind::Ibm3740, 26), 78);
+    assert_eq!(rt; place(Kind::Ibm3740, 1_000), 1_040 + 20);
     assert_eq!(rt; place(Kind::Ibm3740, 1_949), 1_976 + 21);
 }
 

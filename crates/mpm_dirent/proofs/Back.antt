@@ -1,25 +1,16 @@
 -- A proper entry is read back from the bytes that are written of it.
-use Rattle.std.proofs.Common.{◌≡◌, ℕ, ◌+◌, ◌-◌, Bool, List, ◌∷◌, ◌++◌, length, get_or, map, refl, sym, ap, subst, ◌∙◌, arith}
-use Rattle.std.specs.List.{range_with_len}
-use Rattle.std.proofs.lemmas.List.FromFn.{fill_by_all}
+use Rattle.std.proofs.Common.{◌≡◌, ℕ, ◌+◌, ◌-◌, Bool, List, ◌∷◌, ◌++◌, length, take, refl, sym, ap, subst, ◌∙◌, arith}
 use Rattle.mpm_dirent.specs.declared.kinds.Entry.{Entry}
 use Rattle.mpm_dirent.specs.declared.kinds.Entry.TheVariants.{Free, File, Xfcb, Label, Kept}
 use Rattle.mpm_dirent.specs.Entries.{blocks_of, map_of, file_of, xfcb_of, label_of, entry_of, with_stamps, bytes_of}
 use Rattle.mpm_dirent.specs.Proper.{IsProper, HasSizes}
-use Rattle.mpm_dirent.proofs.Maps.{blocks_back}
+use Rattle.mpm_dirent.proofs.Numbers.{spread, spread_is, blocks_back}
 use Rattle.mpm_dirent.proofs.Sorts.{is_file, is_xfcb, is_label, is_free, is_kept}
 
--- a list of a known length, element by element
-abbrev spread : List ℕ → ℕ → List ℕ
-spread xs n = map (λ k. get_or xs k 0) (range_with_len 0 n)
-
-spread_is : (xs : List ℕ) (n : ℕ) → length xs ≡ n → spread xs n ≡ xs
-spread_is xs n h = sym (fill_by_all (λ k. get_or xs k 0) xs n 0 h (λ k _. refl))
-
-file_read : (user ex s1 s2 rc : ℕ) (name rest : List ℕ) (wide : Bool) → length name ≡ 11 → file_of (user ∷ (name ++ (ex ∷ s1 ∷ s2 ∷ rc ∷ rest))) wide ≡ record { user = user; name = name; ex = ex; s1 = s1; s2 = s2; rc = rc; blocks = blocks_of rest wide }
+file_read : (user ex s1 s2 rc : ℕ) (name rest : List ℕ) (wide : Bool) → length name ≡ 11 → file_of (user ∷ (name ++ (ex ∷ s1 ∷ s2 ∷ rc ∷ rest))) wide ≡ record { user = user; name = name; ex = ex; s1 = s1; s2 = s2; rc = rc; blocks = blocks_of (take 16 rest) wide }
 unfolding file_of
 file_read user ex s1 s2 rc name rest wide h =
-    let P : List ℕ → Type 0 = λ n. file_of (user ∷ (n ++ (ex ∷ s1 ∷ s2 ∷ rc ∷ rest))) wide ≡ record { user = user; name = n; ex = ex; s1 = s1; s2 = s2; rc = rc; blocks = blocks_of rest wide } in
+    let P : List ℕ → Type 0 = λ n. file_of (user ∷ (n ++ (ex ∷ s1 ∷ s2 ∷ rc ∷ rest))) wide ≡ record { user = user; name = n; ex = ex; s1 = s1; s2 = s2; rc = rc; blocks = blocks_of (take 16 rest) wide } in
     subst P (spread_is name 11 h) refl
 
 abbrev XfcbRead : ℕ → ℕ → ℕ → List ℕ → List ℕ → List ℕ → List ℕ → Type 0

@@ -1,4 +1,4 @@
-pub mod Maps
+pub mod Numbers
 pub mod Sorts
 pub mod Back
 pub mod Examples

@@ -1,7 +1,7 @@
 -- Directory entries of 32 bytes, read and written. (MP/M II Programmer's Guide, "Directory Entries" and "Extended File
 -- Control Blocks".)
-use Rattle.std.specs.Prelude.{ℕ, ◌+◌, ◌-◌, ◌*◌, ◌/◌, ◌%◌, Bool, List, ◌∷◌, ◌++◌, ◌==◌, nat_lt, map, take, drop, replicate, slice_index, if◌then◌else◌}
-use Rattle.std.specs.List.{range_with_len}
+use Rattle.std.specs.Prelude.{ℕ, ◌+◌, ◌-◌, ◌*◌, ◌/◌, ◌%◌, Bool, List, [], ◌∷◌, ◌++◌, ◌==◌, nat_lt, map, take, drop, replicate, slice_index, if◌then◌else◌}
+use Rattle.std.specs.List.{range_with_len, flat_map}
 use Rattle.mpm_dirent.specs.declared.kinds.Entry.{Entry}
 use Rattle.mpm_dirent.specs.declared.kinds.Entry.TheVariants.{Free, File, Xfcb, Label, Kept}
 use Rattle.mpm_dirent.specs.declared.kinds.FileEntry.{FileEntry}
@@ -12,27 +12,22 @@ use Rattle.mpm_dirent.specs.declared.kinds.LabelEntry.{LabelEntry}
 abbrev pub part : ℕ → ℕ → List ℕ → List ℕ
 part from count bytes = take count (drop from bytes)
 
--- a block's number in a map: sixteen bytes, or where it is wide eight words, low byte first
-abbrev pub number_at : List ℕ → Bool → ℕ → ℕ
-number_at bytes wide place =
-    if wide
-    then (if nat_lt place 8 then slice_index bytes (2 * place) + 256 * slice_index bytes (2 * place + 1) else 0)
-    else (slice_index bytes place)
+-- a word of some bytes: two bytes, the low one first
+abbrev pub word_at : List ℕ → ℕ → ℕ
+word_at bytes place = slice_index bytes (2 * place) + 256 * slice_index bytes (2 * place + 1)
 
--- the sixteen numbers of a map; those that a wide one hasn't are 0
+-- the sixteen numbers of a map: its bytes, or where it is wide its eight words and eight zeros
 unfoldable pub blocks_of : List ℕ → Bool → List ℕ
-blocks_of bytes wide = map (number_at bytes wide) (range_with_len 0 16)
+blocks_of map_bytes wide =
+    if wide then map (word_at map_bytes) (range_with_len 0 8) ++ replicate 8 0 else map_bytes
 
--- a byte of a map
-abbrev pub map_byte : List ℕ → Bool → ℕ → ℕ
-map_byte blocks wide place =
-    if wide
-    then (if place % 2 == 0 then slice_index blocks (place / 2) % 256 else (slice_index blocks (place / 2) / 256))
-    else (slice_index blocks place)
+-- the two bytes of a word, the low one first
+abbrev pub word_bytes : ℕ → List ℕ
+word_bytes word = word % 256 ∷ word / 256 ∷ []
 
--- the sixteen bytes of a map
+-- the sixteen bytes of a map: its numbers, or where it is wide the first eight as words
 unfoldable pub map_of : List ℕ → Bool → List ℕ
-map_of blocks wide = map (map_byte blocks wide) (range_with_len 0 16)
+map_of blocks wide = if wide then flat_map word_bytes (take 8 blocks) else blocks
 
 -- the parts of a file's entry
 unfoldable pub file_of : List ℕ → Bool → FileEntry
@@ -43,7 +38,7 @@ file_of bytes wide = record {
   s1 = slice_index bytes 13;
   s2 = slice_index bytes 14;
   rc = slice_index bytes 15;
-  blocks = blocks_of (drop 16 bytes) wide;
+  blocks = blocks_of (part 16 16 bytes) wide;
 }
 
 -- the parts of an XFCB

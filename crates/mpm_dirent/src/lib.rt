@@ -3,6 +3,7 @@
 #![tactic(auto)]
 
 mod kinds;
+mod maps;
 mod read;
 mod write;
 

@@ -1,8 +1,9 @@
-ghost use Rattle.std.specs.Prelude.{◌≡◌, ◌+◌, ◌<◌, ◌≤◌, ℕ, length, drop, slice_index};
-ghost use Rattle.mpm_dirent.specs.Entries.{part, number_at, blocks_of, file_of, xfcb_of, label_of, entry_of};
-ghost use Rattle.mpm_dirent.specs.Proper.{IsProper, MapFits, NumberFits};
+ghost use Rattle.std.specs.Prelude.{◌≡◌, ◌+◌, ◌≤◌, ℕ, slice_index};
+ghost use Rattle.mpm_dirent.specs.Entries.{part, file_of, xfcb_of, label_of, entry_of};
+ghost use Rattle.mpm_dirent.specs.Proper.{IsProper, MapFits};
 
 use crate::kinds::{Entry, FileEntry, LabelEntry, XfcbEntry};
+use crate::maps::read_map;
 
 /// Reads an entry of 32 bytes, whose map is wide, of words, or narrow, of bytes.
 #[tactic(auto, unfolding(crate::specs::Entries::entry_of))]
@@ -39,7 +40,7 @@ fn read_file(bytes: &[u8; 32], wide: bool) -> FileEntry
         s1: bytes[13],
         s2: bytes[14],
         rc: bytes[15],
-        blocks: read_map(bytes, wide),
+        blocks: read_map(&copied(bytes, 16), wide),
     }
 }
 
@@ -84,41 +85,4 @@ fn copied<const N: usize>(bytes: &[u8; 32], from: usize) -> [u8; N]
     let mut part = [0; N];
     part.copy_from_slice(&bytes[from..from + N]);
     part
-}
-
-/// Reads the numbers of a map, the last sixteen bytes of an entry.
-fn read_map(bytes: &[u8; 32], wide: bool) -> [u16; 16]
-    ensures map { result ≡ blocks_of (drop 16 bytes.now) wide }
-    ensures fits { MapFits wide result }
-{
-    let mut blocks = [0; 16];
-    for place in 0..16 {
-        blocks[place] = read_number(bytes, wide, place);
-    }
-    blocks
-}
-
-/// Reads the number at a place of that map.
-fn read_number(bytes: &[u8; 32], wide: bool, place: usize) -> u16
-    requires { place < 16 }
-    ensures number { result ≡ number_at (drop 16 bytes.now) wide place }
-    ensures fits { NumberFits wide place result }
-{
-    if !wide {
-        u16::from(map_byte_at(bytes, place))
-    } else if place < 8 {
-        u16::from(map_byte_at(bytes, 2 * place))
-            + 256 * u16::from(map_byte_at(bytes, 2 * place + 1))
-    } else {
-        0
-    }
-}
-
-/// A byte of that map.
-#[tactic(auto, using(crate::proofs::Maps::behind))]
-fn map_byte_at(bytes: &[u8; 32], place: usize) -> u8
-    requires { place < 16 }
-    ensures { result ≡ slice_index (drop 16 bytes.now) place }
-{
-    bytes[16 + place]
 }

@@ -23,7 +23,9 @@ fn a_file_with_a_narrow_map(rt: HostRuntime) {
         rc: 0x80,
         blocks: [2, 3, 4, 5, 6, 7, 8, 9, 10, 11, 12, 13, 14, 15, 16, 17],
     };
-    assert_eq!(rt; read_entry(&NARROW, false), Entry::File { file });
+    let entry = read_entry(&NARROW, false);
+    assert_eq!(rt; entry, Entry::File { file });
+    assert_eq!(rt; write_entry(&entry, false), NARROW);
 }
 
 #[test]
@@ -82,25 +84,65 @@ fn a_label_and_what_is_not_kept(rt: HostRuntime) {
 }
 
 #[test]
-fn a_free_entry_and_others(rt: HostRuntime) {
-    let mut bytes = NARROW;
-    bytes[0] = 0xE5;
-    let free = read_entry(&bytes, false);
-    assert_eq!(rt; free, Entry::Free);
-    assert_eq!(rt; write_entry(&free, false), [0xE5; 32]);
-    bytes[0] = 0x21;
-    let kept = read_entry(&bytes, false);
-    assert_eq!(rt; kept, Entry::Kept { bytes });
-    assert_eq!(rt; write_entry(&kept, false), bytes);
+fn the_least_and_the_greatest_word(rt: HostRuntime) {
+    let mut bytes = [0; 32];
+    bytes[16] = 0xFF;
+    bytes[17] = 0xFF;
+    bytes[19] = 0x01;
+    bytes[30] = 0xFF;
+    bytes[31] = 0x07;
+    let mut blocks = [0; 16];
+    blocks[0] = 65_535;
+    blocks[1] = 256;
+    blocks[7] = 2_047;
+    let file = FileEntry {
+        user: 0,
+        name: [0; 11],
+        ex: 0,
+        s1: 0,
+        s2: 0,
+        rc: 0,
+        blocks,
+    };
+    assert_eq!(rt; read_entry(&bytes, true), Entry::File { file });
+    assert_eq!(rt; write_entry(&Entry::File { file }, true), bytes);
 }
 
 #[test]
-fn users_are_told_apart_from_xfcbs(rt: HostRuntime) {
+fn a_free_entry(rt: HostRuntime) {
     let mut bytes = NARROW;
-    bytes[0] = 15;
-    assert!(rt; matches!(read_entry(&bytes, false), Entry::File { file: _ }));
-    bytes[0] = 16;
-    assert!(rt; matches!(read_entry(&bytes, false), Entry::Xfcb { xfcb: _ }));
-    bytes[0] = 31;
-    assert!(rt; matches!(read_entry(&bytes, false), Entry::Xfcb { xfcb: _ }));
+    bytes[0] = 0xE5;
+    assert_eq!(rt; read_entry(&bytes, false), Entry::Free);
+    assert_eq!(rt; write_entry(&Entry::Free, false), [0xE5; 32]);
+}
+
+#[test]
+fn entries_of_other_sorts_are_kept(rt: HostRuntime) {
+    let mut bytes = NARROW;
+    for sort in [0x21, 0xE4, 0xE6, 0xFF] {
+        bytes[0] = sort;
+        let kept = read_entry(&bytes, true);
+        assert_eq!(rt; kept, Entry::Kept { bytes });
+        assert_eq!(rt; write_entry(&kept, true), bytes);
+    }
+}
+
+/// The user of a file or of an XFCB; none of another entry.
+fn user_of(sort: u8) -> (Option<u8>, Option<u8>) {
+    let mut bytes = NARROW;
+    bytes[0] = sort;
+    match read_entry(&bytes, false) {
+        Entry::File { file } => (Some(file.user), None),
+        Entry::Xfcb { xfcb } => (None, Some(xfcb.user)),
+        _ => (None, None),
+    }
+}
+
+#[test]
+fn users_of_files_and_of_xfcbs(rt: HostRuntime) {
+    assert_eq!(rt; user_of(0), (Some(0), None));
+    assert_eq!(rt; user_of(15), (Some(15), None));
+    assert_eq!(rt; user_of(16), (None, Some(0)));
+    assert_eq!(rt; user_of(31), (None, Some(15)));
+    assert_eq!(rt; user_of(32), (None, None));
 }

@@ -1,8 +1,9 @@
-ghost use Rattle.std.specs.Prelude.{◌≡◌, ◌+◌, ◌<◌, ◌≤◌, ◌∷◌, ◌++◌, ℕ, length, drop, slice_index};
-ghost use Rattle.mpm_dirent.specs.Entries.{map_byte, map_of, bytes_of, entry_of};
-ghost use Rattle.mpm_dirent.specs.Proper.{IsProper, MapFits, NumberFits};
+ghost use Rattle.std.specs.Prelude.{◌≡◌, ◌∷◌, ◌++◌, ℕ, length};
+ghost use Rattle.mpm_dirent.specs.Entries.{bytes_of, entry_of};
+ghost use Rattle.mpm_dirent.specs.Proper.{IsProper};
 
 use crate::kinds::Entry;
+use crate::maps::write_map;
 
 /// The 32 bytes of a proper entry, with a wide map, of words, or a narrow one, of bytes.
 #[tactic(auto, unfolding(crate::specs::Entries::bytes_of))]
@@ -60,32 +61,4 @@ fn stamped(password: &[u8; 8], first: &[u8; 4], second: &[u8; 4]) -> [u8; 16]
     bytes[8..12].copy_from_slice(first);
     bytes[..8].copy_from_slice(password);
     bytes
-}
-
-/// The sixteen bytes of a map that has room for its numbers.
-fn write_map(blocks: &[u16; 16], wide: bool) -> [u8; 16]
-    requires { MapFits wide blocks.now }
-    ensures map { result ≡ map_of blocks.now wide }
-    ensures size { length blocks.now ≡ 16 }
-{
-    let mut bytes = [0; 16];
-    for place in 0..16 {
-        bytes[place] = byte_of(blocks, wide, place);
-    }
-    bytes
-}
-
-/// The byte at a place of a map.
-fn byte_of(blocks: &[u16; 16], wide: bool, place: usize) -> u8
-    requires fits { NumberFits wide place (slice_index blocks.now place) }
-    requires within { place < 16 }
-    ensures { result ≡ map_byte blocks.now wide place }
-{
-    if !wide {
-        blocks[place] as u8
-    } else if place % 2 == 0 {
-        (blocks[place / 2] % 256) as u8
-    } else {
-        (blocks[place / 2] / 256) as u8
-    }
 }

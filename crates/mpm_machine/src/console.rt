@@ -1,9 +1,10 @@
 ghost use Rattle.std.specs.Prelude.{◌≡◌, ◌-◌, ◌%◌, replicate, ◌∷◌, [], OnOk, OnErr};
 ghost use Rattle.mpm_port.specs.Causes.{HasCause};
 ghost use Rattle.mpm_machine.specs.Columns.{column_after as column_of, columns_after, tab_text, expanded};
-ghost use Rattle.mpm_machine.specs.Call.{string_from, console_text};
+ghost use Rattle.mpm_machine.specs.Call.{string_from, console_text, illegal_text};
 ghost use Rattle.mpm_machine.specs.Writing.{spoken, Showed, Stopped};
 
+use crate::call;
 use crate::memory::Memory;
 use mpm_port::{Failed, Sink};
 use mpm_render::{Render, Unit2};
@@ -41,7 +42,7 @@ fn write_byte<S: Sink>(
 }
 
 /// Writes bytes to console 0 as they are.
-pub(crate) fn write_bytes<S: Sink>(
+fn write_bytes<S: Sink>(
     column: &mut u16,
     bytes: &[u8],
     render: &mut Render,
@@ -148,4 +149,24 @@ pub(crate) fn write_call<S: Sink>(
         ),
         _ => Ok(()),
     }
+}
+
+/// Writes to console 0 that an unlisted opcode stands at an address. It is no part of a step's own code, which would else
+/// make room for the text in each step.
+#[inline(never)]
+pub(crate) fn write_illegal<S: Sink>(
+    column: &mut u16,
+    address: u16,
+    render: &mut Render,
+    sink: &mut S,
+) -> Result<(), Failed>
+    ensures column { OnOk result (column.new ≡ columns_after column.old (illegal_text address)) }
+    ensures ok { OnOk result (Showed render.old (S.written sink.old) render.new (S.written sink.new)
+        (spoken (illegal_text address))) }
+    ensures err { OnErr result (Stopped render.old (S.written sink.old) (S.written sink.new)
+        (spoken (illegal_text address))) }
+    ensures cause { HasCause (S.faults sink.old) (S.faults sink.new) result }
+    ensures trace { render.new.trace ≡ render.old.trace }
+{
+    write_bytes(column, &call::illegal_text(address), render, sink)
 }

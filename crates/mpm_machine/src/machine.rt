@@ -215,9 +215,9 @@ impl Machine {
         match execute(regs, &mut self.memory) {
             Stepped::Ran => Ok(()),
             Stepped::Illegal => {
-                let text = call::illegal_text(regs.pc);
+                let address = regs.pc;
                 self.process = None;
-                console::write_bytes(&mut self.column, &text, render, sink)
+                console::write_illegal(&mut self.column, address, render, sink)
             }
         }
     }

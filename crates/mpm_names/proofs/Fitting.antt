@@ -1,20 +1,22 @@
--- A pattern that fits, byte by byte.
-use Rattle.std.proofs.Common.{◌≡◌, ℕ, ◌+◌, ◌<◌, ◌≤◌, ◌&&◌, List, [], ◌∷◌, length, get_or, drop, true, refl, add-one}
-use Rattle.std.proofs.Math.Seq.{drop-cons}
-use Rattle.std.proofs.lemmas.List.{drop_all}
-use Rattle.mpm_names.specs.Matching.{byte_fits, does_match}
+-- A pattern that fits at each place, and one that does not fit at some.
+use Rattle.std.proofs.Common.{◌≡◌, ℕ, ◌+◌, ◌<◌, List, get_or, true, false, ap, ◌∙◌, arith}
+use Rattle.std.specs.List.{range_with_len}
+use Rattle.std.proofs.lemmas.List.FromFn.{length-range_with_len, get_or-range_with_len}
+use Rattle.std.proofs.lemmas.List.Folds.{list_all_at}
+use Rattle.std.proofs.lemmas.List.Sums.{list_all-from_AllPass}
+use Rattle.mpm_names.specs.Matching.{fits_at, does_match}
 
-pub match_cons : (p n : ℕ) (ps ns : List ℕ) → does_match (p ∷ ps) (n ∷ ns) ≡ (byte_fits p n && does_match ps ns)
+place_at : (place d : ℕ) → place < 11 → get_or (range_with_len 0 11) place d ≡ place
+place_at place d h =
+    let same : 0 + place ≡ place = omega arith in
+    get_or-range_with_len 0 11 place d h ∙ same
+
+pub misfit : (pattern name : List ℕ) (place : ℕ) → place < 11 → fits_at pattern name place ≡ false → does_match pattern name ≡ false
 unfolding does_match
-match_cons p n ps ns = refl
+misfit pattern name place h off =
+    list_all_at (fits_at pattern name) (range_with_len 0 11) place 0 (omega (arith, length-range_with_len 0 11)) (ap (fits_at pattern name) (place_at place 0 h) ∙ off)
 
-pub match_none : does_match [] [] ≡ true
+pub fits_everywhere : (pattern name : List ℕ) → ((place : ℕ) → place < 11 → fits_at pattern name place ≡ true) → does_match pattern name ≡ true
 unfolding does_match
-match_none = refl
-
--- from a place on, and from the next
-pub match_more : (pattern name : List ℕ) (place : ℕ) → place < length pattern → place < length name → does_match (drop place pattern) (drop place name) ≡ (byte_fits (get_or pattern place 0) (get_or name place 0) && does_match (drop (place + 1) pattern) (drop (place + 1) name))
-match_more pattern name place h k = rw (add-one, drop-cons pattern place 0 h, drop-cons name place 0 k) (match_cons _ _ _ _)
-
-pub match_all : (pattern name : List ℕ) (place : ℕ) → length pattern ≤ place → length name ≤ place → does_match (drop place pattern) (drop place name) ≡ true
-match_all pattern name place h k = rw (drop_all place pattern h, drop_all place name k) match_none
+fits_everywhere pattern name each =
+    list_all-from_AllPass (fits_at pattern name) (range_with_len 0 11) (λ place d h. ap (fits_at pattern name) (place_at place d h) ∙ each place h)

@@ -1,5 +1,6 @@
 pub mod Fitting
 pub mod Runs
-pub mod Widths
-pub mod Laws
 pub mod Examples
+pub mod Marks
+pub mod Formed
+pub mod Taken

@@ -1,3 +1,4 @@
 pub mod Characters
 pub mod Matching
 pub mod Spellings
+pub mod Forms

@@ -95,14 +95,18 @@ unfoldable pub next_of : ℕ → List ℕ → Option ℕ
 next_of size rest =
     if slice_index rest 0 == 0 || slice_index rest 0 == 13 then None else (Some (size - length rest))
 
+-- what a spelling means, in a text of a size
+abbrev pub meaning : ℕ → Spelling → Parsed
+meaning size s = record {
+  drive = s.drive;
+  name = full_name s.name s.kind;
+  password = kept_password s.password;
+  password_length = length s.password;
+  next = next_of size s.rest;
+}
+
 -- what a text means, where it is a file name
 unfoldable pub parsed : List ℕ → Option Parsed
 parsed text =
     let s = spelling text in
-    if is_form s then Some (record {
-      drive = s.drive;
-      name = full_name s.name s.kind;
-      password = kept_password s.password;
-      password_length = length s.password;
-      next = next_of (length text) s.rest;
-    }) else None
+    if is_form s then Some (meaning (length text) s) else None

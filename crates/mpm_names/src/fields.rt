@@ -7,9 +7,9 @@ use crate::characters::to_upper;
 pub fn name_bytes(name: &[u8], kind: &[u8]) -> [u8; 11]
     ensures { result ≡ full_name name.now kind.now }
 {
-    let mut bytes = [b' '; 11];
-    fill(&mut bytes[..8], name, star(name));
-    fill(&mut bytes[8..], kind, star(kind));
+    let mut bytes = [0; 11];
+    bytes[8..].copy_from_slice(&filled_to::<3>(kind, star(kind)));
+    bytes[..8].copy_from_slice(&filled_to::<8>(name, star(name)));
     bytes
 }
 
@@ -17,22 +17,24 @@ pub fn name_bytes(name: &[u8], kind: &[u8]) -> [u8; 11]
 pub fn password_bytes(password: &[u8]) -> [u8; 8]
     ensures { result ≡ kept_password password.now }
 {
-    let mut bytes = [0; 8];
-    if !password.is_empty() {
-        fill(&mut bytes, password, password.len());
+    if password.is_empty() {
+        [0; 8]
+    } else {
+        filled_to(password, password.len())
     }
-    bytes
 }
 
-/// Fills a field: with its characters in upper case before the star, `?` from it on, spaces where there is none.
+/// A field in its width: in upper case up to the star, `?` from it on; a field without a star ends in spaces.
 #[tactic(auto, unfolding(crate::specs::Spellings::filled))]
-fn fill(bytes: &mut [u8], field: &[u8], star: usize)
+fn filled_to<const N: usize>(field: &[u8], star: usize) -> [u8; N]
     requires { star ≤ length field.now }
-    ensures { bytes.new ≡ filled (length bytes.old) star field.now }
+    ensures { result ≡ filled N star field.now }
 {
-    for place in 0..bytes.len() {
+    let mut bytes = [0; N];
+    for place in 0..N {
         bytes[place] = kept(field, star, place);
     }
+    bytes
 }
 
 /// A byte of a field as it is kept.

@@ -1,4 +1,5 @@
 ghost use Rattle.std.specs.Prelude.{◌≡◌, ◌≤◌, ℕ, Some, None, IfOk, OnErr, length};
+ghost use Rattle.mpm_names.specs.Forms.{Spells, IsFormless};
 ghost use Rattle.mpm_names.specs.Spellings.{parsed, next_of};
 
 use crate::fields::{name_bytes, password_bytes};
@@ -26,11 +27,13 @@ pub struct BadName;
 /// Reads a file name at the start of a text of at most 128 bytes, behind blanks: an optional drive A to P and `:`, a
 /// name of 1 to 8 characters, an optional `.` and type of at most 3, an optional `;` and password of 1 to 8, each taken
 /// as long as it goes. It is bad exactly where that isn't met, or where what follows is `.`, `:`, `;` or no delimiter.
-#[tactic(auto, unfolding(crate::specs::Spellings::parsed))]
+#[tactic(auto, using(crate::proofs::Taken::form_found, crate::proofs::Taken::no_form), unfolding(crate::specs::Spellings::parsed))]
 pub fn parse_filename(text: &[u8]) -> Result<Parsed, BadName>
     requires { length text.now ≤ 128 }
     ensures ok { IfOk result (λ name. parsed text.now ≡ Some name) }
     ensures err { OnErr result (parsed text.now ≡ None) }
+    ensures form { IfOk result (λ name. Spells text.now name) }
+    ensures formless { OnErr result (IsFormless text.now) }
 {
     let parts = split(text);
     if !is_name(&parts) {

@@ -2,7 +2,7 @@ ghost use Rattle.std.specs.Prelude.{◌≡◌};
 ghost use Rattle.mpm_names.specs.Matching.{byte_fits, does_match};
 
 /// Whether a pattern fits a name and type: each of its bytes is `?` or the name's, bit 7 of both left out.
-#[tactic(auto, using(crate::proofs::Fitting::match_more, crate::proofs::Fitting::match_all))]
+#[tactic(auto, using(crate::proofs::Fitting::misfit, crate::proofs::Fitting::fits_everywhere))]
 pub fn matches(pattern: &[u8; 11], name: &[u8; 11]) -> bool
     ensures { result ≡ does_match pattern.now name.now }
 {

@@ -56,11 +56,16 @@ fn blanks_and_ends(rt: HostRuntime) {
     assert_eq!(rt; parse_filename(b"x=y"), plain(0, b"X          ", Some(1)));
     assert_eq!(rt; parse_filename(b"x.y,z"), plain(0, b"X       Y  ", Some(3)));
     assert_eq!(rt; parse_filename(b"x]"), plain(0, b"X          ", Some(1)));
+    assert_eq!(rt; parse_filename(b"x["), plain(0, b"X          ", Some(1)));
+    assert_eq!(rt; parse_filename(b"x<y"), plain(0, b"X          ", Some(1)));
+    assert_eq!(rt; parse_filename(b"x>y"), plain(0, b"X          ", Some(1)));
+    assert_eq!(rt; parse_filename(b"x|y"), plain(0, b"X          ", Some(1)));
     assert_eq!(rt; parse_filename(b"x\ry"), plain(0, b"X          ", None));
     assert_eq!(rt; parse_filename(b"x\0y"), plain(0, b"X          ", None));
     assert_eq!(rt; parse_filename(b"\0x"), Err(BadName));
     assert_eq!(rt; parse_filename(b"x\x7F"), Err(BadName));
     assert_eq!(rt; parse_filename(b"x\x01"), Err(BadName));
+    assert_eq!(rt; parse_filename(b"x\n"), Err(BadName));
     assert_eq!(rt; parse_filename(b"x\x80"), Err(BadName));
     assert_eq!(rt; parse_filename(&[b'a'; 128]), Err(BadName));
     let mut text = [b' '; 128];
@@ -76,6 +81,7 @@ fn drives(rt: HostRuntime) {
     assert_eq!(rt; parse_filename(b"q:x"), Err(BadName));
     assert_eq!(rt; parse_filename(b"@:x"), Err(BadName));
     assert_eq!(rt; parse_filename(b"a:"), Err(BadName));
+    assert_eq!(rt; parse_filename(b":"), Err(BadName));
     assert_eq!(rt; parse_filename(b":a"), Err(BadName));
     assert_eq!(rt; parse_filename(b"a:b:c"), Err(BadName));
     assert_eq!(rt; parse_filename(b"a: b"), Err(BadName));
@@ -106,6 +112,10 @@ fn passwords(rt: HostRuntime) {
     assert_eq!(rt;
         parse_filename(b"a;*"),
         locked(0, b"A          ", b"*       ", 1, None)
+    );
+    assert_eq!(rt;
+        parse_filename(b"a.;b,"),
+        locked(0, b"A          ", b"B       ", 1, Some(4))
     );
     assert_eq!(rt; parse_filename(b"a;"), Err(BadName));
     assert_eq!(rt; parse_filename(b"a; b"), Err(BadName));

@@ -1,4 +1,4 @@
-ghost use Rattle.std.specs.Prelude.{◌≡◌, ℕ, ◌+◌, ◌*◌, ◌≤◌, ◌<◌, length};
+ghost use Rattle.std.specs.Prelude.{◌≡◌, ℕ, ◌+◌, ◌*◌, ◌%◌, ◌≤◌, ◌<◌, length, if◌then◌else◌};
 ghost use Rattle.mpm_prl.specs.Relocation.{is_marked, relocated};
 
 /// Moves code to a page: adds the page, modulo 256, to each byte of code whose bit is 1. The bits stand eight to a byte,
@@ -8,9 +8,18 @@ pub fn patch(code: &mut [u8], bits: &[u8], page: u8)
     ensures { code.new ≡ relocated code.old bits.now page }
 {
     for place in 0..code.len() {
-        if has_bit(bits, place) {
-            code[place] = code[place].wrapping_add(page);
-        }
+        code[place] = moved(code[place], has_bit(bits, place), page);
+    }
+}
+
+/// A byte of code at a page: the page is added, modulo 256, where the byte is marked.
+fn moved(byte: u8, marked: bool, page: u8) -> u8
+    ensures { result ≡ (if marked then (byte + page) % 256 else byte) }
+{
+    if marked {
+        byte.wrapping_add(page)
+    } else {
+        byte
     }
 }
 

@@ -18,6 +18,25 @@ const TAB_IN_STRING: &[u8] = b"\x0E\x09\x11\x08\x01\xCD\x05\x00ab\tc$";
 /// Says a tab at column 0 by function 2.
 const TAB_ALONE: &[u8] = b"\x0E\x02\x1E\x09\xCD\x05\x00";
 
+/// Copies a text by LDIR and says the copy by function 9.
+const COPY: &[u8] = b"\
+    \x21\x18\x01\x11\x00\x02\x01\x11\x00\xED\xB0\
+    \x11\x00\x02\x0E\x09\xCD\x05\x00\x0E\x00\xC3\x05\x00\
+    Copied by LDIR\r\n$";
+
+/// Counts in decimal over 99 and says each number by function 2.
+const COUNT: &[u8] = b"\
+    \x3E\x95\x06\x08\xC5\xF5\xF5\x0F\x0F\x0F\x0F\xCD\x2D\x01\xF1\xCD\
+    \x2D\x01\x3E\xF0\xCD\x2F\x01\xF1\xC6\x01\x27\xC1\x10\xE6\x3E\xDD\
+    \xCD\x2F\x01\x3E\xDA\xCD\x2F\x01\x0E\x00\xC3\x05\x00\
+    \xE6\x0F\xC6\x30\x5F\x0E\x02\xC3\x05\x00";
+
+/// Turns a text round in its place and says it by function 9.
+const REVERSE: &[u8] = b"\
+    \x21\x21\x01\x11\x35\x01\x46\x1A\x77\x78\x12\x23\x1B\xE5\xB7\xED\
+    \x52\xE1\x38\xF2\x11\x21\x01\x0E\x09\xCD\x05\x00\x0E\x00\xC3\x05\x00\
+    desrever si txet sihT\r\n$";
+
 fn strings(rt: &HostRuntime, words: &[&str]) -> Result<Vec<String>, Fail> {
     let mut strings = Vec::new(rt.alloc());
     for word in words {
@@ -66,6 +85,23 @@ fn programs_write_their_text(rt: HostRuntime) -> Result<(), Fail> {
     for (bytes, steps, text) in rows {
         let mut files = files_with(&rt, bytes, 0)?;
         let (status, sink) = run(&rt, &["program", "file", steps], &mut files, 0)?;
+        assert_eq!(rt; status, Status::Ran);
+        assert_eq!(rt; sink.written(), text);
+    }
+    Ok(())
+}
+
+/// The examples that have a source beside them.
+#[test]
+fn examples_write_their_text(rt: HostRuntime) -> Result<(), Fail> {
+    let rows: [(&[u8], &[u8]); 3] = [
+        (COPY, b"c0 Copied by LDIR\\r\n"),
+        (COUNT, b"c0 95 96 97 98 99 00 01 02 \\r\n"),
+        (REVERSE, b"c0 This text is reversed\\r\n"),
+    ];
+    for (bytes, text) in rows {
+        let mut files = files_with(&rt, bytes, 0)?;
+        let (status, sink) = run(&rt, &["program", "file", "400"], &mut files, 0)?;
         assert_eq!(rt; status, Status::Ran);
         assert_eq!(rt; sink.written(), text);
     }

@@ -128,7 +128,7 @@ pub fn rotate(kind: Rotate, value: u8, f: u8) -> (u8, u8)
 }
 
 /// RLCA, RRCA, RLA and RRA, which keep S, Z and P/V: the result, and the new F (UM0080, "Rotate and Shift Group").
-#[inline]
+#[inline(always)]
 #[tactic(auto, unfolding(crate::specs::Bits::rotated_a_flags))]
 pub fn rotate_a(kind: Rotate, a: u8, f: u8) -> (u8, u8)
     ensures value { result.0 ≡ rotated kind a (has f 1) }

@@ -3,3 +3,4 @@ pub mod StackPairs
 pub mod Opcodes
 pub mod PageOpcodes
 pub mod Decoding
+pub mod Listed

@@ -1,4 +1,5 @@
-ghost use Rattle.std.specs.Prelude.{◌≡◌, ◌<◌, ◌+◌, ℕ, IfSome};
+ghost use Rattle.std.specs.Prelude.{◌≡◌, ◌<◌, ◌+◌, ◌∷◌, [], ℕ};
+ghost use Rattle.std.specs.Option.{is_some};
 ghost use Rattle.z80_regs.specs.Words.{onward};
 ghost use Rattle.z80_decode.specs.Decoding.{
   tail_of,
@@ -11,9 +12,11 @@ ghost use Rattle.z80_decode.specs.Decoding.{
   index_bit_instr_by,
   index_instr_of,
   prefixed_instr_of,
-  main_instr_of,
+  main_instr_by,
   instr_of,
 };
+ghost use Rattle.z80_decode.specs.Opcodes.{form_of};
+ghost use Rattle.z80_decode.specs.Listed.{is_listed};
 ghost use Rattle.z80_decode.specs.PageOpcodes.{bit_form_of, extended_form_of, index_form_of};
 
 use crate::forms::{Form, Tail};
@@ -25,7 +28,7 @@ use z80_regs::Bus;
 
 /// What stands behind the opcode in a form.
 #[inline(always)]
-pub fn tail(form: Form) -> Tail
+fn tail(form: Form) -> Tail
     ensures { result ≡ tail_of form }
 {
     match form {
@@ -97,8 +100,8 @@ pub fn main_length(form: Form) -> u8
     }
 }
 
-/// The same instruction as by `assemble`, at an address: of the bytes behind the opcode only those are read that stand
-/// there.
+/// The instruction of a page at an address, whose opcode is its byte of a number, from 1, and is read: of the bytes behind
+/// it only those that belong to the instruction are.
 #[inline(always)]
 pub fn read_instr<B: Bus>(
     tail: Tail,
@@ -177,12 +180,10 @@ fn decode_index(page: Page, bits: Page, second: u8, third: u8, fourth: u8) -> Op
 }
 
 /// The instruction behind the prefixes CBh, EDh, DDh and FDh, or None where it isn't listed. The first byte is a prefix.
-#[inline(never)]
 #[tactic(auto, unfolding(crate::specs::Decoding::prefixed_instr_of))]
-pub fn decode_prefixed(bytes: [u8; 4]) -> Option<Instr>
-    ensures { result ≡ prefixed_instr_of bytes }
+fn decode_prefixed(first: u8, second: u8, third: u8, fourth: u8) -> Option<Instr>
+    ensures { result ≡ prefixed_instr_of (first ∷ second ∷ third ∷ fourth ∷ []) }
 {
-    let [first, second, third, fourth] = bytes;
     match first {
         0xcb => decode_bits(second),
         0xed => decode_extended(second, third, fourth),
@@ -192,13 +193,9 @@ pub fn decode_prefixed(bytes: [u8; 4]) -> Option<Instr>
 }
 
 /// The instruction without prefix that some bytes begin with, or None where the first is a prefix.
-#[inline(always)]
-#[tactic(auto, unfolding(crate::specs::Decoding::main_instr_of))]
-pub fn decode_main(bytes: [u8; 4]) -> Option<Instr>
-    ensures instr { result ≡ main_instr_of bytes }
-    ensures page { IfSome result (λ instr. instr.page ≡ Page.Main) }
+fn decode_main(opcode: u8, first: u8, second: u8) -> Option<Instr>
+    ensures { result ≡ main_instr_by (form_of opcode) opcode first second }
 {
-    let [opcode, first, second, _] = bytes;
     match main_form(opcode) {
         None => None,
         Some(form) => Some(assemble(tail(form), Page::Main, 1, opcode, first, second)),
@@ -207,13 +204,14 @@ pub fn decode_main(bytes: [u8; 4]) -> Option<Instr>
 
 /// The instruction that some bytes begin with: those at PC and the three behind it. None where they begin with no
 /// listed instruction.
-#[inline(always)]
-#[tactic(auto, unfolding(crate::specs::Decoding::instr_of))]
+#[tactic(auto, using(crate::proofs::Listed::decoded), unfolding(crate::specs::Decoding::instr_of, crate::specs::Decoding::main_instr_of))]
 pub fn decode(bytes: [u8; 4]) -> Option<Instr>
-    ensures { result ≡ instr_of bytes }
+    ensures instr { result ≡ instr_of bytes }
+    ensures listed { is_some result ≡ is_listed bytes }
 {
-    match decode_main(bytes) {
-        None => decode_prefixed(bytes),
+    let [first, second, third, fourth] = bytes;
+    match decode_main(first, second, third) {
+        None => decode_prefixed(first, second, third, fourth),
         Some(instr) => Some(instr),
     }
 }

@@ -9,7 +9,7 @@ mod opcodes;
 mod page_forms;
 mod page_opcodes;
 
-pub use decoding::{decode, extended_tail, index_tail, main_length, read_instr, tail};
+pub use decoding::{decode, extended_tail, index_tail, main_length, read_instr};
 pub use fields::operand_at;
 pub use forms::{Condition, Form, Math, Operand, Pair, Rotation, StackPair, Tail};
 pub use instr::{Instr, Page};

@@ -1,5 +1,5 @@
 -- The step that reads by the opcode does the instruction that four bytes begin with.
-use Rattle.std.proofs.Common.{◌≡◌, ℕ, List, ◌∷◌, Option, None, Some, ap, refl, rules}
+use Rattle.std.proofs.Common.{◌≡◌, ℕ, List, Option, None, Some, ap, refl, rules}
 use Rattle.std.specs.Prelude.{IsNone}
 use Rattle.std.proofs.lemmas.Grind.{common_steps}
 use Rattle.z80_regs.specs.Words.{onward}
@@ -52,6 +52,16 @@ unfolding instr_of main_instr_of
 prefixed memory pc none = by_none (form_of (memory pc)) _ _ _ (four_from memory pc) none
 
 -- where it isn't
+never_none : (form : Option Form) (opcode first second : ℕ) (bytes : List ℕ) → (IsNone form → ⊥) →
+    IsNone (main_or_prefixed (main_instr_by form opcode first second) bytes) → ⊥
+never_none None opcode first second bytes some none = some refl
+never_none (Some form) opcode first second bytes some none = search rules
+
+pub found : (memory : ℕ → ℕ) (pc : ℕ) → (IsNone (form_of (memory pc)) → ⊥) →
+    IsNone (instr_of (four_from memory pc)) → ⊥
+unfolding instr_of main_instr_of
+found memory pc some none = never_none (form_of (memory pc)) _ _ _ (four_from memory pc) some none
+
 by_some : (form : Option Form) (opcode : ℕ) (bytes : List ℕ) (regs : Regs) (memory ports : ℕ → ℕ) →
     form_of opcode ≡ form → (IsNone form → ⊥) →
     outcome_of (main_or_prefixed (main_instr_by form opcode (memory (onward regs.pc 1)) (memory (onward regs.pc 2))) bytes)

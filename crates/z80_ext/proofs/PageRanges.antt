@@ -9,12 +9,9 @@ use Rattle.std.proofs.lemmas.Grind.{common_steps}
 use Rattle.z80_regs.specs.Outcome.{Input, Outcome}
 use Rattle.z80_regs.specs.Ranges.{RegistersFit, ReadsBytes, ActionFits}
 use Rattle.z80_regs.specs.declared.regs.Regs.{Regs}
-use Rattle.z80_alu.specs.declared.kinds.Rotate.{Rotate}
-use Rattle.z80_alu.specs.declared.kinds.Rotate.TheVariants.{Rlc, Rrc, Rl, Rr, Sla, Sra, Srl}
 use Rattle.z80_alu.specs.Flags.{has}
-use Rattle.z80_alu.specs.Bits.{rotated}
 use Rattle.z80_alu.specs.Single.{byte_flags}
-use Rattle.z80_alu.proofs.FlagLaws.{bit_below_2}
+use Rattle.z80_alu.proofs.Ranges.{rotated_fits}
 use Rattle.z80_decode.specs.declared.instr.Instr.{Instr}
 use Rattle.z80_decode.specs.declared.forms.Operand.{Operand}
 use Rattle.z80_decode.specs.declared.forms.Pair.{Pair}
@@ -64,16 +61,6 @@ pair_fits BC regs fit = omega (arith, fit.b, fit.c)
 pair_fits DE regs fit = omega (arith, fit.d, fit.e)
 pair_fits HL regs fit = hl_fits regs fit
 pair_fits SP regs fit = fit.sp
-
--- a byte that is rotated or shifted
-rotated_fits : (kind : Rotate) (byte : ℕ) (carry : Bool) → byte < 256 → rotated kind byte carry < 256
-rotated_fits Rlc byte carry small = omega (arith, bit_below_2 (has byte 128))
-rotated_fits Rrc byte carry small = omega (arith, bit_below_2 (has byte 1))
-rotated_fits Rl byte carry small = omega (arith, bit_below_2 carry)
-rotated_fits Rr byte carry small = omega (arith, bit_below_2 carry)
-rotated_fits Sla byte carry small = omega (arith, bit_below_2 false)
-rotated_fits Sra byte carry small = omega (arith, bit_below_2 (has byte 128))
-rotated_fits Srl byte carry small = omega (arith, bit_below_2 false)
 
 -- the weight that SET has
 abbrev WeightFits : BitChange → Type 0

@@ -7,9 +7,9 @@ mod extended;
 mod index;
 mod stepped;
 
-ghost use Rattle.std.specs.Prelude.{◌≡◌, ◌↔◌, IsNone};
+ghost use Rattle.std.specs.Prelude.{◌≡◌, ◌↔◌, false, IsNone};
 ghost use Rattle.z80_regs.specs.Outcome.{Leaves};
-ghost use Rattle.z80_decode.specs.Decoding.{prefixed_instr_of};
+ghost use Rattle.z80_decode.specs.Decoding.{prefixed_instr_of, instr_of};
 ghost use Rattle.z80_ext.specs.Instruction.{four_from, outcome_of, instruction, registers_after, actions_of};
 
 use crate::bits::step_bits;
@@ -45,9 +45,11 @@ fn step_prefixed<B: Bus>(prefix: u8, regs: &mut Regs, bus: &mut B) -> Stepped
 /// One step: the instruction at PC, or, where the processor stands in a HALT, R alone rises. Where no listed instruction
 /// is at PC it answers `Illegal`, and nothing has changed. (UM0080, "Z80 Instruction Description".)
 #[inline(always)]
-#[tactic(auto, using(crate::proofs::Next::prefixed, crate::proofs::Next::listed), unfolding(crate::specs::Instruction::instruction, z80_regs::specs::Outcome::Leaves))]
+#[tactic(auto, using(crate::proofs::Next::prefixed, crate::proofs::Next::listed, crate::proofs::Next::found), unfolding(crate::specs::Instruction::instruction, z80_regs::specs::Outcome::Leaves))]
 pub fn step<B: Bus>(regs: &mut Regs, bus: &mut B) -> Stepped
     ensures illegal { (result ≡ Stepped.Illegal) ↔ IsNone (instruction regs.old (B.byte bus.old) (B.port_byte bus.old)) }
+    ensures unlisted { (result ≡ Stepped.Illegal)
+        ↔ ((regs.old.halted ≡ false) × IsNone (instr_of (four_from (B.byte bus.old) regs.old.pc))) }
     ensures registers { regs.new ≡ registers_after (instruction regs.old (B.byte bus.old) (B.port_byte bus.old)) regs.old }
     ensures bus { Leaves B.wrote B.took (actions_of (instruction regs.old (B.byte bus.old) (B.port_byte bus.old)))
         bus.old bus.new }

@@ -384,6 +384,30 @@ fn switches(rt: HostRuntime) -> Result<(), Fail> {
     Ok(())
 }
 
+/// IFF2 is the P/V of LD A,I and LD A,R. RETN copies it to IFF1, and RETI copies nothing.
+#[test]
+fn second_flip_flop(rt: HostRuntime) -> Result<(), Fail> {
+    let mut memory = Memory::new(rt.alloc(), 65536)?;
+    memory.place(0xbefe, &[0x2b, 0xc9]);
+    let rows = [
+        (0x57, 0x1b, 0x04, 0xbefe, 0x0102, false),
+        (0x5f, 0x80, 0x84, 0xbefe, 0x0102, false),
+        (0x45, 0x01, 0x02, 0xbf00, 0xc92b, true),
+        (0x4d, 0x01, 0x02, 0xbf00, 0xc92b, false),
+    ];
+    for (opcode, a, f, sp, pc, iff1) in rows {
+        memory.place(0x0100, &[0xed, opcode]);
+        let mut regs = fixture();
+        (regs.iff1, regs.iff2) = (false, true);
+        step(&mut regs, &mut memory);
+        let mut want = behind(pc);
+        (want.a, want.f, want.sp) = (a, f, sp);
+        (want.iff1, want.iff2) = (iff1, true);
+        assert_eq!(rt; regs, want);
+    }
+    Ok(())
+}
+
 #[test]
 fn calls_and_returns(rt: HostRuntime) -> Result<(), Fail> {
     let mut memory = Memory::new(rt.alloc(), 65536)?;

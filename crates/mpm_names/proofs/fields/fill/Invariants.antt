@@ -1,9 +1,0 @@
-use Rattle.std.proofs.Common.{◌≡◌, ℕ, ◌<◌, get_or, length}
-use Rattle.mpm_names.specs.Spellings.{kept_at}
-use Rattle.mpm_names.proofs.fields.fill.Given as goal
-
-abbrev pub invariant-loop-place : goal.invariant-loop-place
-invariant-loop-place l = record {
-  size : length l.bytes ≡ length l.initial.bytes;
-  done : (k : ℕ) → k < l.place → get_or l.bytes k 0 ≡ kept_at l.field l.star k;
-}
