@@ -10,6 +10,7 @@ pub fn number(status: Status) -> u8
     match status {
         Status::Ran => 0,
         Status::Usage => 1,
+        Status::MachineFault => 2,
         Status::TooLong { .. } => 5,
         Status::ReadFault => 6,
         Status::WriteFault { .. } => 8,
@@ -27,6 +28,7 @@ pub fn report(rt: &impl Eprint, status: Status) {
                 "usage: mpm program FILE STEPS [--trace] or mpm run MACHINE STEPS [--trace]"
             )
         }
+        Status::MachineFault => eprintln!(rt; "bad machine file"),
         Status::TooLong { .. } => eprintln!(rt; "input too long"),
         Status::ReadFault => eprintln!(rt; "cannot read"),
         Status::WriteFault { step } => eprintln!(rt; "output failed at step {step}"),

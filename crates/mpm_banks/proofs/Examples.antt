@@ -4,7 +4,7 @@ use Rattle.mpm_banks.specs.declared.range.Space.TheVariants.{Common, InSegment}
 use Rattle.mpm_banks.specs.declared.range.Range.{Range}
 use Rattle.mpm_banks.specs.declared.segment.Allocation.TheVariants.{Free, Reserved, Occupied}
 use Rattle.mpm_banks.specs.declared.segment.Allocation.{Allocation}
-use Rattle.mpm_banks.specs.Memory.{Memory, Place, At, Nowhere, place_from, place_of}
+use Rattle.mpm_banks.specs.Memory.{Memory, At, Nowhere, place_from, place_of}
 use Rattle.mpm_banks.specs.Ranges.{range_from, range_of}
 use Rattle.mpm_banks.specs.Allocations.{lowest_free, is_reserved}
 

@@ -1,7 +1,7 @@
 -- The bytes of a range: they are those that its addresses read, and what is written to them is what the addresses were
 -- written one by one.
-use Rattle.std.proofs.Common.{◌≡◌, ◌≢◌, ℕ, zero, suc, ◌+◌, ◌-◌, ◌%◌, ◌<◌, ◌≤◌, List, [], ◌∷◌, ◌++◌, Option, Some, length, take, drop, get_or, set, refl, ap, sym, subst, ◌∙◌, ◌⊎◌, arith, inl, inr, append_assoc, length-append, length-take, length-drop, add-zero, add-one}
-use Rattle.std.proofs.lemmas.List.{drop-drop, set-set, set-get_or, length-set, take_all, get_or_append_left, get_or-append-add, get_or-set_same}
+use Rattle.std.proofs.Common.{◌≡◌, ℕ, zero, suc, ◌+◌, ◌<◌, ◌≤◌, List, [], ◌∷◌, ◌++◌, Some, length, take, drop, get_or, set, refl, ap, sym, ◌∙◌, arith, append_assoc, length-append, length-take, length-drop, add-zero, add-one}
+use Rattle.std.proofs.lemmas.List.{drop-drop, set-get_or, length-set, take_all}
 use Rattle.std.proofs.lemmas.List.Edits.{sets, sets-eq}
 use Rattle.std.proofs.Math.Seq.{drop-cons}
 use Rattle.z80_regs.specs.Words.{onward}
@@ -9,10 +9,11 @@ use Rattle.mpm_banks.specs.declared.segment.Segment.{Segment}
 use Rattle.mpm_banks.specs.declared.range.Space.{Space}
 use Rattle.mpm_banks.specs.declared.range.Space.TheVariants.{Common, InSegment}
 use Rattle.mpm_banks.specs.declared.range.Range.{Range}
-use Rattle.mpm_banks.specs.Memory.{Memory, no_segment, bytes_of, with_bytes_of, first_of, limit_of, end_of, IsSpace, Place, At, place_of, byte_of, put_to, byte_at, with_byte, bytes_at, with_bytes}
-use Rattle.mpm_banks.specs.Ranges.{range_of, range_bytes, put_range, with_range}
-use Rattle.mpm_banks.specs.MemoryLaws.{IsAt, place_is_at, place_of_put, bytes_back, space_is}
-use Rattle.mpm_banks.proofs.RangeLaws.{Found, found, found_inside, place_in_range}
+use Rattle.mpm_banks.specs.Memory.{Memory, no_segment, bytes_of, with_bytes_of, limit_of, At, place_of, byte_of, put_to, byte_at, with_byte, bytes_at, with_bytes}
+use Rattle.mpm_banks.specs.Stretches.{with_range}
+use Rattle.mpm_banks.specs.Ranges.{range_of, range_bytes, put_range}
+use Rattle.mpm_banks.specs.MemoryLaws.{place_is_at, place_of_put, bytes_back, space_is}
+use Rattle.mpm_banks.proofs.RangeLaws.{found, found_inside, place_in_range}
 
 -- so many addresses from one on name the bytes of a space from an index on, one behind the other
 abbrev pub NamesFrom : Memory → ℕ → ℕ → Space → ℕ → ℕ → Type 0

@@ -1,14 +1,12 @@
 -- Laws of ranges: where one is found, and what its bytes are, read and written.
-use Rattle.std.proofs.Common.{◌≡◌, ◌≢◌, ℕ, zero, suc, ◌+◌, ◌-◌, ◌*◌, min, ◌<◌, ◌≤◌, ◌↔◌, Bool, true, false, List, [], ◌∷◌, ◌++◌, Option, Some, None, IsSome, length, take, drop, get_or, set, slice_range, refl, ap, sym, subst, ◌∙◌, arith, inl, inr, add-zero}
-use Rattle.std.proofs.lemmas.Bool.{cases_eq, cases_lt}
+use Rattle.std.proofs.Common.{◌≡◌, ℕ, ◌+◌, ◌-◌, ◌<◌, ◌≤◌, ◌↔◌, Option, Some, None, IsSome, length, refl, ap, sym, subst, ◌∙◌, arith, inl, inr, add-zero}
+use Rattle.std.proofs.lemmas.Bool.{cases_lt}
 use Rattle.std.proofs.lemmas.Bool.Decides.{nat_tests}
-use Rattle.z80_regs.specs.Words.{onward}
 use Rattle.mpm_banks.specs.declared.range.Space.{Space}
-use Rattle.mpm_banks.specs.declared.range.Space.TheVariants.{Common, InSegment}
 use Rattle.mpm_banks.specs.declared.range.Range.{Range}
-use Rattle.mpm_banks.specs.Memory.{Memory, bytes_of, with_bytes_of, first_of, limit_of, end_of, space_at, IsSpace, Place, At, Nowhere, place_from, place_of, byte_at, with_byte, bytes_at, with_bytes}
-use Rattle.mpm_banks.specs.Ranges.{range_from, range_of, range_size, range_bytes, put_range, with_range, LiesIn, IsInside, IsWholly}
-use Rattle.mpm_banks.specs.MemoryLaws.{IsAt, place_is_at, space_below, space_above, space_is, first_stays, end_stays, length_stays}
+use Rattle.mpm_banks.specs.Memory.{Memory, bytes_of, first_of, end_of, space_at, At, place_from, place_of}
+use Rattle.mpm_banks.specs.Ranges.{range_from, range_of, IsWholly}
+use Rattle.mpm_banks.specs.MemoryLaws.{place_is_at, space_below, space_above}
 
 -- what is known of a range that was found
 pub record Found (memory : Memory) (seg address size : ℕ) (range : Range) : Type 0 where

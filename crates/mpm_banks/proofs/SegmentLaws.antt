@@ -1,7 +1,8 @@
 -- Segments that begin, or change hands: they still make up a memory, and all bytes stay.
-use Rattle.std.proofs.Common.{◌≡◌, ◌≢◌, ℕ, ◌+◌, ◌*◌, min, ◌<◌, ◌≤◌, Bool, true, false, List, Option, Some, None, All, map, length, get_or, arith, subst, sym, ap, refl, ◌∙◌, if◌then◌else◌}
+use Rattle.std.proofs.Common.{◌≡◌, ◌≢◌, ℕ, zero, suc, ◌+◌, ◌*◌, min, ◌<◌, ◌≤◌, Bool, true, false, List, [], ◌∷◌, Option, Some, None, All, map, length, get_or, arith, subst, sym, ap, refl, ◌∙◌, if◌then◌else◌}
 use Rattle.std.proofs.lemmas.List.{length-replicate, length-map, length-set, get_or-map, get_or-set_same, get_or-set_other}
 use Rattle.std.proofs.lemmas.List.Quantifiers.{position-Some}
+use Rattle.std.proofs.Math.ListN.{get_or-eq_default}
 use Rattle.mpm_base.specs.declared.segment.SegmentSpec.{SegmentSpec}
 use Rattle.mpm_banks.specs.declared.segment.Segment.{Segment}
 use Rattle.mpm_banks.specs.declared.segment.Allocation.{Allocation}
@@ -10,7 +11,7 @@ use Rattle.mpm_banks.specs.declared.range.Space.{Space}
 use Rattle.mpm_banks.specs.declared.range.Space.TheVariants.{Common, InSegment}
 use Rattle.mpm_banks.specs.Memory.{Memory, no_segment, segment_of, HasSegment, IsSegment, IsMemory, first_of, limit_of, bytes_of, space_at, Place, At, Nowhere, place_from, place_of, byte_of, byte_at}
 use Rattle.mpm_banks.specs.MemoryLaws.{field_stays}
-use Rattle.mpm_banks.specs.Allocations.{FitsBelowCommon, new_segment, allocated, fits, lowest_free, reserved, released, all_released, freed, is_owners, zeros}
+use Rattle.mpm_banks.specs.Allocations.{FitsBelowCommon, new_segment, allocated, fits, lowest_free, reserved, released, is_reserved, all_released, freed, is_owners, spec_of, zeros}
 
 -- each element of a list that a function made of another
 all_map : {A B : Type 0} (f : A → B) (P : A → Type 0) (Q : B → Type 0) (first : A) (xs : List A) → ((x : A) → P x → Q (f x)) → All P xs → All Q (map f xs)
@@ -27,14 +28,14 @@ new_is_segment spec fit = record { some = fit.some; below = fit.below; size = le
 
 pub new_is_memory : (segments : List Segment) (common : List ℕ) (specs : List SegmentSpec) → segments ≡ map new_segment specs → common ≡ zeros 16384
     → (1 ≤ length specs) × (length specs ≤ 16) → All FitsBelowCommon specs → IsMemory (record { segments = segments; common = common })
-new_is_memory segments common specs are zero count fit =
+new_is_memory segments common specs are blank count fit =
     let size = ap length are ∙ length-map specs new_segment in
     record {
       segments = subst (All IsSegment) (sym are)
           (all_map new_segment FitsBelowCommon IsSegment (record { base = 0; pages = 0 }) specs new_is_segment fit);
       some = omega arith;
       count = omega arith;
-      common = ap length zero ∙ length_zeros 16384;
+      common = ap length blank ∙ length_zeros 16384;
     }
 
 -- who has a segment changes nothing of where it lies
@@ -122,3 +123,110 @@ unfolding lowest_free
 lowest_free_fits memory base pages seg is =
     let at = position-Some (fits base pages) memory.segments seg no_segment is in
     (at.0, at.1, at.2)
+
+-- the segment that was found and reserved is there, where it was
+pub reserved_is_there : (memory : Memory) (base : Option ℕ) (pages owner seg : ℕ) → lowest_free memory base pages ≡ Some seg
+    → HasSegment (reserved memory owner (lowest_free memory base pages)) seg
+reserved_is_there memory base pages owner seg is =
+    omega (arith, count_reserved memory owner (lowest_free memory base pages), (lowest_free_fits memory base pages seg is).0)
+
+spec_at : ℕ → ℕ → SegmentSpec
+spec_at base pages = record { base = base; pages = pages }
+
+same_spec : (a b : Segment) → a.base ≡ b.base → a.pages ≡ b.pages → spec_at a.base a.pages ≡ spec_at b.base b.pages
+same_spec a b base pages = ap (λ first. spec_at first a.pages) base ∙ ap (spec_at b.base) pages
+
+pub spec_of_reserved : (memory : Memory) (owner : ℕ) (reserved_seg : Option ℕ) (seg : ℕ) → spec_of (reserved memory owner reserved_seg) seg ≡ spec_of memory seg
+unfolding reserved allocated spec_at
+spec_of_reserved memory owner None seg = refl
+spec_of_reserved memory owner (Some other) seg =
+    let new = segment_of (allocated memory other (Reserved owner)) seg in
+    same_spec new (segment_of memory seg)
+    (field_stays (λ s. s.base) memory.segments other seg _ refl) (field_stays (λ s. s.pages) memory.segments other seg _ refl)
+
+-- nobody reserved a segment that isn't there
+pub nobody_reserved : (memory : Memory) (owner seg : ℕ) → length memory.segments ≤ seg → is_reserved memory owner seg ≡ false
+unfolding is_reserved
+nobody_reserved memory owner seg behind = ap (λ (s : Segment). is_owners owner s.allocation) (get_or-eq_default memory.segments no_segment behind)
+
+pub released_by_another : (memory : Memory) (owner seg : ℕ) → is_reserved memory owner seg ≡ false → released memory owner seg ≡ memory
+unfolding released
+released_by_another memory owner seg not_owner = ap (λ b. if b then allocated memory seg Free else memory) not_owner
+
+-- two memories read alike where each segment begins at the same page and has the same bytes
+
+pub record SameBytes (old new : Memory) : Type 0 where
+  pub base : (seg : ℕ) → (segment_of new seg).base ≡ (segment_of old seg).base
+  pub bytes : (seg : ℕ) → (segment_of new seg).bytes ≡ (segment_of old seg).bytes
+  pub common : new.common ≡ old.common
+
+spaces_alike : (old new : Memory) → SameBytes old new → (space : Space) → (first_of new space ≡ first_of old space) × (bytes_of new space ≡ bytes_of old space)
+spaces_alike old new same Common = (refl, same.common)
+spaces_alike old new same (InSegment seg) = (ap (λ n. 256 * n) (same.base seg), same.bytes seg)
+
+places_alike : (old new : Memory) → SameBytes old new → (seg at : ℕ) → place_of new seg at ≡ place_of old seg at
+unfolding place_of
+places_alike old new same seg at =
+    let space = space_at seg at in
+    let alike = spaces_alike old new same space in
+    ap (λ first. place_from space first (min (first + length (bytes_of new space)) (limit_of space)) at) alike.0
+    ∙ ap (λ (bytes : List ℕ). place_from space (first_of old space) (min (first_of old space + length bytes) (limit_of space)) at) alike.1
+
+byte_alike : (old new : Memory) → SameBytes old new → (place : Place) → byte_of new place ≡ byte_of old place
+byte_alike old new same (At space index) = ap (λ bytes. get_or bytes index 0) (spaces_alike old new same space).1
+byte_alike old new same Nowhere = refl
+
+pub reads_alike : (old new : Memory) → SameBytes old new → (seg at : ℕ) → byte_at new seg at ≡ byte_at old seg at
+unfolding byte_at
+reads_alike old new same seg at = ap (byte_of new) (places_alike old new same seg at) ∙ byte_alike old new same (place_of old seg at)
+
+-- memories whose segments only changed hands
+
+pub same_bytes_itself : (memory : Memory) → SameBytes memory memory
+same_bytes_itself memory = record { base = λ seg. refl; bytes = λ seg. refl; common = refl }
+
+pub same_bytes_both : (old middle new : Memory) → SameBytes old middle → SameBytes middle new → SameBytes old new
+same_bytes_both old middle new first second = record {
+  base = λ seg. second.base seg ∙ first.base seg;
+  bytes = λ seg. second.bytes seg ∙ first.bytes seg;
+  common = second.common ∙ first.common;
+}
+
+pub same_bytes_if : (old : Memory) (b : Bool) (one other : Memory) → SameBytes old one → SameBytes old other → SameBytes old (if b then one else other)
+same_bytes_if old true one other is was = is
+same_bytes_if old false one other is was = was
+
+pub same_bytes_allocated : (memory : Memory) (seg : ℕ) (allocation : Allocation) → SameBytes memory (allocated memory seg allocation)
+unfolding allocated
+same_bytes_allocated memory seg allocation = record {
+  base = λ other. field_stays (λ s. s.base) memory.segments seg other _ refl;
+  bytes = λ other. field_stays (λ s. s.bytes) memory.segments seg other _ refl;
+  common = refl;
+}
+
+pub same_bytes_reserved : (memory : Memory) (owner : ℕ) (seg : Option ℕ) → SameBytes memory (reserved memory owner seg)
+unfolding reserved
+same_bytes_reserved memory owner None = same_bytes_itself memory
+same_bytes_reserved memory owner (Some seg) = same_bytes_allocated memory seg (Reserved owner)
+
+pub same_bytes_released : (memory : Memory) (owner seg : ℕ) → SameBytes memory (released memory owner seg)
+unfolding released
+same_bytes_released memory owner seg = same_bytes_if memory (is_reserved memory owner seg) _ _ (same_bytes_allocated memory seg Free) (same_bytes_itself memory)
+
+freed_if : (b : Bool) (segment other : Segment) → (other.base ≡ segment.base) × (other.bytes ≡ segment.bytes)
+    → ((if b then other else segment).base ≡ segment.base) × ((if b then other else segment).bytes ≡ segment.bytes)
+freed_if true segment other same = same
+freed_if false segment other same = (refl, refl)
+
+segment_freed : (segments : List Segment) (owner seg : ℕ) → get_or (map (freed owner) segments) seg no_segment ≡ freed owner (get_or segments seg no_segment)
+segment_freed [] owner seg = refl
+segment_freed (s ∷ segments) owner zero = refl
+segment_freed (s ∷ segments) owner (suc seg) = segment_freed segments owner seg
+
+pub same_bytes_all_released : (memory : Memory) (owner : ℕ) → SameBytes memory (all_released memory owner)
+unfolding all_released
+same_bytes_all_released memory owner = record {
+  base = λ seg. ap (λ (s : Segment). s.base) (segment_freed memory.segments owner seg) ∙ (freed_if (is_owners owner (segment_of memory seg).allocation) (segment_of memory seg) _ (refl, refl)).0;
+  bytes = λ seg. ap (λ (s : Segment). s.bytes) (segment_freed memory.segments owner seg) ∙ (freed_if (is_owners owner (segment_of memory seg).allocation) (segment_of memory seg) _ (refl, refl)).1;
+  common = refl;
+}

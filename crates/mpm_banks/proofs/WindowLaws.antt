@@ -1,11 +1,12 @@
 -- What is written through a window is read back at its addresses, and all else stays.
-use Rattle.std.proofs.Common.{◌≡◌, ◌≢◌, ℕ, ◌+◌, ◌%◌, min, ◌<◌, ◌≤◌, ◌⊎◌, List, ◌++◌, Option, Some, length, get_or, set, take, drop, length-append, length-take, length-drop, ap, refl, sym, subst, ◌∙◌, arith}
+use Rattle.std.proofs.Common.{◌≡◌, ◌≢◌, ℕ, ◌+◌, ◌%◌, min, ◌<◌, ◌≤◌, ◌⊎◌, List, ◌++◌, Some, length, get_or, set, take, drop, length-append, length-take, length-drop, ap, refl, sym, subst, ◌∙◌, arith}
 use Rattle.std.proofs.lemmas.List.{length-set}
 use Rattle.mpm_banks.specs.declared.segment.Allocation.{Allocation}
 use Rattle.mpm_banks.specs.declared.range.Range.{Range}
 use Rattle.mpm_banks.specs.Memory.{Memory, bytes_of, with_bytes_of, first_of, limit_of, end_of, space_at, Place, At, Nowhere, place_of, put_to, IsPlace, IsWritable, byte_at, with_byte, with_bytes, SameSegments}
 use Rattle.mpm_banks.specs.MemoryLaws.{first_stays, end_stays, same_segments_put}
-use Rattle.mpm_banks.specs.Ranges.{range_from, range_of, with_range, put_range}
+use Rattle.mpm_banks.specs.Stretches.{with_range}
+use Rattle.mpm_banks.specs.Ranges.{range_from, range_of, put_range}
 use Rattle.mpm_banks.specs.Allocations.{allocated}
 use Rattle.mpm_banks.proofs.RangeLaws.{found, place_in_range}
 use Rattle.mpm_banks.proofs.RangeBytes.{put_range_is, limit_low}

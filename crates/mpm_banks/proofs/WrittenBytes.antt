@@ -1,7 +1,7 @@
 -- Bytes that are written one by one from an address on: they are read back, and all else stays.
-use Rattle.std.proofs.Common.{◌≡◌, ◌≢◌, ℕ, zero, suc, ◌+◌, ◌%◌, ◌<◌, ◌≤◌, List, [], ◌∷◌, length, get_or, refl, ap, subst, sym, ◌∙◌, arith}
+use Rattle.std.proofs.Common.{◌≡◌, ◌≢◌, ℕ, zero, suc, ◌+◌, ◌%◌, ◌<◌, ◌≤◌, List, [], ◌∷◌, length, get_or, refl, ap, subst, ◌∙◌, arith}
 use Rattle.z80_regs.specs.Words.{onward}
-use Rattle.mpm_banks.specs.Memory.{Memory, byte_at, with_byte, with_bytes, IsPlace, place_of, IsWritable, SameSegments}
+use Rattle.mpm_banks.specs.Memory.{Memory, byte_at, with_byte, with_bytes, place_of, IsWritable, SameSegments}
 use Rattle.mpm_banks.specs.MemoryLaws.{byte_at_with_byte, byte_at_other_address, byte_at_other_segment, writable_with_byte, place_of_with_byte, same_segments_with_byte, same_segments_both}
 
 -- a write of bytes moves no place

@@ -1,8 +1,8 @@
 -- A process's view of memory and devices as a bus.
 use Rattle.std.specs.Prelude.{◌≡◌, ℕ, List}
 use Rattle.z80_regs.specs.Outcome.{Action}
-use Rattle.mpm_banks.specs.Memory.{byte_at, with_byte, IsWritable}
-use Rattle.mpm_banks.specs.Ports.{port_byte, port_read}
+use Rattle.mpm_banks.specs.Memory.{with_byte}
+use Rattle.mpm_banks.specs.Ports.{port_read}
 use Rattle.mpm_banks.specs.Actions.{memory_after, devices_after}
 use Rattle.mpm_banks.specs.declared.bus.BankBus.{BankBus}
 

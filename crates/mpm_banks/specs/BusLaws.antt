@@ -1,9 +1,9 @@
 -- The laws of a bus, for a process's view of memory and devices.
-use Rattle.std.proofs.Common.{◌≡◌, ◌≢◌, ℕ, ◌<◌, ◌^◌, ◌↔◌, ap, sym, subst, ◌∙◌, refl}
-use Rattle.mpm_banks.specs.Memory.{Memory, byte_at, with_byte, IsWritable}
+use Rattle.std.proofs.Common.{◌≡◌, ◌≢◌, ℕ, ◌<◌, ◌^◌, ◌↔◌, ap, sym, subst, ◌∙◌}
+use Rattle.mpm_banks.specs.Memory.{Memory, byte_at, IsWritable}
 use Rattle.mpm_banks.specs.MemoryLaws.{byte_at_with_byte, byte_at_other_address, writable_with_byte}
 use Rattle.mpm_banks.specs.Ports.{port_byte}
-use Rattle.mpm_banks.specs.Bus.{SameSides, Wrote, TookInput}
+use Rattle.mpm_banks.specs.Bus.{Wrote, TookInput}
 use Rattle.mpm_banks.specs.declared.bus.BankBus.{BankBus}
 
 -- two views of the same bytes

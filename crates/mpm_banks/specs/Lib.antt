@@ -1,3 +1,4 @@
+pub mod Stretches
 pub mod Memory
 pub mod Ranges
 pub mod Allocations

@@ -1,6 +1,6 @@
 -- Banked memory as the addresses of a process: its segment from base page to last page, and common memory from C000h on.
 -- (MP/M II System Guide, "Memory Segment Base Page Initialization", "Common Memory".)
-use Rattle.std.specs.Prelude.{◌≡◌, ℕ, zero, suc, ◌+◌, ◌-◌, ◌*◌, min, ◌<◌, ◌≤◌, Bool, List, [], ◌∷◌, ◌&&◌, nat_lt, nat_le, length, All, slice_index, slice_index_or, slice_set, if◌then◌else◌}
+use Rattle.std.specs.Prelude.{◌≡◌, ℕ, zero, suc, ◌+◌, ◌-◌, ◌*◌, min, ◌<◌, ◌≤◌, List, [], ◌∷◌, ◌&&◌, nat_lt, nat_le, length, All, slice_index, slice_index_or, slice_set, if◌then◌else◌}
 use Rattle.z80_regs.specs.Words.{onward}
 use Rattle.mpm_banks.specs.declared.segment.Segment.{Segment}
 use Rattle.mpm_banks.specs.declared.segment.Allocation.TheVariants.{Free}
@@ -136,16 +136,3 @@ unfoldable pub with_bytes : Memory → ℕ → ℕ → List ℕ → Memory
 with_bytes memory seg address [] = memory
 with_bytes memory seg address (byte ∷ bytes) =
     with_bytes (with_byte memory seg address byte) seg (onward address 1) bytes
-
--- an address names one of some bytes that lie from a first address on
-abbrev pub is_among : ℕ → List ℕ → ℕ → Bool
-is_among first bytes address = nat_le first address && nat_lt address (first + length bytes)
-
--- the byte of them that an address names; where it names none, FFh
-abbrev pub byte_within : ℕ → List ℕ → ℕ → ℕ
-byte_within first bytes address = if is_among first bytes address then slice_index bytes (address - first) else 255
-
--- the bytes with another where an address names one
-abbrev pub put_within : ℕ → List ℕ → ℕ → ℕ → List ℕ
-put_within first bytes address value =
-    if is_among first bytes address then slice_set bytes (address - first) value else bytes

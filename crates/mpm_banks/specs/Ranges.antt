@@ -1,13 +1,9 @@
 -- Ranges of bytes that lie wholly in one segment or wholly in common memory: what a window lends.
-use Rattle.std.specs.Prelude.{◌≡◌, ℕ, ◌+◌, ◌-◌, ◌<◌, ◌≤◌, Bool, List, ◌++◌, Option, Some, None, ◌&&◌, nat_lt, nat_le, length, take, drop, slice_range, if◌then◌else◌}
-use Rattle.mpm_banks.specs.Memory.{Memory, IsSpace, bytes_of, with_bytes_of, first_of, end_of, space_at, Place, At, place_of}
+use Rattle.std.specs.Prelude.{◌≡◌, ℕ, ◌+◌, ◌-◌, ◌<◌, ◌≤◌, List, Option, Some, None, ◌&&◌, nat_le, length, slice_range, if◌then◌else◌}
+use Rattle.mpm_banks.specs.Stretches.{with_range}
+use Rattle.mpm_banks.specs.Memory.{Memory, IsSpace, bytes_of, with_bytes_of, first_of, end_of, space_at, At, place_of}
 use Rattle.mpm_banks.specs.declared.range.Space.{Space}
-use Rattle.mpm_banks.specs.declared.range.Space.TheVariants.{Common, InSegment}
 use Rattle.mpm_banks.specs.declared.range.Range.{Range}
-
--- a list with other bytes from a place on; its length stays
-abbrev pub with_range : List ℕ → ℕ → List ℕ → List ℕ
-with_range bytes from new = take (length bytes) (take from bytes ++ (new ++ drop (length new) (drop from bytes)))
 
 -- the range of so many addresses from one on in a space that has the addresses from one to another; none where they
 -- aren't all among these

@@ -1,4 +1,4 @@
-ghost use Rattle.std.specs.Prelude.{◌≡◌, ◌<◌, ◌≤◌, ◌↔◌, IsSome, IfSome, IfOk, All, map, position, length, option_copied, option_map};
+ghost use Rattle.std.specs.Prelude.{◌≡◌, ◌<◌, ◌≤◌, ◌↔◌, IsSome, IfSome, IfOk, All, map, position, length, option_copied, option_map, unwrap_or};
 ghost use Rattle.std.specs.Bool.{OnTrue};
 ghost use Rattle.std.specs.Borrow.{sem};
 ghost use Rattle.mpm_banks.specs.Ranges.{range_from};
@@ -37,6 +37,7 @@ impl Model for Banks {
 }
 
 impl Banks {
+    ghost use Rattle.mpm_banks.specs.Stretches.{byte_among};
     ghost use Rattle.mpm_banks.specs.Memory.{IsMemory, HasSegment, byte_at, with_byte};
     ghost use Rattle.mpm_banks.specs.Allocations.{FitsBelowCommon, new_memory, spec_of, lowest_free, allocated, reserved, is_reserved, released, all_released, occupied, vacated};
     ghost use Rattle.mpm_banks.specs.Ranges.{range_of, range_size, range_bytes, IsInside};
@@ -162,12 +163,23 @@ impl Banks {
     pub fn byte(&self, seg: Seg, address: u16) -> u8
         ensures { result ≡ byte_at self.now seg address }
     {
-        if address >= COMMON_BASE {
-            return self.common.at(usize::from(address - COMMON_BASE));
+        if let Some(segment) = self.segments.get(usize::from(seg.0)) {
+            if let Some(byte) = segment.byte(address) {
+                return byte;
+            }
         }
-        match self.segments.get(usize::from(seg.0)) {
-            Some(segment) => segment.byte(address),
-            None => 0xFF,
+        self.byte_outside(address)
+    }
+
+    /// The byte that a process reads at an address outside its segment.
+    #[inline(always)]
+    fn byte_outside(&self, address: u16) -> u8
+        ensures { result ≡ unwrap_or (byte_among 49152 self.now.common address) 255 }
+    {
+        if address < COMMON_BASE {
+            0xFF
+        } else {
+            self.common.at(usize::from(address - COMMON_BASE))
         }
     }
 

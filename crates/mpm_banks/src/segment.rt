@@ -27,7 +27,8 @@ pub(crate) struct Segment {
 }
 
 impl Segment {
-    ghost use Rattle.mpm_banks.specs.Memory.{IsSegment, byte_within, put_within};
+    ghost use Rattle.mpm_banks.specs.Stretches.{byte_among, put_among};
+    ghost use Rattle.mpm_banks.specs.Memory.{IsSegment};
     ghost use Rattle.mpm_banks.specs.Ranges.{range_from};
     ghost use Rattle.mpm_banks.specs.Allocations.{new_segment, fits, freed};
 
@@ -63,24 +64,32 @@ impl Segment {
         }
     }
 
-    /// The byte at an address below common memory; FFh where it isn't in the segment.
+    /// The byte that an address names, if it names one of the segment's.
     #[inline(always)]
-    pub fn byte(&self, address: u16) -> u8
+    pub fn byte(&self, address: u16) -> Option<u8>
         requires { IsSegment self.now }
-        ensures { result ≡ byte_within (256 * self.now.base) self.now.bytes address }
+        ensures { result ≡ byte_among (256 * self.now.base) self.now.bytes address }
     {
-        let index = index_behind(self.base, address);
-        self.bytes.get(index).unwrap_or(0xFF)
+        self.bytes.get(self.index(address))
     }
 
-    /// Writes the byte at an address below common memory; it is lost where it isn't in the segment.
+    /// Writes the byte that an address names, if it names one of the segment's.
     #[inline(always)]
     pub fn put(&mut self, address: u16, value: u8)
         requires { IsSegment self.old }
-        ensures { self.new ≡ record self.old { bytes = put_within (256 * self.old.base) self.old.bytes address value } }
+        ensures { self.new ≡ record self.old { bytes = put_among (256 * self.old.base) self.old.bytes address value } }
     {
-        let index = index_behind(self.base, address);
+        let index = self.index(address);
         self.bytes.set(index, value);
+    }
+
+    /// How far an address is behind the first of the segment; below that one, more than the segment has bytes.
+    #[inline(always)]
+    fn index(&self, address: u16) -> usize
+        ensures behind { 256 * self.now.base ≤ address → result ≡ address - 256 * self.now.base }
+        ensures below { address < 256 * self.now.base → 65536 ≤ result }
+    {
+        usize::from(address).wrapping_sub(256 * usize::from(self.base))
     }
 
     /// The range that `size` addresses from one on name in this segment, which has the number `seg`; none where they
@@ -101,13 +110,4 @@ impl Segment {
             to: to - first,
         })
     }
-}
-
-/// How far an address is behind the first of a page; below that page, more than all memory.
-#[inline(always)]
-fn index_behind(base: u8, address: u16) -> usize
-    ensures behind { 256 * base ≤ address → result ≡ address - 256 * base }
-    ensures below { address < 256 * base → 65536 ≤ result }
-{
-    usize::from(address).wrapping_sub(256 * usize::from(base))
 }

@@ -7,8 +7,8 @@ mod reply;
 mod take;
 
 pub use reads::{Reads, reads_of};
-pub use reply::{put_reply, take_return};
-pub use take::call_of;
+pub use reply::{put_bytes, put_reply, take_return};
+pub use take::{TextEnd, call_of};
 
 #[cfg(test)]
 mod tests;

@@ -46,10 +46,10 @@ fn put_answer(hl: u16, regs: &mut Regs)
     regs.b = regs.h;
 }
 
-/// Writes bytes from an address on, at most 4,096.
+/// Writes bytes from an address on, at most 65,535.
 #[tactic(auto, using(crate::proofs::WritingLaws::written_none))]
-fn put_bytes(bytes: &[u8], banks: &mut Banks, seg: Seg, address: u16)
-    requires { length bytes.now ≤ 4096 }
+pub fn put_bytes(bytes: &[u8], banks: &mut Banks, seg: Seg, address: u16)
+    requires { length bytes.now ≤ 65535 }
     ensures { banks.new ≡ with_bytes banks.old seg address bytes.now }
 {
     if !bytes.is_empty() && !put_as_range(bytes, banks, seg, address) {
@@ -62,7 +62,7 @@ fn put_bytes(bytes: &[u8], banks: &mut Banks, seg: Seg, address: u16)
 #[tactic(auto, using(mpm_banks::proofs::RangeBytes::put_range_is))]
 fn put_as_range(bytes: &[u8], banks: &mut Banks, seg: Seg, address: u16) -> bool
     requires some { 0 < length bytes.now }
-    requires few { length bytes.now ≤ 4096 }
+    requires few { length bytes.now ≤ 65535 }
     ensures exactly { IsTrue result ↔ IsSome (range_of banks.old seg address (length bytes.now)) }
     ensures written { OnTrue result (banks.new ≡ with_bytes banks.old seg address bytes.now) }
     ensures same { OnFalse result (banks.new ≡ banks.old) }

@@ -15,7 +15,7 @@ const MOST_DESCRIPTORS: u16 = 32;
 
 /// What ends a text.
 #[derive(Clone, Copy)]
-enum TextEnd {
+pub enum TextEnd {
     /// A dollar sign.
     Dollar,
     /// 00h or CR.

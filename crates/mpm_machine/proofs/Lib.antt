@@ -1,6 +1,10 @@
-pub mod MemoryLaws
-pub mod ColumnLaws
 pub mod WritingLaws
 pub mod StringLaws
+pub mod HomeLaws
+pub mod WholeLaws
+pub mod TakenLaws
+pub mod CallLaws
+pub mod PlacedLaws
 pub mod StepLaws
-pub mod Examples
+pub mod MovingLaws
+pub mod Containment

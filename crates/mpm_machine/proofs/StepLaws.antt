@@ -1,56 +1,90 @@
--- Laws of a step and of n steps, over what its parts do.
-use Rattle.std.proofs.Common.{◌≡◌, ◌∙◌, ℕ, ◌+◌, ◌-◌, ◌<◌, List, ◌++◌, ◌==◌, Bool, true, false, Option, Some, None, if◌then◌else◌, refl, ap, sym, subst, arith, add-one}
-use Rattle.z80_regs.specs.declared.regs.Regs.{Regs}
+-- Laws of a step and of n steps.
+use Rattle.std.proofs.Common.{◌≡◌, ◌∙◌, ℕ, zero, suc, ◌+◌, ◌-◌, ◌<◌, ◌≤◌, Bool, true, false, ◌==◌, List, ◌++◌, Option, Some, None, if◌then◌else◌, refl, ap, sym, subst, arith, add-one}
 use Rattle.z80_regs.specs.Outcome.{Outcome}
+use Rattle.mpm_base.specs.Calls.{Taken, Answer}
+use Rattle.mpm_base.specs.declared.call.Outcome.{Outcome as CallOutcome}
+use Rattle.mpm_base.specs.declared.call.Outcome.TheVariants.{Done, Held, Retry, Ended}
 use Rattle.mpm_render.specs.Outputs.{rendered}
 use Rattle.mpm_render.specs.Shown.{Kept, Shows, EndsBetween}
+use Rattle.mpm_machine.specs.declared.system.System.{System}
+use Rattle.mpm_machine.specs.declared.gate.Gate.{Gate}
+use Rattle.mpm_machine.specs.declared.gate.Gate.TheVariants.{End, Call}
 use Rattle.mpm_machine.specs.Writing.{Showed, Stopped}
-use Rattle.mpm_machine.specs.State.{Core, State, Change, speaking, counted, called, instructed, process_change, next, after, StandsFor, EndsInStep}
+use Rattle.mpm_machine.specs.State.{State, speaking, StandsFor}
+use Rattle.mpm_machine.specs.Ending.{ended}
+use Rattle.mpm_machine.specs.Serving.{asked, keeping, Served, reserving, releasing, creating, served, said_by, replied, completing, outcome_of, gate_step}
+use Rattle.mpm_machine.specs.Step.{ran, illegal, instructed, instruction_at, acted_at, gate_before, acted_by, acted, counted, step_of, next, after, EndsInStep}
 
--- what a step makes of a core
-abbrev pub step_of : Core → Change
-step_of core = process_change core.process (counted core)
+-- a step that a machine does is the state's next
 
-pub step_stands : (core : Core) (kept : Kept) (told : Option (List ℕ)) (core' : Core) (kept' : Kept) (told' : Option (List ℕ))
-    (s : State) (first : Option (List ℕ)) → core' ≡ (step_of core).core → Showed kept told kept' told' (step_of core).news
-    → StandsFor core kept told s first → StandsFor core' kept' told' (next s) first
+pub step_stands : (old : System) (kept : Kept) (told : Option (List ℕ)) (new : System) (kept' : Kept) (told' : Option (List ℕ))
+    (s : State) (first : Option (List ℕ)) → new ≡ (step_of old).system → Showed kept told kept' told' (step_of old).news
+    → StandsFor old kept told s first → StandsFor new kept' told' (next s) first
 unfolding next
-step_stands core kept told core' kept' told' s first e shown stands =
-    let P : Core → Type 0 = λ c. Shows kept' told' ((step_of c).news ++ s.outputs) first in
+step_stands old kept told new kept' told' s first e shown stands =
+    let P : System → Type 0 = λ system. Shows kept' told' ((step_of system).news ++ s.outputs) first in
     record {
-      parts = e ∙ ap (λ c. (step_of c).core) stands.parts;
+      parts = e ∙ ap (λ system. (step_of system).system) stands.parts;
       shown = subst P stands.parts (shown.all s.outputs first stands.shown);
     }
 
-pub step_stops : (core : Core) (kept : Kept) (told told' : Option (List ℕ)) (s : State) (first : Option (List ℕ))
-    → Stopped kept told told' (step_of core).news → StandsFor core kept told s first
-    → EndsBetween told' first (rendered s.outputs) (rendered (next s).outputs)
+pub step_stops : (old : System) (kept : Kept) (told told' : Option (List ℕ)) (s : State) (first : Option (List ℕ))
+    → Stopped kept told told' (step_of old).news → StandsFor old kept told s first
+    → EndsBetween told' first (rendered kept.trace s.outputs) (rendered kept.trace (next s).outputs)
 unfolding next
-step_stops core kept told told' s first stopped stands =
-    let P : Core → Type 0 = λ c. EndsBetween told' first (rendered s.outputs) (rendered ((step_of c).news ++ s.outputs)) in
+step_stops old kept told told' s first stopped stands =
+    let P : System → Type 0 = λ system. EndsBetween told' first (rendered kept.trace s.outputs) (rendered kept.trace ((step_of system).news ++ s.outputs)) in
     subst P stands.parts (stopped.all s.outputs first stands.shown)
 
--- no part of a step counts
+-- no part of a step counts it but its beginning
 
-if_steps : (b : Bool) (x y : Change) (n : ℕ) → x.core.steps ≡ n → y.core.steps ≡ n → (if b then x else y).core.steps ≡ n
-if_steps true x y n p q = p
-if_steps false x y n p q = q
+served_if : (b : Bool) (one other : Served) (n : ℕ) → one.system.steps ≡ n → other.system.steps ≡ n → (if b then one else other).system.steps ≡ n
+served_if true one other n is was = is
+served_if false one other n is was = was
 
-called_steps : (regs : Regs) (core : Core) → (called regs core).core.steps ≡ core.steps
-unfolding called speaking
-called_steps regs core = if_steps (regs.c == 0) _ _ core.steps refl refl
+served_steps : (call : Taken) (p : ℕ) (system : System) → (served call p system).system.steps ≡ system.steps
+unfolding served reserving releasing creating
+served_steps call p system =
+    let f = call.function in
+    let n = system.steps in
+    served_if (f == 128) _ _ n refl
+    (served_if (f == 129) _ _ n refl
+    (served_if (f == 130) _ _ n refl
+    (served_if (f == 144) _ _ n refl refl)))
 
-instructed_steps : (outcome : Option Outcome) (regs : Regs) (core : Core) → (instructed outcome regs core).core.steps ≡ core.steps
-unfolding instructed speaking
-instructed_steps None regs core = refl
-instructed_steps (Some outcome) regs core = refl
+outcome_steps : (outcome : CallOutcome) (reply : Answer) (call : Taken) (p seg : ℕ) (system : System)
+    → (outcome_of outcome reply call p seg system).system.steps ≡ system.steps
+unfolding completing said_by speaking replied ended
+outcome_steps Done reply call p seg system = refl
+outcome_steps Ended reply call p seg system = refl
+outcome_steps Held reply call p seg system = refl
+outcome_steps Retry reply call p seg system = refl
 
-pub process_change_steps : (process : Option Regs) (core : Core) → (process_change process core).core.steps ≡ core.steps
-unfolding process_change
-process_change_steps None core = refl
-process_change_steps (Some regs) core =
-    if_steps (regs.pc == 48899) _ _ core.steps refl
-    (if_steps (regs.pc == 48902) _ _ core.steps (called_steps regs core) (instructed_steps _ regs core))
+gate_step_steps : (p seg : ℕ) (system : System) → (gate_step p seg system).system.steps ≡ system.steps
+unfolding gate_step keeping
+gate_step_steps p seg system =
+    let call = asked p seg system in
+    outcome_steps _ _ call p seg _ ∙ served_steps call p (keeping p call system)
+
+instructed_steps : (outcome : Option Outcome) (p seg : ℕ) (system : System) → (instructed outcome p seg system).system.steps ≡ system.steps
+unfolding instructed illegal speaking ended ran
+instructed_steps None p seg system = refl
+instructed_steps (Some outcome) p seg system = refl
+
+acted_at_steps : (gate : Option Gate) (p seg : ℕ) (system : System) → (acted_at gate p seg system).system.steps ≡ system.steps
+unfolding ended
+acted_at_steps (Some End) p seg system = refl
+acted_at_steps (Some Call) p seg system = gate_step_steps p seg system
+acted_at_steps None p seg system = instructed_steps (instruction_at p seg system) p seg system
+
+acted_by_steps : (running seg : Option ℕ) (system : System) → (acted_by running seg system).system.steps ≡ system.steps
+acted_by_steps None seg system = refl
+acted_by_steps (Some p) None system = refl
+acted_by_steps (Some p) (Some seg) system = acted_at_steps (gate_before p seg system) p seg system
+
+pub step_steps : (system : System) → (step_of system).system.steps ≡ system.steps + 1
+unfolding step_of acted
+step_steps system = acted_by_steps system.kernel.running _ (counted system)
 
 -- n steps
 
@@ -63,17 +97,48 @@ unfolding after
 after_more n s = ap (λ m. after m s) (add-one n)
 
 -- a stop in the step behind the first done ones
-pub ends_in_step : (told first : Option (List ℕ)) (s : State) (n done step : ℕ) → done < n → step ≡ s.core.steps + done + 1
-    → EndsBetween told first (rendered (after done s).outputs) (rendered (next (after done s)).outputs)
-    → EndsInStep told first s n step
-ends_in_step told first s n done step below e ends =
-    let before : step - 1 - s.core.steps ≡ done = omega arith in
-    let behind : step - s.core.steps ≡ done + 1 = omega arith in
-    let P : State → Type 0 = λ t. EndsBetween told first (rendered (after done s).outputs) (rendered t.outputs) in
-    let Q : ℕ → Type 0 = λ m. EndsBetween told first (rendered (after m s).outputs) (rendered (after (step - s.core.steps) s).outputs) in
-    let R : ℕ → Type 0 = λ m. EndsBetween told first (rendered (after done s).outputs) (rendered (after m s).outputs) in
+pub ends_in_step : (trace : Bool) (told first : Option (List ℕ)) (s : State) (n done step : ℕ) → done < n → step ≡ s.system.steps + done + 1
+    → EndsBetween told first (rendered trace (after done s).outputs) (rendered trace (next (after done s)).outputs)
+    → EndsInStep trace told first s n step
+ends_in_step trace told first s n done step below e ends =
+    let before : step - 1 - s.system.steps ≡ done = omega arith in
+    let behind : step - s.system.steps ≡ done + 1 = omega arith in
+    let P : State → Type 0 = λ t. EndsBetween told first (rendered trace (after done s).outputs) (rendered trace t.outputs) in
+    let Q : ℕ → Type 0 = λ m. EndsBetween told first (rendered trace (after m s).outputs) (rendered trace (after (step - s.system.steps) s).outputs) in
+    let R : ℕ → Type 0 = λ m. EndsBetween told first (rendered trace (after done s).outputs) (rendered trace (after m s).outputs) in
     record {
       later = omega arith;
       within = omega arith;
       text = subst Q (sym before) (subst R (sym behind) (subst P (sym (after_more done s)) ends));
+    }
+
+-- some steps, and then some more
+
+pub after_both : (first more : ℕ) (s : State) → after (first + more) s ≡ after more (after first s)
+unfolding after
+after_both first zero s = ap (λ n. after n s) (omega arith)
+after_both first (suc more) s =
+    let count : first + suc more ≡ suc (first + more) = omega arith in
+    ap (λ n. after n s) count ∙ ap next (after_both first more s)
+
+pub steps_after : (n : ℕ) (s : State) → (after n s).system.steps ≡ s.system.steps + n
+unfolding after next
+steps_after zero s = omega arith
+steps_after (suc n) s = step_steps (after n s).system ∙ omega (arith, steps_after n s)
+
+-- a stop in one of the later steps is one of all
+pub ends_later : (trace : Bool) (told first : Option (List ℕ)) (s : State) (n done step : ℕ) → done ≤ n
+    → EndsInStep trace told first (after done s) (n - done) step → EndsInStep trace told first s n step
+ends_later trace told first s n done step few ends =
+    let steps = steps_after done s in
+    let before : after (step - 1 - (after done s).system.steps) (after done s) ≡ after (step - 1 - s.system.steps) s =
+    sym (after_both done (step - 1 - (after done s).system.steps) s) ∙ ap (λ k. after k s) (omega (arith, steps, ends.later, few)) in
+    let behind : after (step - (after done s).system.steps) (after done s) ≡ after (step - s.system.steps) s =
+    sym (after_both done (step - (after done s).system.steps) s) ∙ ap (λ k. after k s) (omega (arith, steps, ends.later, few)) in
+    let P : State → Type 0 = λ t. EndsBetween told first (rendered trace t.outputs) (rendered trace (after (step - (after done s).system.steps) (after done s)).outputs) in
+    let Q : State → Type 0 = λ t. EndsBetween told first (rendered trace (after (step - 1 - s.system.steps) s).outputs) (rendered trace t.outputs) in
+    record {
+      later = omega (arith, steps, ends.later);
+      within = omega (arith, steps, ends.within, few);
+      text = subst Q behind (subst P before ends.text);
     }

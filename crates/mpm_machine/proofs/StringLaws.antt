@@ -1,113 +1,120 @@
--- Laws of strings in memory, and how far one is written.
-use Rattle.std.proofs.Common.{◌≡◌, ◌≢◌, ◌∙◌, ℕ, zero, suc, ◌+◌, ◌-◌, ◌<◌, List, [], ◌∷◌, ◌++◌, Option, refl, ap, sym, subst, append_assoc, arith}
+-- How far a string is written to a console, tabs expanded.
+use Rattle.std.proofs.Common.{◌≡◌, ◌≢◌, ◌∙◌, ℕ, ◌%◌, ◌==◌, if◌then◌else◌, ◌+◌, ◌-◌, ◌<◌, false, length, arith, List, [], ◌∷◌, ◌++◌, Option, get_or, refl, ap, sym, subst, append_assoc}
 use Rattle.std.proofs.lemmas.Bool.Decides.{nat_tests}
-use Rattle.std.proofs.lemmas.List.{append-nil}
 use Rattle.z80_regs.specs.Words.{onward}
 use Rattle.mpm_render.specs.Shown.{Kept}
-use Rattle.mpm_machine.specs.Memory.{byte_at}
-use Rattle.mpm_machine.specs.Columns.{columns_after, tab_text, expanded}
-use Rattle.mpm_machine.specs.Call.{string_from}
+use Rattle.mpm_gate.specs.Bytes.{bytes_from}
+use Rattle.mpm_gate.specs.Texts.{text_from, ends}
+use Rattle.mpm_gate.specs.declared.take.TextEnd.TheVariants.{Dollar}
+use Rattle.mpm_gate.proofs.BytesLaws.{length_bytes, bytes_more}
+use Rattle.mpm_gate.proofs.TextLaws.{text_more, text_goes_on}
+use Rattle.mpm_kernel.specs.Kernel.{Kernel, HasColumns}
+use Rattle.mpm_kernel.specs.Columns.{columns_after, tab_text, expanded, spoke}
+use Rattle.mpm_kernel.proofs.ColumnLaws.{expanded_nil, expanded_cons, expanded_byte, expanded_append}
+use Rattle.mpm_kernel.proofs.SpokeLaws.{column_spoke, spoke_none, spoke_both}
+use Rattle.mpm_base.specs.Calls.{Taken}
+use Rattle.mpm_procs.specs.Table.{process_in}
+use Rattle.mpm_machine.specs.declared.system.System.{System}
+use Rattle.mpm_machine.specs.State.{speaking}
+use Rattle.mpm_machine.specs.Serving.{call_text, said_by}
 use Rattle.mpm_machine.specs.Writing.{spoken, Showed, Stopped}
-use Rattle.mpm_machine.proofs.ColumnLaws.{columns_nil, columns_append, expanded_nil, expanded_cons, expanded_byte, expanded_append}
 use Rattle.mpm_machine.proofs.WritingLaws.{spoke_nothing, spoke_more, stopped_more}
 
-pub string_stops : (memory : List ℕ) (address n : ℕ) → byte_at memory address ≡ 36 → string_from memory address n ≡ []
-unfolding string_from
-string_stops memory address zero h = refl
-string_stops memory address (suc n) h = grind (arith, nat_tests)
+-- a part of a string came out to a console, with tabs expanded
+pub record WrittenTo (console : ℕ) (kept : Kept) (told : Option (List ℕ)) (kernel : Kernel) (kept' : Kept) (told' : Option (List ℕ)) (kernel' : Kernel) (part : List ℕ) : Type 0 where
+  pub kernel_is : kernel' ≡ spoke kernel console (expanded (get_or kernel.columns console 0) part)
+  pub shown : Showed kept told kept' told' (spoken console (expanded (get_or kernel.columns console 0) part))
+  pub trace : kept'.trace ≡ kept.trace
 
-pub string_goes : (memory : List ℕ) (address n : ℕ) → byte_at memory address ≢ 36
-    → string_from memory address (suc n) ≡ byte_at memory address ∷ string_from memory (onward address 1) n
-unfolding string_from
-string_goes memory address n h = grind (arith, nat_tests)
+-- the string has one byte more, and goes on behind it
+pub string_goes_on : (memory : ℕ → ℕ) (address k byte : ℕ) → text_from Dollar memory address k ≡ bytes_from memory address k → byte ≡ memory (onward address k)
+    → ends Dollar byte ≡ false → k < 65536
+    → text_from Dollar memory address 65536 ≡ bytes_from memory address k ++ (byte ∷ text_from Dollar memory (onward address (k + 1)) (65535 - k))
+string_goes_on memory address k byte whole here goes_on h =
+    let more = text_more Dollar memory address k byte whole here goes_on in
+    let rest = text_from Dollar memory (onward address (k + 1)) (65535 - k) in
+    let part = bytes_from memory address k in
+    let count : (k + 1) + (65535 - k) ≡ 65536 = omega arith in
+    ap (text_from Dollar memory address) (sym count)
+    ∙ text_goes_on Dollar memory address (k + 1) (65535 - k) (ap length more ∙ length_bytes memory address (k + 1))
+    ∙ ap (λ t. t ++ rest) (more ∙ bytes_more memory address k ∙ ap (λ b. part ++ (b ∷ [])) (sym here))
+    ∙ append_assoc part (byte ∷ []) rest
 
-pub onward_onward : (address n : ℕ) → onward (onward address n) 1 ≡ onward address (n + 1)
-onward_onward address n = omega arith
-
-pub onward_nothing : (address : ℕ) → address < 65536 → onward address 0 ≡ address
-onward_nothing address h = grind arith
-
-pub string_ends : (memory : List ℕ) (address : ℕ) → string_from memory address 0 ≡ []
-unfolding string_from
-string_ends memory address = refl
-
--- the string at an offset, below so many bytes: its first byte, and the string one further on
-pub string_onward : (memory : List ℕ) (address offset count : ℕ) → offset < count → byte_at memory (onward address offset) ≢ 36
-    → string_from memory (onward address offset) (count - offset)
-    ≡ byte_at memory (onward address offset) ∷ string_from memory (onward address (offset + 1)) (count - (offset + 1))
-string_onward memory address offset count below other =
-    let here = onward address offset in
-    let left = count - (offset + 1) in
-    let one : count - offset ≡ suc left = omega arith in
-    ap (string_from memory here) one
-    ∙ (string_goes memory here left other ∙ ap (λ a. byte_at memory here ∷ string_from memory a left) (onward_onward address offset))
-
--- so much of a string came out: its first part, with tabs expanded; the rest stands at an offset
-pub record WrittenTo (kept : Kept) (told : Option (List ℕ)) (column : ℕ) (kept' : Kept) (told' : Option (List ℕ)) (column' : ℕ)
-    (string rest : List ℕ) : Type 0 where
-  pub part : List ℕ
-  pub string_is : string ≡ part ++ rest
-  pub column_is : column' ≡ columns_after column (expanded column part)
-  pub shown : Showed kept told kept' told' (spoken (expanded column part))
-
-pub written_nothing : (kept : Kept) (told : Option (List ℕ)) (column : ℕ) (string : List ℕ)
-    → WrittenTo kept told column kept told column string string
-written_nothing kept told column string =
-    let P : List ℕ → Type 0 = λ bytes. Showed kept told kept told (spoken bytes) in
+pub written_nothing : (console : ℕ) (kept : Kept) (told : Option (List ℕ)) (kernel : Kernel) → WrittenTo console kept told kernel kept told kernel []
+written_nothing console kept told kernel =
+    let column = get_or kernel.columns console 0 in
+    let P : List ℕ → Type 0 = λ bytes. Showed kept told kept told (spoken console bytes) in
     record {
-      part = [];
-      string_is = refl;
-      column_is = sym (columns_nil column) ∙ ap (columns_after column) (sym (expanded_nil column));
-      shown = subst P (sym (expanded_nil column)) (spoke_nothing kept told);
+      kernel_is = sym (spoke_none kernel console) ∙ ap (spoke kernel console) (sym (expanded_nil column));
+      shown = subst P (sym (expanded_nil column)) (spoke_nothing console kept told);
+      trace = refl;
     }
 
--- a part and one byte more, expanded
-expanded_more : (column now byte : ℕ) (part : List ℕ) → now ≡ columns_after column (expanded column part)
-    → expanded column (part ++ (byte ∷ [])) ≡ expanded column part ++ tab_text now byte
-expanded_more column now byte part e =
+-- a part and one byte more, expanded, by the column at which the byte stands
+expanded_more : (console byte : ℕ) (kernel now : Kernel) (part : List ℕ) → HasColumns kernel → console < 8
+    → now ≡ spoke kernel console (expanded (get_or kernel.columns console 0) part)
+    → expanded (get_or kernel.columns console 0) (part ++ (byte ∷ []))
+    ≡ expanded (get_or kernel.columns console 0) part ++ tab_text (get_or now.columns console 0) byte
+expanded_more console byte kernel now part has h e =
+    let column = get_or kernel.columns console 0 in
+    let at : get_or now.columns console 0 ≡ columns_after column (expanded column part) =
+    ap (λ k. get_or k.columns console 0) e ∙ column_spoke kernel console (expanded column part) has h in
     expanded_append column part (byte ∷ [])
-    ∙ ap (λ t. expanded column part ++ t)
-    (ap (λ c. expanded c (byte ∷ [])) (sym e) ∙ expanded_byte now byte)
+    ∙ ap (λ t. expanded column part ++ t) (ap (λ c. expanded c (byte ∷ [])) (sym at) ∙ expanded_byte (get_or now.columns console 0) byte)
 
-pub written_more : (k0 : Kept) (t0 : Option (List ℕ)) (c0 : ℕ) (k1 : Kept) (t1 : Option (List ℕ)) (c1 : ℕ) (k2 : Kept) (t2 : Option (List ℕ)) (c2 : ℕ)
-    (byte : ℕ) (string rest more : List ℕ) → rest ≡ byte ∷ more
-    → WrittenTo k0 t0 c0 k1 t1 c1 string rest
-    → c2 ≡ columns_after c1 (tab_text c1 byte) → Showed k1 t1 k2 t2 (spoken (tab_text c1 byte))
-    → WrittenTo k0 t0 c0 k2 t2 c2 string more
-written_more k0 t0 c0 k1 t1 c1 k2 t2 c2 byte string rest more e w column shown =
-    let tab = tab_text c1 byte in
-    let both : expanded c0 (w.part ++ (byte ∷ [])) ≡ expanded c0 w.part ++ tab = expanded_more c0 c1 byte w.part w.column_is in
+pub written_more : (console byte : ℕ) (k0 : Kept) (t0 : Option (List ℕ)) (kernel : Kernel) (k1 : Kept) (t1 : Option (List ℕ)) (now : Kernel)
+    (k2 : Kept) (t2 : Option (List ℕ)) (later : Kernel) (part : List ℕ) → HasColumns kernel → console < 8
+    → WrittenTo console k0 t0 kernel k1 t1 now part
+    → later ≡ spoke now console (tab_text (get_or now.columns console 0) byte)
+    → Showed k1 t1 k2 t2 (spoken console (tab_text (get_or now.columns console 0) byte)) → k2.trace ≡ k1.trace
+    → WrittenTo console k0 t0 kernel k2 t2 later (part ++ (byte ∷ []))
+written_more console byte k0 t0 kernel k1 t1 now k2 t2 later part has h w is shown trace =
+    let column = get_or kernel.columns console 0 in
+    let tab = tab_text (get_or now.columns console 0) byte in
+    let both = expanded_more console byte kernel now part has h w.kernel_is in
     record {
-      part = w.part ++ (byte ∷ []);
-      string_is = w.string_is ∙ (ap (λ t. w.part ++ t) e ∙ sym (append_assoc w.part (byte ∷ []) more));
-      column_is = column
-          ∙ (ap (λ c. columns_after c tab) w.column_is
-          ∙ (sym (columns_append c0 (expanded c0 w.part) tab) ∙ ap (columns_after c0) (sym both)));
-      shown = spoke_more k0 t0 k1 t1 k2 t2 (expanded c0 w.part) tab (expanded c0 (w.part ++ (byte ∷ []))) both w.shown shown;
+      kernel_is = is
+          ∙ ap (λ k. spoke k console tab) w.kernel_is
+          ∙ spoke_both kernel console (expanded column part) tab has h
+          ∙ ap (spoke kernel console) (sym both);
+      shown = spoke_more console k0 t0 k1 t1 k2 t2 (expanded column part) tab (expanded column (part ++ (byte ∷ []))) both w.shown shown;
+      trace = trace ∙ w.trace;
     }
 
--- a byte of the string that stops, stops the string
-pub stopped_string : (k0 : Kept) (t0 : Option (List ℕ)) (c0 : ℕ) (k1 : Kept) (t1 : Option (List ℕ)) (c1 : ℕ) (t2 : Option (List ℕ))
-    (byte : ℕ) (string rest more : List ℕ) → rest ≡ byte ∷ more
-    → WrittenTo k0 t0 c0 k1 t1 c1 string rest → Stopped k1 t1 t2 (spoken (tab_text c1 byte))
-    → Stopped k0 t0 t2 (spoken (expanded c0 string))
-stopped_string k0 t0 c0 k1 t1 c1 t2 byte string rest more e w stopped =
-    let tab = tab_text c1 byte in
-    let tail = expanded (columns_after c1 tab) more in
-    let whole : expanded c0 string ≡ expanded c0 w.part ++ (tab ++ tail) =
-    ap (expanded c0) (w.string_is ∙ ap (λ t. w.part ++ t) e)
-    ∙ (expanded_append c0 w.part (byte ∷ more)
-    ∙ ap (λ t. expanded c0 w.part ++ t) (ap (λ c. expanded c (byte ∷ more)) (sym w.column_is) ∙ expanded_cons c1 byte more)) in
-    stopped_more k0 t0 k1 t1 t2 (expanded c0 w.part) tab tail (expanded c0 string) whole w.shown stopped
+-- a byte of a string that stops, stops the string
+pub stopped_string : (console byte : ℕ) (k0 : Kept) (t0 : Option (List ℕ)) (kernel : Kernel) (k1 : Kept) (t1 t2 : Option (List ℕ)) (now : Kernel)
+    (part rest whole : List ℕ) → whole ≡ part ++ (byte ∷ rest) → HasColumns kernel → console < 8
+    → WrittenTo console k0 t0 kernel k1 t1 now part
+    → Stopped k1 t1 t2 (spoken console (tab_text (get_or now.columns console 0) byte))
+    → Stopped k0 t0 t2 (spoken console (expanded (get_or kernel.columns console 0) whole))
+stopped_string console byte k0 t0 kernel k1 t1 t2 now part rest whole e has h w stopped =
+    let column = get_or kernel.columns console 0 in
+    let here = get_or now.columns console 0 in
+    let tab = tab_text here byte in
+    let at : here ≡ columns_after column (expanded column part) =
+    ap (λ k. get_or k.columns console 0) w.kernel_is ∙ column_spoke kernel console (expanded column part) has h in
+    let tail = expanded (columns_after here tab) rest in
+    let all : expanded column whole ≡ expanded column part ++ (tab ++ tail) =
+    ap (expanded column) e
+    ∙ expanded_append column part (byte ∷ rest)
+    ∙ ap (λ t. expanded column part ++ t) (ap (λ c. expanded c (byte ∷ rest)) (sym at) ∙ expanded_cons here byte rest) in
+    stopped_more console k0 t0 k1 t1 t2 (expanded column part) tab tail (expanded column whole) all w.trace w.shown stopped
 
--- all of it came out
-pub written_column : (k0 : Kept) (t0 : Option (List ℕ)) (c0 : ℕ) (k1 : Kept) (t1 : Option (List ℕ)) (c1 : ℕ) (string rest : List ℕ)
-    → rest ≡ [] → WrittenTo k0 t0 c0 k1 t1 c1 string rest → c1 ≡ columns_after c0 (expanded c0 string)
-written_column k0 t0 c0 k1 t1 c1 string rest e w =
-    w.column_is ∙ ap (λ s. columns_after c0 (expanded c0 s)) (sym (w.string_is ∙ (ap (λ t. w.part ++ t) e ∙ append-nil w.part)))
+-- a call of another function writes nothing
 
-pub written_whole : (k0 : Kept) (t0 : Option (List ℕ)) (c0 : ℕ) (k1 : Kept) (t1 : Option (List ℕ)) (c1 : ℕ) (string rest : List ℕ)
-    → rest ≡ [] → WrittenTo k0 t0 c0 k1 t1 c1 string rest → Showed k0 t0 k1 t1 (spoken (expanded c0 string))
-written_whole k0 t0 c0 k1 t1 c1 string rest e w =
-    let P : List ℕ → Type 0 = λ s. Showed k0 t0 k1 t1 (spoken (expanded c0 s)) in
-    subst P (sym (w.string_is ∙ (ap (λ t. w.part ++ t) e ∙ append-nil w.part))) w.shown
+neither : (call : Taken) (column : ℕ) (memory : ℕ → ℕ) → call.function ≢ 2 → call.function ≢ 9 → call_text call column memory ≡ []
+unfolding call_text
+neither call column memory two nine =
+    let first : call.function == 2 ≡ false = grind (arith, nat_tests, two) in
+    let second : call.function == 9 ≡ false = grind (arith, nat_tests, nine) in
+    let text = expanded column (text_from Dollar memory call.word 65536) in
+    let one = tab_text column (call.word % 256) in
+    ap (λ b. if b then one else (if call.function == 9 then text else [])) first ∙ ap (λ b. if b then text else []) second
+
+pub said_nothing : (kept : Kept) (told : Option (List ℕ)) (call : Taken) (p seg : ℕ) (system : System) → call.function ≢ 2 → call.function ≢ 9
+    → Showed kept told kept told (said_by call p seg system).news
+unfolding said_by speaking
+said_nothing kept told call p seg system two nine =
+    let console = (process_in system.kernel.procs p).console in
+    let P : List ℕ → Type 0 = λ text. Showed kept told kept told (spoken console text) in
+    subst P (sym (neither call _ _ two nine)) (spoke_nothing console kept told)

@@ -1,5 +1,9 @@
-pub mod Memory
-pub mod Columns
-pub mod Call
+pub mod Gates
 pub mod Writing
 pub mod State
+pub mod Opening
+pub mod Ending
+pub mod Serving
+pub mod Step
+pub mod Moving
+pub mod Contained

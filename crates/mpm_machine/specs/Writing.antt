@@ -4,9 +4,9 @@ use Rattle.mpm_render.specs.declared.unit.Unit2.TheVariants.{Console}
 use Rattle.mpm_render.specs.Outputs.{Output, said, rendered}
 use Rattle.mpm_render.specs.Shown.{Kept, Shows, EndsBetween}
 
--- bytes to console 0 as outputs, newest first
-unfoldable pub spoken : List ℕ → List Output
-spoken bytes = said (Console 0) bytes []
+-- bytes to a console as outputs, newest first
+unfoldable pub spoken : ℕ → List ℕ → List Output
+spoken console bytes = said (Console console) bytes []
 
 -- the outputs came out: what stood for some outputs stands for these before them
 pub record Showed (kept : Kept) (told : Option (List ℕ)) (kept' : Kept) (told' : Option (List ℕ)) (news : List Output) : Type 0 where
@@ -16,4 +16,4 @@ pub record Showed (kept : Kept) (told : Option (List ℕ)) (kept' : Kept) (told'
 -- writing stopped at a line that these outputs end: a part of the text that they add was written
 pub record Stopped (kept : Kept) (told told' : Option (List ℕ)) (news : List Output) : Type 0 where
   pub all : (outputs : List Output) (first : Option (List ℕ)) → Shows kept told outputs first
-      → EndsBetween told' first (rendered outputs) (rendered (news ++ outputs))
+      → EndsBetween told' first (rendered kept.trace outputs) (rendered kept.trace (news ++ outputs))

@@ -1,65 +1,279 @@
-ghost use Rattle.std.specs.Prelude.{◌≡◌, ◌+◌, ◌<◌, ◌/◌, ◌%◌};
-ghost use Rattle.mpm_render.specs.Lines.{hex_digit as hex_digit_of};
-ghost use Rattle.mpm_machine.specs.Call.{answer_of, returned as returned_from, illegal_text as text_of_illegal};
+ghost use Rattle.std.specs.Prelude.{◌∷◌, [], ◌≡◌, ◌<◌, ◌≤◌, ◌%◌, ℕ, Some, OnOk, OnErr, length, slice_index};
+ghost use Rattle.mpm_port.specs.Causes.{HasCause};
+ghost use Rattle.mpm_base.specs.declared.call.Outcome.TheVariants.{Done};
+ghost use Rattle.mpm_base.specs.Calls.{answering};
+ghost use Rattle.mpm_procs.specs.Table.{Lives, process_in, call_of};
+ghost use Rattle.mpm_kernel.specs.Kernel.{IsReady};
+ghost use Rattle.mpm_machine.specs.Writing.{Showed, Stopped};
 
-use crate::memory::Memory;
-use z80_regs::{Bus, Regs};
+use crate::console::{write_string, write_tabbed};
+use crate::system::System;
+use mpm_base::{Outcome, Pid, Reply, Seg};
+use mpm_port::{Failed, Sink};
+use mpm_render::Render;
 
-/// The length of the text that is written where a process comes to an unlisted opcode.
-pub(crate) const ILLEGAL_LENGTH: usize = 29;
+/// The answer of a call that is refused.
+const REFUSED: u16 = 0x00FF;
 
-fn hex_digit(value: u8) -> u8
-    requires { value < 16 }
-    ensures { result ≡ hex_digit_of value }
-{
-    if value < 10 {
-        b'0' + value
-    } else {
-        b'A' - 10 + value
+/// The attributes of a memory segment's descriptor: it is allocated.
+const ALLOCATED: u8 = 0x80;
+
+impl System {
+    ghost use Rattle.mpm_banks.specs.Allocations.{released, is_reserved};
+    ghost use Rattle.mpm_machine.specs.State.{IsWhole, IsHome};
+    ghost use Rattle.mpm_machine.specs.Serving.{asked, keeping, IsTaken, served, reserving, releasing, creating, calling, base_asked, said_by, replied, completing, completion, outcome_of, gate_step};
+    ghost use Rattle.mpm_machine.specs.Ending.{ended};
+
+    /// The gate step of a kernel call of a process of a segment.
+    pub fn call<S: Sink>(
+        &mut self,
+        p: Pid,
+        seg: Seg,
+        reply: &mut Reply,
+        render: &mut Render,
+        sink: &mut S,
+    ) -> Result<(), Failed>
+        requires whole { IsWhole self.old }
+        requires lives { Lives self.old.kernel.procs p }
+        requires ready { IsReady self.old.kernel p }
+        requires home { (process_in self.old.kernel.procs p).seg ≡ Some seg }
+        ensures system { OnOk result (self.new ≡ (gate_step p seg self.old).system) }
+        ensures ok { OnOk result (Showed render.old (S.written sink.old) render.new (S.written sink.new) (gate_step p seg self.old).news) }
+        ensures err { OnErr result (Stopped render.old (S.written sink.old) (S.written sink.new) (gate_step p seg self.old).news) }
+        ensures cause { HasCause (S.faults sink.old) (S.faults sink.new) result }
+        ensures trace { render.new.trace ≡ render.old.trace }
+    {
+        self.take_call(p, seg);
+        let outcome = self.serve(p, reply);
+        self.conclude(outcome, p, seg, reply, render, sink)
     }
-}
 
-/// `Illegal instruction at`, the address in four digits, CR, LF.
-#[tactic(auto, unfolding(crate::specs::Call::illegal_text))]
-pub(crate) fn illegal_text(address: u16) -> [u8; ILLEGAL_LENGTH]
-    ensures { result ≡ text_of_illegal address }
-{
-    let first = hex_digit((address / 4096) as u8);
-    let second = hex_digit((address / 256 % 16) as u8);
-    let third = hex_digit((address / 16 % 16) as u8);
-    let fourth = hex_digit((address % 16) as u8);
-    [
-        b'I', b'l', b'l', b'e', b'g', b'a', b'l', b' ', b'i', b'n', b's', b't', b'r', b'u', b'c',
-        b't', b'i', b'o', b'n', b' ', b'a', b't', b' ', first, second, third, fourth, b'\r', b'\n',
-    ]
-}
-
-/// The answer of a call that ends nobody.
-#[tactic(auto, unfolding(crate::specs::Call::answer_of))]
-pub(crate) fn answer(function: u8) -> u16
-    ensures { result ≡ answer_of function }
-{
-    match function {
-        2 | 9 => 0,
-        _ => 0xFFFF,
+    /// What the outcome of the call that a process keeps brings about.
+    fn conclude<S: Sink>(
+        &mut self,
+        outcome: Outcome,
+        p: Pid,
+        seg: Seg,
+        reply: &Reply,
+        render: &mut Render,
+        sink: &mut S,
+    ) -> Result<(), Failed>
+        requires whole { IsWhole self.old }
+        requires lives { Lives self.old.kernel.procs p }
+        ensures system { OnOk result (self.new ≡ (outcome_of outcome reply.now (call_of self.old.kernel.procs p) p seg self.old).system) }
+        ensures ok { OnOk result (Showed render.old (S.written sink.old) render.new (S.written sink.new) (outcome_of outcome reply.now (call_of self.old.kernel.procs p) p seg self.old).news) }
+        ensures err { OnErr result (Stopped render.old (S.written sink.old) (S.written sink.new) (outcome_of outcome reply.now (call_of self.old.kernel.procs p) p seg self.old).news) }
+        ensures cause { HasCause (S.faults sink.old) (S.faults sink.new) result }
+        ensures trace { render.new.trace ≡ render.old.trace }
+    {
+        match outcome {
+            Outcome::Done => self.complete(p, seg, reply, render, sink),
+            Outcome::Ended => {
+                self.end(p);
+                Ok(())
+            }
+            Outcome::Held | Outcome::Retry => Ok(()),
+        }
     }
-}
 
-/// The registers behind a call: the return address comes from the stack.
-#[tactic(auto, unfolding(crate::specs::Call::returned))]
-pub(crate) fn returned(answer: u16, memory: &Memory, regs: &Regs) -> Regs
-    ensures { result ≡ returned_from answer memory.now regs.now }
-{
-    let low = memory.read(regs.sp);
-    let high = memory.read(regs.sp.wrapping_add(1));
-    Regs {
-        pc: u16::from_le_bytes([low, high]),
-        sp: regs.sp.wrapping_add(2),
-        h: (answer / 256) as u8,
-        l: (answer % 256) as u8,
-        a: (answer % 256) as u8,
-        b: (answer / 256) as u8,
-        shadow: false,
-        ..*regs
+    /// Takes the call that a process asks at the gate: what it reads is kept, and an EI takes effect.
+    #[tactic(auto, using(mpm_procs::proofs::MapLaws::lives_changed), unfolding(crate::specs::Serving::keeping, crate::specs::Serving::asked))]
+    fn take_call(&mut self, p: Pid, seg: Seg)
+        requires whole { IsWhole self.old }
+        requires lives { Lives self.old.kernel.procs p }
+        ensures { self.new ≡ keeping p (asked p seg self.old) self.old }
+    {
+        let process = self.kernel.process_mut(p);
+        let regs = process.regs;
+        let dma = process.dma;
+        let multi = process.multi;
+        process.regs.shadow = false;
+        let call = self.kernel.call_mut(p);
+        mpm_gate::call_of(&regs, &self.memory, seg, dma, multi, call);
+    }
+
+    /// Does the call that a process keeps.
+    #[tactic(auto, using(crate::proofs::TakenLaws::few_descriptors), unfolding(crate::specs::Serving::served))]
+    fn serve(&mut self, p: Pid, reply: &mut Reply) -> Outcome
+        requires whole { IsWhole self.old }
+        requires lives { Lives self.old.kernel.procs p }
+        requires ready { IsReady self.old.kernel p }
+        requires taken { IsTaken (call_of self.old.kernel.procs p) }
+        ensures system { self.new ≡ (served (call_of self.old.kernel.procs p) p self.old).system }
+        ensures outcome { result ≡ (served (call_of self.old.kernel.procs p) p self.old).outcome }
+        ensures reply { reply.new ≡ (served (call_of self.old.kernel.procs p) p self.old).reply }
+    {
+        let function = self.kernel.kept_call(p).function;
+        match function {
+            128 | 129 => self.reserve(p, function == 128, reply),
+            130 => self.release(p, reply),
+            144 => self.create(p, reply),
+            _ => self.kernel.call(p, reply),
+        }
+    }
+
+    /// Functions 128 and 129: reserves a segment, of the base page that the call gives or of any.
+    #[tactic(auto, using(mpm_banks::proofs::SegmentLaws::reserved_is_there, mpm_banks::proofs::SegmentLaws::spec_of_reserved), unfolding(crate::specs::Serving::reserving))]
+    fn reserve(&mut self, p: Pid, absolute: bool, reply: &mut Reply) -> Outcome
+        requires lives { Lives self.old.kernel.procs p }
+        ensures system { self.new ≡ (reserving (base_asked absolute (call_of self.old.kernel.procs p)) (call_of self.old.kernel.procs p) p self.old).system }
+        ensures outcome { result ≡ (reserving (base_asked absolute (call_of self.old.kernel.procs p)) (call_of self.old.kernel.procs p) p self.old).outcome }
+        ensures reply { reply.new ≡ (reserving (base_asked absolute (call_of self.old.kernel.procs p)) (call_of self.old.kernel.procs p) p self.old).reply }
+    {
+        let call = self.kernel.kept_call(p);
+        let word = call.word;
+        let base = if absolute { Some(call.byte(0)) } else { None };
+        let pages = call.byte(1);
+        match self.memory.reserve(p, base, pages) {
+            Some(seg) => {
+                let spec = self.memory.spec(seg);
+                reply.answer_with(0, word, &[spec.base, spec.pages, ALLOCATED, seg.0]);
+            }
+            None => reply.answer(REFUSED),
+        }
+        Outcome::Done
+    }
+
+    /// Function 130: frees a segment that the process reserved.
+    #[tactic(auto, unfolding(crate::specs::Serving::releasing))]
+    fn release(&mut self, p: Pid, reply: &mut Reply) -> Outcome
+        requires lives { Lives self.old.kernel.procs p }
+        ensures system { self.new ≡ (releasing (call_of self.old.kernel.procs p) p self.old).system }
+        ensures outcome { result ≡ (releasing (call_of self.old.kernel.procs p) p self.old).outcome }
+        ensures reply { reply.new ≡ (releasing (call_of self.old.kernel.procs p) p self.old).reply }
+    {
+        let bank = self.kernel.kept_call(p).byte(3);
+        let answer = if self.give_back(p, bank) { 0 } else { REFUSED };
+        reply.answer(answer);
+        Outcome::Done
+    }
+
+    /// Frees the segment of a number, where the process reserved it; answers whether it did.
+    #[tactic(auto, using(mpm_banks::proofs::SegmentLaws::nobody_reserved, mpm_banks::proofs::SegmentLaws::released_by_another))]
+    fn give_back(&mut self, p: Pid, bank: u8) -> bool
+        ensures system { self.new ≡ record self.old { memory = released self.old.memory p bank } }
+        ensures answer { result ≡ is_reserved self.old.memory p bank }
+    {
+        if self.memory.segments() <= bank {
+            return false;
+        }
+        self.memory.release(p, Seg(bank))
+    }
+
+    /// Function 144: creates processes in the segment of the one that asks.
+    #[tactic(auto, using(crate::proofs::WholeLaws::segment_is_there), unfolding(crate::specs::Serving::creating))]
+    fn create(&mut self, p: Pid, reply: &mut Reply) -> Outcome
+        requires whole { IsWhole self.old }
+        requires lives { Lives self.old.kernel.procs p }
+        requires few { length (call_of self.old.kernel.procs p).bytes ≤ 576 }
+        ensures system { self.new ≡ (creating p self.old).system }
+        ensures outcome { result ≡ (creating p self.old).outcome }
+        ensures reply { reply.new ≡ (creating p self.old).reply }
+    {
+        mpm_xdos::create(&mut self.kernel, &self.memory, p, reply);
+        Outcome::Done
+    }
+
+    /// The call that a process keeps is done: its text comes out, its reply is placed, its record is written.
+    #[tactic(auto, unfolding(crate::specs::Serving::completing))]
+    fn complete<S: Sink>(
+        &mut self,
+        p: Pid,
+        seg: Seg,
+        reply: &Reply,
+        render: &mut Render,
+        sink: &mut S,
+    ) -> Result<(), Failed>
+        requires whole { IsWhole self.old }
+        requires lives { Lives self.old.kernel.procs p }
+        ensures system { OnOk result (self.new ≡ (completing reply.now (call_of self.old.kernel.procs p) p seg self.old).system) }
+        ensures ok { OnOk result (Showed render.old (S.written sink.old) render.new (S.written sink.new) (completing reply.now (call_of self.old.kernel.procs p) p seg self.old).news) }
+        ensures err { OnErr result (Stopped render.old (S.written sink.old) (S.written sink.new) (completing reply.now (call_of self.old.kernel.procs p) p seg self.old).news) }
+        ensures cause { HasCause (S.faults sink.old) (S.faults sink.new) result }
+        ensures trace { render.new.trace ≡ render.old.trace }
+    {
+        self.speak(p, seg, render, sink)?;
+        self.reply(p, seg, reply);
+        self.record(p, render, sink)
+    }
+
+    /// What the call of a process writes to its console comes out.
+    #[tactic(auto, using(mpm_kernel::proofs::SpokeLaws::spoke_none, crate::proofs::StringLaws::said_nothing), unfolding(crate::specs::Serving::said_by, crate::specs::Serving::call_text, crate::specs::State::speaking))]
+    fn speak<S: Sink>(
+        &mut self,
+        p: Pid,
+        seg: Seg,
+        render: &mut Render,
+        sink: &mut S,
+    ) -> Result<(), Failed>
+        requires whole { IsWhole self.old }
+        requires lives { Lives self.old.kernel.procs p }
+        ensures system { OnOk result (self.new ≡ (said_by (call_of self.old.kernel.procs p) p seg self.old).system) }
+        ensures ok { OnOk result (Showed render.old (S.written sink.old) render.new (S.written sink.new) (said_by (call_of self.old.kernel.procs p) p seg self.old).news) }
+        ensures err { OnErr result (Stopped render.old (S.written sink.old) (S.written sink.new) (said_by (call_of self.old.kernel.procs p) p seg self.old).news) }
+        ensures cause { HasCause (S.faults sink.old) (S.faults sink.new) result }
+        ensures trace { render.new.trace ≡ render.old.trace }
+    {
+        let console = self.kernel.living(p).console;
+        let call = self.kernel.kept_call(p);
+        let word = call.word;
+        match call.function {
+            2 => write_tabbed(&mut self.kernel, console, (word % 256) as u8, render, sink),
+            9 => write_string(
+                &mut self.kernel,
+                console,
+                &self.memory,
+                seg,
+                word,
+                render,
+                sink,
+            ),
+            _ => Ok(()),
+        }
+    }
+
+    /// The reply is placed in its caller's registers and memory, behind the return address.
+    #[tactic(auto, unfolding(crate::specs::Serving::replied))]
+    fn reply(&mut self, p: Pid, seg: Seg, reply: &Reply)
+        requires lives { Lives self.old.kernel.procs p }
+        ensures { self.new ≡ replied reply.now (call_of self.old.kernel.procs p) p seg self.old }
+    {
+        let word = self.kernel.kept_call(p).word;
+        let regs = self.kernel.regs_mut(p);
+        mpm_gate::take_return(&self.memory, seg, regs);
+        mpm_gate::put_reply(reply, word, &mut self.memory, seg, regs);
+    }
+
+    /// The record of the call that a process completed.
+    #[tactic(auto, unfolding(crate::specs::Serving::completion))]
+    fn record<S: Sink>(&mut self, p: Pid, render: &mut Render, sink: &mut S) -> Result<(), Failed>
+        requires lives { Lives self.old.kernel.procs p }
+        ensures system { self.new ≡ self.old }
+        ensures ok { OnOk result (Showed render.old (S.written sink.old) render.new (S.written sink.new) (completion (call_of self.old.kernel.procs p) p self.old ∷ [])) }
+        ensures err { OnErr result (Stopped render.old (S.written sink.old) (S.written sink.new) (completion (call_of self.old.kernel.procs p) p self.old ∷ [])) }
+        ensures cause { HasCause (S.faults sink.old) (S.faults sink.new) result }
+        ensures trace { render.new.trace ≡ render.old.trace }
+    {
+        let regs = self.kernel.regs(p);
+        render.trace(
+            self.steps,
+            p.0,
+            self.kernel.kept_call(p).function,
+            regs.a,
+            u16::from_le_bytes([regs.c, regs.b]),
+            u16::from_le_bytes([regs.e, regs.d]),
+            u16::from_le_bytes([regs.l, regs.h]),
+            sink,
+        )
+    }
+
+    /// A process ends, and gives back what it had.
+    #[tactic(auto, using(crate::proofs::WholeLaws::segment_is_there), unfolding(crate::specs::Ending::ended))]
+    pub fn end(&mut self, p: Pid)
+        requires whole { IsWhole self.old }
+        requires lives { Lives self.old.kernel.procs p }
+        ensures { self.new ≡ ended p self.old }
+    {
+        mpm_xdos::end(&mut self.kernel, &mut self.memory, p);
     }
 }

@@ -1,172 +1,121 @@
-ghost use Rattle.std.specs.Prelude.{◌≡◌, ◌-◌, ◌%◌, replicate, ◌∷◌, [], OnOk, OnErr};
+ghost use Rattle.std.specs.Prelude.{◌≡◌, ◌<◌, ◌∷◌, [], slice_index, OnOk, OnErr};
 ghost use Rattle.mpm_port.specs.Causes.{HasCause};
-ghost use Rattle.mpm_machine.specs.Columns.{column_after as column_of, columns_after, tab_text, expanded};
-ghost use Rattle.mpm_machine.specs.Call.{string_from, console_text, illegal_text};
+ghost use Rattle.mpm_gate.specs.Texts.{text_from};
+ghost use Rattle.mpm_gate.specs.declared.take.TextEnd.TheVariants.{Dollar};
+ghost use Rattle.mpm_banks.specs.Memory.{byte_at};
+ghost use Rattle.mpm_kernel.specs.Kernel.{HasColumns};
+ghost use Rattle.mpm_kernel.specs.Columns.{tab_text, expanded, spoke};
 ghost use Rattle.mpm_machine.specs.Writing.{spoken, Showed, Stopped};
 
-use crate::call;
-use crate::memory::Memory;
+use mpm_banks::Banks;
+use mpm_base::Seg;
+use mpm_kernel::Kernel;
 use mpm_port::{Failed, Sink};
 use mpm_render::{Render, Unit2};
-use z80_regs::{Bus, Regs};
 
-/// The column behind a byte.
-#[tactic(auto, unfolding(crate::specs::Columns::column_after))]
-fn column_after(column: u16, byte: u8) -> u16
-    ensures { result ≡ column_of column byte }
-{
-    match byte {
-        32..=126 => column.saturating_add(1),
-        b'\r' => 0,
-        8 => column.saturating_sub(1),
-        _ => column,
-    }
-}
-
-/// Writes a byte to console 0 as it is.
-fn write_byte<S: Sink>(
-    column: &mut u16,
-    byte: u8,
-    render: &mut Render,
-    sink: &mut S,
-) -> Result<(), Failed>
-    ensures column { OnOk result (column.new ≡ columns_after column.old (byte ∷ [])) }
-    ensures ok { OnOk result (Showed render.old (S.written sink.old) render.new (S.written sink.new) (spoken (byte ∷ []))) }
-    ensures err { OnErr result (Stopped render.old (S.written sink.old) (S.written sink.new) (spoken (byte ∷ []))) }
-    ensures cause { HasCause (S.faults sink.old) (S.faults sink.new) result }
-    ensures trace { render.new.trace ≡ render.old.trace }
-{
-    render.put(Unit2::Console { n: 0 }, byte, sink)?;
-    *column = column_after(*column, byte);
-    Ok(())
-}
-
-/// Writes bytes to console 0 as they are.
-fn write_bytes<S: Sink>(
-    column: &mut u16,
+/// Writes bytes to a console as they are.
+fn put_bytes<S: Sink>(
+    console: u8,
     bytes: &[u8],
     render: &mut Render,
     sink: &mut S,
 ) -> Result<(), Failed>
-    ensures column { OnOk result (column.new ≡ columns_after column.old bytes.now) }
-    ensures ok { OnOk result (Showed render.old (S.written sink.old) render.new (S.written sink.new) (spoken bytes.now)) }
-    ensures err { OnErr result (Stopped render.old (S.written sink.old) (S.written sink.new) (spoken bytes.now)) }
+    requires { console < 8 }
+    ensures ok { OnOk result (Showed render.old (S.written sink.old) render.new (S.written sink.new) (spoken console bytes.now)) }
+    ensures err { OnErr result (Stopped render.old (S.written sink.old) (S.written sink.new) (spoken console bytes.now)) }
     ensures cause { HasCause (S.faults sink.old) (S.faults sink.new) result }
     ensures trace { render.new.trace ≡ render.old.trace }
 {
     for &byte in bytes {
-        write_byte(column, byte, render, sink)?;
+        render.put(Unit2::Console { n: console }, byte, sink)?;
     }
     Ok(())
 }
 
-/// Writes a tab to console 0: spaces up to the next column divisible by eight.
-#[tactic(auto, using(crate::proofs::ColumnLaws::first_spaces))]
-fn write_tab<S: Sink>(column: &mut u16, render: &mut Render, sink: &mut S) -> Result<(), Failed>
-    ensures column { OnOk result (column.new ≡ columns_after column.old (replicate (8 - column.old % 8) 32)) }
-    ensures ok { OnOk result (Showed render.old (S.written sink.old) render.new (S.written sink.new) (spoken (replicate (8 - column.old % 8) 32))) }
-    ensures err { OnErr result (Stopped render.old (S.written sink.old) (S.written sink.new) (spoken (replicate (8 - column.old % 8) 32))) }
+/// Writes bytes to a console as they are, and moves its column.
+pub(crate) fn write_bytes<S: Sink>(
+    kernel: &mut Kernel,
+    console: u8,
+    bytes: &[u8],
+    render: &mut Render,
+    sink: &mut S,
+) -> Result<(), Failed>
+    requires console { console < 8 }
+    requires columns { HasColumns kernel.old }
+    ensures kernel { kernel.new ≡ spoke kernel.old console bytes.now }
+    ensures ok { OnOk result (Showed render.old (S.written sink.old) render.new (S.written sink.new) (spoken console bytes.now)) }
+    ensures err { OnErr result (Stopped render.old (S.written sink.old) (S.written sink.new) (spoken console bytes.now)) }
     ensures cause { HasCause (S.faults sink.old) (S.faults sink.new) result }
     ensures trace { render.new.trace ≡ render.old.trace }
 {
-    let spaces = [b' '; 8];
-    let count = 8 - usize::from(*column % 8);
-    write_bytes(column, &spaces[..count], render, sink)
+    move_column(kernel, console, bytes);
+    put_bytes(console, bytes, render, sink)
 }
 
-/// Writes a byte to console 0, a tab as spaces up to the next column divisible by eight.
-#[tactic(auto, unfolding(crate::specs::Columns::tab_text))]
+/// Moves a console's column behind bytes that come to it as they are.
+fn move_column(kernel: &mut Kernel, console: u8, bytes: &[u8])
+    requires console { console < 8 }
+    requires columns { HasColumns kernel.old }
+    ensures { kernel.new ≡ spoke kernel.old console bytes.now }
+{
+    for &byte in bytes {
+        let _itself = kernel.write(console, byte, false);
+    }
+}
+
+/// Writes a byte to a console, a tab as spaces up to the next column divisible by eight.
 pub(crate) fn write_tabbed<S: Sink>(
-    column: &mut u16,
+    kernel: &mut Kernel,
+    console: u8,
     byte: u8,
     render: &mut Render,
     sink: &mut S,
 ) -> Result<(), Failed>
-    ensures column { OnOk result (column.new ≡ columns_after column.old (tab_text column.old byte)) }
-    ensures ok { OnOk result (Showed render.old (S.written sink.old) render.new (S.written sink.new) (spoken (tab_text column.old byte))) }
-    ensures err { OnErr result (Stopped render.old (S.written sink.old) (S.written sink.new) (spoken (tab_text column.old byte))) }
+    requires { console < 8 }
+    ensures kernel { kernel.new ≡ spoke kernel.old console (tab_text (slice_index kernel.old.columns console) byte) }
+    ensures ok { OnOk result (Showed render.old (S.written sink.old) render.new (S.written sink.new)
+        (spoken console (tab_text (slice_index kernel.old.columns console) byte))) }
+    ensures err { OnErr result (Stopped render.old (S.written sink.old) (S.written sink.new)
+        (spoken console (tab_text (slice_index kernel.old.columns console) byte))) }
     ensures cause { HasCause (S.faults sink.old) (S.faults sink.new) result }
     ensures trace { render.new.trace ≡ render.old.trace }
 {
-    if byte == b'\t' {
-        write_tab(column, render, sink)
+    let spaces = kernel.write(console, byte, true);
+    if spaces > 0 {
+        put_bytes(console, &[b' '; 8][..spaces as usize], render, sink)
     } else {
-        write_bytes(column, &[byte], render, sink)
+        put_bytes(console, &[byte], render, sink)
     }
 }
 
-/// Writes the string at an address, up to a dollar sign or 65,536 bytes, with tabs expanded.
+/// Writes the string at an address of a process's memory to a console, up to a dollar sign or 65,536 bytes, with tabs
+/// expanded.
 pub(crate) fn write_string<S: Sink>(
-    column: &mut u16,
-    memory: &Memory,
+    kernel: &mut Kernel,
+    console: u8,
+    banks: &Banks,
+    seg: Seg,
     address: u16,
     render: &mut Render,
     sink: &mut S,
 ) -> Result<(), Failed>
-    ensures column { OnOk result (column.new ≡ columns_after column.old (expanded column.old (string_from memory.now address 65536))) }
+    requires console { console < 8 }
+    requires columns { HasColumns kernel.old }
+    ensures kernel { OnOk result (kernel.new ≡ spoke kernel.old console
+        (expanded (slice_index kernel.old.columns console) (text_from Dollar (byte_at banks.now seg) address 65536))) }
     ensures ok { OnOk result (Showed render.old (S.written sink.old) render.new (S.written sink.new)
-        (spoken (expanded column.old (string_from memory.now address 65536)))) }
+        (spoken console (expanded (slice_index kernel.old.columns console) (text_from Dollar (byte_at banks.now seg) address 65536)))) }
     ensures err { OnErr result (Stopped render.old (S.written sink.old) (S.written sink.new)
-        (spoken (expanded column.old (string_from memory.now address 65536)))) }
+        (spoken console (expanded (slice_index kernel.old.columns console) (text_from Dollar (byte_at banks.now seg) address 65536)))) }
     ensures cause { HasCause (S.faults sink.old) (S.faults sink.new) result }
     ensures trace { render.new.trace ≡ render.old.trace }
 {
     for offset in 0..65_536u32 {
-        let byte = memory.read(address.wrapping_add(offset as u16));
+        let byte = banks.byte(seg, address.wrapping_add(offset as u16));
         if byte == b'$' {
             break;
         }
-        write_tabbed(column, byte, render, sink)?;
+        write_tabbed(kernel, console, byte, render, sink)?;
     }
     Ok(())
-}
-
-/// Writes what a call writes to console 0: function 2 its byte, function 9 its string.
-#[tactic(auto, using(crate::proofs::ColumnLaws::expanded_byte, crate::proofs::ColumnLaws::expanded_nil, crate::proofs::ColumnLaws::columns_nil, crate::proofs::WritingLaws::spoke_nothing), unfolding(crate::specs::Call::console_text))]
-pub(crate) fn write_call<S: Sink>(
-    column: &mut u16,
-    regs: &Regs,
-    memory: &Memory,
-    render: &mut Render,
-    sink: &mut S,
-) -> Result<(), Failed>
-    ensures column { OnOk result (column.new ≡ columns_after column.old (expanded column.old (console_text regs.now memory.now))) }
-    ensures ok { OnOk result (Showed render.old (S.written sink.old) render.new (S.written sink.new)
-        (spoken (expanded column.old (console_text regs.now memory.now)))) }
-    ensures err { OnErr result (Stopped render.old (S.written sink.old) (S.written sink.new)
-        (spoken (expanded column.old (console_text regs.now memory.now)))) }
-    ensures cause { HasCause (S.faults sink.old) (S.faults sink.new) result }
-    ensures trace { render.new.trace ≡ render.old.trace }
-{
-    match regs.c {
-        2 => write_tabbed(column, regs.e, render, sink),
-        9 => write_string(
-            column,
-            memory,
-            u16::from_le_bytes([regs.e, regs.d]),
-            render,
-            sink,
-        ),
-        _ => Ok(()),
-    }
-}
-
-/// Writes to console 0 that an unlisted opcode stands at an address. It is no part of a step's own code, which would else
-/// make room for the text in each step.
-#[inline(never)]
-pub(crate) fn write_illegal<S: Sink>(
-    column: &mut u16,
-    address: u16,
-    render: &mut Render,
-    sink: &mut S,
-) -> Result<(), Failed>
-    ensures column { OnOk result (column.new ≡ columns_after column.old (illegal_text address)) }
-    ensures ok { OnOk result (Showed render.old (S.written sink.old) render.new (S.written sink.new)
-        (spoken (illegal_text address))) }
-    ensures err { OnErr result (Stopped render.old (S.written sink.old) (S.written sink.new)
-        (spoken (illegal_text address))) }
-    ensures cause { HasCause (S.faults sink.old) (S.faults sink.new) result }
-    ensures trace { render.new.trace ≡ render.old.trace }
-{
-    write_bytes(column, &call::illegal_text(address), render, sink)
 }

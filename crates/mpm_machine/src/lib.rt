@@ -1,10 +1,12 @@
-//! The machine: one process on a Z80 with its memory, its console, and the kernel behind the gates.
+//! The machine: processes on a Z80 with banked memory, their consoles, and the kernel behind the gates.
 #![tactic(auto)]
 
 mod call;
 mod console;
+mod gate;
 mod instruction;
 mod machine;
-mod memory;
+mod opening;
+mod system;
 
 pub use machine::{BootError, Machine, RunFault, StepFault};

@@ -1,23 +1,17 @@
-ghost use Rattle.std.specs.Prelude.{◌≡◌, ◌+◌, ◌<◌, ◌≤◌, ℕ, List, Option, Some, IfOk, IfErr, OnOk, OnErr, length};
-ghost use Rattle.mpm_machine.specs.State.{opening_registers as registers_at_opening};
+ghost use Rattle.std.specs.Prelude.{◌≡◌, ℕ, ◌+◌, ◌-◌, ◌*◌, ◌<◌, ◌≤◌, List, Option, Some, IfOk, OnOk, IfErr, OnErr, IfSome, MatchOption, All, length};
 ghost use Rattle.mpm_port.specs.Causes.{HasCause};
 ghost use Rattle.mpm_port.specs.Texts.{appended};
 
-use crate::instruction::execute;
-use crate::memory::Memory;
-use crate::{call, console};
+use crate::system::System;
+use mpm_banks::Banks;
+use mpm_base::{Name8, Pid, Reply, Seg, SegmentSpec};
+use mpm_kernel::Kernel;
+use mpm_machine_file::MachineFile;
 use mpm_port::{Failed, Sink};
 use mpm_render::Render;
 use std::alloc::{AllocError, Global};
 use std::marker::Model;
-use z80_ext::Stepped;
 use z80_regs::Regs;
-
-/// The gate that ends the process: 03h in the segment's last page, to which the jump at 0000h leads.
-const END_GATE: u16 = 0xBF03;
-
-/// The gate of the kernel's calls: 06h in the segment's last page, to which the jump at 0005h leads.
-const CALL_GATE: u16 = 0xBF06;
 
 /// Why no machine was booted.
 #[derive(Clone, Copy, Debug, PartialEq, Eq)]
@@ -40,186 +34,162 @@ pub struct RunFault {
     pub fault: StepFault,
 }
 
-/// The registers as a program begins: PC at its first byte, SP at the last word below the gates' page, interrupts on.
-#[tactic(auto, unfolding(crate::specs::State::opening_registers))]
-fn opening_registers() -> Regs
-    ensures { result ≡ registers_at_opening }
-{
-    Regs {
-        a: 0,
-        f: 0,
-        b: 0,
-        c: 0,
-        d: 0,
-        e: 0,
-        h: 0,
-        l: 0,
-        a2: 0,
-        f2: 0,
-        b2: 0,
-        c2: 0,
-        d2: 0,
-        e2: 0,
-        h2: 0,
-        l2: 0,
-        ix: 0,
-        iy: 0,
-        sp: 0xBEFE,
-        pc: 0x0100,
-        i: 0,
-        r: 0,
-        iff1: true,
-        iff2: true,
-        mode: 0,
-        halted: false,
-        shadow: false,
-    }
-}
-
-/// A machine with one process, one console, and one segment of 192 pages from address 0 on.
+/// A machine: its processes, their memory segments and consoles, and the kernel behind the gates.
 #[derive(Drop)]
 pub struct Machine {
-    steps: u64,
-    process: Option<Regs>,
-    memory: Memory,
-    column: u16,
+    system: System,
+    reply: Reply,
 }
 
 impl Model for Machine {
-    ghost use Rattle.mpm_machine.specs.State.{Core};
+    ghost use Rattle.mpm_machine.specs.declared.system.System.{System};
 
-    ghost Value = { Core };
+    ghost Value = { System };
 
-    ghost view = { λ m. record { steps = m.steps; process = m.process; memory = m.memory; column = m.column } };
+    ghost view = { λ m. m.system };
 }
 
 impl Machine {
-    ghost use Rattle.z80_ext.specs.Instruction.{instruction};
+    ghost use Rattle.mpm_banks.specs.Memory.{byte_at, segment_of};
+    ghost use Rattle.mpm_procs.specs.Table.{process_at, lowest_free};
     ghost use Rattle.mpm_render.specs.Outputs.{rendered, closed};
-    ghost use Rattle.mpm_render.specs.Shown.{EndsBetween};
-    ghost use Rattle.mpm_machine.specs.Memory.{byte_at, port_byte};
-    ghost use Rattle.mpm_machine.specs.Writing.{Showed, Stopped};
-    ghost use Rattle.mpm_machine.specs.State.{Core, State, Change, process_change, called, instructed, counted, next, after, opening_core, StandsFor, EndsInStep};
+    ghost use Rattle.mpm_render.specs.Shown.{Kept, EndsBetween};
+    ghost use Rattle.mpm_machine_file.specs.MachineFiles.{IsMachine, IsSegment};
+    ghost use Rattle.mpm_machine.specs.State.{State, StandsFor, IsWhole};
+    ghost use Rattle.mpm_machine.specs.Opening.{bare, booted, IsBare, MayPlace, with_placed, opening_system};
+    ghost use Rattle.mpm_machine.specs.Step.{next, after, EndsInStep};
 
-    /// The machine as a program begins, of at most 48,512 bytes.
-    #[tactic(auto, unfolding(crate::specs::State::opening_core, crate::specs::State::opening_registers))]
+    /// The machine of a machine file. No process lives in it yet.
+    ///
+    /// # Errors
+    /// Where no memory is found.
+    pub fn boot(alloc: Global, file: &MachineFile) -> Result<Machine, BootError>
+        requires { IsMachine file.now }
+        ensures booted { IfOk result (λ machine. machine ≡ booted file.now) }
+        ensures bare { IfOk result (λ machine. IsBare machine) }
+    {
+        Machine::boot_bare(alloc, file)
+    }
+
+    /// The machine of a machine file, without processes: `place` puts programs into it.
+    ///
+    /// # Errors
+    /// Where no memory is found.
+    #[tactic(auto, using(crate::proofs::PlacedLaws::bare_is))]
+    pub fn boot_bare(alloc: Global, file: &MachineFile) -> Result<Machine, BootError>
+        requires { IsMachine file.now }
+        ensures booted { IfOk result (λ machine. machine ≡ booted file.now) }
+        ensures bare { IfOk result (λ machine. IsBare machine) }
+    {
+        let segments = file.segments.as_slice();
+        Machine::bare(alloc, segments, file.consoles, file.printers)
+    }
+
+    /// A machine in which no process lives: of 1 to 8 consoles, at most 4 printers, and 1 to 16 segments of at least four
+    /// pages that end below common memory.
+    #[tactic(auto, unfolding(crate::specs::Opening::bare))]
+    fn bare(
+        alloc: Global,
+        segments: &[SegmentSpec],
+        consoles: u8,
+        printers: u8,
+    ) -> Result<Machine, BootError>
+        requires some { 1 ≤ consoles }
+        requires few { consoles ≤ 8 }
+        requires printers { printers ≤ 4 }
+        requires segments { 1 ≤ length segments.now }
+        requires few_segments { length segments.now ≤ 16 }
+        requires fit { All IsSegment segments.now }
+        ensures { IfOk result (λ machine. machine ≡ bare segments.now consoles printers) }
+    {
+        let kernel = match Kernel::new(alloc, consoles, printers) {
+            Ok(kernel) => kernel,
+            Err(AllocError) => return Err(BootError::OutOfMemory),
+        };
+        let memory = match Banks::new(alloc, segments) {
+            Ok(memory) => memory,
+            Err(AllocError) => return Err(BootError::OutOfMemory),
+        };
+        Ok(Machine {
+            system: System {
+                steps: 0,
+                kernel,
+                memory,
+            },
+            reply: Reply::new(),
+        })
+    }
+
+    /// The machine of a program, of at most 48,512 bytes: one console, no printer, one segment of 192 pages from address 0
+    /// on, and in it the process `PROGRAM ` of priority 200.
+    #[tactic(auto, unfolding(crate::specs::Opening::opening_system))]
     pub fn boot_program(alloc: Global, program: &[u8]) -> Result<Machine, BootError>
         requires { length program.now ≤ 48512 }
-        ensures opening { IfOk result (λ machine. machine ≡ opening_core program.now) }
+        ensures opening { IfOk result (λ machine. machine ≡ opening_system program.now) }
         ensures start { IfOk result (λ machine. machine.steps ≡ 0) }
+        ensures whole { IfOk result (λ machine. IsWhole machine) }
     {
-        match Memory::boot(alloc, program) {
-            Ok(memory) => Ok(Machine {
-                steps: 0,
-                process: Some(opening_registers()),
-                memory,
-                column: 0,
-            }),
-            Err(AllocError) => Err(BootError::OutOfMemory),
-        }
+        let segments = [SegmentSpec {
+            base: 0,
+            pages: 192,
+        }];
+        let mut machine = Machine::bare(alloc, &segments, 1, 0)?;
+        let _p = machine.place(Seg(0), Name8(*b"PROGRAM "), 200, 0, program);
+        Ok(machine)
+    }
+
+    /// Puts a program into a segment in which no process lives, with its base page, and adds its process, with that name,
+    /// priority and console. No step was done. The program has room behind the base page, 128 bytes for its stack, and the
+    /// gates' page.
+    pub fn place(&mut self, seg: Seg, name: Name8, priority: u8, console: u8, program: &[u8]) -> Pid
+        requires { MayPlace self.old seg console (length program.now) }
+        ensures slot { lowest_free self.old.kernel.procs ≡ Some result }
+        ensures system { self.new ≡ with_placed self.old result seg name priority console program.now }
+        ensures bare { IsBare self.new }
+    {
+        self.system.place(seg, name, priority, console, program)
     }
 
     /// How many steps are done.
     pub fn steps_done(&self) -> u64
         ensures { result ≡ self.now.steps }
     {
-        self.steps
+        self.system.steps
+    }
+
+    /// The registers of the process of that number, None where it doesn't live.
+    pub fn regs(&self, p: Pid) -> Option<&Regs>
+        ensures { MatchOption result (process_at self.now.kernel.procs p ≡ None)
+            (λ regs. IfSome (process_at self.now.kernel.procs p) (λ process. process.regs ≡ regs.now)) }
+    {
+        let process = self.system.kernel.process(p)?;
+        Some(&process.regs)
+    }
+
+    /// The byte that an address names for a process of that segment.
+    pub fn byte(&self, seg: Seg, address: u16) -> u8
+        ensures { result ≡ byte_at self.now.memory seg address }
+    {
+        self.system.memory.byte(seg, address)
     }
 
     /// One step. After an error the machine isn't stepped again.
     pub fn step<S: Sink>(&mut self, render: &mut Render, sink: &mut S) -> Result<(), StepFault>
-        requires { self.old.steps < 4000000000 }
+        requires most { self.old.steps < 4000000000 }
+        requires whole { IsWhole self.old }
         ensures ok { (s : State) (first : Option (List ℕ)) → StandsFor self.old render.old (S.written sink.old) s first
             → OnOk result (StandsFor self.new render.new (S.written sink.new) (next s) first) }
         ensures err { (s : State) (first : Option (List ℕ)) → StandsFor self.old render.old (S.written sink.old) s first
-            → OnErr result (EndsBetween (S.written sink.new) first (rendered s.outputs) (rendered (next s).outputs)) }
-        ensures count { self.new.steps ≡ self.old.steps + 1 }
+            → OnErr result (EndsBetween (S.written sink.new) first (rendered render.old.trace s.outputs) (rendered render.old.trace (next s).outputs)) }
+        ensures whole { OnOk result (IsWhole self.new) }
+        ensures count { OnOk result (self.new.steps ≡ self.old.steps + 1) }
         ensures trace { render.new.trace ≡ render.old.trace }
         ensures cause { HasCause (S.faults sink.old) (S.faults sink.new) result }
     {
-        self.steps += 1;
-        match self.perform(render, sink) {
-            Ok(()) => Ok(()),
-            Err(Failed) => Err(StepFault::WriteFault),
+        if let Err(Failed) = self.system.step(&mut self.reply, render, sink) {
+            return Err(StepFault::WriteFault);
         }
-    }
-
-    /// What the process does in this step.
-    #[tactic(auto, unfolding(crate::specs::State::process_change))]
-    fn perform<S: Sink>(&mut self, render: &mut Render, sink: &mut S) -> Result<(), Failed>
-        ensures core { OnOk result (self.new ≡ (process_change self.old.process self.old).core) }
-        ensures ok { OnOk result (Showed render.old (S.written sink.old) render.new (S.written sink.new)
-            (process_change self.old.process self.old).news) }
-        ensures err { OnErr result (Stopped render.old (S.written sink.old) (S.written sink.new)
-            (process_change self.old.process self.old).news) }
-        ensures cause { HasCause (S.faults sink.old) (S.faults sink.new) result }
-        ensures trace { render.new.trace ≡ render.old.trace }
-        ensures steps { self.new.steps ≡ self.old.steps }
-    {
-        let Some(regs) = &self.process else {
-            return Ok(());
-        };
-        match regs.pc {
-            END_GATE => {
-                self.process = None;
-                Ok(())
-            }
-            CALL_GATE => {
-                let regs = *regs;
-                self.call(&regs, render, sink)
-            }
-            _ => self.execute(render, sink),
-        }
-    }
-
-    /// The gate step of a call of the process with these registers.
-    #[tactic(auto, unfolding(crate::specs::State::called, crate::specs::State::speaking))]
-    fn call<S: Sink>(
-        &mut self,
-        regs: &Regs,
-        render: &mut Render,
-        sink: &mut S,
-    ) -> Result<(), Failed>
-        ensures core { OnOk result (self.new ≡ (called regs.now self.old).core) }
-        ensures ok { OnOk result (Showed render.old (S.written sink.old) render.new (S.written sink.new) (called regs.now self.old).news) }
-        ensures err { OnErr result (Stopped render.old (S.written sink.old) (S.written sink.new) (called regs.now self.old).news) }
-        ensures cause { HasCause (S.faults sink.old) (S.faults sink.new) result }
-        ensures trace { render.new.trace ≡ render.old.trace }
-        ensures steps { self.new.steps ≡ self.old.steps }
-    {
-        if regs.c == 0 {
-            self.process = None;
-            return Ok(());
-        }
-        console::write_call(&mut self.column, regs, &self.memory, render, sink)?;
-        self.process = Some(call::returned(call::answer(regs.c), &self.memory, regs));
         Ok(())
-    }
-
-    /// One instruction of the process.
-    #[tactic(auto, unfolding(crate::specs::State::instructed, crate::specs::State::speaking, crate::specs::Memory::acted))]
-    fn execute<S: Sink>(&mut self, render: &mut Render, sink: &mut S) -> Result<(), Failed>
-        ensures core { (regs : Regs) → self.old.process ≡ Some regs → OnOk result (self.new
-            ≡ (instructed (instruction regs (byte_at self.old.memory) port_byte) regs self.old).core) }
-        ensures ok { (regs : Regs) → self.old.process ≡ Some regs → OnOk result (Showed render.old (S.written sink.old) render.new (S.written sink.new)
-            (instructed (instruction regs (byte_at self.old.memory) port_byte) regs self.old).news) }
-        ensures err { (regs : Regs) → self.old.process ≡ Some regs → OnErr result (Stopped render.old (S.written sink.old) (S.written sink.new)
-            (instructed (instruction regs (byte_at self.old.memory) port_byte) regs self.old).news) }
-        ensures cause { HasCause (S.faults sink.old) (S.faults sink.new) result }
-        ensures trace { render.new.trace ≡ render.old.trace }
-        ensures steps { self.new.steps ≡ self.old.steps }
-    {
-        let Some(regs) = &mut self.process else {
-            return Ok(());
-        };
-        match execute(regs, &mut self.memory) {
-            Stepped::Ran => Ok(()),
-            Stepped::Illegal => {
-                let address = regs.pc;
-                self.process = None;
-                console::write_illegal(&mut self.column, address, render, sink)
-            }
-        }
     }
 
     /// Does `n` steps; no step is done past the 4,000,000,000th.
@@ -229,31 +199,78 @@ impl Machine {
         render: &mut Render,
         sink: &mut S,
     ) -> Result<(), RunFault>
-        requires { self.old.steps + n ≤ 4000000000 }
+        requires most { self.old.steps + n ≤ 4000000000 }
+        requires whole { IsWhole self.old }
         ensures ok { (s : State) (first : Option (List ℕ)) → StandsFor self.old render.old (S.written sink.old) s first
             → OnOk result (StandsFor self.new render.new (S.written sink.new) (after n s) first) }
         ensures err { (s : State) (first : Option (List ℕ)) → StandsFor self.old render.old (S.written sink.old) s first
-            → IfErr result (λ fault. EndsInStep (S.written sink.new) first s n fault.step) }
+            → IfErr result (λ fault. EndsInStep render.old.trace (S.written sink.new) first s n fault.step) }
+        ensures whole { OnOk result (IsWhole self.new) }
         ensures count { OnOk result (self.new.steps ≡ self.old.steps + n) }
-        ensures fault { IfErr result (λ fault. fault.step ≡ self.new.steps) }
         ensures trace { render.new.trace ≡ render.old.trace }
         ensures cause { HasCause (S.faults sink.old) (S.faults sink.new) result }
     {
-        for done in 0..n {
-            let step = self.steps_done() + 1;
-            if let Err(fault) = self.step(render, sink) {
-                return Err(RunFault { step, fault });
+        let mut done = 0;
+        while done < n {
+            match self.advance(n - done, render, sink) {
+                Ok(steps) => done += steps,
+                Err(fault) => return Err(fault),
             }
         }
         Ok(())
     }
 
+    /// At least one step and at most so many: instructions of the running process, and what comes behind them.
+    fn advance<S: Sink>(
+        &mut self,
+        most: u64,
+        render: &mut Render,
+        sink: &mut S,
+    ) -> Result<u64, RunFault>
+        requires some { 0 < most }
+        requires room { self.old.steps + most ≤ 4000000000 }
+        requires whole { IsWhole self.old }
+        ensures ok { (s : State) (first : Option (List ℕ)) → StandsFor self.old render.old (S.written sink.old) s first
+            → IfOk result (λ steps. StandsFor self.new render.new (S.written sink.new) (after steps s) first) }
+        ensures err { (s : State) (first : Option (List ℕ)) → StandsFor self.old render.old (S.written sink.old) s first
+            → IfErr result (λ fault. EndsInStep render.old.trace (S.written sink.new) first s most fault.step) }
+        ensures some { IfOk result (λ steps. 0 < steps) }
+        ensures few { IfOk result (λ steps. steps ≤ most) }
+        ensures whole { OnOk result (IsWhole self.new) }
+        ensures count { IfOk result (λ steps. self.new.steps ≡ self.old.steps + steps) }
+        ensures trace { render.new.trace ≡ render.old.trace }
+        ensures cause { HasCause (S.faults sink.old) (S.faults sink.new) result }
+    {
+        let done = self.run_on(most);
+        if done == most {
+            return Ok(done);
+        }
+        let step = self.steps_done() + 1;
+        if let Err(fault) = self.step(render, sink) {
+            return Err(RunFault { step, fault });
+        }
+        Ok(done + 1)
+    }
+
+    /// Instructions of the running process, at most so many, each of which is a step. Answers how many were done.
+    fn run_on(&mut self, most: u64) -> u64
+        requires whole { IsWhole self.old }
+        requires room { self.old.steps + most ≤ 4000000000 }
+        ensures count { result ≤ most }
+        ensures stands { (s : State) (kept : Kept) (told : Option (List ℕ)) (first : Option (List ℕ)) → StandsFor self.old kept told s first
+            → StandsFor self.new kept told (after result s) first }
+        ensures whole { IsWhole self.new }
+        ensures steps { self.new.steps ≡ self.old.steps + result }
+    {
+        self.system.run_on(most)
+    }
+
     /// The end of a run: unfinished lines are closed.
     pub fn settle<S: Sink>(&mut self, render: &mut Render, sink: &mut S) -> Result<(), StepFault>
         ensures ok { (s : State) (first : Option (List ℕ)) → StandsFor self.old render.old (S.written sink.old) s first
-            → OnOk result (S.written sink.new ≡ appended first (closed s.outputs)) }
+            → OnOk result (S.written sink.new ≡ appended first (closed render.old.trace s.outputs)) }
         ensures err { (s : State) (first : Option (List ℕ)) → StandsFor self.old render.old (S.written sink.old) s first
-            → OnErr result (EndsBetween (S.written sink.new) first (rendered s.outputs) (closed s.outputs)) }
+            → OnErr result (EndsBetween (S.written sink.new) first (rendered render.old.trace s.outputs) (closed render.old.trace s.outputs)) }
         ensures machine { self.new ≡ self.old }
         ensures trace { render.new.trace ≡ render.old.trace }
         ensures cause { HasCause (S.faults sink.old) (S.faults sink.new) result }

@@ -39,37 +39,38 @@ unfolding closings
 closings_all line = simp (append_assoc, append-nil)
 
 -- all the lines that stand for outputs, closed
-closed_is : (kept : Kept) (told first : Option (List ℕ)) (os : List Output) → Shows kept told os first → rendered os ++ closings (line_of kept) 12 ≡ closed os
+closed_is : (kept : Kept) (told first : Option (List ℕ)) (os : List Output) → Shows kept told os first → rendered kept.trace os ++ closings (line_of kept) 12 ≡ closed kept.trace os
 unfolding closed
 closed_is kept told first os s =
-    ap (λ text. rendered os ++ text) (closings_same (line_of kept) (λ place. pending place os) 12 s.lines ∙ closings_all (λ place. pending place os))
+    ap (λ text. rendered kept.trace os ++ text) (closings_same (line_of kept) (λ place. pending place os) 12 s.lines ∙ closings_all (λ place. pending place os))
 
 -- once each line is closed, all is told
-pub told_closed : (kept : Kept) (told now first : Option (List ℕ)) (os : List Output) → now ≡ appended told (closings (line_of kept) 12) → Shows kept told os first → now ≡ appended first (closed os)
+pub told_closed : (kept : Kept) (told now first : Option (List ℕ)) (os : List Output) → now ≡ appended told (closings (line_of kept) 12) → Shows kept told os first → now ≡ appended first (closed kept.trace os)
 told_closed kept told now first os written s =
     written ∙ ap (λ t. appended t (closings (line_of kept) 12)) s.told_is
-    ∙ appended_twice first (rendered os) (closings (line_of kept) 12)
+    ∙ appended_twice first (rendered kept.trace os) (closings (line_of kept) 12)
     ∙ ap (appended first) (closed_is kept told first os s)
 
 -- a failed write of a line stops before all is closed
-pub ends_closed : (kept : Kept) (told before now first : Option (List ℕ)) (place : ℕ) (os : List Output) → place < 12 → before ≡ appended told (closings (line_of kept) place) → AppendsPart before (closing place (line_of kept place)) now → 0 < length (closing place (line_of kept place)) → Shows kept told os first → EndsBetween now first (rendered os) (closed os)
+pub ends_closed : (kept : Kept) (told before now first : Option (List ℕ)) (place : ℕ) (os : List Output) → place < 12 → before ≡ appended told (closings (line_of kept) place) → AppendsPart before (closing place (line_of kept place)) now → 0 < length (closing place (line_of kept place)) → Shows kept told os first → EndsBetween now first (rendered kept.trace os) (closed kept.trace os)
 ends_closed kept told before now first place os small written part some s =
     let line = line_of kept in
-    let text = rendered os ++ closings line place in
+    let shown = rendered kept.trace os in
+    let text = shown ++ closings line place in
     let next = closing place (line place) in
-    let e : before ≡ appended first text = written ∙ ap (λ t. appended t (closings line place)) s.told_is ∙ appended_twice first (rendered os) (closings line place) in
-    let joined : text ++ next ≡ rendered os ++ closings line (place + 1) = append_assoc (rendered os) (closings line place) next ∙ ap (λ x. rendered os ++ x) (sym (closings_more line place)) in
+    let e : before ≡ appended first text = written ∙ ap (λ t. appended t (closings line place)) s.told_is ∙ appended_twice first shown (closings line place) in
+    let joined : text ++ next ≡ shown ++ closings line (place + 1) = append_assoc shown (closings line place) next ∙ ap (λ x. shown ++ x) (sym (closings_more line place)) in
     let all : place + 1 + (11 - place) ≡ 12 = omega arith in
-    let P : ℕ → Type 0 = λ n. Begins (rendered os ++ closings line (place + 1)) (rendered os ++ closings line n) in
+    let P : ℕ → Type 0 = λ n. Begins (shown ++ closings line (place + 1)) (shown ++ closings line n) in
     let Q : List ℕ → Type 0 = λ x. Begins (text ++ next) x in
-    let R : List ℕ → Type 0 = λ x. Begins x (rendered os ++ closings line 12) in
-    widened now first (rendered os) text (text ++ next) (closed os)
-    (begins_more (rendered os) (closings line place))
-    (subst Q (closed_is kept told first os s) (subst R (sym joined) (subst P all (begins_behind (rendered os) _ _ (closings_begin line (place + 1) (11 - place))))))
+    let R : List ℕ → Type 0 = λ x. Begins x (shown ++ closings line 12) in
+    widened now first shown text (text ++ next) (closed kept.trace os)
+    (begins_more shown (closings line place))
+    (subst Q (closed_is kept told first os s) (subst R (sym joined) (subst P all (begins_behind shown _ _ (closings_begin line (place + 1) (11 - place))))))
     (ends_within before now first text next e part some)
 
 -- the same, as a line answers that has been picked by its place
-pub err_closed : {A E : Type 0} (result : Result A E) (kept : Kept) (told before now first : Option (List ℕ)) (place : ℕ) (line : List ℕ) (os : List Output) → place < 12 → line ≡ line_of kept place → before ≡ appended told (closings (line_of kept) place) → AppendsPart before (closing place line) now → 0 < length (closing place line) → Shows kept told os first → OnErr result (EndsBetween now first (rendered os) (closed os))
+pub err_closed : {A E : Type 0} (result : Result A E) (kept : Kept) (told before now first : Option (List ℕ)) (place : ℕ) (line : List ℕ) (os : List Output) → place < 12 → line ≡ line_of kept place → before ≡ appended told (closings (line_of kept) place) → AppendsPart before (closing place line) now → 0 < length (closing place line) → Shows kept told os first → OnErr result (EndsBetween now first (rendered kept.trace os) (closed kept.trace os))
 err_closed (Ok x) kept told before now first place line os small same written part some s = tt
 err_closed (Err e) kept told before now first place line os small same written part some s =
     let P : List ℕ → Type 0 = λ l. AppendsPart before (closing place l) now in

@@ -1,24 +1,25 @@
 -- Laws on outputs: their text grows, and a byte leaves its line, the other lines and the text as they are said.
-use Rattle.std.proofs.Common.{◌≡◌, ◌≢◌, ℕ, ◌+◌, ◌%◌, ◌<◌, List, [], ◌∷◌, ◌++◌, Option, Result, OnOk, OnErr, Ok, Err, length, take, drop, set, reverse, get_or, refl, sym, ap, ◌∙◌, inl, inr, suc, subst, arith}
+use Rattle.std.proofs.Common.{◌≡◌, ◌≢◌, ℕ, ◌+◌, ◌%◌, ◌<◌, Bool, false, List, [], ◌∷◌, ◌++◌, Option, Result, OnOk, OnErr, Ok, Err, length, take, drop, set, reverse, get_or, refl, sym, ap, ◌∙◌, inl, inr, suc, subst, arith}
 use Rattle.std.proofs.lemmas.Grind.{reverse_onto}
-use Rattle.std.proofs.lemmas.List.{length-reverse, length-take-le, take_more, take-append-drop, get_or_default, get_or-set_same, get_or-set_other}
+use Rattle.std.proofs.lemmas.List.{append-nil, length-reverse, length-take-le, take_more, take-append-drop, get_or_default, get_or-set_same, get_or-set_other}
 use Rattle.std.proofs.lemmas.Bool.{cases_eq}
 use Rattle.std.proofs.lemmas.Bool.Decides.{nat_tests}
 use Rattle.mpm_port.specs.Texts.{Begins, appended, AppendsPart}
 use Rattle.mpm_render.specs.declared.unit.Unit2.{Unit2}
 use Rattle.mpm_render.specs.declared.unit.Unit2.TheVariants.{Console, Printer}
 use Rattle.mpm_render.specs.Lines.{place_of, IsUnit, text_with, line_with}
-use Rattle.mpm_render.specs.Outputs.{Output, Said, said, since_end, pending, text_at, rendered, closed}
+use Rattle.mpm_render.specs.Completions.{Completion}
+use Rattle.mpm_render.specs.Outputs.{Output, Said, Completed, said, since_end, pending, record_text, text_at, rendered, closed}
 use Rattle.mpm_render.specs.Shown.{Kept, line_of, Shows, EndsBetween}
 use Rattle.mpm_render.proofs.Grows.{begins_refl, begins_more, begins_trans, appended_nil, appended_twice, ends_within}
 
-pub rendered_grows : (o : Output) (os : List Output) → Begins (rendered os) (rendered (o ∷ os))
+pub rendered_grows : (trace : Bool) (o : Output) (os : List Output) → Begins (rendered trace os) (rendered trace (o ∷ os))
 unfolding rendered
-rendered_grows o os = begins_more (rendered os) (text_at o os)
+rendered_grows trace o os = begins_more (rendered trace os) (text_at trace o os)
 
-pub closed_grows : (os : List Output) → Begins (rendered os) (closed os)
+pub closed_grows : (trace : Bool) (os : List Output) → Begins (rendered trace os) (closed trace os)
 unfolding closed
-closed_grows os = record { rest = _; whole_is = refl }
+closed_grows trace os = record { rest = _; whole_is = refl }
 
 pub said_nil : (unit : Unit2) (os : List Output) → said unit [] os ≡ os
 unfolding said
@@ -33,11 +34,11 @@ unfolding said
 said_append unit [] b os = refl
 said_append unit (byte ∷ a) b os = said_append unit a b (Said unit byte ∷ os)
 
-pub said_grows : (unit : Unit2) (bytes : List ℕ) (os : List Output) → Begins (rendered os) (rendered (said unit bytes os))
+pub said_grows : (trace : Bool) (unit : Unit2) (bytes : List ℕ) (os : List Output) → Begins (rendered trace os) (rendered trace (said unit bytes os))
 unfolding said
-said_grows unit [] os = begins_refl (rendered os)
-said_grows unit (byte ∷ bytes) os =
-    begins_trans _ (rendered (Said unit byte ∷ os)) _ (rendered_grows (Said unit byte) os) (said_grows unit bytes (Said unit byte ∷ os))
+said_grows trace unit [] os = begins_refl (rendered trace os)
+said_grows trace unit (byte ∷ bytes) os =
+    begins_trans _ (rendered trace (Said unit byte ∷ os)) _ (rendered_grows trace (Said unit byte) os) (said_grows trace unit bytes (Said unit byte ∷ os))
 
 -- one more byte at the end
 pub said_push : (unit : Unit2) (bytes : List ℕ) (byte : ℕ) (os : List Output) → said unit (bytes ++ byte ∷ []) os ≡ Said unit byte ∷ said unit bytes os
@@ -49,11 +50,11 @@ said_take unit bytes index other os inside =
     ap (λ front. said unit front os) (take_more bytes index other inside) ∙ said_push unit (take index bytes) (get_or bytes index other) os
 
 -- the text of the first bytes begins the text of all
-pub said_begins : (unit : Unit2) (index : ℕ) (bytes : List ℕ) (os : List Output) → Begins (rendered (said unit (take index bytes) os)) (rendered (said unit bytes os))
-said_begins unit index bytes os =
-    let P : List ℕ → Type 0 = λ all. Begins (rendered (said unit (take index bytes) os)) (rendered (said unit all os)) in
-    let Q : List Output → Type 0 = λ all. Begins (rendered (said unit (take index bytes) os)) (rendered all) in
-    subst P (take-append-drop index bytes) (subst Q (sym (said_append unit (take index bytes) (drop index bytes) os)) (said_grows unit (drop index bytes) (said unit (take index bytes) os)))
+pub said_begins : (trace : Bool) (unit : Unit2) (index : ℕ) (bytes : List ℕ) (os : List Output) → Begins (rendered trace (said unit (take index bytes) os)) (rendered trace (said unit bytes os))
+said_begins trace unit index bytes os =
+    let P : List ℕ → Type 0 = λ all. Begins (rendered trace (said unit (take index bytes) os)) (rendered trace (said unit all os)) in
+    let Q : List Output → Type 0 = λ all. Begins (rendered trace (said unit (take index bytes) os)) (rendered trace all) in
+    subst P (take-append-drop index bytes) (subst Q (sym (said_append unit (take index bytes) (drop index bytes) os)) (said_grows trace unit (drop index bytes) (said unit (take index bytes) os)))
 
 -- a unit's place is one of the twelve
 pub place_small : (unit : Unit2) → IsUnit unit → place_of unit < 12
@@ -61,9 +62,24 @@ place_small (Console n) h = omega arith
 place_small (Printer n) h = omega arith
 
 -- what a byte writes, by its own line alone
-pub rendered_said : (unit : Unit2) (byte : ℕ) (os : List Output) → rendered (Said unit byte ∷ os) ≡ rendered os ++ text_with (place_of unit) byte (pending (place_of unit) os)
+pub rendered_said : (trace : Bool) (unit : Unit2) (byte : ℕ) (os : List Output) → rendered trace (Said unit byte ∷ os) ≡ rendered trace os ++ text_with (place_of unit) byte (pending (place_of unit) os)
 unfolding rendered text_at text_with
-rendered_said unit byte os = refl
+rendered_said trace unit byte os = refl
+
+-- what the record of a completed call writes
+pub rendered_completed : (trace : Bool) (call : Completion) (os : List Output) → rendered trace (Completed call ∷ os) ≡ rendered trace os ++ record_text trace call
+unfolding rendered text_at
+rendered_completed trace call os = refl
+
+-- it writes nothing where records aren't asked for
+pub rendered_unasked : (trace : Bool) (call : Completion) (os : List Output) → trace ≡ false → rendered trace (Completed call ∷ os) ≡ rendered trace os
+rendered_unasked trace call os unasked =
+    rendered_completed trace call os ∙ ap (λ asked. rendered trace os ++ record_text asked call) unasked ∙ append-nil (rendered trace os)
+
+-- it leaves every unfinished line
+pub pending_completed : (place : ℕ) (call : Completion) (os : List Output) → pending place (Completed call ∷ os) ≡ pending place os
+unfolding pending since_end
+pending_completed place call os = refl
 
 -- the bytes of a place since its last LF, after one more byte
 since_same : (unit : Unit2) (byte : ℕ) (os : List Output) → byte ≢ 10 → since_end (place_of unit) (Said unit byte ∷ os) ≡ byte ∷ since_end (place_of unit) os
@@ -122,20 +138,20 @@ pub pending_none : (place : ℕ) → pending place [] ≡ []
 unfolding pending since_end
 pending_none place = refl
 
-pub rendered_none : rendered [] ≡ []
+pub rendered_none : (trace : Bool) → rendered trace [] ≡ []
 unfolding rendered
-rendered_none = refl
+rendered_none trace = refl
 
 -- empty lines show that nothing was said
 pub shows_none : (kept : Kept) (told : Option (List ℕ)) → ((place : ℕ) → place < 12 → line_of kept place ≡ []) → Shows kept told [] told
 shows_none kept told none = record {
   lines = λ place h. none place h ∙ sym (pending_none place);
-  told_is = sym (ap (appended told) rendered_none ∙ appended_nil told);
+  told_is = sym (ap (appended told) (rendered_none kept.trace) ∙ appended_nil told);
 }
 
 -- a byte that is put to its line, and the text that it writes, keep what is shown
-pub shows_said : (old new : Kept) (told now first : Option (List ℕ)) (unit : Unit2) (byte : ℕ) (os : List Output) → IsUnit unit → length old.lines ≡ 12 → new.lines ≡ set old.lines (place_of unit) (line_with byte (line_of old (place_of unit))) → now ≡ appended told (text_with (place_of unit) byte (line_of old (place_of unit))) → Shows old told os first → Shows new now (Said unit byte ∷ os) first
-shows_said old new told now first unit byte os is twelve changed written s =
+pub shows_said : (old new : Kept) (told now first : Option (List ℕ)) (unit : Unit2) (byte : ℕ) (os : List Output) → IsUnit unit → length old.lines ≡ 12 → new.trace ≡ old.trace → new.lines ≡ set old.lines (place_of unit) (line_with byte (line_of old (place_of unit))) → now ≡ appended told (text_with (place_of unit) byte (line_of old (place_of unit))) → Shows old told os first → Shows new now (Said unit byte ∷ os) first
+shows_said old new told now first unit byte os is twelve traces changed written s =
     let here = place_of unit in
     let small : here < 12 = place_small unit is in
     let line : line_of old here ≡ pending here os = s.lines here small in
@@ -145,16 +161,17 @@ shows_said old new told now first unit byte os is twelve changed written s =
         | inl same ↦ ap (λ at. get_or (set old.lines here (line_with byte (line_of old here))) at []) same ∙ get_or-set_same old.lines here _ [] inside ∙ ap (line_with byte) line ∙ sym (pending_same unit byte os) ∙ ap (λ at. pending at (Said unit byte ∷ os)) (sym same)
         | inr other ↦ get_or-set_other old.lines here place _ [] other ∙ s.lines place h ∙ sym (pending_other place unit byte os (λ e. other (sym e)))
       ];
-      told_is = written ∙ ap (λ line. appended told (text_with here byte line)) line ∙ ap (λ t. appended t (text_with here byte (pending here os))) s.told_is ∙ appended_twice first (rendered os) _ ∙ ap (appended first) (sym (rendered_said unit byte os));
+      told_is = written ∙ ap (λ line. appended told (text_with here byte line)) line ∙ ap (λ t. appended t (text_with here byte (pending here os))) s.told_is ∙ appended_twice first (rendered old.trace os) _ ∙ ap (appended first) (sym (rendered_said old.trace unit byte os)) ∙ ap (λ trace. appended first (rendered trace (Said unit byte ∷ os))) (sym traces);
     }
 
 -- a failed write of a byte's text stops between the texts before and after it
-pub ends_said : (old : Kept) (told now first : Option (List ℕ)) (unit : Unit2) (byte : ℕ) (os : List Output) → IsUnit unit → AppendsPart told (text_with (place_of unit) byte (line_of old (place_of unit))) now → 0 < length (text_with (place_of unit) byte (line_of old (place_of unit))) → Shows old told os first → EndsBetween now first (rendered os) (rendered (Said unit byte ∷ os))
+pub ends_said : (old : Kept) (told now first : Option (List ℕ)) (unit : Unit2) (byte : ℕ) (os : List Output) → IsUnit unit → AppendsPart told (text_with (place_of unit) byte (line_of old (place_of unit))) now → 0 < length (text_with (place_of unit) byte (line_of old (place_of unit))) → Shows old told os first → EndsBetween now first (rendered old.trace os) (rendered old.trace (Said unit byte ∷ os))
 ends_said old told now first unit byte os is part some s =
     let here = place_of unit in
     let line : line_of old here ≡ pending here os = s.lines here (place_small unit is) in
-    let P : List ℕ → Type 0 = λ text. EndsBetween now first (rendered os) text in
-    subst P (ap (λ line. rendered os ++ text_with here byte line) line ∙ sym (rendered_said unit byte os)) (ends_within told now first (rendered os) _ s.told_is part some)
+    let before = rendered old.trace os in
+    let P : List ℕ → Type 0 = λ text. EndsBetween now first before text in
+    subst P (ap (λ line. before ++ text_with here byte line) line ∙ sym (rendered_said old.trace unit byte os)) (ends_within told now first before _ s.told_is part some)
 
 -- the same, as a line answers that has been picked by its place
 same_line : (lines : List (List ℕ)) (unit : Unit2) (place : ℕ) (other : List ℕ) → IsUnit unit → place ≡ place_of unit → length lines ≡ 12 → get_or lines place other ≡ get_or lines (place_of unit) []
@@ -162,19 +179,37 @@ same_line lines unit place other is at twelve =
     let small = place_small unit is in
     get_or_default lines place other [] (omega arith) ∙ ap (λ p. get_or lines p []) at
 
-pub ok_said : {A E : Type 0} (result : Result A E) (old new : Kept) (told now first : Option (List ℕ)) (unit : Unit2) (byte place : ℕ) (other after : List ℕ) (os : List Output) → IsUnit unit → place ≡ place_of unit → length old.lines ≡ 12 → OnOk result (after ≡ line_with byte (get_or old.lines place other)) → new.lines ≡ set old.lines place after → OnOk result (now ≡ appended told (text_with place byte (get_or old.lines place other))) → Shows old told os first → OnOk result (Shows new now (Said unit byte ∷ os) first)
-ok_said (Err e) old new told now first unit byte place other after os is at twelve kept changed written s = tt
-ok_said (Ok x) old new told now first unit byte place other after os is at twelve kept changed written s =
+pub ok_said : {A E : Type 0} (result : Result A E) (old new : Kept) (told now first : Option (List ℕ)) (unit : Unit2) (byte place : ℕ) (other after : List ℕ) (os : List Output) → IsUnit unit → place ≡ place_of unit → length old.lines ≡ 12 → new.trace ≡ old.trace → OnOk result (after ≡ line_with byte (get_or old.lines place other)) → new.lines ≡ set old.lines place after → OnOk result (now ≡ appended told (text_with place byte (get_or old.lines place other))) → Shows old told os first → OnOk result (Shows new now (Said unit byte ∷ os) first)
+ok_said (Err e) old new told now first unit byte place other after os is at twelve traces kept changed written s = tt
+ok_said (Ok x) old new told now first unit byte place other after os is at twelve traces kept changed written s =
     let line = same_line old.lines unit place other is at twelve in
-    shows_said old new told now first unit byte os is twelve
+    shows_said old new told now first unit byte os is twelve traces
     (changed ∙ ap (λ p. set old.lines p after) at ∙ ap (set old.lines (place_of unit)) (kept ∙ ap (line_with byte) line))
     (written ∙ ap (λ p. appended told (text_with p byte (get_or old.lines place other))) at ∙ ap (λ l. appended told (text_with (place_of unit) byte l)) line)
     s
 
-pub err_said : {A E : Type 0} (result : Result A E) (old : Kept) (told now first : Option (List ℕ)) (unit : Unit2) (byte place : ℕ) (other : List ℕ) (os : List Output) → IsUnit unit → place ≡ place_of unit → length old.lines ≡ 12 → OnErr result (AppendsPart told (text_with place byte (get_or old.lines place other)) now) → OnErr result (0 < length (text_with place byte (get_or old.lines place other))) → Shows old told os first → OnErr result (EndsBetween now first (rendered os) (rendered (Said unit byte ∷ os)))
+pub err_said : {A E : Type 0} (result : Result A E) (old : Kept) (told now first : Option (List ℕ)) (unit : Unit2) (byte place : ℕ) (other : List ℕ) (os : List Output) → IsUnit unit → place ≡ place_of unit → length old.lines ≡ 12 → OnErr result (AppendsPart told (text_with place byte (get_or old.lines place other)) now) → OnErr result (0 < length (text_with place byte (get_or old.lines place other))) → Shows old told os first → OnErr result (EndsBetween now first (rendered old.trace os) (rendered old.trace (Said unit byte ∷ os)))
 err_said (Ok x) old told now first unit byte place other os is at twelve part some s = tt
 err_said (Err e) old told now first unit byte place other os is at twelve part some s =
     let P : List ℕ → Type 0 = λ text. AppendsPart told text now in
     let Q : List ℕ → Type 0 = λ text. 0 < length text in
     let text = ap (λ p. text_with p byte (get_or old.lines place other)) at ∙ ap (text_with (place_of unit) byte) (same_line old.lines unit place other is at twelve) in
     ends_said old told now first unit byte os is (subst P text part) (subst Q text some) s
+
+-- the record of a completed call, and the text that it writes, keep what is shown
+pub ok_completed : {A E : Type 0} (result : Result A E) (kept : Kept) (told now first : Option (List ℕ)) (call : Completion) (text : List ℕ) (os : List Output) → text ≡ record_text kept.trace call → OnOk result (now ≡ appended told text) → Shows kept told os first → OnOk result (Shows kept now (Completed call ∷ os) first)
+ok_completed (Err e) kept told now first call text os is written s = tt
+ok_completed (Ok x) kept told now first call text os is written s =
+    let before = rendered kept.trace os in
+    record {
+      lines = λ place h. s.lines place h ∙ sym (pending_completed place call os);
+      told_is = written ∙ ap (λ t. appended t text) s.told_is ∙ appended_twice first before text ∙ ap (λ t. appended first (before ++ t)) is ∙ ap (appended first) (sym (rendered_completed kept.trace call os));
+    }
+
+-- a failed write of a record's text stops between the texts before and after it
+pub err_completed : {A E : Type 0} (result : Result A E) (kept : Kept) (told now first : Option (List ℕ)) (call : Completion) (text : List ℕ) (os : List Output) → text ≡ record_text kept.trace call → OnErr result (AppendsPart told text now) → 0 < length text → Shows kept told os first → OnErr result (EndsBetween now first (rendered kept.trace os) (rendered kept.trace (Completed call ∷ os)))
+err_completed (Ok x) kept told now first call text os is part some s = tt
+err_completed (Err e) kept told now first call text os is part some s =
+    let before = rendered kept.trace os in
+    let P : List ℕ → Type 0 = λ all. EndsBetween now first before all in
+    subst P (ap (λ t. before ++ t) is ∙ sym (rendered_completed kept.trace call os)) (ends_within told now first before text s.told_is part some)

@@ -1,4 +1,5 @@
 pub mod Lines
+pub mod Completions
 pub mod Outputs
 pub mod Shown
 pub mod Puts

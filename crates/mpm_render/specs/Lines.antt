@@ -21,6 +21,13 @@ places = 0 ∷ 1 ∷ 2 ∷ 3 ∷ 4 ∷ 5 ∷ 6 ∷ 7 ∷ 8 ∷ 9 ∷ 10 ∷ 11 �
 abbrev pub hex_digit : ℕ → ℕ
 hex_digit n = if nat_lt n 10 then 48 + n else (55 + n)
 
+-- a byte in two hexadecimal digits, and a word of 16 bits in four
+unfoldable pub hex_byte : ℕ → List ℕ
+hex_byte n = hex_digit (n / 16) ∷ hex_digit (n % 16) ∷ []
+
+unfoldable pub hex_word : ℕ → List ℕ
+hex_word n = hex_byte (n / 256) ++ hex_byte (n % 256)
+
 -- how a byte stands in a line
 unfoldable pub escaped : ℕ → List ℕ
 escaped byte =
@@ -28,7 +35,7 @@ escaped byte =
     else (if byte == 13 then codes "\\r"
     else (if byte == 9 then codes "\\t"
     else (if nat_le 32 byte && nat_le byte 126 then byte ∷ []
-    else (codes "\\x" ++ (hex_digit (byte / 16) ∷ hex_digit (byte % 16) ∷ [])))))
+    else (codes "\\x" ++ hex_byte byte))))
 
 -- the words before a line: the kind of its unit, the unit's number, a space
 abbrev pub label : ℕ → List ℕ

@@ -2,7 +2,8 @@
 use Rattle.std.specs.Prelude.{◌≡◌, ◌≢◌, ℕ, ◌<◌, List, [], ◌∷◌, length, take, map, slice_index_or}
 use Rattle.mpm_render.specs.declared.unit.Unit2.{Unit2}
 use Rattle.mpm_render.specs.Lines.{place_of, places, text_with}
-use Rattle.mpm_render.specs.Outputs.{closing}
+use Rattle.mpm_render.specs.Completions.{Completion}
+use Rattle.mpm_render.specs.Outputs.{closing, record_text}
 use Rattle.mpm_render.specs.Shown.{Kept, line_of}
 
 -- a text by one put; where there is no text, nothing is put
@@ -27,6 +28,10 @@ pub record StopsAt {S : Type 0} (took dropped : S → List ℕ → S → Type 0)
 -- what a byte to a console or a printer writes, behind the unfinished line that is kept of it
 abbrev pub text_put : Unit2 → ℕ → Kept → List ℕ
 text_put unit byte kept = text_with (place_of unit) byte (line_of kept (place_of unit))
+
+-- what the record of a completed call writes
+abbrev pub text_traced : Completion → Kept → List ℕ
+text_traced call kept = record_text kept.trace call
 
 -- what closing writes of each place, in order
 abbrev pub texts_closed : Kept → List (List ℕ)

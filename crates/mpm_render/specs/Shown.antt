@@ -3,7 +3,7 @@ use Rattle.std.specs.Prelude.{◌≡◌, ℕ, ◌<◌, List, [], Option, Bool, l
 use Rattle.mpm_port.specs.Texts.{Begins, appended}
 use Rattle.mpm_render.specs.Outputs.{Output, pending, rendered}
 
--- what a renderer keeps: the unfinished line of each place, and whether it traces
+-- what a renderer keeps: the unfinished line of each place, and whether it writes the records of completed calls
 pub record Kept : Type 0 where
   pub lines : List (List ℕ)
   pub trace : Bool
@@ -15,7 +15,7 @@ line_of kept place = slice_index_or kept.lines place []
 -- each place's line is what is pending there, and the sink was told the first text and then the outputs' text
 pub record Shows (kept : Kept) (told : Option (List ℕ)) (outputs : List Output) (first : Option (List ℕ)) : Type 0 where
   pub lines : (place : ℕ) → place < 12 → line_of kept place ≡ pending place outputs
-  pub told_is : told ≡ appended first (rendered outputs)
+  pub told_is : told ≡ appended first (rendered kept.trace outputs)
 
 -- writing stopped: the sink was told the first text, then all of one text and a part of what another adds to it,
 -- which isn't empty

@@ -4,10 +4,12 @@ ghost use Rattle.mpm_port.specs.Texts.{appended};
 
 use crate::Unit2;
 use crate::line::Line;
+use crate::text::LineText;
 use mpm_port::{Failed, Sink};
 use std::marker::Model;
 
-/// The lines of a machine's consoles and printers as they grow.
+/// The lines of a machine's consoles and printers as they grow, and whether the records of completed calls are
+/// written too.
 #[derive(Drop)]
 pub struct Render {
     lines: [Line; 12],
@@ -24,11 +26,12 @@ impl Model for Render {
 
 impl Render {
     ghost use Rattle.mpm_render.specs.Lines.{IsUnit};
-    ghost use Rattle.mpm_render.specs.Outputs.{Output, Said, rendered, closed};
+    ghost use Rattle.mpm_render.specs.Completions.{completion};
+    ghost use Rattle.mpm_render.specs.Outputs.{Output, Said, Completed, rendered, closed};
     ghost use Rattle.mpm_render.specs.Shown.{Shows, EndsBetween, line_of};
-    ghost use Rattle.mpm_render.specs.Puts.{PutsLine, PutsEach, StopsAt, text_put, texts_closed};
+    ghost use Rattle.mpm_render.specs.Puts.{PutsLine, PutsEach, StopsAt, text_put, text_traced, texts_closed};
 
-    /// Empty lines; `trace` says whether trace records are written.
+    /// Empty lines; `trace` says whether the records of completed calls are written.
     pub fn new(trace: bool) -> Render
         ensures fresh { (told : Option (List ℕ)) → Shows result told [] told }
         ensures trace { result.trace ≡ trace }
@@ -46,7 +49,7 @@ impl Render {
         ensures ok { (os : List Output) (first : Option (List ℕ)) → Shows self.old (S.written sink.old) os first
             → OnOk result (Shows self.new (S.written sink.new) (Said stream byte ∷ os) first) }
         ensures err { (os : List Output) (first : Option (List ℕ)) → Shows self.old (S.written sink.old) os first
-            → OnErr result (EndsBetween (S.written sink.new) first (rendered os) (rendered (Said stream byte ∷ os))) }
+            → OnErr result (EndsBetween (S.written sink.new) first (rendered self.old.trace os) (rendered self.old.trace (Said stream byte ∷ os))) }
         ensures puts { OnOk result (PutsLine S.took (text_put stream byte self.old) sink.old sink.new) }
         ensures drops { OnErr result (S.dropped sink.old (text_put stream byte self.old) sink.new) }
         ensures some { OnErr result (text_put stream byte self.old ≢ []) }
@@ -59,12 +62,45 @@ impl Render {
         line.put(place, byte, sink)
     }
 
+    /// Writes the record of a completed call with one `put`, where the renderer was made to trace; else puts nothing. The
+    /// record has the step in which the call completed, the process `p` that made it, its function's number, and the
+    /// registers as the reply left them. The unfinished lines stay as they were.
+    #[tactic(auto, using(crate::proofs::Laws::pending_completed, crate::proofs::Laws::rendered_unasked, crate::proofs::Putting::puts_none, crate::proofs::Putting::puts_some))]
+    pub fn trace<S: Sink>(
+        &mut self,
+        step: u64,
+        p: u8,
+        function: u8,
+        a: u8,
+        bc: u16,
+        de: u16,
+        hl: u16,
+        sink: &mut S,
+    ) -> Result<(), Failed>
+        ensures ok { (os : List Output) (first : Option (List ℕ)) → Shows self.old (S.written sink.old) os first
+            → OnOk result (Shows self.new (S.written sink.new) (Completed (completion step p function a bc de hl) ∷ os) first) }
+        ensures err { (os : List Output) (first : Option (List ℕ)) → Shows self.old (S.written sink.old) os first
+            → OnErr result (EndsBetween (S.written sink.new) first (rendered self.old.trace os)
+            (rendered self.old.trace (Completed (completion step p function a bc de hl) ∷ os))) }
+        ensures puts { OnOk result (PutsLine S.took (text_traced (completion step p function a bc de hl) self.old) sink.old sink.new) }
+        ensures drops { OnErr result (S.dropped sink.old (text_traced (completion step p function a bc de hl) self.old) sink.new) }
+        ensures some { OnErr result (text_traced (completion step p function a bc de hl) self.old ≢ []) }
+        ensures cause { HasCause (S.faults sink.old) (S.faults sink.new) result }
+        ensures lines { self.new ≡ self.old }
+    {
+        if !self.trace {
+            return Ok(());
+        }
+        let text = LineText::traced(step, p, function, a, bc, de, hl);
+        sink.put(text.as_slice())
+    }
+
     /// Writes each line that isn't empty, consoles first, by number, each with one `put`, up to the first that fails.
     pub fn finish<S: Sink>(&mut self, sink: &mut S) -> Result<(), Failed>
         ensures ok { (os : List Output) (first : Option (List ℕ)) → Shows self.old (S.written sink.old) os first
-            → OnOk result (S.written sink.new ≡ appended first (closed os)) }
+            → OnOk result (S.written sink.new ≡ appended first (closed self.old.trace os)) }
         ensures err { (os : List Output) (first : Option (List ℕ)) → Shows self.old (S.written sink.old) os first
-            → OnErr result (EndsBetween (S.written sink.new) first (rendered os) (closed os)) }
+            → OnErr result (EndsBetween (S.written sink.new) first (rendered self.old.trace os) (closed self.old.trace os)) }
         ensures puts { OnOk result (PutsEach S.took (texts_closed self.old) sink.old sink.new) }
         ensures stops { OnErr result (StopsAt S.took S.dropped (texts_closed self.old) sink.old sink.new) }
         ensures cause { HasCause (S.faults sink.old) (S.faults sink.new) result }

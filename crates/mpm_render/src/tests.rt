@@ -120,3 +120,70 @@ fn a_failed_line_is_kept(rt: HostRuntime) -> Result<(), Fail> {
     assert_eq!(rt; sink.bytes.as_slice(), b"c0 A\\\n".as_slice());
     Ok(())
 }
+
+#[test]
+fn a_completed_call_is_a_line(rt: HostRuntime) -> Result<(), Fail> {
+    let mut render = Render::new(true);
+    let mut sink = sink();
+    render.trace(4, 0, 12, 0x30, 0x010c, 0x0000, 0x0130, &mut sink)?;
+    render.trace(5, 0, 9, 0x00, 0x0009, 0x010d, 0x0000, &mut sink)?;
+    assert_eq!(rt;
+        sink.bytes.as_slice(),
+        b"t 4 0 12 30 010C 0000 0130\nt 5 0 9 00 0009 010D 0000\n".as_slice()
+    );
+    assert_eq!(rt; sink.puts, 2);
+    Ok(())
+}
+
+#[test]
+fn a_record_leaves_the_unfinished_line(rt: HostRuntime) -> Result<(), Fail> {
+    let mut render = Render::new(true);
+    let mut sink = sink();
+    say(&mut render, CONSOLE, b"A", &mut sink)?;
+    render.trace(
+        4_000_000_000,
+        31,
+        255,
+        0xff,
+        0xffff,
+        0x00ab,
+        0xc0de,
+        &mut sink,
+    )?;
+    say(&mut render, CONSOLE, b"B\n", &mut sink)?;
+    assert_eq!(rt;
+        sink.bytes.as_slice(),
+        b"t 4000000000 31 255 FF FFFF 00AB C0DE\nc0 AB\n".as_slice()
+    );
+    assert_eq!(rt; sink.puts, 2);
+    Ok(())
+}
+
+#[test]
+fn nothing_is_put_without_trace(rt: HostRuntime) -> Result<(), Fail> {
+    let mut render = Render::new(false);
+    let mut sink = sink();
+    say(&mut render, CONSOLE, b"A", &mut sink)?;
+    render.trace(5, 0, 9, 0x00, 0x0009, 0x010d, 0x0000, &mut sink)?;
+    assert_eq!(rt; sink.puts, 0);
+    render.finish(&mut sink)?;
+    assert_eq!(rt; sink.bytes.as_slice(), b"c0 A\\\n".as_slice());
+    Ok(())
+}
+
+#[test]
+fn a_failed_record_leaves_the_lines(rt: HostRuntime) -> Result<(), Fail> {
+    let mut render = Render::new(true);
+    let mut sink = sink();
+    say(&mut render, CONSOLE, b"A", &mut sink)?;
+    sink.room = 25;
+    assert_eq!(rt;
+        render.trace(5, 0, 9, 0x00, 0x0009, 0x010d, 0x0000, &mut sink),
+        Err(Failed)
+    );
+    assert_eq!(rt; sink.puts, 1);
+    sink.room = 1024;
+    render.finish(&mut sink)?;
+    assert_eq!(rt; sink.bytes.as_slice(), b"c0 A\\\n".as_slice());
+    Ok(())
+}

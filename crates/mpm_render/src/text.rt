@@ -1,10 +1,13 @@
-ghost use Rattle.std.specs.Prelude.{◌≡◌, ℕ, ◌+◌, ◌*◌, ◌/◌, ◌%◌, ◌<◌, ◌≤◌, List, [], ◌∷◌, ◌++◌, length, flat_map};
-ghost use Rattle.mpm_render.specs.Lines.{escaped, label, hex_digit, cut_line};
+ghost use Rattle.std.specs.Prelude.{◌≡◌, ℕ, ◌+◌, ◌*◌, ◌/◌, ◌%◌, ◌<◌, ◌≤◌, List, [], ◌∷◌, ◌++◌, length, flat_map, decimal};
+ghost use Rattle.mpm_render.specs.Lines.{escaped, label, hex_digit, hex_byte, hex_word, cut_line};
+ghost use Rattle.mpm_render.specs.Completions.{completion, trace_line};
 
 use arrayvec::ArrayVec;
+use itoa::Buffer;
 use std::marker::Model;
 
 /// The text of one line, as it is built: at most its label, 200 bytes of four characters each, a backslash and an LF.
+/// The line of a completed call is shorter.
 #[derive(Drop)]
 pub struct LineText {
     bytes: ArrayVec<u8, 805>,
@@ -45,6 +48,35 @@ impl LineText {
         text
     }
 
+    /// The line of a completed call, with its LF: a t, the step, the process and the function in decimal, A in two
+    /// hexadecimal digits, BC, DE and HL in four.
+    #[tactic(auto, using(crate::proofs::Traces::words_joined), unfolding(crate::specs::Completions::trace_line))]
+    pub fn traced(
+        step: u64,
+        process: u8,
+        function: u8,
+        a: u8,
+        bc: u16,
+        de: u16,
+        hl: u16,
+    ) -> LineText
+        ensures text { result ≡ trace_line (completion step process function a bc de hl) }
+        ensures size { 0 < length result }
+    {
+        let mut bytes = ArrayVec::new();
+        bytes.push(b't');
+        let mut text = LineText { bytes };
+        text.push_decimal(step);
+        text.push_decimal(u64::from(process));
+        text.push_decimal(u64::from(function));
+        text.push_byte(a);
+        text.push_word(bc);
+        text.push_word(de);
+        text.push_word(hl);
+        text.end();
+        text
+    }
+
     /// The text so far.
     pub fn as_slice(&self) -> &[u8]
         ensures { result.now ≡ self.now }
@@ -80,7 +112,10 @@ impl LineText {
             b'\r' => self.push_pair(b'r'),
             b'\t' => self.push_pair(b't'),
             b' '..=b'~' => self.bytes.push(byte),
-            _ => self.push_hex(byte),
+            _ => {
+                self.push_pair(b'x');
+                self.push_hex(byte);
+            }
         }
     }
 
@@ -111,13 +146,47 @@ impl LineText {
         self.bytes.push(letter);
     }
 
-    /// The text with a byte behind it as a backslash, x and two upper-case hexadecimal digits.
-    fn push_hex(&mut self, byte: u8)
-        requires { length self.old + 4 ≤ 805 }
-        ensures { self.new ≡ self.old ++ (92 ∷ 120 ∷ hex_digit (byte / 16) ∷ hex_digit (byte % 16) ∷ []) }
+    /// The text with a space and a number behind it, in decimal.
+    fn push_decimal(&mut self, number: u64)
+        requires { length self.old + 21 ≤ 805 }
+        ensures text { self.new ≡ self.old ++ (32 ∷ decimal number) }
+        ensures size { length self.new ≤ length self.old + 21 }
     {
-        self.bytes.push(b'\\');
-        self.bytes.push(b'x');
+        self.bytes.push(b' ');
+        let mut buffer = Buffer::new();
+        let digits = buffer.format(number).as_bytes();
+        self.bytes.try_extend_from_slice(digits).unwrap();
+    }
+
+    /// The text with a space and a byte behind it, in two hexadecimal digits.
+    fn push_byte(&mut self, byte: u8)
+        requires { length self.old + 3 ≤ 805 }
+        ensures text { self.new ≡ self.old ++ (32 ∷ hex_byte byte) }
+        ensures size { length self.new ≡ length self.old + 3 }
+    {
+        self.bytes.push(b' ');
+        self.push_hex(byte);
+    }
+
+    /// The text with a space and a word of 16 bits behind it, in four hexadecimal digits.
+    #[tactic(auto, unfolding(crate::specs::Lines::hex_word))]
+    fn push_word(&mut self, word: u16)
+        requires { length self.old + 5 ≤ 805 }
+        ensures text { self.new ≡ self.old ++ (32 ∷ hex_word word) }
+        ensures size { length self.new ≡ length self.old + 5 }
+    {
+        self.bytes.push(b' ');
+        self.push_hex((word / 256) as u8);
+        self.push_hex((word % 256) as u8);
+    }
+
+    /// The text with a byte behind it, in two upper-case hexadecimal digits.
+    #[tactic(auto, unfolding(crate::specs::Lines::hex_byte))]
+    fn push_hex(&mut self, byte: u8)
+        requires { length self.old + 2 ≤ 805 }
+        ensures text { self.new ≡ self.old ++ hex_byte byte }
+        ensures size { length self.new ≡ length self.old + 2 }
+    {
         self.bytes.push(digit_of(byte / 16));
         self.bytes.push(digit_of(byte % 16));
     }

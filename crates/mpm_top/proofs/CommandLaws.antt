@@ -1,19 +1,10 @@
 -- Laws of the command line's words.
-use Rattle.std.proofs.Common.{◌≡◌, ◌≢◌, ℕ, ◌≤◌, List, [], ◌∷◌, Bool, true, false, ◌&&◌, nat_le, Option, Some, None, if◌then◌else◌, MatchOption, String, string_bytes, bytes_eq, codes, length, get_or, refl, sym, arith}
+use Rattle.std.proofs.Common.{◌≡◌, ◌≢◌, ℕ, ◌≤◌, List, [], ◌∷◌, Bool, true, false, ◌&&◌, nat_le, Option, Some, None, if◌then◌else◌, length, refl, arith}
 use Rattle.std.proofs.lemmas.Bool.Decides.{nat_tests}
 use Rattle.std.specs.List.{list_all}
 use Rattle.std.specs.Char.{is_ascii_digit}
-use Rattle.std.specs.declared.alloc.Global.{Global}
-use Rattle.mpm_top.specs.Words.{texts, value_from, is_plain, decimal_of, steps_of, program_of, command_of, IsSteps}
-
-pub texts_three : (words : List (String Global)) (a b c : String Global) → length words ≡ 3
-    → a ≡ get_or words 0 a → b ≡ get_or words 1 b → c ≡ get_or words 2 c
-    → texts words ≡ string_bytes a ∷ string_bytes b ∷ string_bytes c ∷ []
-texts_three [] a b c three first second third = absurd (omega arith)
-texts_three (x ∷ []) a b c three first second third = absurd (omega arith)
-texts_three (x ∷ y ∷ []) a b c three first second third = absurd (omega arith)
-texts_three (x ∷ y ∷ z ∷ []) a b c three first second third = cc
-texts_three (x ∷ y ∷ z ∷ more ∷ rest) a b c three first second third = absurd (omega arith)
+use Rattle.mpm_top.specs.Words.{value_from, is_plain, decimal_of, steps_of, command_with, IsAsked}
+use Rattle.mpm_top.specs.declared.words.Form.{Form}
 
 limit_if : (test : Bool) (value n : ℕ) → (test ≡ true → value ≤ 4000000000) → (if test then Some value else None) ≡ Some n → n ≤ 4000000000
 limit_if true value n h e = let same : value ≡ n = cc in omega (arith, h refl)
@@ -33,12 +24,29 @@ steps_limit text n e = steps_limit_if (is_plain text) text n e
     steps_limit_if true text n e = decimal_limit 0 text n e
     steps_limit_if false text n e = absurd cc
 
--- the words `program`, a name and a word of steps ask what that word says
-pub command_is : (word file steps : List ℕ) (count : Option ℕ) → bytes_eq word (codes "program") ≡ true → length file ≢ 0
-    → count ≡ steps_of steps
-    → MatchOption count (command_of (word ∷ file ∷ steps ∷ []) ≡ None) (λ n. IsSteps (word ∷ file ∷ steps ∷ []) n)
-unfolding command_of program_of
-command_is word [] steps count is_word named e = absurd (named refl)
-command_is word (byte ∷ file) steps None is_word named e = rw (is_word, ← e) refl
-command_is word (byte ∷ file) steps (Some n) is_word named e =
-    record { command = rw (is_word, ← e) refl; count = refl; limit = steps_limit steps n (sym e) }
+-- a form, a name and a word of steps ask what they say
+pub asked_is : (form : Form) (file : List ℕ) (text : List ℕ) (steps : ℕ) (trace : Bool) (said : Option Form) → length file ≢ 0 → said ≡ Some form
+    → steps_of text ≡ Some steps → IsAsked (command_with said file (steps_of text) trace) file (record { form = form; steps = steps; trace = trace })
+unfolding command_with
+asked_is form [] text steps trace said named is e = absurd (named refl)
+asked_is form (byte ∷ file) text steps trace said named is e = record { is = rw (is, e) refl; limit = steps_limit text steps e }
+
+-- without a form, a name or a number of steps they ask nothing
+
+pub no_form : (said : Option Form) (file : List ℕ) (steps : Option ℕ) (trace : Bool) → said ≡ None → command_with said file steps trace ≡ None
+unfolding command_with
+no_form None file steps trace e = refl
+no_form (Some form) file steps trace e = absurd (cc)
+
+pub no_name : (said : Option Form) (file : List ℕ) (steps : Option ℕ) (trace : Bool) → length file ≡ 0 → command_with said file steps trace ≡ None
+unfolding command_with
+no_name None file steps trace e = refl
+no_name (Some form) [] steps trace e = refl
+no_name (Some form) (byte ∷ file) steps trace e = absurd (omega arith)
+
+pub no_steps : (said : Option Form) (file : List ℕ) (steps : Option ℕ) (trace : Bool) → steps ≡ None → command_with said file steps trace ≡ None
+unfolding command_with
+no_steps None file steps trace e = refl
+no_steps (Some form) [] steps trace e = refl
+no_steps (Some form) (byte ∷ file) None trace e = refl
+no_steps (Some form) (byte ∷ file) (Some steps) trace e = absurd (cc)

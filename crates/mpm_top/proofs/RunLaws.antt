@@ -1,19 +1,20 @@
--- Laws of a run from a program's beginning to its end.
-use Rattle.std.proofs.Common.{◌≡◌, ℕ, List, [], Option, refl, inl, inr}
+-- Laws of a run from its beginning to its end.
+use Rattle.std.proofs.Common.{ℕ, Bool, List, [], Option, refl, inl, inr}
 use Rattle.mpm_render.specs.Shown.{Kept, Shows, EndsBetween}
 use Rattle.mpm_render.specs.Outputs.{rendered, closed}
-use Rattle.mpm_machine.specs.State.{Core, State, after, opening, opening_core, StandsFor, EndsInStep}
-use Rattle.mpm_top.specs.Runs.{StopsAt}
+use Rattle.mpm_machine.specs.declared.system.System.{System}
+use Rattle.mpm_machine.specs.State.{State, StandsFor}
+use Rattle.mpm_machine.specs.Step.{after, EndsInStep}
+use Rattle.mpm_top.specs.Runs.{begun, StopsAt}
 
--- a machine as a program begins, and a renderer that shows nothing yet, stand for the opening state
-pub stands_opening : (core : Core) (kept : Kept) (told : Option (List ℕ)) (program : List ℕ) → core ≡ opening_core program
-    → Shows kept told [] told → StandsFor core kept told (opening program) told
-unfolding opening
-stands_opening core kept told program e shows = record { parts = e; shown = shows }
+-- a machine that begins, and a renderer that shows nothing yet, stand for its beginning
+pub stands_begun : (system : System) (kept : Kept) (told : Option (List ℕ)) → Shows kept told [] told → StandsFor system kept told (begun system) told
+stands_begun system kept told shows = record { parts = refl; shown = shows }
 
-pub stops_in_step : (s : State) (steps : ℕ) (first told : Option (List ℕ)) (step : ℕ) → EndsInStep told first s steps step → StopsAt s steps first told step
-stops_in_step s steps first told step h = inl h
+pub stops_in_step : (trace : Bool) (s : State) (steps : ℕ) (first told : Option (List ℕ)) (step : ℕ) → EndsInStep trace told first s steps step
+    → StopsAt trace s steps first told step
+stops_in_step trace s steps first told step h = inl h
 
-pub stops_closing : (s : State) (steps : ℕ) (first told : Option (List ℕ))
-    → EndsBetween told first (rendered (after steps s).outputs) (closed (after steps s).outputs) → StopsAt s steps first told steps
-stops_closing s steps first told h = inr (refl, h)
+pub stops_closing : (trace : Bool) (s : State) (steps : ℕ) (first told : Option (List ℕ))
+    → EndsBetween told first (rendered trace (after steps s).outputs) (closed trace (after steps s).outputs) → StopsAt trace s steps first told steps
+stops_closing trace s steps first told h = inr (refl, h)

@@ -3,10 +3,16 @@ use Rattle.std.specs.Prelude.{◌≡◌, ◌≤◌, slice_index_or, ℕ, ◌+◌
 use Rattle.std.specs.List.{list_all}
 use Rattle.std.specs.Char.{is_ascii_digit}
 use Rattle.std.specs.declared.alloc.Global.{Global}
+use Rattle.mpm_top.specs.declared.words.Form.{Form}
+use Rattle.mpm_top.specs.declared.words.Form.TheVariants.{Program, Run}
+use Rattle.mpm_top.specs.declared.words.Asked.{Asked}
 
--- what a command asks: to run a program file for so many steps
-pub data Command : Type 0 where
-  Program : List ℕ → ℕ → Command
+-- what a command asks: its form, the name of its file, how many steps, and whether completed calls are recorded
+pub record Command : Type 0 where
+  pub form : Form
+  pub name : List ℕ
+  pub steps : ℕ
+  pub trace : Bool
 
 -- the words as their bytes
 abbrev pub texts : List (String Global) → List (List ℕ)
@@ -32,23 +38,37 @@ decimal_of before text =
 unfoldable pub steps_of : List ℕ → Option ℕ
 steps_of text = if is_plain text then decimal_of 0 text else None
 
--- the command of running a file, which has a name
-unfoldable pub program_of : List ℕ → Option ℕ → Option Command
-program_of [] steps = None
-program_of (byte ∷ name) None = None
-program_of (byte ∷ name) (Some steps) = Some (Program (byte ∷ name) steps)
+-- the form of a command by its first word
+unfoldable pub form_of : List ℕ → Option Form
+form_of word =
+    if bytes_eq word (codes "program") then Some Program
+    else (if bytes_eq word (codes "run") then Some Run else None)
 
--- what the words ask: `program`, a file, a number of steps; None where they have no such form
+-- the command of a form and a file, which has a name
+unfoldable pub command_with : Option Form → List ℕ → Option ℕ → Bool → Option Command
+command_with None name steps trace = None
+command_with (Some form) [] steps trace = None
+command_with (Some form) (byte ∷ name) None trace = None
+command_with (Some form) (byte ∷ name) (Some steps) trace =
+    Some (record { form = form; name = byte ∷ name; steps = steps; trace = trace })
+
+-- what the words ask: `program` or `run`, a file, a number of steps, and perhaps `--trace`; None where they have no such
+-- form
 unfoldable pub command_of : List (List ℕ) → Option Command
 command_of [] = None
 command_of (word ∷ []) = None
 command_of (word ∷ file ∷ []) = None
-command_of (word ∷ file ∷ steps ∷ []) =
-    if bytes_eq word (codes "program") then program_of file (steps_of steps) else None
-command_of (word ∷ file ∷ steps ∷ more ∷ rest) = None
+command_of (word ∷ file ∷ steps ∷ []) = command_with (form_of word) file (steps_of steps) false
+command_of (word ∷ file ∷ steps ∷ last ∷ []) =
+    if bytes_eq last (codes "--trace") then command_with (form_of word) file (steps_of steps) true else None
+command_of (word ∷ file ∷ steps ∷ last ∷ more ∷ rest) = None
 
--- the words ask to run the file of the second word for so many steps
-pub record IsSteps (words : List (List ℕ)) (steps : ℕ) : Type 0 where
-  pub command : command_of words ≡ Some (Program (slice_index_or words 1 []) steps)
-  pub count : length words ≡ 3
-  pub limit : steps ≤ 4000000000
+-- a command asks that of a file of that name
+pub record IsAsked (command : Option Command) (name : List ℕ) (asked : Asked) : Type 0 where
+  pub is : command ≡ Some (record { form = asked.form; name = name; steps = asked.steps; trace = asked.trace })
+  pub limit : asked.steps ≤ 4000000000
+
+-- the words ask that of the file of the second of them
+pub record AreAsking (words : List (List ℕ)) (asked : Asked) : Type 0 where
+  pub command : IsAsked (command_of words) (slice_index_or words 1 []) asked
+  pub count : 3 ≤ length words

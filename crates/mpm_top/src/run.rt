@@ -1,13 +1,16 @@
-ghost use Rattle.std.specs.Prelude.{◌≡◌, ◌≢◌, ◌≤◌, ◌<◌, ◌⊎◌, ◌↔◌, ◌∷◌, ◌++◌, [], ℕ, List, Option, Some, None, OnOk, OnErr, IfErr, MatchOption, length, slice_index_or, ⊤};
+ghost use Rattle.std.specs.Prelude.{◌≡◌, ◌≢◌, ◌≤◌, ◌<◌, ◌⊎◌, ◌↔◌, ◌∷◌, ◌++◌, [], ℕ, List, Option, Some, None, IfOk, OnOk, OnErr, IfErr, MatchOption, IsSome, length, slice_index_or, ⊤};
 ghost use Rattle.mpm_port.specs.Causes.{Rose, HasCause};
 ghost use Rattle.mpm_port.specs.Texts.{appended};
 ghost use Rattle.mpm_render.specs.Outputs.{closed};
-ghost use Rattle.mpm_machine.specs.State.{after, opening, opening_core};
-ghost use Rattle.mpm_top.specs.Words.{Command, Program, texts, command_of};
-ghost use Rattle.mpm_top.specs.Runs.{IsProgram, StopsAt, WritesAll, WritesPart, IsRefusal, UnlessWriteFault, IsRunStatus};
+ghost use Rattle.mpm_machine.specs.declared.system.System.{System};
+ghost use Rattle.mpm_machine.specs.State.{IsWhole};
+ghost use Rattle.mpm_machine.specs.Step.{after};
+ghost use Rattle.mpm_top.specs.Words.{Command, texts, command_of};
+ghost use Rattle.mpm_top.specs.Runs.{command_on, input_of as input_said, room_of as room_said, system_of, begun, StopsAt, WritesAll, WritesPart, IsRefusal, UnlessWriteFault, IsBootRefusal, IsRunStatus};
 
-use crate::words::program_steps;
-use mpm_machine::{Machine, RunFault};
+use crate::words::{Asked, Form, read_words};
+use mpm_machine::{BootError, Machine, RunFault};
+use mpm_machine_file::{MachineError, read_machine};
 use mpm_port::{Drives, FetchError, Fetched, Files, Sink};
 use mpm_render::Render;
 use std::alloc::Global;
@@ -15,9 +18,14 @@ use std::alloc::Global;
 /// The most bytes of a program: the room of its segment of 192 pages.
 const PROGRAM_ROOM: usize = 48_512;
 
+/// The most bytes of a machine file.
+const MACHINE_ROOM: usize = 65_536;
+
 /// An input that has a greatest length.
 #[derive(Clone, Copy, Debug, PartialEq, Eq)]
 pub enum Input {
+    /// A machine file, of at most 65,536 bytes.
+    MachineText,
     /// A program file, of at most 48,512 bytes.
     ProgramBytes,
 }
@@ -29,6 +37,8 @@ pub enum Status {
     Ran,
     /// The words have no form that the program knows.
     Usage,
+    /// The machine file has not the form of one.
+    MachineFault,
     /// An input is longer than it may be.
     TooLong { what: Input },
     /// A file that the words name could not be read.
@@ -52,34 +62,43 @@ pub fn run_words<F: Files, D: Drives, S: Sink>(
     ensures usage_files { result ≡ Status.Usage → files.new ≡ files.old }
 
     // Ran: what the sink was given is exactly the text of the outputs after those steps, and nothing failed.
-    ensures ran { (file : List ℕ) (steps : ℕ) → command_of (texts words.now) ≡ Some (Program file steps) → result ≡ Status.Ran
-        → WritesAll (F.contents files.old file) steps (S.written sink.old) (S.written sink.new) }
+    ensures ran { (command : Command) → command_of (texts words.now) ≡ Some command → result ≡ Status.Ran
+        → WritesAll command (F.contents files.old command.name) (S.written sink.old) (S.written sink.new) }
 
     // TooLong comes only where the file is told to be longer, and always there.
-    ensures too_long { (file : List ℕ) (steps : ℕ) → command_of (texts words.now) ≡ Some (Program file steps) → (what : Input)
-        → result ≡ Status.TooLong what → MatchOption (F.contents files.old file) ⊤ (λ program. 48512 < length program) }
-    ensures long { (file : List ℕ) (steps : ℕ) → command_of (texts words.now) ≡ Some (Program file steps)
-        → (program : List ℕ) → F.contents files.old file ≡ Some program → 48512 < length program
+    ensures too_long { (command : Command) → command_of (texts words.now) ≡ Some command → (what : Input) → result ≡ Status.TooLong what
+        → (what ≡ input_said command.form) × MatchOption (F.contents files.old command.name) ⊤ (λ bytes. room_said command.form < length bytes) }
+    ensures long { (command : Command) → command_of (texts words.now) ≡ Some command
+        → (bytes : List ℕ) → F.contents files.old command.name ≡ Some bytes → room_said command.form < length bytes
         → F.failed_names files.new ≡ F.failed_names files.old
-        → (result ≡ Status.TooLong Input.ProgramBytes) ⊎ (result ≡ Status.OutOfMemory) }
+        → (result ≡ Status.TooLong (input_said command.form)) ⊎ (result ≡ Status.OutOfMemory) }
+
+    // MachineFault comes only where the file is no machine file, and always there.
+    ensures machine_fault { (command : Command) → command_of (texts words.now) ≡ Some command → result ≡ Status.MachineFault
+        → MatchOption (F.contents files.old command.name) ⊤ (λ bytes. system_of command.form bytes ≡ None) }
+    ensures no_machine { (command : Command) → command_of (texts words.now) ≡ Some command
+        → (bytes : List ℕ) → F.contents files.old command.name ≡ Some bytes → length bytes ≤ room_said command.form
+        → system_of command.form bytes ≡ None → F.failed_names files.new ≡ F.failed_names files.old
+        → (result ≡ Status.MachineFault) ⊎ (result ≡ Status.OutOfMemory) }
 
     // ReadFault comes exactly where the file's own name joined the failed names.
-    ensures read { (file : List ℕ) (steps : ℕ) → command_of (texts words.now) ≡ Some (Program file steps) → result ≡ Status.ReadFault
-        → F.failed_names files.new ≡ F.failed_names files.old ++ (file ∷ []) }
+    ensures read { (command : Command) → command_of (texts words.now) ≡ Some command → result ≡ Status.ReadFault
+        → F.failed_names files.new ≡ F.failed_names files.old ++ (command.name ∷ []) }
     ensures names { result ≢ Status.ReadFault → F.failed_names files.new ≡ F.failed_names files.old }
-    ensures missing { (file : List ℕ) (steps : ℕ) → command_of (texts words.now) ≡ Some (Program file steps)
-        → F.missing files.old file → (result ≡ Status.ReadFault) ⊎ (result ≡ Status.OutOfMemory) }
+    ensures missing { (command : Command) → command_of (texts words.now) ≡ Some command
+        → F.missing files.old command.name → (result ≡ Status.ReadFault) ⊎ (result ≡ Status.OutOfMemory) }
 
     // WriteFault comes only where the sink's count rose, in the step and behind the text that it says.
     ensures write { (step : ℕ) → result ≡ Status.WriteFault step → Rose (S.faults sink.old) (S.faults sink.new) }
-    ensures write_text { (file : List ℕ) (steps : ℕ) → command_of (texts words.now) ≡ Some (Program file steps) → (step : ℕ)
-        → result ≡ Status.WriteFault step
-        → WritesPart (F.contents files.old file) steps (S.written sink.old) (S.written sink.new) step }
+    ensures write_text { (command : Command) → command_of (texts words.now) ≡ Some command → (step : ℕ) → result ≡ Status.WriteFault step
+        → WritesPart command (F.contents files.old command.name) (S.written sink.old) (S.written sink.new) step }
     ensures count { UnlessWriteFault result (S.faults sink.new ≡ S.faults sink.old) }
 
-    // Words that are accepted, a file that is told and not too long, and nothing that failed: it ran, or wanted memory.
-    ensures complete { (file : List ℕ) (steps : ℕ) → command_of (texts words.now) ≡ Some (Program file steps)
-        → (program : List ℕ) → F.contents files.old file ≡ Some program → length program ≤ 48512
+    // Words that are accepted, a file that is told, not too long and of the form, and nothing that failed: it ran, or wanted
+    // memory.
+    ensures complete { (command : Command) → command_of (texts words.now) ≡ Some command
+        → (bytes : List ℕ) → F.contents files.old command.name ≡ Some bytes → length bytes ≤ room_said command.form
+        → (system : System) → system_of command.form bytes ≡ Some system
         → F.failed_names files.new ≡ F.failed_names files.old → (Rose (S.faults sink.old) (S.faults sink.new) → ⊥)
         → (result ≡ Status.Ran) ⊎ (result ≡ Status.OutOfMemory) }
 
@@ -89,89 +108,145 @@ pub fn run_words<F: Files, D: Drives, S: Sink>(
     ensures files { (other : List ℕ) → F.contents files.new other ≡ F.contents files.old other }
 {
     let _ = drives;
-    let Some(steps) = program_steps(words) else {
+    let Some(asked) = read_words(words) else {
         return Status::Usage;
     };
-    run_program(alloc, words[1].as_str(), steps, files, sink)
+    run_file(alloc, words[1].as_str(), asked, files, sink)
 }
 
-/// Runs the program of a file for so many steps.
-fn run_program<F: Files, S: Sink>(
+impl Form {
+    /// The input that the file of a command is.
+    fn input(self) -> Input
+        ensures { result ≡ input_said self }
+    {
+        match self {
+            Form::Program => Input::ProgramBytes,
+            Form::Run => Input::MachineText,
+        }
+    }
+
+    /// The most bytes of it.
+    fn room(self) -> usize
+        ensures { result ≡ room_said self }
+    {
+        match self {
+            Form::Program => PROGRAM_ROOM,
+            Form::Run => MACHINE_ROOM,
+        }
+    }
+}
+
+/// Does what a command asks of a file.
+fn run_file<F: Files, S: Sink>(
     alloc: Global,
-    file: &str,
-    steps: u64,
+    name: &str,
+    asked: Asked,
     files: &mut F,
     sink: &mut S,
 ) -> Status
-    requires { steps ≤ 4000000000 }
+    requires { asked.steps ≤ 4000000000 }
     ensures usage { result ≢ Status.Usage }
-    ensures ran { result ≡ Status.Ran → WritesAll (F.contents files.old file.now) steps (S.written sink.old) (S.written sink.new) }
+    ensures ran { result ≡ Status.Ran
+        → WritesAll (command_on name.now asked) (F.contents files.old name.now) (S.written sink.old) (S.written sink.new) }
     ensures too_long { (what : Input) → result ≡ Status.TooLong what
-        → MatchOption (F.contents files.old file.now) ⊤ (λ program. 48512 < length program) }
-    ensures long { (program : List ℕ) → F.contents files.old file.now ≡ Some program → 48512 < length program
+        → (what ≡ input_said asked.form) × MatchOption (F.contents files.old name.now) ⊤ (λ bytes. room_said asked.form < length bytes) }
+    ensures long { (bytes : List ℕ) → F.contents files.old name.now ≡ Some bytes → room_said asked.form < length bytes
         → F.failed_names files.new ≡ F.failed_names files.old
-        → (result ≡ Status.TooLong Input.ProgramBytes) ⊎ (result ≡ Status.OutOfMemory) }
-    ensures read { result ≡ Status.ReadFault → F.failed_names files.new ≡ F.failed_names files.old ++ (file.now ∷ []) }
+        → (result ≡ Status.TooLong (input_said asked.form)) ⊎ (result ≡ Status.OutOfMemory) }
+    ensures machine_fault { result ≡ Status.MachineFault
+        → MatchOption (F.contents files.old name.now) ⊤ (λ bytes. system_of asked.form bytes ≡ None) }
+    ensures no_machine { (bytes : List ℕ) → F.contents files.old name.now ≡ Some bytes → length bytes ≤ room_said asked.form
+        → system_of asked.form bytes ≡ None → F.failed_names files.new ≡ F.failed_names files.old
+        → (result ≡ Status.MachineFault) ⊎ (result ≡ Status.OutOfMemory) }
+    ensures read { result ≡ Status.ReadFault → F.failed_names files.new ≡ F.failed_names files.old ++ (name.now ∷ []) }
     ensures names { result ≢ Status.ReadFault → F.failed_names files.new ≡ F.failed_names files.old }
-    ensures missing { F.missing files.old file.now → (result ≡ Status.ReadFault) ⊎ (result ≡ Status.OutOfMemory) }
+    ensures missing { F.missing files.old name.now → (result ≡ Status.ReadFault) ⊎ (result ≡ Status.OutOfMemory) }
     ensures write { (step : ℕ) → result ≡ Status.WriteFault step → Rose (S.faults sink.old) (S.faults sink.new) }
     ensures write_text { (step : ℕ) → result ≡ Status.WriteFault step
-        → WritesPart (F.contents files.old file.now) steps (S.written sink.old) (S.written sink.new) step }
+        → WritesPart (command_on name.now asked) (F.contents files.old name.now) (S.written sink.old) (S.written sink.new) step }
     ensures count { UnlessWriteFault result (S.faults sink.new ≡ S.faults sink.old) }
-    ensures complete { (program : List ℕ) → F.contents files.old file.now ≡ Some program → length program ≤ 48512
+    ensures complete { (bytes : List ℕ) → F.contents files.old name.now ≡ Some bytes → length bytes ≤ room_said asked.form
+        → (system : System) → system_of asked.form bytes ≡ Some system
         → F.failed_names files.new ≡ F.failed_names files.old → (Rose (S.faults sink.old) (S.faults sink.new) → ⊥)
         → (result ≡ Status.Ran) ⊎ (result ≡ Status.OutOfMemory) }
     ensures nothing { IsRefusal result → sink.new ≡ sink.old }
     ensures files { (other : List ℕ) → F.contents files.new other ≡ F.contents files.old other }
 {
-    let mut program = Vec::new(alloc);
-    match files.fetch(file, PROGRAM_ROOM, &mut program) {
-        Ok(Fetched::Whole) => boot_and_run(alloc, program.as_slice(), steps, sink),
+    let mut bytes = Vec::new(alloc);
+    match files.fetch(name, asked.form.room(), &mut bytes) {
+        Ok(Fetched::Whole) => boot_and_run(alloc, bytes.as_slice(), asked, sink),
         Ok(Fetched::Longer) => Status::TooLong {
-            what: Input::ProgramBytes,
+            what: asked.form.input(),
         },
         Err(FetchError::Failed) => Status::ReadFault,
         Err(FetchError::OutOfMemory) => Status::OutOfMemory,
     }
 }
 
-/// Boots a program and runs it for so many steps.
-fn boot_and_run<S: Sink>(alloc: Global, program: &[u8], steps: u64, sink: &mut S) -> Status
-    requires room { length program.now ≤ 48512 }
-    requires limit { steps ≤ 4000000000 }
-    ensures statuses { IsRunStatus result }
-    ensures ran { result ≡ Status.Ran → S.written sink.new ≡ appended (S.written sink.old) (closed (after steps (opening program.now)).outputs) }
+/// Boots the machine of a file's bytes and runs it.
+fn boot_and_run<S: Sink>(alloc: Global, bytes: &[u8], asked: Asked, sink: &mut S) -> Status
+    requires room { length bytes.now ≤ room_said asked.form }
+    requires limit { asked.steps ≤ 4000000000 }
+    ensures statuses { IsRunStatus asked.form bytes.now result }
+    ensures ran { result ≡ Status.Ran → (system : System) → system_of asked.form bytes.now ≡ Some system
+        → S.written sink.new ≡ appended (S.written sink.old) (closed asked.trace (after asked.steps (begun system)).outputs) }
+    ensures begins { IsRefusal result ⊎ IsSome (system_of asked.form bytes.now) }
     ensures write { (step : ℕ) → result ≡ Status.WriteFault step → Rose (S.faults sink.old) (S.faults sink.new) }
-    ensures write_text { (step : ℕ) → result ≡ Status.WriteFault step
-        → StopsAt (opening program.now) steps (S.written sink.old) (S.written sink.new) step }
+    ensures write_text { (step : ℕ) → result ≡ Status.WriteFault step → (system : System) → system_of asked.form bytes.now ≡ Some system
+        → StopsAt asked.trace (begun system) asked.steps (S.written sink.old) (S.written sink.new) step }
     ensures count { UnlessWriteFault result (S.faults sink.new ≡ S.faults sink.old) }
     ensures nothing { IsRefusal result → sink.new ≡ sink.old }
 {
-    match Machine::boot_program(alloc, program) {
-        Ok(mut machine) => match run_to_end(&mut machine, steps, sink) {
+    match boot(alloc, asked.form, bytes) {
+        Ok(mut machine) => match run_to_end(&mut machine, asked, sink) {
             Ok(()) => Status::Ran,
             Err(fault) => Status::WriteFault { step: fault.step },
         },
-        Err(_) => Status::OutOfMemory,
+        Err(status) => status,
     }
 }
 
-/// Runs a machine as a program begins for so many steps, and closes the unfinished lines.
-fn run_to_end<S: Sink>(machine: &mut Machine, steps: u64, sink: &mut S) -> Result<(), RunFault>
+/// Boots the machine of a file's bytes.
+#[tactic(auto, unfolding(crate::specs::Runs::system_of))]
+fn boot(alloc: Global, form: Form, bytes: &[u8]) -> Result<Machine, Status>
+    requires { length bytes.now ≤ room_said form }
+    ensures system { IfOk result (λ machine. system_of form bytes.now ≡ Some machine) }
+    ensures whole { IfOk result (λ machine. IsWhole machine) }
+    ensures start { IfOk result (λ machine. machine.steps ≡ 0) }
+    ensures refused { IfErr result (λ status. IsBootRefusal form bytes.now status) }
+{
+    let booted = match form {
+        Form::Program => Machine::boot_program(alloc, bytes),
+        Form::Run => match read_machine(alloc, bytes) {
+            Ok(file) => Machine::boot(alloc, &file),
+            Err(MachineError::Fault) => return Err(Status::MachineFault),
+            Err(MachineError::OutOfMemory) => return Err(Status::OutOfMemory),
+        },
+    };
+    match booted {
+        Ok(machine) => Ok(machine),
+        Err(BootError::OutOfMemory) => Err(Status::OutOfMemory),
+    }
+}
+
+/// Runs a machine that begins for so many steps, and closes the unfinished lines.
+fn run_to_end<S: Sink>(machine: &mut Machine, asked: Asked, sink: &mut S) -> Result<(), RunFault>
+    requires whole { IsWhole machine.old }
     requires start { machine.old.steps ≡ 0 }
-    requires limit { steps ≤ 4000000000 }
-    ensures ok { (program : List ℕ) → machine.old ≡ opening_core program
-        → OnOk result (S.written sink.new ≡ appended (S.written sink.old) (closed (after steps (opening program)).outputs)) }
-    ensures err { (program : List ℕ) → machine.old ≡ opening_core program
-        → IfErr result (λ fault. StopsAt (opening program) steps (S.written sink.old) (S.written sink.new) fault.step) }
+    requires limit { asked.steps ≤ 4000000000 }
+    ensures ok { OnOk result (S.written sink.new ≡ appended (S.written sink.old) (closed asked.trace (after asked.steps (begun machine.old)).outputs)) }
+    ensures err { IfErr result (λ fault. StopsAt asked.trace (begun machine.old) asked.steps (S.written sink.old) (S.written sink.new) fault.step) }
     ensures cause { HasCause (S.faults sink.old) (S.faults sink.new) result }
 {
-    let mut render = Render::new(false);
-    if let Err(fault) = machine.run(steps, &mut render, sink) {
+    let mut render = Render::new(asked.trace);
+    if let Err(fault) = machine.run(asked.steps, &mut render, sink) {
         return Err(fault);
     }
     match machine.settle(&mut render, sink) {
         Ok(()) => Ok(()),
-        Err(fault) => Err(RunFault { step: steps, fault }),
+        Err(fault) => Err(RunFault {
+            step: asked.steps,
+            fault,
+        }),
     }
 }

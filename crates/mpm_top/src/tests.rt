@@ -18,24 +18,26 @@ const TAB_IN_STRING: &[u8] = b"\x0E\x09\x11\x08\x01\xCD\x05\x00ab\tc$";
 /// Says a tab at column 0 by function 2.
 const TAB_ALONE: &[u8] = b"\x0E\x02\x1E\x09\xCD\x05\x00";
 
-/// Copies a text by LDIR and says the copy by function 9.
-const COPY: &[u8] = b"\
-    \x21\x18\x01\x11\x00\x02\x01\x11\x00\xED\xB0\
-    \x11\x00\x02\x0E\x09\xCD\x05\x00\x0E\x00\xC3\x05\x00\
-    Copied by LDIR\r\n$";
+/// Asks for the version by function 12.
+const VERSION: &[u8] = b"\x0E\x0C\xCD\x05\x00";
 
-/// Counts in decimal over 99 and says each number by function 2.
-const COUNT: &[u8] = b"\
-    \x3E\x95\x06\x08\xC5\xF5\xF5\x0F\x0F\x0F\x0F\xCD\x2D\x01\xF1\xCD\
-    \x2D\x01\x3E\xF0\xCD\x2F\x01\xF1\xC6\x01\x27\xC1\x10\xE6\x3E\xDD\
-    \xCD\x2F\x01\x3E\xDA\xCD\x2F\x01\x0E\x00\xC3\x05\x00\
-    \xE6\x0F\xC6\x30\x5F\x0E\x02\xC3\x05\x00";
+/// Asks for a segment by function 129, where none is free.
+const SEGMENT: &[u8] = b"\x0E\x81\x11\x20\x01\xCD\x05\x00";
 
-/// Turns a text round in its place and says it by function 9.
-const REVERSE: &[u8] = b"\
-    \x21\x21\x01\x11\x35\x01\x46\x1A\x77\x78\x12\x23\x1B\xE5\xB7\xED\
-    \x52\xE1\x38\xF2\x11\x21\x01\x0E\x09\xCD\x05\x00\x0E\x00\xC3\x05\x00\
-    desrever si txet sihT\r\n$";
+/// Creates the process `CHILD   ` of priority 199 by function 144 and ends. The child, at 0120h, asks for the version by
+/// function 163 and ends.
+const CHILD: &[u8] = b"\x0E\x90\x11\x30\x01\xCD\x05\x00\x0E\x00\xCD\x05\x00\0\0\0\
+    \0\0\0\0\0\0\0\0\0\0\0\0\0\0\0\0\
+    \x0E\xA3\xCD\x05\x00\x0E\x00\xCD\x05\x00\0\0\0\0\0\0\
+    \0\0\0\xC7\x50\x01CHILD   \0\0\
+    \0\0\0\0\0\0\0\0\0\0\0\0\0\0\0\0\
+    \x20\x01";
+
+/// Asks for processes by function 144 with a descriptor that is linked to itself, so that 32 are read.
+const CHAIN: &[u8] = b"\x0E\x90\x11\x08\x01\xCD\x05\x00\x08\x01\0\xC7\x18\x01LOOP    \0\0";
+
+/// A machine of one console and one segment of all pages.
+const MACHINE: &[u8] = b"version = 1\nconsoles = 1\n[[segment]]\nbase = 0\npages = 192\n";
 
 fn strings(rt: &HostRuntime, words: &[&str]) -> Result<Vec<String>, Fail> {
     let mut strings = Vec::new(rt.alloc());
@@ -45,11 +47,10 @@ fn strings(rt: &HostRuntime, words: &[&str]) -> Result<Vec<String>, Fail> {
     Ok(strings)
 }
 
-/// A file with these bytes, on which call `failing` fails; 0 is no call.
-fn files_with(rt: &HostRuntime, bytes: &[u8], failing: u64) -> Result<MemoryFiles, Fail> {
+/// A file with these bytes.
+fn files_with(rt: &HostRuntime, bytes: &[u8]) -> Result<MemoryFiles, Fail> {
     let mut files = MemoryFiles::new(rt.alloc());
     files.add("file", bytes)?;
-    files.fail_at(failing)?;
     Ok(files)
 }
 
@@ -83,7 +84,7 @@ fn programs_write_their_text(rt: HostRuntime) -> Result<(), Fail> {
         (TAB_ALONE, "5", b"c0         \\\n"),
     ];
     for (bytes, steps, text) in rows {
-        let mut files = files_with(&rt, bytes, 0)?;
+        let mut files = files_with(&rt, bytes)?;
         let (status, sink) = run(&rt, &["program", "file", steps], &mut files, 0)?;
         assert_eq!(rt; status, Status::Ran);
         assert_eq!(rt; sink.written(), text);
@@ -91,17 +92,25 @@ fn programs_write_their_text(rt: HostRuntime) -> Result<(), Fail> {
     Ok(())
 }
 
-/// The examples that have a source beside them.
 #[test]
-fn examples_write_their_text(rt: HostRuntime) -> Result<(), Fail> {
-    let rows: [(&[u8], &[u8]); 3] = [
-        (COPY, b"c0 Copied by LDIR\\r\n"),
-        (COUNT, b"c0 95 96 97 98 99 00 01 02 \\r\n"),
-        (REVERSE, b"c0 This text is reversed\\r\n"),
+fn completed_calls_are_traced(rt: HostRuntime) -> Result<(), Fail> {
+    let rows: [(&[u8], &str, &[u8]); 7] = [
+        (HI, "9", b"c0 Hi\\r\nt 5 0 9 00 0009 010D 0000\n"),
+        (HI, "4", b""),
+        (LETTER, "9", b"t 5 0 2 00 0002 0041 0000\nc0 A\\\n"),
+        (VERSION, "4", b"t 4 0 12 30 010C 0000 0130\n"),
+        (SEGMENT, "5", b"t 5 0 129 FF 0081 0120 00FF\n"),
+        (CHAIN, "5", b"t 5 0 144 FF 0090 0108 00FF\n"),
+        (
+            CHILD,
+            "17",
+            b"t 5 0 144 00 0090 0130 0000\nt 9 1 163 30 01A3 0000 0130\n",
+        ),
     ];
-    for (bytes, text) in rows {
-        let mut files = files_with(&rt, bytes, 0)?;
-        let (status, sink) = run(&rt, &["program", "file", "400"], &mut files, 0)?;
+    for (bytes, steps, text) in rows {
+        let mut files = files_with(&rt, bytes)?;
+        let words = ["program", "file", steps, "--trace"];
+        let (status, sink) = run(&rt, &words, &mut files, 0)?;
         assert_eq!(rt; status, Status::Ran);
         assert_eq!(rt; sink.written(), text);
     }
@@ -109,62 +118,126 @@ fn examples_write_their_text(rt: HostRuntime) -> Result<(), Fail> {
 }
 
 #[test]
-fn words_without_a_form_are_refused(rt: HostRuntime) -> Result<(), Fail> {
-    let rows: [&[&str]; 13] = [
-        &[],
-        &["program"],
-        &["program", "file"],
-        &["run", "file", "1"],
-        &["Program", "file", "1"],
-        &["program", "", "1"],
-        &["program", "file", ""],
-        &["program", "file", "09"],
-        &["program", "file", "+9"],
-        &["program", "file", "9 "],
-        &["program", "file", "4000000001"],
-        &["program", "file", "18446744073709551617"],
-        &["program", "file", "1", "--trace"],
+fn a_failed_put_names_its_step(rt: HostRuntime) -> Result<(), Fail> {
+    let rows: [(&[u8], &[&str], u64, u64, &[u8]); 4] = [
+        (HI, &["program", "file", "9"], 1, 5, b""),
+        (HI, &["program", "file", "4000000000"], 1, 5, b""),
+        (
+            HI,
+            &["program", "file", "9", "--trace"],
+            2,
+            5,
+            b"c0 Hi\\r\n",
+        ),
+        (LETTER, &["program", "file", "9"], 1, 9, b""),
     ];
-    for words in rows {
-        let mut files = files_with(&rt, HI, 0)?;
-        let (status, _) = run(&rt, words, &mut files, 0)?;
-        assert_eq!(rt; status, Status::Usage, "{words:?}");
+    for (bytes, words, failing, step, text) in rows {
+        let mut files = files_with(&rt, bytes)?;
+        let (status, sink) = run(&rt, words, &mut files, failing)?;
+        assert_eq!(rt; status, Status::WriteFault { step });
+        assert_eq!(rt; sink.written(), text);
     }
     Ok(())
 }
 
 #[test]
-fn a_program_fits_its_segment(rt: HostRuntime) -> Result<(), Fail> {
-    let mut program = Vec::new(rt.alloc());
-    program.resize(48_512, 0)?;
-    let mut files = files_with(&rt, program.as_slice(), 0)?;
-    let (status, _) = run(&rt, &["program", "file", "9"], &mut files, 0)?;
-    assert_eq!(rt; status, Status::Ran);
-    program.push(0)?;
-    let mut files = files_with(&rt, program.as_slice(), 0)?;
-    let (status, _) = run(&rt, &["program", "file", "9"], &mut files, 0)?;
-    let what = Input::ProgramBytes;
-    assert_eq!(rt; status, Status::TooLong { what });
+fn machine_files_boot_or_are_refused(rt: HostRuntime) -> Result<(), Fail> {
+    let rows: [(&[u8], Status); 8] = [
+        (b"", Status::Ran),
+        (b"printers = 4", Status::Ran),
+        (b"colour = 1", Status::MachineFault),
+        (b"tick_every = 100", Status::MachineFault),
+        (b"disk_turn = 1", Status::MachineFault),
+        (b"script = 'keys.txt'", Status::MachineFault),
+        (b"version = 1", Status::MachineFault),
+        (b"version", Status::MachineFault),
+    ];
+    for (line, expected) in rows {
+        let mut text = Vec::new(rt.alloc());
+        text.extend_from_slice(line)?;
+        text.push(b'\n')?;
+        text.extend_from_slice(MACHINE)?;
+        let mut files = files_with(&rt, text.as_slice())?;
+        let (status, sink) = run(&rt, &["run", "file", "10"], &mut files, 0)?;
+        assert_eq!(rt; status, expected);
+        assert_eq!(rt; sink.written(), b"".as_slice());
+    }
+    Ok(())
+}
+
+#[test]
+fn inputs_have_their_greatest_lengths(rt: HostRuntime) -> Result<(), Fail> {
+    let rows: [(&str, &[u8], usize, Input); 2] = [
+        ("program", b"", 48_512, Input::ProgramBytes),
+        ("run", MACHINE, 65_536, Input::MachineText),
+    ];
+    for (word, first, greatest, what) in rows {
+        let mut bytes = Vec::new(rt.alloc());
+        bytes.extend_from_slice(first)?;
+        bytes.resize(greatest, b' ')?;
+        let mut files = files_with(&rt, bytes.as_slice())?;
+        let (status, _) = run(&rt, &[word, "file", "9"], &mut files, 0)?;
+        assert_eq!(rt; status, Status::Ran);
+        bytes.push(b' ')?;
+        let mut files = files_with(&rt, bytes.as_slice())?;
+        let (status, _) = run(&rt, &[word, "file", "9"], &mut files, 0)?;
+        assert_eq!(rt; status, Status::TooLong { what });
+    }
     Ok(())
 }
 
 #[test]
 fn a_file_that_does_not_come_is_a_fault(rt: HostRuntime) -> Result<(), Fail> {
-    let mut files = files_with(&rt, HI, 1)?;
-    let (status, _) = run(&rt, &["program", "file", "9"], &mut files, 0)?;
-    assert_eq!(rt; status, Status::ReadFault);
-    let (status, _) = run(&rt, &["program", "other", "9"], &mut files, 0)?;
-    assert_eq!(rt; status, Status::ReadFault);
+    for (word, file, failing) in [
+        ("program", "file", 1),
+        ("program", "other", 0),
+        ("run", "file", 1),
+        ("run", "other", 0),
+    ] {
+        let mut files = files_with(&rt, MACHINE)?;
+        files.fail_at(failing)?;
+        let (status, _) = run(&rt, &[word, file, "9"], &mut files, 0)?;
+        assert_eq!(rt; status, Status::ReadFault);
+    }
     Ok(())
 }
 
 #[test]
-fn a_failed_put_names_its_step(rt: HostRuntime) -> Result<(), Fail> {
-    for (bytes, steps, step) in [(HI, "9", 5), (HI, "4000000000", 5), (LETTER, "9", 9)] {
-        let mut files = files_with(&rt, bytes, 0)?;
-        let (status, sink) = run(&rt, &["program", "file", steps], &mut files, 1)?;
-        assert_eq!(rt; status, Status::WriteFault { step });
-        assert_eq!(rt; sink.written(), b"".as_slice());
+fn words_have_a_form_or_are_refused(rt: HostRuntime) -> Result<(), Fail> {
+    let rows: [(&[&str], Status); 28] = [
+        (&["run", "file", "1"], Status::Ran),
+        (&["run", "file", "0"], Status::Ran),
+        (&["run", "file", "1", "--trace"], Status::Ran),
+        (&["program", "file", "1"], Status::Ran),
+        (&["program", "file", "1", "--trace"], Status::Ran),
+        (&[], Status::Usage),
+        (&["run"], Status::Usage),
+        (&["run", "file"], Status::Usage),
+        (&["program", "file", "--trace"], Status::Usage),
+        (&["Run", "file", "1"], Status::Usage),
+        (&["runs", "file", "1"], Status::Usage),
+        (&["", "file", "1"], Status::Usage),
+        (&["gen", "1", "0"], Status::Usage),
+        (&["gen", "2147483648", "0"], Status::Usage),
+        (&["run", "", "1"], Status::Usage),
+        (&["program", "", "1"], Status::Usage),
+        (&["run", "file", ""], Status::Usage),
+        (&["run", "file", "09"], Status::Usage),
+        (&["run", "file", "00"], Status::Usage),
+        (&["run", "file", "+9"], Status::Usage),
+        (&["run", "file", "-0"], Status::Usage),
+        (&["run", "file", "9 "], Status::Usage),
+        (&["run", "file", "1_0"], Status::Usage),
+        (&["run", "file", "4000000001"], Status::Usage),
+        (&["run", "file", "18446744073709551617"], Status::Usage),
+        (&["program", "file", "1", "--Trace"], Status::Usage),
+        (&["run", "file", "1", "trace"], Status::Usage),
+        (&["run", "file", "1", "--trace", "x"], Status::Usage),
+    ];
+    for (words, expected) in rows {
+        let mut files = files_with(&rt, MACHINE)?;
+        let (status, _) = run(&rt, words, &mut files, 0)?;
+        assert_eq!(rt; status, expected, "{words:?}");
     }
     Ok(())
 }

@@ -1,9 +1,28 @@
-ghost use Rattle.std.specs.Prelude.{◌≡◌, ◌∷◌, [], ◌<◌, ◌≤◌, ℕ, List, Option, Some, None, MatchOption, IfSome, string_bytes, slice_index_or, if◌then◌else◌, ◌&&◌, nat_le, length, true};
+ghost use Rattle.std.specs.Prelude.{◌≡◌, ◌∷◌, [], ◌<◌, ◌≤◌, ℕ, List, Option, Some, None, MatchOption, IfSome, string_bytes, slice_index_or, if◌then◌else◌, ◌&&◌, nat_le, length, Bool, true, false};
 ghost use Rattle.std.specs.List.{list_all};
-ghost use Rattle.mpm_top.specs.Words.{Program, texts, steps_of as number_of, command_of, IsSteps, is_plain as is_plain_text, decimal_of};
+ghost use Rattle.mpm_top.specs.Words.{texts, steps_of as number_of, form_of as form_said, command_with, command_of, IsAsked, AreAsking, is_plain as is_plain_text, decimal_of};
 
 /// The greatest number of steps.
 const GREATEST_STEPS: u64 = 4_000_000_000;
+
+/// The forms of commands, by their first word.
+#[derive(Clone, Copy)]
+pub(crate) enum Form {
+    /// `program FILE STEPS`: one process runs the bytes of FILE.
+    Program,
+    /// `run MACHINE STEPS`: boots the machine of the machine file MACHINE.
+    Run,
+}
+
+/// What a command asks of the file that its second word names.
+#[derive(Clone, Copy)]
+pub(crate) struct Asked {
+    pub form: Form,
+    /// How many steps are to be done, at most 4,000,000,000.
+    pub steps: u64,
+    /// Whether a record is written of each completed call.
+    pub trace: bool,
+}
 
 /// Whether a number has digits, and no needless zero before them.
 #[tactic(auto, unfolding(crate::specs::Words::is_plain))]
@@ -47,26 +66,52 @@ fn steps_of(word: &str) -> Option<u64>
     }
 }
 
-/// The number of steps of three words, where they have the form `program FILE STEPS`.
-#[tactic(auto, using(crate::proofs::CommandLaws::command_is), unfolding(crate::specs::Words::command_of, crate::specs::Words::program_of))]
-fn three_words(word: &str, file: &str, steps: &str) -> Option<u64>
-    ensures { MatchOption result (command_of (word.now ∷ file.now ∷ steps.now ∷ []) ≡ None)
-        (λ n. IsSteps (word.now ∷ file.now ∷ steps.now ∷ []) n) }
+/// The form that the first word says.
+#[tactic(auto, unfolding(crate::specs::Words::form_of))]
+fn form_of(word: &str) -> Option<Form>
+    ensures { result ≡ form_said word.now }
 {
-    if word != "program" || file.is_empty() {
-        return None;
+    if word == "program" {
+        Some(Form::Program)
+    } else if word == "run" {
+        Some(Form::Run)
+    } else {
+        None
     }
-    steps_of(steps)
 }
 
-/// The number of steps of a command `program FILE STEPS`; None where the words have another form. FILE is the second
-/// word.
+/// What the first three words ask, with or without a trace.
+#[tactic(auto, using(crate::proofs::CommandLaws::no_form, crate::proofs::CommandLaws::no_name, crate::proofs::CommandLaws::no_steps))]
+fn asked_by(word: &str, file: &str, steps: &str, trace: bool) -> Option<Asked>
+    ensures { MatchOption result (command_with (form_said word.now) file.now (number_of steps.now) trace ≡ None)
+        (λ asked. IsAsked (command_with (form_said word.now) file.now (number_of steps.now) trace) file.now asked) }
+{
+    let Some(form) = form_of(word) else {
+        return None;
+    };
+    if file.is_empty() {
+        return None;
+    }
+    let Some(steps) = steps_of(steps) else {
+        return None;
+    };
+    Some(Asked { form, steps, trace })
+}
+
+/// What words ask of the file that the second of them names; None where they have no form of a command.
 #[tactic(auto, unfolding(crate::specs::Words::command_of))]
-pub(crate) fn program_steps(words: &[String]) -> Option<u64>
-    ensures { MatchOption result (command_of (texts words.now) ≡ None) (λ steps. IsSteps (texts words.now) steps) }
+pub(crate) fn read_words(words: &[String]) -> Option<Asked>
+    ensures { MatchOption result (command_of (texts words.now) ≡ None) (λ asked. AreAsking (texts words.now) asked) }
 {
     match words {
-        [word, file, steps] => three_words(word.as_str(), file.as_str(), steps.as_str()),
+        [word, file, steps] => asked_by(word.as_str(), file.as_str(), steps.as_str(), false),
+        [word, file, steps, last] => {
+            if last.as_str() == "--trace" {
+                asked_by(word.as_str(), file.as_str(), steps.as_str(), true)
+            } else {
+                None
+            }
+        }
         _ => None,
     }
 }

@@ -1,4 +1,4 @@
-use Rattle.std.proofs.Common.{ap, sym, ◌∙◌, slice_set, arith, ◌<◌, length}
+use Rattle.std.proofs.Common.{ap, sym, ◌∙◌, slice_set, arith}
 use Rattle.std.proofs.lemmas.List.Edits.{map_over_more}
 use Rattle.mpm_banks.specs.Allocations.{freed}
 use Rattle.mpm_banks.proofs.banks.release_each.Goals as goal

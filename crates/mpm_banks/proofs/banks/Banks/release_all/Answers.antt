@@ -1,6 +1,5 @@
-use Rattle.std.proofs.Common.{ap, ◌∙◌, map, length, ◌≡◌, arith}
+use Rattle.std.proofs.Common.{ap, ◌∙◌, map, length}
 use Rattle.std.proofs.lemmas.List.{with_items_is, length-map}
-use Rattle.std.proofs.lemmas.Grind.{common_steps}
 use Rattle.mpm_banks.specs.Allocations.{freed}
 use Rattle.mpm_banks.proofs.SegmentLaws.{all_released_is_memory}
 use Rattle.mpm_banks.proofs.banks.Banks.release_all.Goals as goal

@@ -1,25 +1,25 @@
-use Rattle.std.proofs.Common.{◌∙◌, ap, subst, ℕ}
+use Rattle.std.proofs.Common.{◌∙◌, ◌+◌, ℕ, ap, subst}
+use Rattle.mpm_machine.specs.declared.system.System.{System}
 use Rattle.mpm_machine.specs.Writing.{Showed, Stopped}
-use Rattle.mpm_machine.specs.State.{Core, counted}
-use Rattle.mpm_machine.proofs.StepLaws.{step_of, step_stands, step_stops, process_change_steps}
+use Rattle.mpm_machine.specs.Step.{step_of}
+use Rattle.mpm_machine.proofs.StepLaws.{step_stands, step_stops}
 use Rattle.mpm_machine.proofs.machine.Machine.step.Goals as goal
-
-pub returns-in-Ok-clause-ok : goal.returns-in-Ok-clause-ok
-returns-in-Ok-clause-ok g c s first stands =
-    let P : Core → Type 0 = λ core. Showed c.args.render.now (g.S.Sink.written c.args.sink.now) c.perform.new.render (g.S.Sink.written c.perform.new.sink) (step_of core).news in
-    step_stands c.args.self.now c.args.render.now (g.S.Sink.written c.args.sink.now) c.perform.new.self c.perform.new.render
-    (g.S.Sink.written c.perform.new.sink) s first
-    (c.in-Ok.ensures.core ∙ ap (λ core. (step_of core).core) c.self.view_is)
-    (subst P c.self.view_is c.in-Ok.ensures.ok) stands
-
-pub returns-in-Ok-clause-count : goal.returns-in-Ok-clause-count
-returns-in-Ok-clause-count g c =
-    let steps : Core → ℕ = λ core. core.steps in
-    ap steps (c.in-Ok.ensures.core ∙ ap (λ core. (step_of core).core) c.self.view_is)
-    ∙ process_change_steps c.args.self.now.process (counted c.args.self.now)
 
 pub returns-in-Err-clause-err : goal.returns-in-Err-clause-err
 returns-in-Err-clause-err g c s first stands =
-    let P : Core → Type 0 = λ core. Stopped c.args.render.now (g.S.Sink.written c.args.sink.now) (g.S.Sink.written c.perform.new.sink) (step_of core).news in
-    step_stops c.args.self.now c.args.render.now (g.S.Sink.written c.args.sink.now) (g.S.Sink.written c.perform.new.sink) s first
+    let P : System → Type 0 = λ system. Stopped c.args.render.now (g.S.Sink.written c.args.sink.now) (g.S.Sink.written c.step.new.sink) (step_of system).news in
+    step_stops c.args.self.now c.args.render.now (g.S.Sink.written c.args.sink.now) (g.S.Sink.written c.step.new.sink) s first
     (subst P c.self.view_is c.in-Err.ensures.err) stands
+
+pub returns-clause-ok : goal.returns-clause-ok
+returns-clause-ok g c s first stands =
+    let P : System → Type 0 = λ system. Showed c.args.render.now (g.S.Sink.written c.args.sink.now) c.step.new.render (g.S.Sink.written c.step.new.sink) (step_of system).news in
+    step_stands c.args.self.now c.args.render.now (g.S.Sink.written c.args.sink.now) c.step.new.self c.step.new.render
+    (g.S.Sink.written c.step.new.sink) s first
+    (c.in_default.ensures.system ∙ ap (λ system. (step_of system).system) c.self.view_is)
+    (subst P c.self.view_is c.in_default.ensures.ok) stands
+
+pub returns-clause-count : goal.returns-clause-count
+returns-clause-count g c =
+    let steps : System → ℕ = λ system. system.steps + 1 in
+    c.in_default.ensures.count ∙ ap steps c.self.view_is

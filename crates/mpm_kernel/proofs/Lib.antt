@@ -1,0 +1,4 @@
+pub mod ColumnLaws
+pub mod SoundLaws
+pub mod SpokeLaws
+pub mod HomeLaws

@@ -1,0 +1,81 @@
+-- What the kernel's calls do and answer, by the call that the process keeps. (MP/M II Programmer's Guide, the functions
+-- named.)
+use Rattle.std.specs.Prelude.{ℕ, ◌%◌, Bool, List, ◌++◌, ◌&&◌, ◌||◌, ◌==◌, nat_le, min, length, take, drop, replicate, if◌then◌else◌}
+use Rattle.mpm_base.specs.Calls.{Taken, Answer, answering}
+use Rattle.mpm_base.specs.declared.call.Outcome.{Outcome}
+use Rattle.mpm_base.specs.declared.call.Outcome.TheVariants.{Done, Ended}
+use Rattle.mpm_procs.specs.Table.{process_in, call_of}
+use Rattle.mpm_procs.specs.declared.process.Process.{Process}
+use Rattle.mpm_kernel.specs.Kernel.{Kernel, with_changed}
+use Rattle.mpm_kernel.specs.Dispatch.{behind_equals, with_priority}
+
+-- what becomes of the kernel and of the call, and the reply
+pub record Called : Type 0 where
+  pub kernel : Kernel
+  pub outcome : Outcome
+  pub reply : Answer
+
+-- the call is done and answers a value
+abbrev pub valued : ℕ → Kernel → Called
+valued value kernel = record { kernel = kernel; outcome = Done; reply = answering value }
+
+-- the call is done and answers nothing, which is 0
+abbrev pub done : Kernel → Called
+done kernel = valued 0 kernel
+
+-- the parameter's low byte, which came in E
+abbrev pub low_parameter : Taken → ℕ
+low_parameter call = call.word % 256
+
+-- the version: MP/M II, whose file system is that of CP/M 3
+abbrev pub version : ℕ
+version = 304
+
+-- an answer that refuses
+abbrev pub refusal : ℕ
+refusal = 255
+
+-- function 32: FFh asks for the user, another byte sets it modulo 16
+unfoldable pub user_value : Taken → Process → ℕ
+user_value call process = if low_parameter call == 255 then process.user else 0
+
+unfoldable pub with_user : Taken → ℕ → Process → Kernel → Kernel
+with_user call p process kernel =
+    if low_parameter call == 255 then kernel
+    else (with_changed kernel p (record process { user = low_parameter call % 16 }))
+
+-- function 44: the multi-sector count is 1 to 16
+abbrev pub is_count : ℕ → Bool
+is_count n = nat_le 1 n && nat_le n 16
+
+unfoldable pub multi_value : Taken → ℕ
+multi_value call = if is_count (low_parameter call) then 0 else refusal
+
+unfoldable pub with_multi : Taken → ℕ → Process → Kernel → Kernel
+with_multi call p process kernel =
+    if is_count (low_parameter call) then with_changed kernel p (record process { multi = low_parameter call }) else kernel
+
+-- the first eight bytes that a call read, those that lack as zeros
+unfoldable pub eight_of : List ℕ → List ℕ
+eight_of bytes = take (min (length bytes) 8) bytes ++ drop (min (length bytes) 8) (replicate 8 0)
+
+-- the call of a process, which it keeps
+unfoldable pub call_done : Taken → ℕ → Process → Kernel → Called
+call_done call p process kernel =
+    let function = call.function in
+    if function == 0 || function == 143 then record { kernel = kernel; outcome = Ended; reply = answering 0 }
+    else (if function == 2 || function == 9 then done kernel
+    else (if function == 12 || function == 163 then valued version kernel
+    else (if function == 25 then valued process.drive kernel
+    else (if function == 26 then done (with_changed kernel p (record process { dma = call.word }))
+    else (if function == 32 then valued (user_value call process) (with_user call p process kernel)
+    else (if function == 44 then valued (multi_value call) (with_multi call p process kernel)
+    else (if function == 45 then done (with_changed kernel p (record process { error_mode = low_parameter call }))
+    else (if function == 106 then done (with_changed kernel p (record process { password = eight_of call.bytes }))
+    else (if function == 142 then done (behind_equals kernel p)
+    else (if function == 145 then done (with_priority kernel p (low_parameter call))
+    else (valued 65535 kernel)))))))))))
+
+-- the call that a process keeps is done
+abbrev pub called : ℕ → Kernel → Called
+called p kernel = call_done (call_of kernel.procs p) p (process_in kernel.procs p) kernel

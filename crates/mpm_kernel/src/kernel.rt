@@ -1,0 +1,288 @@
+ghost use Rattle.std.specs.Prelude.{◌≡◌, ℕ, ◌<◌, ◌≤◌, Some, None, true, IfOk, OnErr, MatchOption};
+ghost use Rattle.std.specs.Borrow.{sem};
+ghost use Rattle.mpm_kernel.specs.Columns.{column_after as column_of};
+ghost use Rattle.mpm_kernel.specs.Dispatch.{is_held_off};
+
+use mpm_base::{Call, Devices, Pid, Seg};
+use mpm_procs::{NewProcess, NoSlot, Process, Procs};
+use mpm_ready::Lists;
+use std::alloc::{AllocError, Global};
+use std::marker::Model;
+use z80_regs::Regs;
+
+/// The number of the ready list.
+const READY: u8 = 0;
+
+/// The kernel of a machine.
+#[derive(Drop)]
+pub struct Kernel {
+    pub(crate) procs: Procs,
+    pub(crate) lists: Lists,
+    running: Option<Pid>,
+    devices: Devices,
+    consoles: u8,
+    printers: u8,
+    columns: [u16; 8],
+}
+
+impl Model for Kernel {
+    ghost use Rattle.mpm_kernel.specs.Kernel.{Kernel};
+
+    ghost Value = { Kernel };
+
+    ghost view = { λ k. record { procs = k.procs; lists = k.lists; running = k.running; devices = k.devices; consoles = k.consoles; printers = k.printers; columns = k.columns } };
+}
+
+impl Kernel {
+    ghost use Rattle.mpm_procs.specs.Table.{Lives, lives, process_at, process_in, call_of, lowest_free, free_slots};
+    ghost use Rattle.mpm_ready.specs.Order.{first_of};
+    ghost use Rattle.mpm_ready.specs.Tables.{list_at};
+    ghost use Rattle.mpm_kernel.specs.Kernel.{ready, IsReady, IsSound};
+    ghost use Rattle.mpm_kernel.specs.Dispatch.{new_kernel, in_slot, discharged, stays, picked, behind_equals};
+    ghost use Rattle.mpm_kernel.specs.Columns.{wrote, spaces_for};
+    ghost use Rattle.mpm_kernel.specs.Lending.{LendsProcess, LendsRegs, LendsCall, LendsDevices};
+
+    /// The kernel of a machine with 1 to 8 consoles and at most 4 printers, in which no process lives.
+    ///
+    /// # Errors
+    /// Where no memory is found. All that it will need is taken here.
+    #[tactic(auto, unfolding(crate::specs::Dispatch::new_kernel))]
+    pub fn new(alloc: Global, consoles: u8, printers: u8) -> Result<Kernel, AllocError>
+        requires some { 1 ≤ consoles }
+        requires few { consoles ≤ 8 }
+        requires printers { printers ≤ 4 }
+        ensures { IfOk result (λ kernel. kernel ≡ new_kernel consoles printers) }
+    {
+        Ok(Kernel {
+            procs: Procs::new(alloc)?,
+            lists: Lists::new(),
+            running: None,
+            devices: Devices::new(),
+            consoles,
+            printers,
+            columns: [0; 8],
+        })
+    }
+
+    /// The number of consoles.
+    pub fn consoles(&self) -> u8
+        ensures { result ≡ self.now.consoles }
+    {
+        self.consoles
+    }
+
+    /// The process that runs.
+    pub fn running(&self) -> Option<Pid>
+        ensures { result ≡ self.now.running }
+    {
+        self.running
+    }
+
+    /// The first process of the ready list.
+    pub fn first_ready(&self) -> Option<Pid>
+        ensures { result ≡ first_of (list_at self.now.lists ready) }
+    {
+        self.lists.first(READY)
+    }
+
+    /// Whether a process of that number lives.
+    pub fn lives(&self, p: Pid) -> bool
+        ensures { result ≡ lives self.now.procs p }
+    {
+        self.procs.lives(p)
+    }
+
+    /// How many more processes may live.
+    pub fn free_slots(&self) -> usize
+        ensures { result ≡ free_slots self.now.procs }
+    {
+        self.procs.free_slots()
+    }
+
+    /// The process of that number, None where it doesn't live.
+    pub fn process(&self, p: Pid) -> Option<&Process>
+        ensures { MatchOption result (process_at self.now.procs p ≡ None) (λ process. process_at self.now.procs p ≡ Some process.now) }
+    {
+        if self.procs.lives(p) {
+            Some(self.procs.get(p))
+        } else {
+            None
+        }
+    }
+
+    /// A living process.
+    pub fn living(&self, p: Pid) -> &Process
+        requires { Lives self.now.procs p }
+        ensures { result.now ≡ process_in self.now.procs p }
+    {
+        self.procs.get(p)
+    }
+
+    /// A living process's registers.
+    pub fn regs(&self, p: Pid) -> &Regs
+        requires { Lives self.now.procs p }
+        ensures { result.now ≡ (process_in self.now.procs p).regs }
+    {
+        &self.procs.get(p).regs
+    }
+
+    /// The memory segment that a living process has.
+    pub fn segment(&self, p: Pid) -> Option<Seg>
+        requires { Lives self.now.procs p }
+        ensures { result ≡ (process_in self.now.procs p).seg }
+    {
+        self.procs.get(p).seg
+    }
+
+    /// A living process, to be changed.
+    pub fn process_mut(&mut self, p: Pid) -> &mut Process
+        requires { Lives self.old.procs p }
+        ensures* lends { sem 𝓛 (LendsProcess self.entry p result) }
+        ensures value { result.now ≡ process_in self.old.procs p }
+    {
+        self.procs.get_mut(p)
+    }
+
+    /// A living process's registers, to be changed.
+    pub fn regs_mut(&mut self, p: Pid) -> &mut Regs
+        requires { Lives self.old.procs p }
+        ensures* lends { sem 𝓛 (LendsRegs self.entry p result) }
+        ensures value { result.now ≡ (process_in self.old.procs p).regs }
+    {
+        let process = self.procs.get_mut(p);
+        &mut process.regs
+    }
+
+    /// The call that a living process keeps.
+    pub fn kept_call(&self, p: Pid) -> &Call
+        requires { Lives self.now.procs p }
+        ensures { result.now ≡ call_of self.now.procs p }
+    {
+        self.procs.call(p)
+    }
+
+    /// The call that a living process keeps, to be changed.
+    pub fn call_mut(&mut self, p: Pid) -> &mut Call
+        requires { Lives self.old.procs p }
+        ensures* lends { sem 𝓛 (LendsCall self.entry p result) }
+        ensures value { result.now ≡ call_of self.old.procs p }
+    {
+        self.procs.call_mut(p)
+    }
+
+    /// The polled devices.
+    pub fn devices_mut(&mut self) -> &mut Devices
+        ensures* lends { sem 𝓛 (LendsDevices self.entry result) }
+        ensures value { result.now ≡ self.old.devices }
+    {
+        &mut self.devices
+    }
+
+    /// Adds a process, which is ready, in the lowest free slot.
+    ///
+    /// # Errors
+    /// `NoSlot` where 32 processes live; then nothing changes.
+    #[tactic(auto, using(crate::proofs::SoundLaws::free_is_unlisted), unfolding(crate::specs::Dispatch::admitted))]
+    pub fn admit(&mut self, new: NewProcess) -> Result<Pid, NoSlot>
+        requires { IsSound self.old }
+        ensures slot { IfOk result (λ p. lowest_free self.old.procs ≡ Some p) }
+        ensures refused { OnErr result (lowest_free self.old.procs ≡ None) }
+        ensures kernel { self.new ≡ in_slot self.old new (lowest_free self.old.procs) }
+    {
+        let priority = new.priority;
+        let p = match self.procs.add(new) {
+            Ok(p) => p,
+            Err(NoSlot) => return Err(NoSlot),
+        };
+        self.lists.insert(READY, p, priority);
+        Ok(p)
+    }
+
+    /// A process ends: it stands in no list, and its slot is free.
+    #[tactic(auto, unfolding(crate::specs::Dispatch::discharged))]
+    pub fn discharge(&mut self, p: Pid)
+        requires { Lives self.old.procs p }
+        ensures { self.new ≡ discharged self.old p }
+    {
+        self.procs.end(p);
+        let _list = self.lists.remove(p);
+        if self.running == Some(p) {
+            self.running = None;
+        }
+    }
+
+    /// Picks the process that runs behind a step: the first that is ready. Behind an instruction the running process keeps
+    /// the processor while it is ready and no interrupt may come.
+    #[tactic(auto, unfolding(crate::specs::Dispatch::picked))]
+    pub fn pick(&mut self, instruction: bool)
+        requires { IsSound self.old }
+        ensures { self.new ≡ picked instruction self.old }
+    {
+        if instruction && self.stays() {
+            return;
+        }
+        self.running = self.lists.first(READY);
+    }
+
+    /// Whether the running process keeps the processor behind its instruction: it is ready, and no interrupt may come.
+    #[tactic(auto, using(crate::proofs::SoundLaws::runner_lives))]
+    fn stays(&self) -> bool
+        requires { IsSound self.now }
+        ensures { result ≡ stays self.now self.now.running }
+    {
+        match self.running {
+            Some(p) => self.lists.list_of(p) == Some(READY) && holds_off(&self.procs.get(p).regs),
+            None => false,
+        }
+    }
+
+    /// A ready process is put behind those of its priority.
+    #[tactic(auto, unfolding(crate::specs::Dispatch::behind_equals))]
+    pub(crate) fn rotate(&mut self, p: Pid)
+        requires lives { Lives self.old.procs p }
+        requires ready { IsReady self.old p }
+        ensures { self.new ≡ behind_equals self.old p }
+    {
+        let priority = self.procs.get(p).priority;
+        self.lists.rotate(p, priority);
+    }
+
+    /// A byte comes to a console: its column moves. Answers the number of spaces that stand for a tab that is expanded, 0
+    /// where the byte stands for itself.
+    #[tactic(auto, using(crate::proofs::ColumnLaws::columns_spaces, crate::proofs::ColumnLaws::columns_one), unfolding(crate::specs::Columns::wrote, crate::specs::Columns::spoke, crate::specs::Columns::spaces_for, crate::specs::Columns::tab_text))]
+    pub fn write(&mut self, console: u8, byte: u8, tabs: bool) -> u8
+        requires { console < 8 }
+        ensures kernel { self.new ≡ wrote self.old console byte tabs }
+        ensures spaces { result ≡ spaces_for self.old console byte tabs }
+    {
+        let column = self.columns[console as usize];
+        if tabs && byte == b'\t' {
+            let spaces = (8 - column % 8) as u8;
+            self.columns[console as usize] = column.saturating_add(u16::from(spaces));
+            spaces
+        } else {
+            self.columns[console as usize] = column_after(column, byte);
+            0
+        }
+    }
+}
+
+/// The column behind a byte: a printable one goes one on, CR to the first, BS one back.
+#[tactic(auto, unfolding(crate::specs::Columns::column_after))]
+fn column_after(column: u16, byte: u8) -> u16
+    ensures { result ≡ column_of column byte }
+{
+    match byte {
+        32..=126 => column.saturating_add(1),
+        b'\r' => 0,
+        8 => column.saturating_sub(1),
+        _ => column,
+    }
+}
+
+/// Whether interrupts are off, or an EI has not taken effect yet.
+fn holds_off(regs: &Regs) -> bool
+    ensures { result ≡ is_held_off regs.now }
+{
+    !regs.iff1 || regs.shadow
+}

@@ -1,0 +1,232 @@
+ghost use Rattle.std.specs.Prelude.{◌≡◌, ◌≤◌, length, IfOk};
+ghost use Rattle.mpm_kernel.specs.Kernel.{IsSound};
+
+use super::*;
+use mpm_base::{Name8, Outcome, Pid, Reply, Seg};
+use mpm_procs::{NewProcess, Process};
+use std::alloc::Global;
+use std::test::Fail;
+
+/// A process begins, of that priority, in the lowest free slot.
+#[tactic(auto, using(crate::proofs::SoundLaws::sound_in_slot))]
+fn begin(kernel: &mut Kernel, priority: u8)
+    requires { IsSound kernel.old }
+    ensures { IsSound kernel.new }
+{
+    let _p = kernel.admit(NewProcess {
+        name: Name8(*b"PROGRAM "),
+        priority,
+        console: 0,
+        seg: Some(Seg(0)),
+        pc: 0x0100,
+        sp: 0xBEFE,
+        dma: 0x0080,
+        user: 3,
+        drive: 1,
+    });
+}
+
+/// A kernel of two consoles with one process of priority 200, which runs.
+#[tactic(auto, using(crate::proofs::SoundLaws::sound_new, crate::proofs::SoundLaws::sound_picked))]
+fn kernel_of_one(alloc: Global) -> Result<Kernel, OutOfMemory>
+    ensures { IfOk result (λ kernel. IsSound kernel) }
+{
+    let mut kernel = Kernel::new(alloc, 2, 1)?;
+    begin(&mut kernel, 200);
+    kernel.pick(false);
+    Ok(kernel)
+}
+
+/// Who runs behind a step, which was an instruction or not.
+#[tactic(auto, using(crate::proofs::SoundLaws::sound_picked))]
+fn next(kernel: &mut Kernel, instruction: bool) -> Option<Pid>
+    requires { IsSound kernel.old }
+    ensures { IsSound kernel.new }
+{
+    kernel.pick(instruction);
+    kernel.running()
+}
+
+/// The process that runs asks for a function, which reads some bytes: the outcome and the value.
+fn ask_with(kernel: &mut Kernel, function: u8, word: u16, bytes: &[u8]) -> Option<(Outcome, u16)>
+    requires sound { IsSound kernel.old }
+    requires few { length bytes.now ≤ 8 }
+    ensures { IsSound kernel.new }
+{
+    let p = match kernel.running() {
+        Some(p) => p,
+        None => return None,
+    };
+    let call = kernel.call_mut(p);
+    call.begin(function, word, 0x0080);
+    call.append(bytes);
+    let mut reply = Reply::new();
+    let outcome = kernel.call(p, &mut reply);
+    Some((outcome, reply.hl))
+}
+
+/// The process that runs asks for a function, which reads nothing.
+fn ask(kernel: &mut Kernel, function: u8, word: u16) -> Option<(Outcome, u16)>
+    requires { IsSound kernel.old }
+    ensures { IsSound kernel.new }
+{
+    ask_with(kernel, function, word, &[])
+}
+
+/// The process that runs.
+fn runner(kernel: &Kernel) -> Result<&Process, Fail>
+    requires { IsSound kernel.now }
+{
+    match kernel.running() {
+        Some(p) => Ok(kernel.living(p)),
+        None => Err(Fail::from("no process runs")),
+    }
+}
+
+/// The process that runs has its interrupts on or off, and an EI that has not taken effect or not.
+fn set_interrupts(kernel: &mut Kernel, on: bool, shadow: bool)
+    requires { IsSound kernel.old }
+    ensures { IsSound kernel.new }
+{
+    if let Some(p) = kernel.running() {
+        let regs = kernel.regs_mut(p);
+        regs.iff1 = on;
+        regs.shadow = shadow;
+    }
+}
+
+/// The process that runs ends.
+fn end(kernel: &mut Kernel)
+    requires { IsSound kernel.old }
+    ensures { IsSound kernel.new }
+{
+    if let Some(p) = kernel.running() {
+        kernel.discharge(p);
+    }
+}
+
+/// The call is done, and answers that value.
+fn done(value: u16) -> Option<(Outcome, u16)> {
+    Some((Outcome::Done, value))
+}
+
+#[test]
+fn the_version_and_functions_that_are_not_there(rt: HostRuntime) -> Result<(), Fail> {
+    let mut kernel = kernel_of_one(rt.alloc())?;
+    assert_eq!(rt; ask(&mut kernel, 12, 0), done(0x0130));
+    assert_eq!(rt; ask(&mut kernel, 163, 0), done(0x0130));
+    assert_eq!(rt; ask(&mut kernel, 7, 0), done(0xFFFF));
+    assert_eq!(rt; ask(&mut kernel, 255, 0), done(0xFFFF));
+    Ok(())
+}
+
+#[test]
+fn a_user_is_set_modulo_16_and_asked_for(rt: HostRuntime) -> Result<(), Fail> {
+    let mut kernel = kernel_of_one(rt.alloc())?;
+    assert_eq!(rt; ask(&mut kernel, 32, 0x00FF), done(3));
+    assert_eq!(rt; ask(&mut kernel, 32, 0x1234), done(0));
+    assert_eq!(rt; ask(&mut kernel, 32, 0x12FF), done(4));
+    assert_eq!(rt; ask(&mut kernel, 25, 0), done(1));
+    Ok(())
+}
+
+#[test]
+fn a_multi_sector_count_is_1_to_16(rt: HostRuntime) -> Result<(), Fail> {
+    let mut kernel = kernel_of_one(rt.alloc())?;
+    assert_eq!(rt; ask(&mut kernel, 44, 0), done(0x00FF));
+    assert_eq!(rt; ask(&mut kernel, 44, 17), done(0x00FF));
+    assert_eq!(rt; runner(&kernel)?.multi, 1);
+    assert_eq!(rt; ask(&mut kernel, 44, 16), done(0));
+    assert_eq!(rt; runner(&kernel)?.multi, 16);
+    Ok(())
+}
+
+#[test]
+fn a_process_keeps_what_its_calls_set(rt: HostRuntime) -> Result<(), Fail> {
+    let mut kernel = kernel_of_one(rt.alloc())?;
+    assert_eq!(rt; ask(&mut kernel, 26, 0xC000), done(0));
+    assert_eq!(rt; ask(&mut kernel, 45, 0x01FE), done(0));
+    assert_eq!(rt; ask_with(&mut kernel, 106, 0x0200, b"SECRET  "), done(0));
+    assert_eq!(rt; runner(&kernel)?.dma, 0xC000);
+    assert_eq!(rt; runner(&kernel)?.error_mode, 0xFE);
+    assert_eq!(rt; runner(&kernel)?.password, *b"SECRET  ");
+    Ok(())
+}
+
+#[test]
+fn equals_run_in_turn(rt: HostRuntime) -> Result<(), Fail> {
+    let mut kernel = kernel_of_one(rt.alloc())?;
+    begin(&mut kernel, 200);
+    assert_eq!(rt; next(&mut kernel, true), Some(Pid(0)));
+    assert_eq!(rt; ask(&mut kernel, 142, 0), done(0));
+    assert_eq!(rt; next(&mut kernel, false), Some(Pid(1)));
+    assert_eq!(rt; ask(&mut kernel, 142, 0), done(0));
+    assert_eq!(rt; next(&mut kernel, false), Some(Pid(0)));
+    Ok(())
+}
+
+#[test]
+fn a_process_that_changes_its_priority_stands_behind_its_equals(
+    rt: HostRuntime,
+) -> Result<(), Fail> {
+    let mut kernel = kernel_of_one(rt.alloc())?;
+    begin(&mut kernel, 100);
+    assert_eq!(rt; next(&mut kernel, false), Some(Pid(1)));
+    assert_eq!(rt; ask(&mut kernel, 145, 0x01C8), done(0));
+    assert_eq!(rt; next(&mut kernel, false), Some(Pid(0)));
+    assert_eq!(rt; ask(&mut kernel, 145, 0x00C7), done(0));
+    assert_eq!(rt; next(&mut kernel, false), Some(Pid(0)));
+    assert_eq!(rt; runner(&kernel)?.priority, 199);
+    Ok(())
+}
+
+#[test]
+fn interrupts_that_are_off_keep_the_processor_behind_an_instruction(
+    rt: HostRuntime,
+) -> Result<(), Fail> {
+    let mut kernel = kernel_of_one(rt.alloc())?;
+    set_interrupts(&mut kernel, false, false);
+    begin(&mut kernel, 100);
+    assert_eq!(rt; next(&mut kernel, true), Some(Pid(0)));
+    set_interrupts(&mut kernel, true, true);
+    assert_eq!(rt; next(&mut kernel, true), Some(Pid(0)));
+    set_interrupts(&mut kernel, true, false);
+    assert_eq!(rt; next(&mut kernel, true), Some(Pid(1)));
+    set_interrupts(&mut kernel, false, false);
+    begin(&mut kernel, 99);
+    assert_eq!(rt; next(&mut kernel, false), Some(Pid(2)));
+    Ok(())
+}
+
+#[test]
+fn who_ends_frees_a_slot_and_the_next_one_runs(rt: HostRuntime) -> Result<(), Fail> {
+    let mut kernel = kernel_of_one(rt.alloc())?;
+    begin(&mut kernel, 200);
+    set_interrupts(&mut kernel, false, false);
+    end(&mut kernel);
+    assert_eq!(rt; kernel.running(), None);
+    assert_eq!(rt; (kernel.lives(Pid(0)), kernel.free_slots()), (false, 31));
+    assert_eq!(rt; next(&mut kernel, true), Some(Pid(1)));
+    begin(&mut kernel, 199);
+    assert_eq!(rt; next(&mut kernel, true), Some(Pid(0)));
+    Ok(())
+}
+
+#[test]
+fn functions_that_end_their_caller(rt: HostRuntime) -> Result<(), Fail> {
+    let mut kernel = kernel_of_one(rt.alloc())?;
+    assert_eq!(rt; ask(&mut kernel, 0, 0), Some((Outcome::Ended, 0)));
+    assert_eq!(rt; ask(&mut kernel, 143, 0xFFFF), Some((Outcome::Ended, 0)));
+    Ok(())
+}
+
+#[test]
+fn tabs_go_to_the_next_column_divisible_by_eight(rt: HostRuntime) -> Result<(), Fail> {
+    let mut kernel = kernel_of_one(rt.alloc())?;
+    assert_eq!(rt; kernel.write(1, b'A', true), 0);
+    assert_eq!(rt; kernel.write(1, b'\t', true), 7);
+    assert_eq!(rt; kernel.write(1, b'\t', false), 0);
+    assert_eq!(rt; kernel.write(1, b'\t', true), 8);
+    assert_eq!(rt; kernel.write(0, b'\t', true), 8);
+    Ok(())
+}

@@ -1,0 +1,126 @@
+-- A call that is done: its text, its reply and its record, one behind another.
+use Rattle.std.proofs.Common.{◌≡◌, ◌∙◌, ℕ, List, [], ◌∷◌, Option, sym, ap, subst}
+use Rattle.mpm_base.specs.Calls.{Taken, Answer}
+use Rattle.mpm_base.specs.declared.call.Outcome.{Outcome}
+use Rattle.mpm_banks.specs.Memory.{byte_at}
+use Rattle.mpm_procs.specs.Table.{Lives, process_in, call_of}
+use Rattle.mpm_kernel.specs.Kernel.{IsReady}
+use Rattle.mpm_render.specs.Outputs.{Output}
+use Rattle.mpm_render.specs.Shown.{Kept}
+use Rattle.mpm_machine.specs.declared.system.System.{System}
+use Rattle.mpm_machine.specs.State.{IsWhole}
+use Rattle.mpm_machine.specs.Serving.{asked, keeping, IsTaken, Served, served, said_by, replied, completing, completion, outcome_of, gate_step}
+use Rattle.mpm_machine.specs.Writing.{Showed, Stopped}
+use Rattle.mpm_machine.proofs.WritingLaws.{showed_behind, stopped_before, stopped_behind}
+use Rattle.mpm_machine.proofs.WholeLaws.{StaysWhole, Keeps, keeps_call, whole_served, whole_said, whole_replied}
+use Rattle.mpm_machine.proofs.TakenLaws.{call_is_taken}
+
+-- the system behind the text, and behind the reply, as they are reached
+pub record Answered (reply : Answer) (p seg : ℕ) (old said answered : System) : Type 0 where
+  pub lives : Lives answered.kernel.procs p
+  pub call : call_of answered.kernel.procs p ≡ call_of old.kernel.procs p
+  pub system : answered ≡ (completing reply (call_of old.kernel.procs p) p seg old).system
+
+pub lives_behind_text : (p seg : ℕ) (old said : System) → IsWhole old → Lives old.kernel.procs p
+    → said ≡ (said_by (call_of old.kernel.procs p) p seg old).system → Lives said.kernel.procs p
+lives_behind_text p seg old said w h is =
+    let P : System → Type 0 = λ system. Lives system.kernel.procs p in
+    subst P (sym is) (whole_said (call_of old.kernel.procs p) p seg old w h).lives
+
+pub answered_behind : (reply : Answer) (p seg : ℕ) (old said answered : System) → IsWhole old → Lives old.kernel.procs p
+    → said ≡ (said_by (call_of old.kernel.procs p) p seg old).system
+    → answered ≡ replied reply (call_of said.kernel.procs p) p seg said → Answered reply p seg old said answered
+unfolding completing
+answered_behind reply p seg old said answered w h is was =
+    let call = call_of old.kernel.procs p in
+    let spoke = (said_by call p seg old).system in
+    let text = whole_said call p seg old w h in
+    let same : call_of said.kernel.procs p ≡ call = ap (λ (s : System). call_of s.kernel.procs p) is ∙ text.call in
+    let whole : answered ≡ replied reply call p seg spoke =
+    was ∙ ap (λ c. replied reply c p seg said) same ∙ ap (replied reply call p seg) is in
+    let placed = whole_replied reply call p seg spoke text.whole text.lives in
+    let P : System → Type 0 = λ system. Lives system.kernel.procs p in
+    record {
+      lives = subst P (sym whole) placed.lives;
+      call = ap (λ (s : System). call_of s.kernel.procs p) whole ∙ placed.call ∙ text.call;
+      system = whole;
+    }
+
+-- the outputs are those of the text, and then the record
+news_of : (reply : Answer) (p seg : ℕ) (old said answered : System) → Answered reply p seg old said answered
+    → completion (call_of answered.kernel.procs p) p answered ∷ (said_by (call_of old.kernel.procs p) p seg old).news
+    ≡ (completing reply (call_of old.kernel.procs p) p seg old).news
+unfolding completing
+news_of reply p seg old said answered a =
+    let news = (said_by (call_of old.kernel.procs p) p seg old).news in
+    ap (λ call. completion call p answered ∷ news) a.call ∙ ap (λ system. completion (call_of old.kernel.procs p) p system ∷ news) a.system
+
+pub showed_call : (k0 : Kept) (t0 : Option (List ℕ)) (k1 : Kept) (t1 : Option (List ℕ)) (k2 : Kept) (t2 : Option (List ℕ))
+    (reply : Answer) (p seg : ℕ) (old said answered : System) → Answered reply p seg old said answered
+    → Showed k0 t0 k1 t1 (said_by (call_of old.kernel.procs p) p seg old).news
+    → Showed k1 t1 k2 t2 (completion (call_of answered.kernel.procs p) p answered ∷ [])
+    → Showed k0 t0 k2 t2 (completing reply (call_of old.kernel.procs p) p seg old).news
+showed_call k0 t0 k1 t1 k2 t2 reply p seg old said answered a text last =
+    let P : List Output → Type 0 = λ news. Showed k0 t0 k2 t2 news in
+    subst P (news_of reply p seg old said answered a) (showed_behind k0 t0 k1 t1 k2 t2 _ _ text last)
+
+-- a stop in the text, or in the record
+
+pub stopped_text : (kept : Kept) (told told' : Option (List ℕ)) (reply : Answer) (p seg : ℕ) (old : System)
+    → Stopped kept told told' (said_by (call_of old.kernel.procs p) p seg old).news
+    → Stopped kept told told' (completing reply (call_of old.kernel.procs p) p seg old).news
+unfolding completing
+stopped_text kept told told' reply p seg old stopped = stopped_before kept told told' _ (completion _ p _ ∷ []) stopped
+
+pub stopped_record : (k0 : Kept) (t0 : Option (List ℕ)) (k1 : Kept) (t1 t2 : Option (List ℕ)) (reply : Answer) (p seg : ℕ) (old said answered : System)
+    → k1.trace ≡ k0.trace → Answered reply p seg old said answered
+    → Showed k0 t0 k1 t1 (said_by (call_of old.kernel.procs p) p seg old).news
+    → Stopped k1 t1 t2 (completion (call_of answered.kernel.procs p) p answered ∷ [])
+    → Stopped k0 t0 t2 (completing reply (call_of old.kernel.procs p) p seg old).news
+stopped_record k0 t0 k1 t1 t2 reply p seg old said answered same a text stopped =
+    let P : List Output → Type 0 = λ news. Stopped k0 t0 t2 news in
+    subst P (news_of reply p seg old said answered a) (stopped_behind k0 t0 k1 t1 t2 _ _ same text stopped)
+
+-- the gate step of a call: it is taken, done, and what its outcome brings about follows
+
+pub kept_behind : (p seg : ℕ) (old kept : System) → IsWhole old → Lives old.kernel.procs p → kept ≡ keeping p (asked p seg old) old
+    → Keeps p (asked p seg old) old kept
+kept_behind p seg old kept w h is =
+    let P : System → Type 0 = λ system. Keeps p (asked p seg old) old system in
+    subst P (sym is) (keeps_call p (asked p seg old) old w h)
+
+pub kept_is_taken : (p seg : ℕ) (old kept : System) → IsWhole old → Lives old.kernel.procs p → Keeps p (asked p seg old) old kept
+    → IsTaken (call_of kept.kernel.procs p)
+unfolding asked
+kept_is_taken p seg old kept w h kept_call =
+    let process = process_in old.kernel.procs p in
+    let P : Taken → Type 0 = λ call. IsTaken call in
+    subst P (sym kept_call.call) (call_is_taken process.regs (byte_at old.memory seg) process.dma process.multi (w.sound.fit p h).few)
+
+pub record Concludes (p seg : ℕ) (old done : System) (outcome : Outcome) (reply : Answer) : Type 0 where
+  pub whole : IsWhole done
+  pub lives : Lives done.kernel.procs p
+  pub change : outcome_of outcome reply (call_of done.kernel.procs p) p seg done ≡ gate_step p seg old
+
+pub done_behind : (p seg : ℕ) (old kept done : System) (outcome : Outcome) (reply : Answer) → IsReady old.kernel p → kept ≡ keeping p (asked p seg old) old
+    → Keeps p (asked p seg old) old kept
+    → done ≡ (served (call_of kept.kernel.procs p) p kept).system → outcome ≡ (served (call_of kept.kernel.procs p) p kept).outcome
+    → reply ≡ (served (call_of kept.kernel.procs p) p kept).reply → Concludes p seg old done outcome reply
+unfolding gate_step
+done_behind p seg old kept done outcome reply ready is k system how what =
+    let call = asked p seg old in
+    let result = served call p (keeping p call old) in
+    let same : served (call_of kept.kernel.procs p) p kept ≡ result =
+    ap (λ c. served c p kept) k.call ∙ ap (served call p) is in
+    let stays = whole_served (call_of kept.kernel.procs p) p kept k.whole k.lives (k.ready ready) in
+    let P : System → Type 0 = λ s. StaysWhole p kept s in
+    let here : StaysWhole p kept done = subst P (sym system) stays in
+    let whole_call : call_of done.kernel.procs p ≡ call = here.call ∙ k.call in
+    record {
+      whole = here.whole;
+      lives = here.lives;
+      change = ap (λ c. outcome_of outcome reply c p seg done) whole_call
+          ∙ ap (λ o. outcome_of o reply call p seg done) (how ∙ ap (λ (r : Served). r.outcome) same)
+          ∙ ap (λ r. outcome_of result.outcome r call p seg done) (what ∙ ap (λ (r : Served). r.reply) same)
+          ∙ ap (outcome_of result.outcome result.reply call p seg) (system ∙ ap (λ (r : Served). r.system) same);
+    }

@@ -1,0 +1,260 @@
+-- Steps that are instructions of one process.
+use Rattle.std.proofs.Common.{◌≡◌, ◌∙◌, ℕ, zero, suc, ◌+◌, ◌<◌, Bool, true, false, ◌&&◌, List, ◌++◌, Option, Some, None, IsSome, IsNone, is_some, ◌-◌, if◌then◌else◌, inl, inr, length, refl, sym, ap, subst, arith, add-one, set-set, get_or-set_same}
+use Rattle.std.proofs.lemmas.Bool.{cases_eq}
+use Rattle.z80_regs.specs.declared.regs.Regs.{Regs}
+use Rattle.z80_regs.specs.Outcome.{Outcome, Action}
+use Rattle.z80_ext.specs.Instruction.{instruction, registers_after, actions_of}
+use Rattle.z80_ext.specs.declared.stepped.Stepped.{Stepped}
+use Rattle.z80_ext.specs.declared.stepped.Stepped.TheVariants.{Ran, Illegal}
+use Rattle.mpm_ready.specs.Order.{first_of}
+use Rattle.mpm_ready.specs.Tables.{list_at}
+use Rattle.mpm_banks.specs.Memory.{Memory, segment_of, byte_at}
+use Rattle.mpm_banks.specs.Ports.{port_byte}
+use Rattle.mpm_banks.specs.Actions.{memory_after, devices_after}
+use Rattle.mpm_banks.proofs.ActionLaws.{same_segments_after}
+use Rattle.mpm_procs.specs.Table.{Lives, process_in, with_process}
+use Rattle.mpm_procs.specs.Opening.{blank}
+use Rattle.mpm_procs.specs.declared.process.Process.{Process}
+use Rattle.mpm_procs.proofs.MapLaws.{lives_below, process_changed}
+use Rattle.mpm_kernel.specs.Kernel.{Kernel, ready}
+use Rattle.mpm_kernel.specs.Dispatch.{picked, stays}
+use Rattle.mpm_kernel.proofs.SoundLaws.{sound_devices, runner_lives}
+use Rattle.mpm_kernel.proofs.HomeLaws.{homes_stay}
+use Rattle.mpm_render.specs.Shown.{Kept}
+use Rattle.mpm_machine.specs.declared.system.System.{System}
+use Rattle.mpm_machine.specs.declared.gate.Gate.{Gate}
+use Rattle.mpm_machine.specs.Gates.{last_page, gate_of}
+use Rattle.mpm_machine.specs.State.{State, Change, StandsFor, IsWhole, silent}
+use Rattle.mpm_machine.specs.Serving.{with_regs}
+use Rattle.mpm_machine.specs.Step.{ran, instructed, instruction_at, acted_at, gate_before, acted_by, acted, running_segment, at_instruction, counted, dispatched, step_of, next, after}
+use Rattle.mpm_machine.specs.Moving.{View, instruction_in, moved, moves, CanMove, Moves, Moved, view_of, with_view, RunsOn}
+use Rattle.mpm_machine.proofs.HomeLaws.{KeepsHomes, keeps_itself, keeps_both, keeps_acted}
+use Rattle.mpm_machine.proofs.WholeLaws.{same_regs, whole_kernel, whole_memory, whole_regs}
+use Rattle.mpm_machine.proofs.StepLaws.{after_nothing}
+
+pub view_is : (a b : View) → a.regs ≡ b.regs → a.memory ≡ b.memory → a.devices ≡ b.devices → a ≡ b
+view_is a b regs memory devices =
+    ap (λ r. record a { regs = r }) regs ∙ ap (λ m. record b { memory = m; devices = a.devices }) memory ∙ ap (λ d. record b { devices = d }) devices
+
+-- none, and one more
+
+pub moves_none : (seg : ℕ) (view : View) → Moves 0 seg view view
+unfolding moves
+moves_none seg view = record { is = refl; each = λ k below. absurd (omega arith) }
+
+pub moves_more : (n seg : ℕ) (old now new : View) → Moves n seg old now → CanMove seg now → new ≡ moved seg now → Moves (n + 1) seg old new
+unfolding moves
+moves_more n seg old now new m can is =
+    let more : moves (n + 1) seg old ≡ moved seg (moves n seg old) = ap (λ k. moves k seg old) (add-one n) in
+    record {
+      is = is ∙ ap (moved seg) m.is ∙ sym more;
+      each = λ k below. elim (cases_eq k n) [
+        | inl same ↦
+            let P : View → Type 0 = λ view. CanMove seg view in
+            subst P (m.is ∙ ap (λ j. moves j seg old) (sym same)) can
+        | inr other ↦ m.each k (omega (arith, other))
+      ];
+    }
+
+-- where no listed instruction stands, nothing changes
+pub unmoved : (seg : ℕ) (view new : View) (outcome : Option Outcome) → outcome ≡ instruction_in seg view → IsNone outcome
+    → new.regs ≡ registers_after outcome view.regs → new.memory ≡ memory_after (actions_of outcome) seg view.memory
+    → new.devices ≡ devices_after (actions_of outcome) view.devices → new ≡ view
+unfolding memory_after devices_after
+unmoved seg view new None is none regs memory devices = view_is new view regs memory devices
+unmoved seg view new (Some outcome) is none regs memory devices = absurd (cc)
+
+pub moves_to : (n seg : ℕ) (old now new : View) → Moves n seg old now → new ≡ now → Moves n seg old new
+moves_to n seg old now new m is = record { is = is ∙ m.is; each = m.each }
+
+pub moves_from : (n seg : ℕ) (old first new : View) → Moves n seg first new → first ≡ old → Moves n seg old new
+moves_from n seg old first new m is =
+    let P : View → Type 0 = λ view. Moves n seg view new in
+    subst P is m
+
+-- gates stay where they are, and one that isn't there is none
+
+pub page_stays : (actions : List Action) (seg : ℕ) (memory : Memory) → last_page (memory_after actions seg memory) seg ≡ last_page memory seg
+page_stays actions seg memory =
+    let same = same_segments_after actions seg memory in
+    ap (λ base. base + (segment_of (memory_after actions seg memory) seg).pages - 1) (same.base seg)
+    ∙ ap (λ pages. (segment_of memory seg).base + pages - 1) (same.pages seg)
+
+pub no_gate_at : (gate : Option Gate) → is_some gate ≡ false → gate ≡ None
+no_gate_at None e = refl
+no_gate_at (Some gate) e = absurd (cc)
+
+pub some_unless : (outcome : Option Outcome) → (IsNone outcome → ⊥) → IsSome outcome
+some_unless None not_none = absurd (not_none refl)
+some_unless (Some outcome) not_none = refl
+
+pub ran_or_not : (stepped : Stepped) → stepped ≡ Ran → stepped ≡ Illegal → ⊥
+ran_or_not Ran ran illegal = absurd (cc)
+ran_or_not Illegal ran illegal = absurd (cc)
+
+-- the process that is first and runs is picked again
+
+picked_if : (b : Bool) (kernel : Kernel) (p : ℕ) → kernel.running ≡ Some p → first_of (list_at kernel.lists ready) ≡ Some p
+    → (if b then kernel else (record kernel { running = first_of (list_at kernel.lists ready) })) ≡ kernel
+picked_if true kernel p runs first = refl
+picked_if false kernel p runs first = ap (λ running. record kernel { running = running }) (first ∙ sym runs)
+
+picked_same : (instruction : Bool) (kernel : Kernel) (p : ℕ) → kernel.running ≡ Some p → first_of (list_at kernel.lists ready) ≡ Some p
+    → picked instruction kernel ≡ kernel
+unfolding picked
+picked_same instruction kernel p runs first = picked_if (instruction && stays kernel kernel.running) kernel p runs first
+
+-- a view that a process already has, and one behind another
+
+view_itself : (system : System) (p : ℕ) → with_view system p (view_of system p) 0 ≡ system
+unfolding with_view
+view_itself system p =
+    ap (λ (kernel : Kernel). record system { steps = system.steps + 0; kernel = kernel }) (same_regs system.kernel p)
+    ∙ ap (λ (n : ℕ). record system { steps = n }) (omega arith)
+
+regs_of_view : (system : System) (p n : ℕ) (view : View) → p < length system.kernel.procs.processes
+    → process_in (with_view system p view n).kernel.procs p ≡ record (process_in system.kernel.procs p) { regs = view.regs }
+unfolding with_view
+regs_of_view system p n view below = process_changed system.kernel.procs p (record (process_in system.kernel.procs p) { regs = view.regs }) below
+
+-- registers that change twice are the last ones
+regs_twice : (kernel : Kernel) (p : ℕ) (first last : Regs) → p < length kernel.procs.processes
+    → with_regs (with_regs kernel p first) p last ≡ with_regs kernel p last
+unfolding with_process
+regs_twice kernel p first last below =
+    let old = process_in kernel.procs p in
+    let once = with_process kernel.procs p (record old { regs = first }) in
+    let at : process_in once p ≡ record old { regs = first } = get_or-set_same kernel.procs.processes p _ blank below in
+    ap (λ (process : Process). record kernel { procs = with_process once p (record process { regs = last }) }) at
+    ∙ ap (λ processes. record kernel { procs = record kernel.procs { processes = processes } }) (set-set kernel.procs.processes p _ _)
+
+-- an instruction makes one view of another
+
+ran_view : (system : System) (p seg n : ℕ) (view : View) → p < length system.kernel.procs.processes
+    → ran (instruction_in seg view) p seg (counted (with_view system p view n)) ≡ with_view system p (moved seg view) (n + 1)
+unfolding ran with_view
+ran_view system p seg n view below =
+    let outcome = instruction_in seg view in
+    let next = moved seg view in
+    let kernel = record system.kernel { devices = next.devices } in
+    let old = process_in system.kernel.procs p in
+    let at : process_in (with_view system p view n).kernel.procs p ≡ record old { regs = view.regs } = regs_of_view system p n view below in
+    ap (λ (regs : Regs). record system {
+      steps = system.steps + n + 1;
+      kernel = with_regs (with_regs kernel p view.regs) p (registers_after outcome regs);
+      memory = next.memory;
+    }) (ap (λ (process : Process). process.regs) at)
+    ∙ ap (λ (k : Kernel). record system { steps = system.steps + n + 1; kernel = k; memory = next.memory }) (regs_twice kernel p view.regs next.regs below)
+    ∙ ap (λ steps. record system { steps = steps; kernel = with_regs kernel p next.regs; memory = next.memory }) (omega arith)
+
+instructed_some : (outcome : Option Outcome) (p seg : ℕ) (system : System) → IsSome outcome → instructed outcome p seg system ≡ silent (ran outcome p seg system)
+unfolding instructed
+instructed_some None p seg system some = absurd (cc)
+instructed_some (Some outcome) p seg system some = refl
+
+-- the step is that instruction
+
+acted_view : (system : System) (p seg n : ℕ) (view : View) → p < length system.kernel.procs.processes → RunsOn system p seg → CanMove seg view
+    → acted (counted (with_view system p view n)) ≡ silent (with_view system p (moved seg view) (n + 1))
+unfolding acted with_view
+acted_view system p seg n view below on can =
+    let begun = counted (with_view system p view n) in
+    let at = regs_of_view system p n view below in
+    let regs : (process_in begun.kernel.procs p).regs ≡ view.regs = ap (λ (process : Process). process.regs) at in
+    let home : (process_in begun.kernel.procs p).seg ≡ Some seg = ap (λ (process : Process). process.seg) at ∙ on.home in
+    let gate : gate_before p seg begun ≡ None = ap (λ (r : Regs). gate_of view.memory seg r.pc) regs ∙ can.no_gate in
+    let there : instruction_at p seg begun ≡ instruction_in seg view =
+    ap (λ r. instruction r (byte_at view.memory seg) (port_byte view.devices)) regs in
+    ap (λ running. acted_by running (running_segment running begun) begun) on.running
+    ∙ ap (λ segment. acted_by (Some p) segment begun) home
+    ∙ ap (λ (g : Option Gate). acted_at g p seg begun) gate
+    ∙ ap (λ outcome. instructed outcome p seg begun) there
+    ∙ instructed_some (instruction_in seg view) p seg begun can.listed
+    ∙ ap silent (ran_view system p seg n view below)
+
+step_view : (system : System) (p seg n : ℕ) (view : View) → p < length system.kernel.procs.processes → RunsOn system p seg → CanMove seg view
+    → step_of (with_view system p view n) ≡ silent (with_view system p (moved seg view) (n + 1))
+unfolding step_of with_view
+step_view system p seg n view below on can =
+    let begun = counted (with_view system p view n) in
+    let later = with_view system p (moved seg view) (n + 1) in
+    ap (dispatched (at_instruction begun)) (acted_view system p seg n view below on can)
+    ∙ ap (λ (kernel : Kernel). silent (record later { kernel = kernel })) (picked_same (at_instruction begun) later.kernel p on.running on.first)
+
+-- so n of them are n steps, which say nothing
+
+with_system : State → System → State
+with_system s system = record s { system = system }
+
+next_view : (s : State) (p seg n : ℕ) (view : View) → p < length s.system.kernel.procs.processes → RunsOn s.system p seg → CanMove seg view
+    → next (with_system s (with_view s.system p view n)) ≡ with_system s (with_view s.system p (moved seg view) (n + 1))
+unfolding next with_system
+next_view s p seg n view below on can =
+    ap (λ (change : Change). record { system = change.system; outputs = change.news ++ s.outputs }) (step_view s.system p seg n view below on can)
+
+after_moves : (n : ℕ) (s : State) (p seg : ℕ) → p < length s.system.kernel.procs.processes → RunsOn s.system p seg
+    → ((k : ℕ) → k < n → CanMove seg (moves k seg (view_of s.system p)))
+    → after n s ≡ with_system s (with_view s.system p (moves n seg (view_of s.system p)) n)
+unfolding moves after with_system
+after_moves zero s p seg below on each = ap (λ system. record s { system = system }) (sym (view_itself s.system p))
+after_moves (suc n) s p seg below on each =
+    let view = moves n seg (view_of s.system p) in
+    ap next (after_moves n s p seg below on (λ k less. each k (omega (arith, less))))
+    ∙ next_view s p seg n view below on (each n (omega arith))
+    ∙ ap (λ count. record s { system = with_view s.system p (moved seg view) count }) (add-one n)
+
+pub runs_on : (system : System) (p seg : ℕ) → system.kernel.running ≡ Some p → first_of (list_at system.kernel.lists ready) ≡ Some p
+    → (process_in system.kernel.procs p).seg ≡ Some seg → RunsOn system p seg
+runs_on system p seg running first home = record { running = running; first = first; home = home }
+
+-- what a machine stands for behind them
+pub moved_stands : (n p seg : ℕ) (old new : System) (kept : Kept) (told : Option (List ℕ)) (s : State) (first : Option (List ℕ))
+    → IsWhole old → RunsOn old p seg → Moved n p seg old new → StandsFor old kept told s first → StandsFor new kept told (after n s) first
+unfolding with_system
+moved_stands n p seg old new kept told s first w on moved stands =
+    let below : p < length old.kernel.procs.processes =
+    omega (arith, w.sound.slots.processes, lives_below old.kernel.procs p w.sound.slots (runner_lives old.kernel p w.sound on.running)) in
+    let P : System → Type 0 = λ system. (p < length system.kernel.procs.processes) × RunsOn system p seg
+    × ((k : ℕ) → k < n → CanMove seg (moves k seg (view_of system p))) in
+    let facts : P s.system = subst P stands.parts (below, on, moved.moves.each) in
+    let behind = after_moves n s p seg facts.0 facts.1 facts.2 in
+    let whole : new ≡ with_view s.system p (moves n seg (view_of s.system p)) n =
+    moved.is ∙ ap (λ v. with_view old p v n) moved.moves.is ∙ ap (λ system. with_view system p (moves n seg (view_of system p)) n) stands.parts in
+    let Q : State → Type 0 = λ t. StandsFor new kept told t first in
+    subst Q (sym behind) (record { parts = whole; shown = stands.shown })
+
+-- a machine that ran so is whole
+whole_view : (system : System) (p n : ℕ) (view : View) → IsWhole system → Lives system.kernel.procs p → KeepsHomes system.memory view.memory
+    → IsWhole (with_view system p view n)
+unfolding with_view
+whole_view system p n view w h keeps =
+    let polled = record system.kernel { devices = view.devices } in
+    let before = whole_kernel system polled w (sound_devices system.kernel view.devices w.sound) (homes_stay _ _ refl) in
+    let changed = whole_regs p view.regs (record system { kernel = polled }) before h in
+    let behind = whole_memory _ view.memory changed.whole keeps in
+    record { sound = behind.sound; homes = behind.homes }
+
+keeps_moved : (n seg : ℕ) (view : View) → KeepsHomes view.memory (moves n seg view).memory
+unfolding moves
+keeps_moved zero seg view = keeps_itself view.memory
+keeps_moved (suc n) seg view =
+    let before = moves n seg view in
+    keeps_both view.memory before.memory _ (keeps_moved n seg view) (keeps_acted (actions_of (instruction_in seg before)) seg before.memory)
+
+pub whole_behind : (n p seg : ℕ) (old new : System) → IsWhole old → Lives old.kernel.procs p → Moved n p seg old new → IsWhole new
+whole_behind n p seg old new w h on =
+    let keeps : KeepsHomes old.memory on.view.memory =
+    subst (λ (view : View). KeepsHomes old.memory view.memory) (sym on.moves.is) (keeps_moved n seg (view_of old p)) in
+    subst IsWhole (sym on.is) (whole_view old p n on.view w h keeps)
+
+-- nothing was done
+
+pub stands_still : (system : System) (kept : Kept) (told : Option (List ℕ)) (s : State) (first : Option (List ℕ)) → StandsFor system kept told s first
+    → StandsFor system kept told (after 0 s) first
+stands_still system kept told s first stands =
+    let P : State → Type 0 = λ t. StandsFor system kept told t first in
+    subst P (sym (after_nothing s)) stands
+
+pub steps_behind : (n p seg : ℕ) (old new : System) → Moved n p seg old new → new.steps ≡ old.steps + n
+unfolding with_view
+steps_behind n p seg old new moved = ap (λ (system : System). system.steps) moved.is

@@ -1,0 +1,262 @@
+-- Programs that are placed into a machine in which no step was done.
+use Rattle.std.proofs.Common.{◌≡◌, ◌≢◌, ◌∙◌, ℕ, suc, cond, count_by, ◌+◌, ◌-◌, ◌*◌, ◌<◌, ◌≤◌, Bool, true, false, ◌&&◌, if◌then◌else◌, List, [], ◌∷◌, Option, Some, None, All, IsSome, length, codes, get_or, map, inl, inr, refl, sym, ap, subst, arith}
+use Rattle.std.proofs.lemmas.Bool.{cases_eq}
+use Rattle.std.proofs.lemmas.List.{length-map, get_or-map}
+use Rattle.std.proofs.lemmas.List.Elements.{All-cons, All-nil}
+use Rattle.std.proofs.lemmas.List.Sums.{sum_by-cons, sum_by-set, count_by-le-length}
+use Rattle.mpm_base.specs.declared.number.Name8.{Name8}
+use Rattle.mpm_base.specs.declared.segment.SegmentSpec.{SegmentSpec}
+use Rattle.mpm_banks.specs.Memory.{Memory, no_segment, HasSegment, SameSegments, segment_of, with_bytes}
+use Rattle.mpm_banks.specs.MemoryLaws.{same_segments_both}
+use Rattle.mpm_banks.proofs.WrittenBytes.{same_segments_with_bytes}
+use Rattle.mpm_banks.specs.Allocations.{new_segment, new_memory, allocated, occupied, spec_of}
+use Rattle.mpm_banks.proofs.SegmentLaws.{count_allocated, segment_of_allocated}
+use Rattle.mpm_banks.specs.declared.segment.Segment.{Segment}
+use Rattle.mpm_banks.specs.declared.segment.Allocation.TheVariants.{Occupied}
+use Rattle.mpm_procs.specs.Table.{HasSlots, lives, Lives, process_in, living, no_processes, lowest_free, added}
+use Rattle.mpm_procs.specs.Opening.{opening}
+use Rattle.mpm_procs.specs.declared.process.NewProcess.{NewProcess}
+use Rattle.mpm_procs.proofs.CountLaws.{living_added, full_from_none}
+use Rattle.mpm_procs.proofs.MapLaws.{nobody_lives, free_below, free_is_dead, lives_added_other, process_added, process_added_other}
+use Rattle.mpm_kernel.specs.Kernel.{Kernel}
+use Rattle.mpm_kernel.specs.Dispatch.{new_kernel, admitted, stays, picked}
+use Rattle.mpm_kernel.proofs.SoundLaws.{sound_new, sound_admitted, sound_picked}
+use Rattle.mpm_kernel.proofs.HomeLaws.{opening_home, procs_picked}
+use Rattle.mpm_machine_file.specs.MachineFiles.{IsSegment}
+use Rattle.mpm_machine.specs.Gates.{last_page}
+use Rattle.mpm_machine.specs.declared.system.System.{System}
+use Rattle.mpm_machine.specs.State.{IsHome, IsWhole}
+use Rattle.mpm_machine.specs.Opening.{base_page, laid_out, placed_process, bare, is_lived_in, is_occupied, IsBare, MayPlace, with_placed, opening_system}
+use Rattle.mpm_machine.proofs.HomeLaws.{KeepsHomes, keeps_same, keeps_both, keeps_allocated}
+
+-- a program that is laid out changes bytes alone
+same_segments_laid_out : (memory : Memory) (seg : ℕ) (program : List ℕ) → SameSegments memory (laid_out memory seg program)
+unfolding laid_out
+same_segments_laid_out memory seg program =
+    let base = (segment_of memory seg).base in
+    let page = last_page memory seg in
+    let first = with_bytes memory seg (256 * base) (base_page page) in
+    let second = with_bytes first seg (256 * base + 256) program in
+    same_segments_both memory second _
+    (same_segments_both memory first second (same_segments_with_bytes (base_page page) memory seg (256 * base)) (same_segments_with_bytes program first seg (256 * base + 256)))
+    (same_segments_with_bytes _ second seg (256 * page - 2))
+
+pub laid_out_is_there : (memory : Memory) (seg : ℕ) (program : List ℕ) → HasSegment memory seg → HasSegment (laid_out memory seg program) seg
+laid_out_is_there memory seg program there = omega (arith, (same_segments_laid_out memory seg program).count, there)
+
+-- the system is whole
+
+same_some : (a b : ℕ) → Some a ≡ Some b → a ≡ b
+same_some a b e = cc
+
+-- a process that begins in a home leaves a home to each
+homes_admitted : (kernel : Kernel) (memory : Memory) (p seg : ℕ) (new : NewProcess) → HasSlots kernel.procs → lowest_free kernel.procs ≡ Some p
+    → new.seg ≡ Some seg → IsHome memory seg
+    → ((q other : ℕ) → Lives kernel.procs q → (process_in kernel.procs q).seg ≡ Some other → IsHome memory other)
+    → (q other : ℕ) → Lives (added kernel.procs p new) q → (process_in (added kernel.procs p new) q).seg ≡ Some other → IsHome memory other
+homes_admitted kernel memory p seg new slots free is home homes q other living there = elim (cases_eq q p) [
+  | inl equal ↦
+      let at : process_in (added kernel.procs p new) q ≡ opening new =
+      ap (process_in (added kernel.procs p new)) equal
+      ∙ process_added kernel.procs p new (omega (arith, slots.processes, slots.alive, free_below kernel.procs p free)) in
+      let seat : Some seg ≡ Some other = sym is ∙ sym (opening_home new) ∙ ap (λ x. x.seg) (sym at) ∙ there in
+      subst (IsHome memory) (same_some seg other seat) home
+  | inr another ↦
+      homes q other (sym (lives_added_other kernel.procs p q new another) ∙ living)
+      (ap (λ x. x.seg) (sym (process_added_other kernel.procs p q new another)) ∙ there)
+]
+
+pub whole_placed : (system : System) (p seg : ℕ) (name : Name8) (priority console : ℕ) (program : List ℕ) → MayPlace system seg console (length program)
+    → lowest_free system.kernel.procs ≡ Some p → IsWhole (with_placed system p seg name priority console program)
+unfolding with_placed placed_process admitted
+whole_placed system p seg name priority console program may free =
+    let w = may.bare.whole in
+    let new = placed_process (spec_of system.memory seg) seg name priority console in
+    let memory = laid_out system.memory seg program in
+    let keeps : KeepsHomes system.memory (occupied memory seg) =
+    keeps_both _ memory _ (keeps_same _ _ (same_segments_laid_out system.memory seg program)) (keeps_allocated memory seg Occupied) in
+    let kernel = admitted system.kernel p new in
+    let same = procs_picked false kernel in
+    let homes = homes_admitted system.kernel system.memory p seg new w.sound.slots free refl may.home w.homes in
+    record {
+      sound = sound_picked kernel false (sound_admitted system.kernel p new w.sound free may.has_console);
+      homes = λ q other living there.
+          keeps.all other (homes q other (ap (λ procs. lives procs q) (sym same) ∙ living) (ap (λ procs. (process_in procs q).seg) (sym same) ∙ there));
+    }
+
+dead_and_alive : (b : Bool) → b ≡ false → b ≡ true → ⊥
+dead_and_alive true e f = absurd (cc)
+dead_and_alive false e f = absurd (cc)
+
+pub whole_bare : (segments : List SegmentSpec) (consoles printers : ℕ) → 1 ≤ consoles → consoles ≤ 8 → IsWhole (bare segments consoles printers)
+unfolding bare new_kernel
+whole_bare segments consoles printers some few = record {
+  sound = sound_new consoles printers some few;
+  homes = λ p seg living there. absurd (dead_and_alive _ (nobody_lives p) living);
+}
+
+home_bare : (segments : List SegmentSpec) (seg : ℕ) → All IsSegment segments → seg < length segments → IsHome (new_memory segments) seg
+unfolding new_memory
+home_bare segments seg fit h =
+    let none : SegmentSpec = record { base = 0; pages = 0 } in
+    let spec = get_or segments seg none in
+    let fits : IsSegment spec = fit seg none h in
+    let at : segment_of (new_memory segments) seg ≡ new_segment spec = get_or-map new_segment segments seg none no_segment h in
+    record {
+      exists = omega (arith, length-map segments new_segment, h);
+      pages = omega (arith, ap (λ (s : Segment). s.pages) at, fits.pages);
+      end = omega (arith, ap (λ (s : Segment). s.pages) at, ap (λ (s : Segment). s.base) at, fits.end);
+    }
+
+some_free : (slot : Option ℕ) → (slot ≡ None → ⊥) → IsSome slot
+some_free None taken = absurd (taken refl)
+some_free (Some p) taken = refl
+
+-- there is a slot, since there are fewer segments than slots
+
+one_if : Bool → ℕ
+one_if b = cond b 1 0
+
+bit : Segment → ℕ
+bit segment = one_if (is_occupied segment)
+
+occupied_more : (segment : Segment) (segments : List Segment) → count_by is_occupied (segment ∷ segments) ≡ bit segment + count_by is_occupied segments
+unfolding bit one_if
+occupied_more segment segments = sum_by-cons bit segment segments
+
+count_same : (one other : List Segment) → length one ≡ length other
+    → ((seg : ℕ) → (get_or one seg no_segment).allocation ≡ (get_or other seg no_segment).allocation)
+    → count_by is_occupied one ≡ count_by is_occupied other
+unfolding bit
+count_same [] [] length each = refl
+count_same [] (s ∷ other) length each = absurd (omega arith)
+count_same (s ∷ one) [] length each = absurd (omega arith)
+count_same (s ∷ one) (t ∷ other) length each =
+    occupied_more s one
+    ∙ ap (λ allocation. one_if (is_lived_in allocation) + count_by is_occupied one) (each 0)
+    ∙ ap (λ n. bit t + n) (count_same one other (omega arith) (λ seg. each (suc seg)))
+    ∙ sym (occupied_more t other)
+
+nobody_counts : (segments : List SegmentSpec) → count_by is_occupied (map new_segment segments) ≡ 0
+unfolding bit one_if
+nobody_counts [] = refl
+nobody_counts (spec ∷ segments) = occupied_more (new_segment spec) (map new_segment segments) ∙ omega (arith, nobody_counts segments)
+
+-- a segment more is lived in
+occupied_count : (memory : Memory) (seg : ℕ) → HasSegment memory seg → is_occupied (segment_of memory seg) ≡ false
+    → count_by is_occupied (occupied memory seg).segments ≡ count_by is_occupied memory.segments + 1
+unfolding allocated bit one_if
+occupied_count memory seg there empty =
+    let set = sum_by-set bit memory.segments seg (record (segment_of memory seg) { allocation = Occupied }) no_segment there in
+    omega (arith, set, ap one_if empty)
+
+pub slot_is_free : (system : System) (seg console size : ℕ) → MayPlace system seg console size → IsSome (lowest_free system.kernel.procs)
+slot_is_free system seg console size may = some_free (lowest_free system.kernel.procs) (λ none.
+    let full = full_from_none system.kernel.procs may.bare.whole.sound.slots none in
+    let most = count_by-le-length is_occupied system.memory.segments in
+    omega (arith, full, most, may.bare.few, may.bare.counted))
+
+bare_placed : (system : System) (p seg : ℕ) (name : Name8) (priority console : ℕ) (program : List ℕ) → MayPlace system seg console (length program)
+    → lowest_free system.kernel.procs ≡ Some p → IsBare (with_placed system p seg name priority console program)
+unfolding with_placed placed_process admitted
+bare_placed system p seg name priority console program may free =
+    let new = placed_process (spec_of system.memory seg) seg name priority console in
+    let kernel = admitted system.kernel p new in
+    let memory = laid_out system.memory seg program in
+    let same = same_segments_laid_out system.memory seg program in
+    let there : HasSegment memory seg = omega (arith, same.count, may.home.exists) in
+    let empty : is_occupied (segment_of memory seg) ≡ false = ap is_lived_in (same.allocation seg) ∙ may.empty in
+    let count = occupied_count memory seg there empty in
+    let before = count_same memory.segments system.memory.segments same.count same.allocation in
+    let more = living_added system.kernel.procs p new (free_below system.kernel.procs p free) (free_is_dead system.kernel.procs p free) in
+    record {
+      whole = whole_placed system p seg name priority console program may free;
+      start = may.bare.start;
+      few = omega (arith, count_allocated memory seg Occupied, same.count, may.bare.few);
+      counted = omega (arith, ap living (procs_picked false kernel), more, count, before, may.bare.counted);
+    }
+
+-- the machine behind a placement
+pub placed_is_bare : (old : System) (kernel : Kernel) (memory laid : Memory) (new : NewProcess) (p seg : ℕ) (name : Name8) (priority console : ℕ) (program : List ℕ)
+    → MayPlace old seg console (length program) → lowest_free old.kernel.procs ≡ Some p
+    → new ≡ placed_process (spec_of old.memory seg) seg name priority console → kernel ≡ picked false (admitted old.kernel p new)
+    → laid ≡ laid_out old.memory seg program → memory ≡ occupied laid seg → IsBare (record old { kernel = kernel; memory = memory })
+unfolding with_placed
+placed_is_bare old kernel memory laid new p seg name priority console program may free process is written lived =
+    let whole : record old { kernel = kernel; memory = memory } ≡ with_placed old p seg name priority console program =
+    ap (λ k. record old { kernel = k; memory = memory }) (is ∙ ap (λ n. picked false (admitted old.kernel p n)) process)
+    ∙ ap (λ m. record old { kernel = picked false (admitted old.kernel p (placed_process (spec_of old.memory seg) seg name priority console)); memory = m })
+    (lived ∙ ap (λ m. occupied m seg) written) in
+    subst IsBare (sym whole) (bare_placed old p seg name priority console program may free)
+
+pub bare_is : (segments : List SegmentSpec) (consoles printers : ℕ) → 1 ≤ consoles → consoles ≤ 8 → length segments ≤ 16 → IsBare (bare segments consoles printers)
+unfolding bare new_kernel new_memory living no_processes
+bare_is segments consoles printers some few count = record {
+  whole = whole_bare segments consoles printers some few;
+  start = refl;
+  few = omega (arith, length-map segments new_segment, count);
+  counted = omega (arith, nobody_counts segments);
+}
+
+-- a program can be placed into each segment of a machine in which nobody lives
+pub may_place_bare : (segments : List SegmentSpec) (consoles printers seg console size : ℕ) → 1 ≤ consoles → consoles ≤ 8 → length segments ≤ 16
+    → All IsSegment segments → seg < length segments → console < consoles
+    → size + 640 ≤ 256 * (get_or segments seg (record { base = 0; pages = 0 })).pages
+    → MayPlace (bare segments consoles printers) seg console size
+unfolding bare new_kernel new_memory
+may_place_bare segments consoles printers seg console size some few count fit h has_console room =
+    let none : SegmentSpec = record { base = 0; pages = 0 } in
+    let at : segment_of (new_memory segments) seg ≡ new_segment (get_or segments seg none) = get_or-map new_segment segments seg none no_segment h in
+    record {
+      bare = bare_is segments consoles printers some few count;
+      home = home_bare segments seg fit h;
+      empty = ap is_occupied at;
+      has_console = has_console;
+      room = omega (arith, ap (λ (s : Segment). s.pages) at, room);
+    }
+
+same_consoles : (b : Bool) (kernel other : Kernel) → other.consoles ≡ kernel.consoles → (if b then kernel else other).consoles ≡ kernel.consoles
+same_consoles true kernel other e = refl
+same_consoles false kernel other e = e
+
+-- one that can be placed elsewhere still can
+consoles_picked : (instruction : Bool) (kernel : Kernel) → (picked instruction kernel).consoles ≡ kernel.consoles
+unfolding picked
+consoles_picked instruction kernel = same_consoles (instruction && stays kernel kernel.running) kernel _ refl
+
+pub may_place_again : (system : System) (p seg : ℕ) (name : Name8) (priority console : ℕ) (program : List ℕ) (other next size : ℕ)
+    → MayPlace system seg console (length program) → lowest_free system.kernel.procs ≡ Some p → other ≢ seg → MayPlace system other next size
+    → MayPlace (with_placed system p seg name priority console program) other next size
+unfolding with_placed admitted
+may_place_again system p seg name priority console program other next size may free apart again =
+    let new = placed_process (spec_of system.memory seg) seg name priority console in
+    let memory = laid_out system.memory seg program in
+    let same = same_segments_laid_out system.memory seg program in
+    let there : segment_of (occupied memory seg) other ≡ segment_of memory other = segment_of_allocated memory seg other Occupied apart in
+    let keeps : KeepsHomes system.memory (occupied memory seg) = keeps_both _ memory _ (keeps_same _ _ same) (keeps_allocated memory seg Occupied) in
+    record {
+      bare = bare_placed system p seg name priority console program may free;
+      home = keeps.all other again.home;
+      empty = ap is_occupied there ∙ ap is_lived_in (same.allocation other) ∙ again.empty;
+      has_console = omega (arith, consoles_picked false (admitted system.kernel p new), again.has_console);
+      room = omega (arith, ap (λ (s : Segment). s.pages) there, same.pages other, again.room);
+    }
+
+-- the program of a machine of one segment
+pub may_place_program : (size : ℕ) → size ≤ 48512 → MayPlace (bare (record { base = 0; pages = 192 } ∷ []) 1 0) 0 0 size
+unfolding new_memory
+may_place_program size h =
+    let whole : SegmentSpec = record { base = 0; pages = 192 } in
+    let fits : IsSegment whole = record { pages = omega arith; end = omega arith } in
+    may_place_bare (whole ∷ []) 1 0 0 0 size (omega arith) (omega arith) (omega arith) (All-cons IsSegment whole [] fits (All-nil IsSegment)) (omega arith) (omega arith) (omega arith)
+
+-- it is process 0
+pub opening_is : (program : List ℕ) (p : ℕ) (machine old : System) → old ≡ bare (record { base = 0; pages = 192 } ∷ []) 1 0
+    → lowest_free old.kernel.procs ≡ Some p → machine ≡ with_placed old p 0 (record { 0 = codes "PROGRAM " }) 200 0 program → machine ≡ opening_system program
+unfolding opening_system bare new_kernel lowest_free no_processes
+opening_is program p machine old is free placed =
+    let first : Some 0 ≡ Some p = sym (ap (λ (s : System). lowest_free s.kernel.procs) is) ∙ free in
+    let name : Name8 = record { 0 = codes "PROGRAM " } in
+    placed
+    ∙ ap (λ n. with_placed old n 0 name 200 0 program) (sym (same_some 0 p first))
+    ∙ ap (λ s. with_placed s 0 0 name 200 0 program) is

@@ -1,0 +1,26 @@
+use Rattle.std.proofs.Common.{ap, sym, subst, arith, ℕ}
+use Rattle.mpm_machine.specs.declared.system.System.{System}
+use Rattle.mpm_machine.specs.State.{State, StandsFor}
+use Rattle.mpm_machine.specs.Step.{after}
+use Rattle.mpm_machine.proofs.StepLaws.{after_more, ends_in_step}
+use Rattle.mpm_machine.proofs.machine.Machine.advance.Goals as goal
+
+pub returns-then-done-most-clause-ok : goal.returns-then-done-most-clause-ok
+returns-then-done-most-clause-ok g c s first stands = c.run_on-done.ensures.stands s _ _ first stands
+
+pub returns-clause-ok : goal.returns-clause-ok
+returns-clause-ok g c s first stands =
+    let done = c.run_on-done.result in
+    let P : State → Type 0 = λ t. StandsFor c.step.new.self c.step.new.render (g.S.Sink.written c.step.new.sink) t first in
+    subst P (sym (after_more done s))
+    (c.in_default.ensures.ok (after done s) first (c.run_on-done.ensures.stands s _ _ first stands))
+
+pub returns-in-Err-clause-err : goal.returns-in-Err-clause-err
+returns-in-Err-clause-err g c s first stands =
+    let done = c.run_on-done.result in
+    let steps : System → ℕ = λ system. system.steps in
+    let same = ap steps stands.parts in
+    ends_in_step c.args.render.now.trace (g.S.Sink.written c.step.new.sink) first s c.args.most done _
+    (omega (arith, c.run_on-done.ensures.count, c.if-done-most.false))
+    (omega (arith, c.steps_done-step.ensures, c.run_on-done.ensures.steps, same))
+    (c.in-Err.ensures.err (after done s) first (c.run_on-done.ensures.stands s _ _ first stands))

@@ -1,0 +1,14 @@
+use Rattle.std.proofs.Common.{◌∙◌, ap}
+use Rattle.mpm_machine.specs.Opening.{placed_process}
+use Rattle.mpm_machine.proofs.PlacedLaws.{slot_is_free, placed_is_bare}
+use Rattle.mpm_machine.proofs.system.System.place.Goals as goal
+
+pub begin-requires-clause-slot : goal.begin-requires-clause-slot
+begin-requires-clause-slot c = slot_is_free c.args.self.now _ _ _ c.requires
+
+pub returns-clause-bare : goal.returns-clause-bare
+returns-clause-bare c =
+    placed_is_bare c.args.self.now c.begin.new.kernel c.occupy.new.self c.lay_out.new.banks c.placed_process-new.result c.begin.result c.args.seg c.args.name
+    c.args.priority c.args.console c.args.program.now c.requires c.begin.ensures.slot
+    (c.placed_process-new.ensures.process ∙ ap (λ spec. placed_process spec c.args.seg c.args.name c.args.priority c.args.console) c.spec-spec.ensures.value)
+    c.begin.ensures.kernel c.lay_out.ensures c.occupy.ensures

@@ -1,0 +1,104 @@
+-- How a program is laid out in its segment, and how its process begins. (MP/M II System Guide, "Memory Segment Base Page
+-- Initialization".)
+use Rattle.std.specs.Prelude.{◌≡◌, ℕ, ◌+◌, ◌-◌, ◌*◌, ◌<◌, ◌≤◌, Bool, true, false, List, [], ◌∷◌, ◌++◌, Some, length, count_by, replicate, codes}
+use Rattle.mpm_base.specs.declared.number.Name8.{Name8}
+use Rattle.mpm_base.specs.declared.segment.SegmentSpec.{SegmentSpec}
+use Rattle.mpm_banks.specs.Memory.{Memory, segment_of, with_bytes}
+use Rattle.mpm_banks.specs.Allocations.{new_memory, occupied, spec_of}
+use Rattle.mpm_banks.specs.declared.segment.Segment.{Segment}
+use Rattle.mpm_banks.specs.declared.segment.Allocation.{Allocation}
+use Rattle.mpm_banks.specs.declared.segment.Allocation.TheVariants.{Free, Reserved, Occupied}
+use Rattle.mpm_procs.specs.Table.{living}
+use Rattle.mpm_procs.specs.declared.process.NewProcess.{NewProcess}
+use Rattle.mpm_kernel.specs.Dispatch.{new_kernel, admitted, picked}
+use Rattle.mpm_machine_file.specs.declared.machine_file.MachineFile.{MachineFile}
+use Rattle.mpm_machine.specs.Gates.{last_page}
+use Rattle.mpm_machine.specs.declared.system.System.{System}
+use Rattle.mpm_machine.specs.State.{State, IsWhole, IsHome}
+
+-- so many zeros
+unfoldable pub zeros : ℕ → List ℕ
+zeros n = replicate n 0
+
+-- the jumps to the gates of a last page: at 00h to the one that ends the process, at 05h to the one that calls the kernel
+abbrev pub gate_jumps : ℕ → List ℕ
+gate_jumps page = 195 ∷ 3 ∷ page ∷ 0 ∷ 0 ∷ 195 ∷ 6 ∷ page ∷ []
+
+-- the first bytes of a file control block without a name: the drive, eleven spaces, four zeros
+abbrev pub no_name : List ℕ
+no_name = 0 ∷ 32 ∷ 32 ∷ 32 ∷ 32 ∷ 32 ∷ 32 ∷ 32 ∷ 32 ∷ 32 ∷ 32 ∷ 32 ∷ 0 ∷ 0 ∷ 0 ∷ 0 ∷ []
+
+-- the base page: the jumps, two file control blocks without names at 5Ch and 6Ch, and an empty command tail at 80h
+unfoldable pub base_page : ℕ → List ℕ
+base_page page = gate_jumps page ++ (zeros 84 ++ (no_name ++ (no_name ++ zeros 132)))
+
+-- a segment with a program: its base page, the program behind it, and below the last page the word on which the stack
+-- begins, the address of the base page
+unfoldable pub laid_out : Memory → ℕ → List ℕ → Memory
+laid_out memory seg program =
+    let base = (segment_of memory seg).base in
+    let page = last_page memory seg in
+    with_bytes (with_bytes (with_bytes memory seg (256 * base) (base_page page)) seg (256 * base + 256) program) seg (256 * page - 2) (0 ∷ base ∷ [])
+
+-- the process of a program: it begins behind the base page, with user 0 and drive A
+unfoldable pub placed_process : SegmentSpec → ℕ → Name8 → ℕ → ℕ → NewProcess
+placed_process spec seg name priority console = record {
+  name = name;
+  priority = priority;
+  console = console;
+  seg = Some seg;
+  pc = 256 * spec.base + 256;
+  sp = 256 * (spec.base + spec.pages - 1) - 2;
+  dma = 256 * spec.base + 128;
+  user = 0;
+  drive = 0;
+}
+
+-- a machine in which no process lives
+unfoldable pub bare : List SegmentSpec → ℕ → ℕ → System
+bare segments consoles printers =
+    record { steps = 0; kernel = new_kernel consoles printers; memory = new_memory segments }
+
+-- the machine of a machine file, in which no process lives
+abbrev pub booted : MachineFile → System
+booted file = bare file.segments file.consoles file.printers
+
+-- a process lives in the segment
+abbrev pub is_lived_in : Allocation → Bool
+is_lived_in Free = false
+is_lived_in (Reserved owner) = false
+is_lived_in Occupied = true
+
+abbrev pub is_occupied : Segment → Bool
+is_occupied segment = is_lived_in segment.allocation
+
+-- a machine into which programs may be placed: no step was done, and no more processes live than segments are lived in
+pub record IsBare (system : System) : Type 0 where
+  pub whole : IsWhole system
+  pub start : system.steps ≡ 0
+  pub few : length system.memory.segments ≤ 16
+  pub counted : living system.kernel.procs ≤ count_by is_occupied system.memory.segments
+
+-- a program of a length can be placed into a segment in which no process lives, with a console
+pub record MayPlace (system : System) (seg console size : ℕ) : Type 0 where
+  pub bare : IsBare system
+  pub home : IsHome system.memory seg
+  pub empty : is_occupied (segment_of system.memory seg) ≡ false
+  pub has_console : console < system.kernel.consoles
+  pub room : size + 640 ≤ 256 * (segment_of system.memory seg).pages
+
+-- the system with a program placed: the first of the ready list runs
+unfoldable pub with_placed : System → ℕ → ℕ → Name8 → ℕ → ℕ → List ℕ → System
+with_placed system p seg name priority console program = record system {
+  kernel = picked false (admitted system.kernel p (placed_process (spec_of system.memory seg) seg name priority console));
+  memory = occupied (laid_out system.memory seg program) seg;
+}
+
+-- the system as a program begins: it is the process `PROGRAM ` in the one segment, of 192 pages
+unfoldable pub opening_system : List ℕ → System
+opening_system program =
+    with_placed (bare (record { base = 0; pages = 192 } ∷ []) 1 0) 0 0 (record { 0 = codes "PROGRAM " }) 200 0 program
+
+-- the state as a program begins
+unfoldable pub opening : List ℕ → State
+opening program = record { system = opening_system program; outputs = [] }

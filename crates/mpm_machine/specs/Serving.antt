@@ -1,0 +1,169 @@
+-- The gate step of a kernel call: what it reads is taken, it is done, and its reply is placed. (MP/M II Programmer's Guide,
+-- "BDOS Calling Conventions"; functions 128 to 130, memory segments; 144, create process.)
+use Rattle.std.specs.Prelude.{ℕ, ◌%◌, ◌≤◌, length, Bool, true, false, List, [], ◌∷◌, Option, Some, None, ◌==◌, slice_index, slice_index_or, if◌then◌else◌}
+use Rattle.z80_regs.specs.declared.regs.Regs.{Regs}
+use Rattle.z80_regs.specs.Words.{word_of}
+use Rattle.mpm_base.specs.Calls.{Taken, Answer, answering}
+use Rattle.mpm_base.specs.declared.call.Outcome.{Outcome}
+use Rattle.mpm_base.specs.declared.call.Outcome.TheVariants.{Done, Held, Retry, Ended}
+use Rattle.mpm_banks.specs.Memory.{Memory, segment_of, byte_at}
+use Rattle.mpm_banks.specs.Allocations.{lowest_free, reserved, is_reserved, released}
+use Rattle.mpm_gate.specs.Calls.{taken_call}
+use Rattle.mpm_gate.specs.Reads.{reads_of, most_read}
+use Rattle.mpm_gate.specs.Replies.{answered, placed, returned}
+use Rattle.mpm_gate.specs.Texts.{text_from}
+use Rattle.mpm_gate.specs.declared.take.TextEnd.TheVariants.{Dollar}
+use Rattle.mpm_procs.specs.Table.{process_in, with_call}
+use Rattle.mpm_kernel.specs.Kernel.{Kernel, with_changed}
+use Rattle.mpm_kernel.specs.Calls.{called, refusal}
+use Rattle.mpm_kernel.specs.Columns.{expanded, tab_text}
+use Rattle.mpm_xdos.specs.Creating.{home_base, created, create_answer}
+use Rattle.mpm_render.specs.Outputs.{Output, Completed}
+use Rattle.mpm_machine.specs.declared.system.System.{System}
+use Rattle.mpm_machine.specs.State.{Change, silent, speaking}
+use Rattle.mpm_machine.specs.Ending.{ended}
+
+-- a process with its registers changed
+abbrev pub with_regs : Kernel → ℕ → Regs → Kernel
+with_regs kernel p regs = with_changed kernel p (record (process_in kernel.procs p) { regs = regs })
+
+-- the call that a process asks at the gate
+unfoldable pub asked : ℕ → ℕ → System → Taken
+asked p seg system =
+    let process = process_in system.kernel.procs p in
+    taken_call process.regs (byte_at system.memory seg) process.dma process.multi
+
+-- a call has at most the bytes that its function reads
+abbrev pub IsTaken : Taken → Type 0
+IsTaken call = length call.bytes ≤ most_read (reads_of call.function) 16
+
+-- the process keeps the call, and an EI takes effect
+unfoldable pub keeping : ℕ → Taken → System → System
+keeping p call system =
+    let process = process_in system.kernel.procs p in
+    let kernel = with_regs system.kernel p (record process.regs { shadow = false }) in
+    record system { kernel = record kernel { procs = with_call kernel.procs p call } }
+
+-- a byte that a call read
+abbrev pub byte_of : Taken → ℕ → ℕ
+byte_of call place = slice_index_or call.bytes place 0
+
+-- what becomes of the system and of the call, and the reply
+pub record Served : Type 0 where
+  pub system : System
+  pub outcome : Outcome
+  pub reply : Answer
+
+-- a memory descriptor that a call read: base page, pages, attributes, bank
+abbrev pub descriptor_of : Memory → ℕ → List ℕ
+descriptor_of memory seg = (segment_of memory seg).base ∷ (segment_of memory seg).pages ∷ 128 ∷ seg ∷ []
+
+-- the reply to a call that reserves a segment: the descriptor of the one that was found, where the call's parameter points
+abbrev pub reserve_reply : Memory → Taken → Option ℕ → Answer
+reserve_reply memory call None = answering refusal
+reserve_reply memory call (Some seg) = record (answering 0) { at = call.word; bytes = descriptor_of memory seg }
+
+-- a segment is reserved, of the base page that is given
+unfoldable pub reserving : Option ℕ → Taken → ℕ → System → Served
+reserving base call p system =
+    let seg = lowest_free system.memory base (byte_of call 1) in
+    record {
+      system = record system { memory = reserved system.memory p seg };
+      outcome = Done;
+      reply = reserve_reply system.memory call seg;
+    }
+
+-- a reserved segment is freed, by its bank
+unfoldable pub releasing : Taken → ℕ → System → Served
+releasing call p system =
+    let seg = byte_of call 3 in
+    record {
+      system = record system { memory = released system.memory p seg };
+      outcome = Done;
+      reply = answering (if is_reserved system.memory p seg then 0 else refusal);
+    }
+
+-- processes are created in the caller's segment
+unfoldable pub creating : ℕ → System → Served
+creating p system =
+    let base = home_base system.memory (process_in system.kernel.procs p).seg in
+    record {
+      system = record system { kernel = created system.kernel p base };
+      outcome = Done;
+      reply = answering (create_answer system.kernel p base);
+    }
+
+-- a call that concerns the kernel alone
+abbrev pub calling : ℕ → System → Served
+calling p system =
+    let done = called p system.kernel in
+    record { system = record system { kernel = done.kernel }; outcome = done.outcome; reply = done.reply }
+
+-- the base page that a call asks for: function 128 one of its own, 129 any
+abbrev pub base_asked : Bool → Taken → Option ℕ
+base_asked absolute call = if absolute then Some (byte_of call 0) else None
+
+-- the call is done
+unfoldable pub served : Taken → ℕ → System → Served
+served call p system =
+    if call.function == 128 then reserving (base_asked true call) call p system
+    else (if call.function == 129 then reserving (base_asked false call) call p system
+    else (if call.function == 130 then releasing call p system
+    else (if call.function == 144 then creating p system
+    else (calling p system))))
+
+-- what a call writes to its process's console: function 2 the byte in E, function 9 the string at DE
+unfoldable pub call_text : Taken → ℕ → (ℕ → ℕ) → List ℕ
+call_text call column memory =
+    if call.function == 2 then tab_text column (call.word % 256)
+    else (if call.function == 9 then expanded column (text_from Dollar memory call.word 65536) else [])
+
+-- the reply is placed behind the return address that was taken from the stack
+unfoldable pub replied : Answer → Taken → ℕ → ℕ → System → System
+replied reply call p seg system =
+    let process = process_in system.kernel.procs p in
+    record system {
+      kernel = with_regs system.kernel p (answered reply.hl (returned (byte_at system.memory seg) process.regs));
+      memory = placed reply call.word seg system.memory;
+    }
+
+-- the record of a completed call: the registers as its reply left them
+unfoldable pub completion : Taken → ℕ → System → Output
+completion call p system =
+    let regs = (process_in system.kernel.procs p).regs in
+    Completed (record {
+      step = system.steps;
+      process = p;
+      function = call.function;
+      a = regs.a;
+      bc = word_of regs.c regs.b;
+      de = word_of regs.e regs.d;
+      hl = word_of regs.l regs.h;
+    })
+
+-- the text of a call comes to its process's console
+unfoldable pub said_by : Taken → ℕ → ℕ → System → Change
+said_by call p seg system =
+    let process = process_in system.kernel.procs p in
+    speaking process.console (call_text call (slice_index system.kernel.columns process.console) (byte_at system.memory seg)) system
+
+-- a call that is done: its text, its reply, its record
+unfoldable pub completing : Answer → Taken → ℕ → ℕ → System → Change
+completing reply call p seg system =
+    let spoke = said_by call p seg system in
+    let behind = replied reply call p seg spoke.system in
+    record { system = behind; news = completion call p behind ∷ spoke.news }
+
+-- what a served call brings about
+abbrev pub outcome_of : Outcome → Answer → Taken → ℕ → ℕ → System → Change
+outcome_of Done reply call p seg system = completing reply call p seg system
+outcome_of Ended reply call p seg system = silent (ended p system)
+outcome_of Held reply call p seg system = silent system
+outcome_of Retry reply call p seg system = silent system
+
+-- the gate step of a call
+unfoldable pub gate_step : ℕ → ℕ → System → Change
+gate_step p seg system =
+    let call = asked p seg system in
+    let done = served call p (keeping p call system) in
+    outcome_of done.outcome done.reply call p seg done.system

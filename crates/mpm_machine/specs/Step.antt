@@ -1,0 +1,122 @@
+-- One step, and n steps.
+use Rattle.std.specs.Prelude.{ℕ, zero, suc, ◌+◌, ◌-◌, ◌<◌, ◌≤◌, ◌/◌, ◌%◌, Bool, true, false, List, [], ◌∷◌, ◌++◌, Option, Some, None, codes}
+use Rattle.z80_regs.specs.Outcome.{Outcome}
+use Rattle.z80_ext.specs.Instruction.{instruction, registers_after, actions_of}
+use Rattle.mpm_banks.specs.Memory.{byte_at}
+use Rattle.mpm_banks.specs.Ports.{port_byte}
+use Rattle.mpm_banks.specs.Actions.{memory_after, devices_after}
+use Rattle.mpm_procs.specs.Table.{process_in}
+use Rattle.mpm_kernel.specs.Dispatch.{picked}
+use Rattle.mpm_render.specs.Lines.{hex_digit}
+use Rattle.mpm_render.specs.Outputs.{rendered}
+use Rattle.mpm_render.specs.Shown.{EndsBetween}
+use Rattle.mpm_machine.specs.Gates.{gate_of}
+use Rattle.mpm_machine.specs.declared.gate.Gate.{Gate}
+use Rattle.mpm_machine.specs.declared.gate.Gate.TheVariants.{End, Call}
+use Rattle.mpm_machine.specs.declared.system.System.{System}
+use Rattle.mpm_machine.specs.State.{State, Change, silent, speaking}
+use Rattle.mpm_machine.specs.Ending.{ended}
+use Rattle.mpm_machine.specs.Serving.{with_regs, gate_step}
+
+-- an address in four digits
+abbrev pub hex_word : ℕ → List ℕ
+hex_word word =
+    hex_digit (word / 4096) ∷ hex_digit (word / 256 % 16) ∷ hex_digit (word / 16 % 16) ∷ hex_digit (word % 16) ∷ []
+
+-- what the kernel writes where a process comes to an unlisted opcode
+unfoldable pub illegal_text : ℕ → List ℕ
+illegal_text address = codes "Illegal instruction at " ++ (hex_word address ++ (13 ∷ 10 ∷ []))
+
+-- a process comes to an unlisted opcode: a text on its console, and its end
+unfoldable pub illegal : ℕ → System → Change
+illegal p system =
+    let process = process_in system.kernel.procs p in
+    let spoke = speaking process.console (illegal_text process.regs.pc) system in
+    record spoke { system = ended p spoke.system }
+
+-- the system behind an instruction of a process
+unfoldable pub ran : Option Outcome → ℕ → ℕ → System → System
+ran outcome p seg system =
+    let polled = record system.kernel { devices = devices_after (actions_of outcome) system.kernel.devices } in
+    record system {
+      kernel = with_regs polled p (registers_after outcome (process_in system.kernel.procs p).regs);
+      memory = memory_after (actions_of outcome) seg system.memory;
+    }
+
+-- an instruction of a process, where a listed one stands
+unfoldable pub instructed : Option Outcome → ℕ → ℕ → System → Change
+instructed None p seg system = illegal p system
+instructed (Some outcome) p seg system = silent (ran (Some outcome) p seg system)
+
+-- the instruction at which a process stands
+abbrev pub instruction_at : ℕ → ℕ → System → Option Outcome
+instruction_at p seg system =
+    instruction (process_in system.kernel.procs p).regs (byte_at system.memory seg) (port_byte system.kernel.devices)
+
+-- what a process of a segment does: at its gates it ends, or calls the kernel; elsewhere an instruction stands
+abbrev pub acted_at : Option Gate → ℕ → ℕ → System → Change
+acted_at (Some End) p seg system = silent (ended p system)
+acted_at (Some Call) p seg system = gate_step p seg system
+acted_at None p seg system = instructed (instruction_at p seg system) p seg system
+
+-- the gate at which a process of a segment stands
+abbrev pub gate_before : ℕ → ℕ → System → Option Gate
+gate_before p seg system = gate_of system.memory seg (process_in system.kernel.procs p).regs.pc
+
+-- what the running process does, in its segment
+abbrev pub acted_by : Option ℕ → Option ℕ → System → Change
+acted_by None seg system = silent system
+acted_by (Some p) None system = silent system
+acted_by (Some p) (Some seg) system = acted_at (gate_before p seg system) p seg system
+
+-- the segment of the running process
+abbrev pub running_segment : Option ℕ → System → Option ℕ
+running_segment None system = None
+running_segment (Some p) system = (process_in system.kernel.procs p).seg
+
+unfoldable pub acted : System → Change
+acted system = acted_by system.kernel.running (running_segment system.kernel.running system) system
+
+-- there is no gate
+abbrev pub is_no_gate : Option Gate → Bool
+is_no_gate None = true
+is_no_gate (Some gate) = false
+
+-- what the running process does is an instruction
+abbrev pub instruction_by : Option ℕ → Option ℕ → System → Bool
+instruction_by None seg system = false
+instruction_by (Some p) None system = false
+instruction_by (Some p) (Some seg) system = is_no_gate (gate_before p seg system)
+
+unfoldable pub at_instruction : System → Bool
+at_instruction system = instruction_by system.kernel.running (running_segment system.kernel.running system) system
+
+-- one more step counted
+abbrev pub counted : System → System
+counted system = record system { steps = system.steps + 1 }
+
+-- behind a step it is picked who runs
+abbrev pub dispatched : Bool → Change → Change
+dispatched instruction change =
+    record change { system = record change.system { kernel = picked instruction change.system.kernel } }
+
+-- what a step makes of a system
+unfoldable pub step_of : System → Change
+step_of system = let begun = counted system in dispatched (at_instruction begun) (acted begun)
+
+-- one step
+unfoldable pub next : State → State
+next s = record { system = (step_of s.system).system; outputs = (step_of s.system).news ++ s.outputs }
+
+-- n steps
+unfoldable pub after : ℕ → State → State
+after zero s = s
+after (suc n) s = next (after n s)
+
+-- writing stopped in that step, one of the n steps behind a state: all of the steps before it was written, and then a
+-- part of what it writes, which isn't empty
+pub record EndsInStep (trace : Bool) (told first : Option (List ℕ)) (s : State) (n step : ℕ) : Type 0 where
+  pub later : s.system.steps < step
+  pub within : step ≤ s.system.steps + n
+  pub text : EndsBetween told first (rendered trace (after (step - 1 - s.system.steps) s).outputs)
+      (rendered trace (after (step - s.system.steps) s).outputs)

@@ -1,0 +1,52 @@
+ghost use Rattle.std.specs.Prelude.{◌≡◌, is_some};
+ghost use Rattle.mpm_machine.specs.State.{IsHome};
+ghost use Rattle.mpm_machine.specs.Gates.{last_page, gate_in};
+
+use mpm_banks::Banks;
+use mpm_base::Seg;
+
+/// The gates of a segment, in its last page, where the kernel acts whatever bytes stand there.
+pub(crate) enum Gate {
+    /// Ends the process.
+    End,
+    /// Calls the kernel.
+    Call,
+}
+
+/// The place in the last page of the gate that ends the process.
+const END: u8 = 0x03;
+
+/// The place of the gate that calls the kernel.
+const CALL: u8 = 0x06;
+
+/// The last page of a segment, in which its gates are.
+pub(crate) fn page_of_gates(banks: &Banks, seg: Seg) -> u8
+    requires { IsHome banks.now seg }
+    ensures { result ≡ last_page banks.now seg }
+{
+    let spec = banks.spec(seg);
+    spec.base + spec.pages - 1
+}
+
+/// The gate at an address, if any.
+#[tactic(auto, unfolding(crate::specs::Gates::gate_in))]
+pub(crate) fn gate_at(page: u8, address: u16) -> Option<Gate>
+    ensures { result ≡ gate_in page address }
+{
+    if address == u16::from_le_bytes([END, page]) {
+        Some(Gate::End)
+    } else if address == u16::from_le_bytes([CALL, page]) {
+        Some(Gate::Call)
+    } else {
+        None
+    }
+}
+
+/// Whether there is a gate at an address.
+#[inline]
+#[tactic(auto, unfolding(crate::specs::Gates::gate_in))]
+pub(crate) fn is_gate(page: u8, address: u16) -> bool
+    ensures { result ≡ is_some (gate_in page address) }
+{
+    address == u16::from_le_bytes([END, page]) || address == u16::from_le_bytes([CALL, page])
+}

@@ -1,0 +1,112 @@
+ghost use Rattle.std.specs.Prelude.{◌≡◌, ◌+◌, ◌*◌, ◌-◌, ◌≤◌, ◌<◌, false, Some, IsSome, length};
+ghost use Rattle.mpm_banks.specs.Memory.{HasSegment, segment_of};
+ghost use Rattle.mpm_procs.specs.Table.{lowest_free};
+ghost use Rattle.mpm_kernel.specs.Kernel.{IsSound};
+ghost use Rattle.mpm_kernel.specs.Dispatch.{admitted, picked};
+ghost use Rattle.mpm_machine.specs.Opening.{IsBare, MayPlace, with_placed, base_page as base_page_of, laid_out, placed_process as process_placed};
+
+use crate::system::System;
+use mpm_banks::Banks;
+use mpm_base::{Name8, Pid, Seg, SegmentSpec};
+use mpm_gate::put_bytes;
+use mpm_kernel::Kernel;
+use mpm_procs::{NewProcess, NoSlot};
+
+impl System {
+    /// Puts a program into a segment and adds its process.
+    #[tactic(auto, using(crate::proofs::PlacedLaws::laid_out_is_there), unfolding(crate::specs::Opening::with_placed))]
+    pub fn place(&mut self, seg: Seg, name: Name8, priority: u8, console: u8, program: &[u8]) -> Pid
+        requires { MayPlace self.old seg console (length program.now) }
+        ensures slot { lowest_free self.old.kernel.procs ≡ Some result }
+        ensures system { self.new ≡ with_placed self.old result seg name priority console program.now }
+        ensures bare { IsBare self.new }
+    {
+        let spec = self.memory.spec(seg);
+        lay_out(&mut self.memory, seg, program);
+        self.memory.occupy(seg);
+        let new = placed_process(spec, seg, name, priority, console);
+        begin(&mut self.kernel, new)
+    }
+}
+
+/// The first bytes of a file control block without a name.
+const NO_NAME: [u8; 16] = [0, 32, 32, 32, 32, 32, 32, 32, 32, 32, 32, 32, 0, 0, 0, 0];
+
+/// The base page of a segment with that last page.
+#[tactic(auto, unfolding(crate::specs::Opening::base_page, crate::specs::Opening::zeros))]
+fn base_page(last_page: u8) -> [u8; 256]
+    ensures { result ≡ base_page_of last_page }
+{
+    let mut page = [0; 256];
+    page[0x6C..0x7C].copy_from_slice(&NO_NAME);
+    page[0x5C..0x6C].copy_from_slice(&NO_NAME);
+    page[..8].copy_from_slice(&[0xC3, 0x03, last_page, 0, 0, 0xC3, 0x06, last_page]);
+    page
+}
+
+/// Lays out a program in its segment: the base page, the program behind it, and the word on which the stack begins.
+#[tactic(auto, unfolding(crate::specs::Opening::laid_out))]
+pub(crate) fn lay_out(banks: &mut Banks, seg: Seg, program: &[u8])
+    requires exists { HasSegment banks.old seg }
+    requires pages { 2 ≤ (segment_of banks.old seg).pages }
+    requires end { (segment_of banks.old seg).base + (segment_of banks.old seg).pages ≤ 192 }
+    requires few { length program.now ≤ 65535 }
+    ensures { banks.new ≡ laid_out banks.old seg program.now }
+{
+    let spec = banks.spec(seg);
+    let last_page = spec.base + spec.pages - 1;
+    let first = u16::from_le_bytes([0, spec.base]);
+    put_bytes(&base_page(last_page), banks, seg, first);
+    put_bytes(program, banks, seg, first + 0x0100);
+    let stack = u16::from_le_bytes([0, last_page]) - 2;
+    put_bytes(&[0, spec.base], banks, seg, stack);
+}
+
+/// The process of a program that is laid out in a segment.
+#[tactic(auto, unfolding(crate::specs::Opening::placed_process))]
+pub(crate) fn placed_process(
+    spec: SegmentSpec,
+    seg: Seg,
+    name: Name8,
+    priority: u8,
+    console: u8,
+) -> NewProcess
+    requires pages { 2 ≤ spec.pages }
+    requires end { spec.base + spec.pages ≤ 192 }
+    ensures process { result ≡ process_placed spec seg name priority console }
+    ensures console { result.console ≡ console }
+{
+    let last_page = spec.base + spec.pages - 1;
+    NewProcess {
+        name,
+        priority,
+        console,
+        seg: Some(seg),
+        pc: u16::from_le_bytes([0, spec.base]) + 0x0100,
+        sp: u16::from_le_bytes([0, last_page]) - 2,
+        dma: u16::from_le_bytes([0, spec.base]) + 0x0080,
+        user: 0,
+        drive: 0,
+    }
+}
+
+/// A process begins, for which there is a slot, and the first of the ready list runs.
+#[tactic(auto, using(mpm_kernel::proofs::SoundLaws::sound_in_slot))]
+pub(crate) fn begin(kernel: &mut Kernel, new: NewProcess) -> Pid
+    requires sound { IsSound kernel.old }
+    requires slot { IsSome (lowest_free kernel.old.procs) }
+    requires console { new.console < kernel.old.consoles }
+    ensures slot { lowest_free kernel.old.procs ≡ Some result }
+    ensures kernel { kernel.new ≡ picked false (admitted kernel.old result new) }
+{
+    match kernel.admit(new) {
+        Ok(p) => {
+            kernel.pick(false);
+            p
+        }
+        Err(NoSlot) => unreachable!(),
+    }
+}
+
+#[cfg(test)]
+mod tests;

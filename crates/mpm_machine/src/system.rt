@@ -1,0 +1,231 @@
+ghost use Rattle.std.specs.Prelude.{◌≡◌, ◌↔◌, ◌<◌, ◌≤◌, ◌+◌, ℕ, List, Option, Some, IsNone, IfSome, IfOk, OnOk, OnErr};
+ghost use Rattle.mpm_port.specs.Causes.{HasCause};
+ghost use Rattle.mpm_procs.specs.Table.{Lives, process_in};
+ghost use Rattle.mpm_kernel.specs.Kernel.{IsReady};
+ghost use Rattle.mpm_render.specs.Shown.{Kept};
+ghost use Rattle.mpm_machine.specs.Writing.{Showed, Stopped};
+
+use crate::console::write_bytes;
+use crate::gate::{Gate, gate_at, page_of_gates};
+use crate::instruction::{execute, illegal_text, run_instructions};
+use mpm_banks::Banks;
+use mpm_base::{Pid, Reply, Seg};
+use mpm_kernel::Kernel;
+use mpm_port::{Failed, Sink};
+use mpm_render::Render;
+use z80_ext::Stepped;
+
+/// What a machine keeps from step to step.
+#[derive(Drop)]
+pub(crate) struct System {
+    /// The steps done.
+    pub steps: u64,
+    pub kernel: Kernel,
+    pub memory: Banks,
+}
+
+impl System {
+    ghost use Rattle.mpm_machine.specs.Gates.{gate_of};
+    ghost use Rattle.mpm_machine.specs.State.{State, StandsFor, IsWhole, IsHome};
+    ghost use Rattle.mpm_ready.specs.Order.{first_of};
+    ghost use Rattle.mpm_ready.specs.Tables.{list_at};
+    ghost use Rattle.mpm_kernel.specs.Kernel.{ready};
+    ghost use Rattle.mpm_machine.specs.Moving.{Moved};
+    ghost use Rattle.mpm_machine.specs.Step.{acted, acted_at, at_instruction, gate_before, is_no_gate, step_of, instruction_at, ran, instructed, illegal, after};
+
+    /// Instructions of the running process, at most so many, each of which is a step: up to a gate or an unlisted opcode, and
+    /// as long as the process runs on. Answers how many were done.
+    pub fn run_on(&mut self, most: u64) -> u64
+        requires whole { IsWhole self.old }
+        requires room { self.old.steps + most ≤ 4000000000 }
+        ensures count { result ≤ most }
+        ensures stands { (s : State) (kept : Kept) (told : Option (List ℕ)) (first : Option (List ℕ)) → StandsFor self.old kept told s first
+            → StandsFor self.new kept told (after result s) first }
+        ensures whole { IsWhole self.new }
+        ensures steps { self.new.steps ≡ self.old.steps + result }
+    {
+        let Some(p) = self.runner() else {
+            return 0;
+        };
+        let Some(seg) = self.kernel.segment(p) else {
+            return 0;
+        };
+        self.run_process(p, seg, most)
+    }
+
+    /// The running process, where it is the first of the ready list, so that it runs on behind each instruction.
+    fn runner(&self) -> Option<Pid>
+        ensures running { IfSome result (λ p. self.now.kernel.running ≡ Some p) }
+        ensures first { IfSome result (λ p. first_of (list_at self.now.kernel.lists ready) ≡ Some p) }
+    {
+        let p = self.kernel.running()?;
+        let first = self.kernel.first_ready()?;
+        if first.0 == p.0 { Some(p) } else { None }
+    }
+
+    /// Instructions of a process of a segment, at most so many.
+    #[tactic(auto, unfolding(crate::specs::Moving::with_view))]
+    fn run_process(&mut self, p: Pid, seg: Seg, most: u64) -> u64
+        requires lives { Lives self.old.kernel.procs p }
+        requires home { IsHome self.old.memory seg }
+        requires room { self.old.steps + most ≤ 4000000000 }
+        ensures count { result ≤ most }
+        ensures moved { Moved result p seg self.old self.new }
+    {
+        let mut regs = *self.kernel.regs(p);
+        let devices = self.kernel.devices_mut();
+        let done = run_instructions(&mut regs, &mut self.memory, seg, devices, most);
+        *self.kernel.regs_mut(p) = regs;
+        self.steps += done;
+        done
+    }
+
+    /// One step: what the running process does, and then the dispatcher.
+    #[tactic(auto, using(crate::proofs::WholeLaws::whole_counted, crate::proofs::WholeLaws::whole_step, crate::proofs::StepLaws::step_steps), unfolding(crate::specs::Step::step_of))]
+    pub fn step<S: Sink>(
+        &mut self,
+        reply: &mut Reply,
+        render: &mut Render,
+        sink: &mut S,
+    ) -> Result<(), Failed>
+        requires most { self.old.steps < 4000000000 }
+        requires whole { IsWhole self.old }
+        ensures system { OnOk result (self.new ≡ (step_of self.old).system) }
+        ensures ok { OnOk result (Showed render.old (S.written sink.old) render.new (S.written sink.new) (step_of self.old).news) }
+        ensures err { OnErr result (Stopped render.old (S.written sink.old) (S.written sink.new) (step_of self.old).news) }
+        ensures whole { OnOk result (IsWhole self.new) }
+        ensures count { OnOk result (self.new.steps ≡ self.old.steps + 1) }
+        ensures cause { HasCause (S.faults sink.old) (S.faults sink.new) result }
+        ensures trace { render.new.trace ≡ render.old.trace }
+    {
+        self.steps += 1;
+        let instruction = self.act(reply, render, sink)?;
+        self.kernel.pick(instruction);
+        Ok(())
+    }
+
+    /// What the running process does in a step; answers whether that was an instruction.
+    #[tactic(auto, using(mpm_kernel::proofs::SoundLaws::runner_lives), unfolding(crate::specs::Step::acted, crate::specs::Step::at_instruction))]
+    pub fn act<S: Sink>(
+        &mut self,
+        reply: &mut Reply,
+        render: &mut Render,
+        sink: &mut S,
+    ) -> Result<bool, Failed>
+        requires whole { IsWhole self.old }
+        ensures system { OnOk result (self.new ≡ (acted self.old).system) }
+        ensures instruction { IfOk result (λ instruction. instruction ≡ at_instruction self.old) }
+        ensures ok { OnOk result (Showed render.old (S.written sink.old) render.new (S.written sink.new) (acted self.old).news) }
+        ensures err { OnErr result (Stopped render.old (S.written sink.old) (S.written sink.new) (acted self.old).news) }
+        ensures cause { HasCause (S.faults sink.old) (S.faults sink.new) result }
+        ensures trace { render.new.trace ≡ render.old.trace }
+    {
+        let Some(p) = self.kernel.running() else {
+            return Ok(false);
+        };
+        let Some(seg) = self.kernel.segment(p) else {
+            return Ok(false);
+        };
+        self.act_at(p, seg, reply, render, sink)
+    }
+
+    /// What a process of a segment does in a step; answers whether that was an instruction.
+    fn act_at<S: Sink>(
+        &mut self,
+        p: Pid,
+        seg: Seg,
+        reply: &mut Reply,
+        render: &mut Render,
+        sink: &mut S,
+    ) -> Result<bool, Failed>
+        requires whole { IsWhole self.old }
+        requires lives { Lives self.old.kernel.procs p }
+        requires ready { IsReady self.old.kernel p }
+        requires home { (process_in self.old.kernel.procs p).seg ≡ Some seg }
+        ensures system { OnOk result (self.new ≡ (acted_at (gate_before p seg self.old) p seg self.old).system) }
+        ensures instruction { IfOk result (λ instruction. instruction ≡ is_no_gate (gate_before p seg self.old)) }
+        ensures ok { OnOk result (Showed render.old (S.written sink.old) render.new (S.written sink.new) (acted_at (gate_before p seg self.old) p seg self.old).news) }
+        ensures err { OnErr result (Stopped render.old (S.written sink.old) (S.written sink.new) (acted_at (gate_before p seg self.old) p seg self.old).news) }
+        ensures cause { HasCause (S.faults sink.old) (S.faults sink.new) result }
+        ensures trace { render.new.trace ≡ render.old.trace }
+    {
+        match self.gate(p, seg) {
+            Some(Gate::End) => {
+                self.end(p);
+                Ok(false)
+            }
+            Some(Gate::Call) => {
+                self.call(p, seg, reply, render, sink)?;
+                Ok(false)
+            }
+            None => {
+                self.execute(p, seg, render, sink)?;
+                Ok(true)
+            }
+        }
+    }
+
+    /// The gate at which a process of a segment stands, if any.
+    fn gate(&self, p: Pid, seg: Seg) -> Option<Gate>
+        requires lives { Lives self.now.kernel.procs p }
+        requires home { IsHome self.now.memory seg }
+        ensures { result ≡ gate_of self.now.memory seg (process_in self.now.kernel.procs p).regs.pc }
+    {
+        gate_at(page_of_gates(&self.memory, seg), self.kernel.regs(p).pc)
+    }
+
+    /// One instruction of a process of a segment.
+    #[tactic(auto, using(crate::proofs::WholeLaws::ran_nothing), unfolding(crate::specs::Step::instructed))]
+    fn execute<S: Sink>(
+        &mut self,
+        p: Pid,
+        seg: Seg,
+        render: &mut Render,
+        sink: &mut S,
+    ) -> Result<(), Failed>
+        requires whole { IsWhole self.old }
+        requires lives { Lives self.old.kernel.procs p }
+        ensures system { OnOk result (self.new ≡ (instructed (instruction_at p seg self.old) p seg self.old).system) }
+        ensures ok { OnOk result (Showed render.old (S.written sink.old) render.new (S.written sink.new) (instructed (instruction_at p seg self.old) p seg self.old).news) }
+        ensures err { OnErr result (Stopped render.old (S.written sink.old) (S.written sink.new) (instructed (instruction_at p seg self.old) p seg self.old).news) }
+        ensures cause { HasCause (S.faults sink.old) (S.faults sink.new) result }
+        ensures trace { render.new.trace ≡ render.old.trace }
+    {
+        match self.instruct(p, seg) {
+            Stepped::Ran => Ok(()),
+            Stepped::Illegal => self.illegal(p, render, sink),
+        }
+    }
+
+    /// Runs the instruction at which a process of a segment stands. Where none stands there, nothing changes.
+    #[tactic(auto, unfolding(crate::specs::Step::ran))]
+    fn instruct(&mut self, p: Pid, seg: Seg) -> Stepped
+        requires { Lives self.old.kernel.procs p }
+        ensures illegal { (result ≡ Stepped.Illegal) ↔ IsNone (instruction_at p seg self.old) }
+        ensures system { self.new ≡ ran (instruction_at p seg self.old) p seg self.old }
+    {
+        let mut regs = *self.kernel.regs(p);
+        let stepped = execute(&mut regs, &mut self.memory, seg, self.kernel.devices_mut());
+        *self.kernel.regs_mut(p) = regs;
+        stepped
+    }
+
+    /// A process comes to an unlisted opcode: a text on its console, and its end.
+    #[tactic(auto, using(crate::proofs::WholeLaws::lives_behind_text), unfolding(crate::specs::Step::illegal, crate::specs::State::speaking))]
+    fn illegal<S: Sink>(&mut self, p: Pid, render: &mut Render, sink: &mut S) -> Result<(), Failed>
+        requires whole { IsWhole self.old }
+        requires lives { Lives self.old.kernel.procs p }
+        ensures system { OnOk result (self.new ≡ (illegal p self.old).system) }
+        ensures ok { OnOk result (Showed render.old (S.written sink.old) render.new (S.written sink.new) (illegal p self.old).news) }
+        ensures err { OnErr result (Stopped render.old (S.written sink.old) (S.written sink.new) (illegal p self.old).news) }
+        ensures cause { HasCause (S.faults sink.old) (S.faults sink.new) result }
+        ensures trace { render.new.trace ≡ render.old.trace }
+    {
+        let process = self.kernel.living(p);
+        let console = process.console;
+        let text = illegal_text(process.regs.pc);
+        write_bytes(&mut self.kernel, console, &text, render, sink)?;
+        self.end(p);
+        Ok(())
+    }
+}

@@ -1,0 +1,24 @@
+use Rattle.std.proofs.Common.{◌∙◌, ◌+◌, ◌*◌, drop, ap, sym, arith}
+use Rattle.mpm_script.specs.Numbers.{decimal_of}
+use Rattle.mpm_script.proofs.DecimalLaws.{decimal_behind, decimal_no_digit, decimal_digit, decimal_over}
+use Rattle.mpm_script.proofs.number.decimal.Goals as goal
+
+pub returns-then-not-is_ascii_digit-clause-number : goal.returns-then-not-is_ascii_digit-clause-number
+returns-then-not-is_ascii_digit-clause-number c =
+    sym (c.loop-byte.invariant.rest ∙ decimal_no_digit _ _ c.args.digits.now c.loop-byte.byte-index c.loop-byte-test.true (sym c.if-not-is_ascii_digit.ensures.value))
+
+pub returns-then-value-from-clause-number : goal.returns-then-value-from-clause-number
+returns-then-value-from-clause-number c =
+    sym (c.loop-byte.invariant.rest
+    ∙ decimal_over _ _ c.args.digits.now c.loop-byte.byte-index c.loop-byte-test.true (sym c.if-not-is_ascii_digit.ensures.value) (omega (arith, c.from.ensures, c.from-in-loop-byte.ensures, c.if-value-from.true)))
+
+pub loop-byte-preserved : goal.loop-byte-preserved
+loop-byte-preserved c = record {
+  rest = c.loop-byte.invariant.rest
+      ∙ (decimal_digit _ _ c.args.digits.now c.loop-byte.byte-index c.loop-byte-test.true (sym c.if-not-is_ascii_digit.ensures.value)
+      ∙ ap (λ n. decimal_of c.args.greatest (10 * c.loop-byte.value + n) (drop (c.loop-byte.byte-index + 1) c.args.digits.now)) (sym c.from.ensures));
+  limit = omega (arith, c.from-in-loop-byte.ensures, c.if-value-from.false);
+}
+
+pub returns-clause-number : goal.returns-clause-number
+returns-clause-number c = sym (c.loop-byte.invariant.rest ∙ decimal_behind _ _ c.args.digits.now c.loop-byte.byte-index c.loop-byte.invariant.limit c.loop-byte-test.false)

@@ -1,0 +1,5 @@
+pub mod Numbers
+pub mod Keys
+pub mod Events
+pub mod Scripts
+pub mod Reading

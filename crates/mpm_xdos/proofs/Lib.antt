@@ -1,0 +1,4 @@
+pub mod Children
+pub mod Homes
+pub mod CreatedLaws
+pub mod Beginning

@@ -1,0 +1,126 @@
+ghost use Rattle.std.specs.Prelude.{◌≡◌, ℕ, Some, ◌≤◌, ◌<◌, ◌*◌, ◌+◌, ◌/◌, length, true};
+ghost use Rattle.std.specs.List.{list_all};
+ghost use Rattle.mpm_banks.specs.Memory.{HasSegment};
+ghost use Rattle.mpm_base.specs.Calls.{answering};
+ghost use Rattle.mpm_procs.specs.Table.{Lives, process_in, call_of};
+ghost use Rattle.mpm_kernel.specs.Kernel.{IsSound};
+ghost use Rattle.mpm_xdos.specs.Creating.{child_of as child_asked_for, child_at as child_asked_at, children_of, descriptor_count, home_base, created, create_answer, may_create as may_be_created, all_admitted, has_console};
+
+use arrayvec::ArrayVec;
+use mpm_banks::Banks;
+use mpm_base::{Name8, Pid, Reply, Seg};
+use mpm_kernel::Kernel;
+use mpm_procs::{NewProcess, Process};
+
+/// A descriptor's 16 bytes, and the word at its stack pointer.
+const DESCRIPTOR: usize = 18;
+
+/// Creates the processes that the descriptors of a living process's call ask for, in its segment: all of them or, where a
+/// slot or a console lacks, none.
+#[tactic(auto, unfolding(crate::specs::Creating::created, crate::specs::Creating::create_answer))]
+pub fn create(kernel: &mut Kernel, banks: &Banks, p: Pid, reply: &mut Reply)
+    requires sound { IsSound kernel.old }
+    requires lives { Lives kernel.old.procs p }
+    requires segment { (seg : ℕ) → (process_in kernel.old.procs p).seg ≡ Some seg → HasSegment banks.now seg }
+    requires few { length (call_of kernel.old.procs p).bytes ≤ 576 }
+    ensures kernel { kernel.new ≡ created kernel.old p (home_base banks.now (process_in kernel.old.procs p).seg) }
+    ensures reply { reply.new ≡ answering (create_answer kernel.old p (home_base banks.now (process_in kernel.old.procs p).seg)) }
+{
+    let base = base_of(banks, kernel.segment(p));
+    let parent = *kernel.living(p);
+    let descriptors = copied(kernel.kept_call(p).taken());
+    if may_create(kernel, &parent, base, descriptors.as_slice()) {
+        admit_all(kernel, &parent, base, descriptors.as_slice());
+        reply.answer(0);
+    } else {
+        reply.answer(0x00FF);
+    }
+}
+
+/// The base page of the segment that a process has.
+fn base_of(banks: &Banks, home: Option<Seg>) -> u8
+    requires { (seg : ℕ) → home ≡ Some seg → HasSegment banks.now seg }
+    ensures { result ≡ home_base banks.now home }
+{
+    match home {
+        Some(seg) => banks.spec(seg).base,
+        None => 0,
+    }
+}
+
+/// At most 576 bytes: those of 32 descriptors.
+fn copied(bytes: &[u8]) -> ArrayVec<u8, 576>
+    requires { length bytes.now ≤ 576 }
+    ensures { result.items ≡ bytes.now }
+{
+    let mut copy = ArrayVec::new();
+    for &byte in bytes {
+        copy.push(byte);
+    }
+    copy
+}
+
+/// Whether there is a slot for each process that descriptors ask for, and its console.
+#[tactic(auto, using(crate::proofs::Children::may_create_none, crate::proofs::Children::may_create_some))]
+fn may_create(kernel: &Kernel, parent: &Process, base: u8, descriptors: &[u8]) -> bool
+    ensures may { result ≡ may_be_created kernel.now (children_of parent.now base descriptors.now) }
+    ensures consoles { result ≡ true → list_all (has_console kernel.now.consoles) (children_of parent.now base descriptors.now) ≡ true }
+{
+    if kernel.free_slots() < descriptors.len() / DESCRIPTOR {
+        return false;
+    }
+    have_consoles(kernel.consoles(), parent, base, descriptors)
+}
+
+/// Whether the machine has the console of each process that descriptors ask for.
+fn have_consoles(consoles: u8, parent: &Process, base: u8, descriptors: &[u8]) -> bool
+    ensures { result ≡ list_all (has_console consoles) (children_of parent.now base descriptors.now) }
+{
+    for number in 0..descriptors.len() / DESCRIPTOR {
+        if consoles <= child_at(parent, base, descriptors, number).console {
+            return false;
+        }
+    }
+    true
+}
+
+/// Adds the processes that descriptors ask for, for which there are slots and consoles, one behind the other.
+fn admit_all(kernel: &mut Kernel, parent: &Process, base: u8, descriptors: &[u8])
+    requires sound { IsSound kernel.old }
+    requires consoles { list_all (has_console kernel.old.consoles) (children_of parent.now base descriptors.now) ≡ true }
+    ensures { kernel.new ≡ all_admitted (children_of parent.now base descriptors.now) kernel.old }
+{
+    for number in 0..descriptors.len() / DESCRIPTOR {
+        let _admitted = kernel.admit(child_at(parent, base, descriptors, number));
+    }
+}
+
+/// The process that one of the descriptors asks for.
+fn child_at(parent: &Process, base: u8, descriptors: &[u8], number: usize) -> NewProcess
+    requires { number < length descriptors.now / 18 }
+    ensures { result ≡ child_asked_at parent.now base descriptors.now number }
+{
+    let first = DESCRIPTOR * number;
+    child_of(parent, base, &descriptors[first..first + DESCRIPTOR])
+}
+
+/// The process that a descriptor asks for, in the segment, user and drive of the process that makes it.
+#[tactic(auto, unfolding(crate::specs::Creating::child_of))]
+fn child_of(parent: &Process, base: u8, descriptor: &[u8]) -> NewProcess
+    requires { length descriptor.now ≡ 18 }
+    ensures { result ≡ child_asked_for parent.now base descriptor.now }
+{
+    let mut name = [0; 8];
+    name.copy_from_slice(&descriptor[6..14]);
+    NewProcess {
+        name: Name8(name),
+        priority: descriptor[3],
+        console: descriptor[14],
+        seg: parent.seg,
+        pc: u16::from_le_bytes([descriptor[16], descriptor[17]]),
+        sp: u16::from_le_bytes([descriptor[4], descriptor[5]]).wrapping_add(2),
+        dma: u16::from_le_bytes([0x80, base]),
+        user: parent.user,
+        drive: parent.drive,
+    }
+}

@@ -1,0 +1,57 @@
+ghost use Rattle.std.specs.Prelude.{◌≡◌, ◌&&◌, ℕ, Some};
+ghost use Rattle.mpm_banks.specs.Memory.{HasSegment};
+ghost use Rattle.mpm_procs.specs.Table.{Lives, lives, process_in};
+ghost use Rattle.mpm_kernel.specs.Dispatch.{discharged};
+ghost use Rattle.mpm_xdos.specs.Ending.{memory_without, left_by, is_home as is_home_in, lives_in as lives_in_segment};
+
+use mpm_banks::Banks;
+use mpm_base::{Pid, Seg};
+use mpm_kernel::Kernel;
+
+/// Ends a living process: it is taken out of the kernel, and gives back the segments that it reserved, and its own where
+/// nobody else lives there.
+#[tactic(auto, using(mpm_banks::proofs::SegmentLaws::count_all_released, crate::proofs::Homes::left_by_none), unfolding(crate::specs::Ending::memory_without))]
+pub fn end(kernel: &mut Kernel, banks: &mut Banks, p: Pid)
+    requires lives { Lives kernel.old.procs p }
+    requires segment { (seg : ℕ) → (process_in kernel.old.procs p).seg ≡ Some seg → HasSegment banks.old seg }
+    ensures kernel { kernel.new ≡ discharged kernel.old p }
+    ensures memory { banks.new ≡ memory_without banks.old kernel.old p }
+{
+    let home = kernel.segment(p);
+    kernel.discharge(p);
+    banks.release_all(p);
+    if let Some(seg) = home {
+        leave(kernel, banks, seg);
+    }
+}
+
+/// Frees a segment in which nobody lives.
+#[tactic(auto, unfolding(crate::specs::Ending::left_by))]
+fn leave(kernel: &Kernel, banks: &mut Banks, seg: Seg)
+    requires { HasSegment banks.old seg }
+    ensures { banks.new ≡ left_by banks.old kernel.now.procs (Some seg) }
+{
+    if !is_home(kernel, seg) {
+        banks.vacate(seg);
+    }
+}
+
+/// Whether a process lives in that segment.
+#[tactic(auto, unfolding(crate::specs::Ending::is_home))]
+fn is_home(kernel: &Kernel, seg: Seg) -> bool
+    ensures { result ≡ is_home_in kernel.now.procs seg }
+{
+    for number in 0..32 {
+        if lives_in(kernel, Pid(number), seg) {
+            return true;
+        }
+    }
+    false
+}
+
+/// Whether the process of that number lives, in that segment.
+fn lives_in(kernel: &Kernel, p: Pid, seg: Seg) -> bool
+    ensures { result ≡ lives_in_segment kernel.now.procs seg p }
+{
+    kernel.lives(p) && kernel.segment(p) == Some(seg)
+}
