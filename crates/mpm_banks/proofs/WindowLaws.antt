@@ -43,7 +43,7 @@ pub byte_at_put_outside : (memory : Memory) (seg address size : ℕ) (range : Ra
 byte_at_put_outside memory seg address size range bytes at is same some apart =
     let low = range_low memory seg address size range is in
     ap (λ m. byte_at m seg at) (put_range_is memory seg address size range bytes is same)
-    ∙ with_bytes_unwritten bytes memory seg address at (omega arith) (λ k below e. omega arith)
+    ∙ with_bytes_unwritten bytes memory seg address at (λ k below e. omega arith)
 
 -- and so does every address in the segment of another
 pub byte_at_put_elsewhere : (memory : Memory) (seg address size : ℕ) (range : Range) (bytes : List ℕ) (other at : ℕ) → range_of memory seg address size ≡ Some range

@@ -54,31 +54,31 @@ bytes_placed answer word seg memory k low few below writable =
     with_bytes_written answer.bytes (with_block memory seg word answer.fcb) seg answer.at k low few below
     (block_writable answer.fcb memory seg word seg (onward answer.at k) writable)
 
-unnamed : (memory : Memory) (seg address : ℕ) (bytes : List ℕ) (at : ℕ) → address < 65536 → (IsNamed address (length bytes) at → ⊥) → byte_at (with_bytes memory seg address bytes) seg at ≡ byte_at memory seg at
-unnamed memory seg address bytes at low apart =
-    with_bytes_unwritten bytes memory seg address at low (λ k below is. apart (record { index = k; below = below; is = is }))
+unnamed : (memory : Memory) (seg address : ℕ) (bytes : List ℕ) (at : ℕ) → (IsNamed address (length bytes) at → ⊥) → byte_at (with_bytes memory seg address bytes) seg at ≡ byte_at memory seg at
+unnamed memory seg address bytes at apart =
+    with_bytes_unwritten bytes memory seg address at (λ k below is. apart (record { index = k; below = below; is = is }))
 
 -- so is each byte of its file control block, where none of its other bytes comes to stand
-pub block_placed : (answer : Answer) (word seg : ℕ) (memory : Memory) (block : List ℕ) (k : ℕ) → answer.fcb ≡ Some block → word < 65536 → answer.at < 65536 → length block ≤ 65536 → k < length block
+pub block_placed : (answer : Answer) (word seg : ℕ) (memory : Memory) (block : List ℕ) (k : ℕ) → answer.fcb ≡ Some block → word < 65536 → length block ≤ 65536 → k < length block
     → (IsNamed answer.at (length answer.bytes) (onward word k) → ⊥) → IsWritable memory seg (onward word k)
     → byte_at (placed answer word seg memory) seg (onward word k) ≡ get_or block k 0
 unfolding placed
-block_placed answer word seg memory block k is low at_low few below apart writable =
-    unnamed (with_block memory seg word answer.fcb) seg answer.at answer.bytes (onward word k) at_low apart
+block_placed answer word seg memory block k is low few below apart writable =
+    unnamed (with_block memory seg word answer.fcb) seg answer.at answer.bytes (onward word k) apart
     ∙ ap (λ b. byte_at (with_block memory seg word b) seg (onward word k)) is
     ∙ with_bytes_written block memory seg word k low few below writable
 
-block_unnamed : (block : Option (List ℕ)) (memory : Memory) (seg word at : ℕ) → word < 65536 → (IsNamed word (block_size block) at → ⊥) → byte_at (with_block memory seg word block) seg at ≡ byte_at memory seg at
-block_unnamed None memory seg word at low apart = refl
-block_unnamed (Some block) memory seg word at low apart = unnamed memory seg word block at low apart
+block_unnamed : (block : Option (List ℕ)) (memory : Memory) (seg word at : ℕ) → (IsNamed word (block_size block) at → ⊥) → byte_at (with_block memory seg word block) seg at ≡ byte_at memory seg at
+block_unnamed None memory seg word at apart = refl
+block_unnamed (Some block) memory seg word at apart = unnamed memory seg word block at apart
 
 -- every other address of the process keeps its byte
-pub others_keep : (answer : Answer) (word seg : ℕ) (memory : Memory) (at : ℕ) → word < 65536 → answer.at < 65536 → (IsPlacedAt answer word at → ⊥)
+pub others_keep : (answer : Answer) (word seg : ℕ) (memory : Memory) (at : ℕ) → (IsPlacedAt answer word at → ⊥)
     → byte_at (placed answer word seg memory) seg at ≡ byte_at memory seg at
 unfolding placed
-others_keep answer word seg memory at low at_low apart =
-    unnamed (with_block memory seg word answer.fcb) seg answer.at answer.bytes at at_low (λ named. apart (inr named))
-    ∙ block_unnamed answer.fcb memory seg word at low (λ named. apart (inl named))
+others_keep answer word seg memory at apart =
+    unnamed (with_block memory seg word answer.fcb) seg answer.at answer.bytes at (λ named. apart (inr named))
+    ∙ block_unnamed answer.fcb memory seg word at (λ named. apart (inl named))
 
 block_other_segment : (block : Option (List ℕ)) (memory : Memory) (seg word other at : ℕ) → other ≢ seg → at < 49152 → byte_at (with_block memory seg word block) other at ≡ byte_at memory other at
 block_other_segment None memory seg word other at apart below = refl
@@ -93,9 +93,9 @@ segments_keep answer word seg memory other at apart below =
     ∙ block_other_segment answer.fcb memory seg word other at apart below
 
 -- and common memory, whoever reads it, keeps them where none of the reply comes to stand
-pub common_keeps : (answer : Answer) (word seg : ℕ) (memory : Memory) (other at : ℕ) → word < 65536 → answer.at < 65536 → 49152 ≤ at → (IsPlacedAt answer word at → ⊥)
+pub common_keeps : (answer : Answer) (word seg : ℕ) (memory : Memory) (other at : ℕ) → 49152 ≤ at → (IsPlacedAt answer word at → ⊥)
     → byte_at (placed answer word seg memory) other at ≡ byte_at memory other at
-common_keeps answer word seg memory other at low at_low above apart =
+common_keeps answer word seg memory other at above apart =
     byte_at_common (placed answer word seg memory) other seg at above
-    ∙ others_keep answer word seg memory at low at_low apart
+    ∙ others_keep answer word seg memory at apart
     ∙ byte_at_common memory seg other at above

@@ -1,5 +1,7 @@
--- Each process's segment stays a home: whatever becomes of memory, a segment keeps its place and its size.
-use Rattle.std.proofs.Common.{◌≡◌, ◌∙◌, ℕ, Bool, true, false, List, Option, Some, None, if◌then◌else◌, length, refl, ap, arith}
+-- Each process's segment stays a home: whatever becomes of memory, a segment keeps its place and its size, and one in which
+-- processes live goes into no other hands.
+use Rattle.std.proofs.Common.{◌≡◌, ◌∙◌, ℕ, Bool, true, false, List, Option, Some, None, if◌then◌else◌, inl, inr, length, refl, sym, ap, subst, arith, ◌≢◌}
+use Rattle.std.proofs.lemmas.Bool.{cases_eq, and_parts}
 use Rattle.std.proofs.lemmas.List.{length-map, length-set, get_or-map}
 use Rattle.mpm_base.specs.Calls.{Answer}
 use Rattle.z80_regs.specs.Outcome.{Action}
@@ -8,19 +10,22 @@ use Rattle.mpm_banks.specs.MemoryLaws.{field_stays}
 use Rattle.mpm_banks.specs.Actions.{memory_after}
 use Rattle.mpm_banks.specs.declared.segment.Segment.{Segment}
 use Rattle.mpm_banks.specs.declared.segment.Allocation.{Allocation}
-use Rattle.mpm_banks.specs.declared.segment.Allocation.TheVariants.{Free, Reserved}
-use Rattle.mpm_banks.specs.Allocations.{allocated, reserved, released, is_reserved, is_owners, freed, all_released}
+use Rattle.mpm_banks.specs.declared.segment.Allocation.TheVariants.{Free, Reserved, Occupied}
+use Rattle.mpm_banks.specs.Allocations.{is_free, lowest_free, allocated, reserved, released, is_reserved, is_owners, freed, all_released, occupied, vacated}
+use Rattle.mpm_banks.proofs.SegmentLaws.{allocation_of_allocated, segment_of_allocated, lowest_free_fits}
 use Rattle.mpm_banks.proofs.ActionLaws.{same_segments_after}
 use Rattle.mpm_gate.specs.Replies.{placed}
 use Rattle.mpm_gate.proofs.ReplyLaws.{placed_segments}
-use Rattle.mpm_procs.specs.Table.{Table}
+use Rattle.mpm_procs.specs.Table.{Table, process_in}
 use Rattle.mpm_kernel.specs.Kernel.{Kernel}
+use Rattle.mpm_kernel.specs.Dispatch.{discharged}
 use Rattle.mpm_xdos.specs.Ending.{is_home, left_by, memory_without}
-use Rattle.mpm_machine.specs.State.{IsHome}
+use Rattle.mpm_machine.specs.State.{IsHome, IsOccupied}
 
--- what was a home, is one
+-- what was a home, is one, and what was lived in, is
 pub record KeepsHomes (old new : Memory) : Type 0 where
   pub all : (seg : ℕ) → IsHome old seg → IsHome new seg
+  pub lived : (seg : ℕ) → IsHome old seg → IsOccupied old seg → IsOccupied new seg
 
 -- a segment is a home where its place and its size are those of one
 same_home : (old new : Memory) (seg : ℕ) → length new.segments ≡ length old.segments → (segment_of new seg).base ≡ (segment_of old seg).base
@@ -37,17 +42,27 @@ place_if true segment other same = same
 place_if false segment other same = (refl, refl)
 
 pub keeps_itself : (memory : Memory) → KeepsHomes memory memory
-keeps_itself memory = record { all = λ seg home. home }
+keeps_itself memory = record { all = λ seg home. home; lived = λ seg home h. h }
 
 pub keeps_both : (old middle new : Memory) → KeepsHomes old middle → KeepsHomes middle new → KeepsHomes old new
-keeps_both old middle new first second = record { all = λ seg home. second.all seg (first.all seg home) }
+keeps_both old middle new first second = record {
+  all = λ seg home. second.all seg (first.all seg home);
+  lived = λ seg home h. second.lived seg (first.all seg home) (first.lived seg home h);
+}
 
 pub keeps_same : (old new : Memory) → SameSegments old new → KeepsHomes old new
-keeps_same old new same = record { all = λ seg home. same_home old new seg same.count (same.base seg) (same.pages seg) home }
+keeps_same old new same = record {
+  all = λ seg home. same_home old new seg same.count (same.base seg) (same.pages seg) home;
+  lived = λ seg home h. same.allocation seg ∙ h;
+}
 
-keeps_if : (old : Memory) (b : Bool) (one other : Memory) → KeepsHomes old one → KeepsHomes old other → KeepsHomes old (if b then one else other)
-keeps_if old true one other is was = is
-keeps_if old false one other is was = was
+home_if : (b : Bool) (one other : Memory) (seg : ℕ) → IsHome one seg → IsHome other seg → IsHome (if b then one else other) seg
+home_if true one other seg is was = is
+home_if false one other seg is was = was
+
+left_or_lived : (b : Bool) → b ≡ false → b ≡ true → ⊥
+left_or_lived true e f = absurd (cc)
+left_or_lived false e f = absurd (cc)
 
 -- bytes change
 pub keeps_placed : (answer : Answer) (word seg : ℕ) (memory : Memory) → KeepsHomes memory (placed answer word seg memory)
@@ -57,43 +72,122 @@ pub keeps_acted : (actions : List Action) (seg : ℕ) (memory : Memory) → Keep
 keeps_acted actions seg memory = keeps_same memory _ (same_segments_after actions seg memory)
 
 -- segments change hands
-pub keeps_allocated : (memory : Memory) (seg : ℕ) (allocation : Allocation) → KeepsHomes memory (allocated memory seg allocation)
+
+pub home_allocated : (memory : Memory) (seg : ℕ) (allocation : Allocation) (other : ℕ) → IsHome memory other → IsHome (allocated memory seg allocation) other
 unfolding allocated
-keeps_allocated memory seg allocation = record {
-  all = λ other home. same_home memory _ other (length-set memory.segments seg _)
-      (field_stays (λ s. s.base) memory.segments seg other _ refl) (field_stays (λ s. s.pages) memory.segments seg other _ refl) home;
+home_allocated memory seg allocation other home =
+    same_home memory _ other (length-set memory.segments seg _)
+    (field_stays (λ s. s.base) memory.segments seg other _ refl) (field_stays (λ s. s.pages) memory.segments seg other _ refl) home
+
+lived_elsewhere : (memory : Memory) (seg : ℕ) (allocation : Allocation) (other : ℕ) → other ≢ seg → IsOccupied memory other → IsOccupied (allocated memory seg allocation) other
+lived_elsewhere memory seg allocation other apart h = ap (λ (s : Segment). s.allocation) (segment_of_allocated memory seg other allocation apart) ∙ h
+
+-- one that nobody lives in, or that goes on being lived in
+keeps_allocated : (memory : Memory) (seg : ℕ) (allocation : Allocation) → (IsOccupied memory seg → allocation ≡ Occupied) → KeepsHomes memory (allocated memory seg allocation)
+keeps_allocated memory seg allocation stays = record {
+  all = λ other home. home_allocated memory seg allocation other home;
+  lived = λ other home h. elim (cases_eq other seg) [
+    | inl same ↦
+        let here : IsOccupied memory seg = subst (IsOccupied memory) same h in
+        let there = allocation_of_allocated memory seg allocation (omega (arith, same, home.exists)) ∙ stays here in
+        subst (IsOccupied (allocated memory seg allocation)) (sym same) there
+    | inr apart ↦ lived_elsewhere memory seg allocation other apart h
+  ];
 }
 
-pub keeps_reserved : (memory : Memory) (owner : ℕ) (seg : Option ℕ) → KeepsHomes memory (reserved memory owner seg)
+pub keeps_occupied : (memory : Memory) (seg : ℕ) → KeepsHomes memory (occupied memory seg)
+keeps_occupied memory seg = keeps_allocated memory seg Occupied (λ h. refl)
+
+pub free_or_lived : (allocation : Allocation) → is_free allocation ≡ true → allocation ≡ Occupied → ⊥
+free_or_lived Free free lived = absurd (cc)
+free_or_lived (Reserved owner) free lived = absurd (cc)
+free_or_lived Occupied free lived = absurd (cc)
+
+owned_or_lived : (owner : ℕ) (allocation : Allocation) → is_owners owner allocation ≡ true → allocation ≡ Occupied → ⊥
+owned_or_lived owner Free owned lived = absurd (cc)
+owned_or_lived owner (Reserved other) owned lived = absurd (cc)
+owned_or_lived owner Occupied owned lived = absurd (cc)
+
+-- a segment that is reserved was free
+
+pub found_is_free : (memory : Memory) (base : Option ℕ) (pages seg : ℕ) → lowest_free memory base pages ≡ Some seg → is_free (segment_of memory seg).allocation ≡ true
+found_is_free memory base pages seg is = (and_parts (is_free (segment_of memory seg).allocation) _ (lowest_free_fits memory base pages seg is).1).0
+
+keeps_found : (memory : Memory) (owner : ℕ) (found : Option ℕ) → ((seg : ℕ) → found ≡ Some seg → is_free (segment_of memory seg).allocation ≡ true)
+    → KeepsHomes memory (reserved memory owner found)
 unfolding reserved
-keeps_reserved memory owner None = keeps_itself memory
-keeps_reserved memory owner (Some seg) = keeps_allocated memory seg (Reserved owner)
+keeps_found memory owner None free = keeps_itself memory
+keeps_found memory owner (Some seg) free =
+    keeps_allocated memory seg (Reserved owner) (λ h. absurd (free_or_lived (segment_of memory seg).allocation (free seg refl) h))
+
+pub keeps_reserved : (memory : Memory) (owner : ℕ) (base : Option ℕ) (pages : ℕ) → KeepsHomes memory (reserved memory owner (lowest_free memory base pages))
+keeps_reserved memory owner base pages =
+    keeps_found memory owner (lowest_free memory base pages)
+    (λ seg is. found_is_free memory base pages seg is)
+
+-- one that is released was reserved
+released_if : (memory : Memory) (owner seg : ℕ) (b : Bool) → is_owners owner (segment_of memory seg).allocation ≡ b
+    → KeepsHomes memory (if b then allocated memory seg Free else memory)
+released_if memory owner seg true owned =
+    keeps_allocated memory seg Free (λ h. absurd (owned_or_lived owner (segment_of memory seg).allocation owned h))
+released_if memory owner seg false owned = keeps_itself memory
 
 pub keeps_released : (memory : Memory) (owner seg : ℕ) → KeepsHomes memory (released memory owner seg)
-unfolding released
-keeps_released memory owner seg =
-    keeps_if memory (is_reserved memory owner seg) _ _ (keeps_allocated memory seg Free) (keeps_itself memory)
+unfolding released is_reserved
+keeps_released memory owner seg = released_if memory owner seg _ refl
 
 freed_place : (owner : ℕ) (segment : Segment) → ((freed owner segment).base ≡ segment.base) × ((freed owner segment).pages ≡ segment.pages)
 freed_place owner segment = place_if (is_owners owner segment.allocation) segment _ (refl, refl)
 
+freed_if : (owner : ℕ) (segment : Segment) (b : Bool) → is_owners owner segment.allocation ≡ b → segment.allocation ≡ Occupied
+    → (if b then record segment { allocation = Free } else segment).allocation ≡ Occupied
+freed_if owner segment true owned h = absurd (owned_or_lived owner segment.allocation owned h)
+freed_if owner segment false owned h = h
+
 keeps_all_released : (memory : Memory) (owner : ℕ) → KeepsHomes memory (all_released memory owner)
 unfolding all_released
-keeps_all_released memory owner = record {
-  all = λ seg home.
-      let at : segment_of (all_released memory owner) seg ≡ freed owner (segment_of memory seg) =
-      get_or-map (freed owner) memory.segments seg no_segment no_segment home.exists in
-      same_home memory _ seg (length-map memory.segments (freed owner))
-      (ap (λ (s : Segment). s.base) at ∙ (freed_place owner (segment_of memory seg)).0)
-      (ap (λ (s : Segment). s.pages) at ∙ (freed_place owner (segment_of memory seg)).1) home;
-}
+keeps_all_released memory owner =
+    let at : (seg : ℕ) → IsHome memory seg → segment_of (all_released memory owner) seg ≡ freed owner (segment_of memory seg) =
+    λ seg home. get_or-map (freed owner) memory.segments seg no_segment no_segment home.exists in
+    record {
+      all = λ seg home.
+          same_home memory _ seg (length-map memory.segments (freed owner))
+          (ap (λ (s : Segment). s.base) (at seg home) ∙ (freed_place owner (segment_of memory seg)).0)
+          (ap (λ (s : Segment). s.pages) (at seg home) ∙ (freed_place owner (segment_of memory seg)).1) home;
+      lived = λ seg home h. ap (λ (s : Segment). s.allocation) (at seg home) ∙ freed_if owner (segment_of memory seg) _ refl h;
+    }
 
-keeps_left : (memory : Memory) (procs : Table) (seg : Option ℕ) → KeepsHomes memory (left_by memory procs seg)
+-- a process ends: its segment stays lived in where somebody else lives there
+
+places_left : (memory : Memory) (procs : Table) (seg : Option ℕ) (other : ℕ) → IsHome memory other → IsHome (left_by memory procs seg) other
 unfolding left_by
-keeps_left memory procs None = keeps_itself memory
-keeps_left memory procs (Some seg) = keeps_if memory (is_home procs seg) _ _ (keeps_itself memory) (keeps_allocated memory seg Free)
+places_left memory procs None other home = home
+places_left memory procs (Some seg) other home = home_if (is_home procs seg) _ _ other home (home_allocated memory seg Free other home)
 
--- a process ends
-pub keeps_without : (memory : Memory) (kernel : Kernel) (p : ℕ) → KeepsHomes memory (memory_without memory kernel p)
+vacated_if : (memory : Memory) (procs : Table) (seg other : ℕ) (b : Bool) → is_home procs seg ≡ b → is_home procs other ≡ true → IsOccupied memory other
+    → IsOccupied (if b then memory else (vacated memory seg)) other
+vacated_if memory procs seg other true lived home h = h
+vacated_if memory procs seg other false lived home h =
+    lived_elsewhere memory seg Free other (λ same. left_or_lived _ lived (ap (is_home procs) (sym same) ∙ home)) h
+
+lived_left : (memory : Memory) (procs : Table) (seg : Option ℕ) (other : ℕ) → is_home procs other ≡ true → IsOccupied memory other
+    → IsOccupied (left_by memory procs seg) other
+unfolding left_by
+lived_left memory procs None other home h = h
+lived_left memory procs (Some seg) other home h = vacated_if memory procs seg other (is_home procs seg) refl home h
+
+-- what an end leaves: each home, and each segment in which somebody still lives
+pub record LeavesHomes (old new : Memory) (procs : Table) : Type 0 where
+  pub all : (seg : ℕ) → IsHome old seg → IsHome new seg
+  pub lived : (seg : ℕ) → IsHome old seg → is_home procs seg ≡ true → IsOccupied old seg → IsOccupied new seg
+
+pub leaves_without : (memory : Memory) (kernel : Kernel) (p : ℕ) → LeavesHomes memory (memory_without memory kernel p) (discharged kernel p).procs
 unfolding memory_without
-keeps_without memory kernel p = keeps_both memory (all_released memory p) _ (keeps_all_released memory p) (keeps_left (all_released memory p) _ _)
+leaves_without memory kernel p =
+    let released = keeps_all_released memory p in
+    let procs = (discharged kernel p).procs in
+    let seg = (process_in kernel.procs p).seg in
+    record {
+      all = λ other home. places_left (all_released memory p) procs seg other (released.all other home);
+      lived = λ other home there h. lived_left (all_released memory p) procs seg other there (released.lived other home h);
+    }

@@ -7,4 +7,6 @@ pub mod CallLaws
 pub mod PlacedLaws
 pub mod StepLaws
 pub mod MovingLaws
+pub mod ServedLaws
 pub mod Containment
+pub mod InstructedLaws

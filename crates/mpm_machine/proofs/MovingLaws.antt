@@ -29,7 +29,7 @@ use Rattle.mpm_machine.specs.Serving.{with_regs}
 use Rattle.mpm_machine.specs.Step.{ran, instructed, instruction_at, acted_at, gate_before, acted_by, acted, running_segment, at_instruction, counted, dispatched, step_of, next, after}
 use Rattle.mpm_machine.specs.Moving.{View, instruction_in, moved, moves, CanMove, Moves, Moved, view_of, with_view, RunsOn}
 use Rattle.mpm_machine.proofs.HomeLaws.{KeepsHomes, keeps_itself, keeps_both, keeps_acted}
-use Rattle.mpm_machine.proofs.WholeLaws.{same_regs, whole_kernel, whole_memory, whole_regs}
+use Rattle.mpm_machine.proofs.WholeLaws.{same_regs, whole_kernel, whole_memory, whole_regs, whole_steps}
 use Rattle.mpm_machine.proofs.StepLaws.{after_nothing}
 
 pub view_is : (a b : View) → a.regs ≡ b.regs → a.memory ≡ b.memory → a.devices ≡ b.devices → a ≡ b
@@ -232,7 +232,7 @@ whole_view system p n view w h keeps =
     let before = whole_kernel system polled w (sound_devices system.kernel view.devices w.sound) (homes_stay _ _ refl) in
     let changed = whole_regs p view.regs (record system { kernel = polled }) before h in
     let behind = whole_memory _ view.memory changed.whole keeps in
-    record { sound = behind.sound; homes = behind.homes }
+    whole_steps _ (system.steps + n) behind
 
 keeps_moved : (n seg : ℕ) (view : View) → KeepsHomes view.memory (moves n seg view).memory
 unfolding moves

@@ -10,7 +10,7 @@ use Rattle.mpm_banks.specs.Memory.{Memory, no_segment, HasSegment, SameSegments,
 use Rattle.mpm_banks.specs.MemoryLaws.{same_segments_both}
 use Rattle.mpm_banks.proofs.WrittenBytes.{same_segments_with_bytes}
 use Rattle.mpm_banks.specs.Allocations.{new_segment, new_memory, allocated, occupied, spec_of}
-use Rattle.mpm_banks.proofs.SegmentLaws.{count_allocated, segment_of_allocated}
+use Rattle.mpm_banks.proofs.SegmentLaws.{count_allocated, allocation_of_allocated, segment_of_allocated}
 use Rattle.mpm_banks.specs.declared.segment.Segment.{Segment}
 use Rattle.mpm_banks.specs.declared.segment.Allocation.TheVariants.{Occupied}
 use Rattle.mpm_procs.specs.Table.{HasSlots, lives, Lives, process_in, living, no_processes, lowest_free, added}
@@ -25,9 +25,9 @@ use Rattle.mpm_kernel.proofs.HomeLaws.{opening_home, procs_picked}
 use Rattle.mpm_machine_file.specs.MachineFiles.{IsSegment}
 use Rattle.mpm_machine.specs.Gates.{last_page}
 use Rattle.mpm_machine.specs.declared.system.System.{System}
-use Rattle.mpm_machine.specs.State.{IsHome, IsWhole}
+use Rattle.mpm_machine.specs.State.{IsHome, IsOccupied, IsWhole}
 use Rattle.mpm_machine.specs.Opening.{base_page, laid_out, placed_process, bare, is_lived_in, is_occupied, IsBare, MayPlace, with_placed, opening_system}
-use Rattle.mpm_machine.proofs.HomeLaws.{KeepsHomes, keeps_same, keeps_both, keeps_allocated}
+use Rattle.mpm_machine.proofs.HomeLaws.{KeepsHomes, keeps_same, keeps_both, keeps_occupied}
 
 -- a program that is laid out changes bytes alone
 same_segments_laid_out : (memory : Memory) (seg : ℕ) (program : List ℕ) → SameSegments memory (laid_out memory seg program)
@@ -49,18 +49,18 @@ laid_out_is_there memory seg program there = omega (arith, (same_segments_laid_o
 same_some : (a b : ℕ) → Some a ≡ Some b → a ≡ b
 same_some a b e = cc
 
--- a process that begins in a home leaves a home to each
-homes_admitted : (kernel : Kernel) (memory : Memory) (p seg : ℕ) (new : NewProcess) → HasSlots kernel.procs → lowest_free kernel.procs ≡ Some p
-    → new.seg ≡ Some seg → IsHome memory seg
-    → ((q other : ℕ) → Lives kernel.procs q → (process_in kernel.procs q).seg ≡ Some other → IsHome memory other)
-    → (q other : ℕ) → Lives (added kernel.procs p new) q → (process_in (added kernel.procs p new) q).seg ≡ Some other → IsHome memory other
-homes_admitted kernel memory p seg new slots free is home homes q other living there = elim (cases_eq q p) [
+-- what is so of the segment in which a process begins, and of those in which others live, is so of each one's
+homes_admitted : (P : ℕ → Type 0) (kernel : Kernel) (p seg : ℕ) (new : NewProcess) → HasSlots kernel.procs → lowest_free kernel.procs ≡ Some p
+    → new.seg ≡ Some seg → P seg
+    → ((q other : ℕ) → Lives kernel.procs q → (process_in kernel.procs q).seg ≡ Some other → P other)
+    → (q other : ℕ) → Lives (added kernel.procs p new) q → (process_in (added kernel.procs p new) q).seg ≡ Some other → P other
+homes_admitted P kernel p seg new slots free is home homes q other living there = elim (cases_eq q p) [
   | inl equal ↦
       let at : process_in (added kernel.procs p new) q ≡ opening new =
       ap (process_in (added kernel.procs p new)) equal
       ∙ process_added kernel.procs p new (omega (arith, slots.processes, slots.alive, free_below kernel.procs p free)) in
       let seat : Some seg ≡ Some other = sym is ∙ sym (opening_home new) ∙ ap (λ x. x.seg) (sym at) ∙ there in
-      subst (IsHome memory) (same_some seg other seat) home
+      subst P (same_some seg other seat) home
   | inr another ↦
       homes q other (sym (lives_added_other kernel.procs p q new another) ∙ living)
       (ap (λ x. x.seg) (sym (process_added_other kernel.procs p q new another)) ∙ there)
@@ -74,14 +74,20 @@ whole_placed system p seg name priority console program may free =
     let new = placed_process (spec_of system.memory seg) seg name priority console in
     let memory = laid_out system.memory seg program in
     let keeps : KeepsHomes system.memory (occupied memory seg) =
-    keeps_both _ memory _ (keeps_same _ _ (same_segments_laid_out system.memory seg program)) (keeps_allocated memory seg Occupied) in
+    keeps_both _ memory _ (keeps_same _ _ (same_segments_laid_out system.memory seg program)) (keeps_occupied memory seg) in
     let kernel = admitted system.kernel p new in
     let same = procs_picked false kernel in
-    let homes = homes_admitted system.kernel system.memory p seg new w.sound.slots free refl may.home w.homes in
+    let laid = same_segments_laid_out system.memory seg program in
+    let here : IsOccupied (occupied memory seg) seg = allocation_of_allocated memory seg Occupied (omega (arith, laid.count, may.home.exists)) in
+    let homes = homes_admitted (IsHome (occupied memory seg)) system.kernel p seg new w.sound.slots free refl (keeps.all seg may.home)
+    (λ q other living there. keeps.all other (w.homes q other living there)) in
+    let lived = homes_admitted (IsOccupied (occupied memory seg)) system.kernel p seg new w.sound.slots free refl here
+    (λ q other living there. keeps.lived other (w.homes q other living there) (w.lived q other living there)) in
+    let alive = λ (q : ℕ) (living : Lives (picked false kernel).procs q). ap (λ procs. lives procs q) (sym same) ∙ living in
     record {
       sound = sound_picked kernel false (sound_admitted system.kernel p new w.sound free may.has_console);
-      homes = λ q other living there.
-          keeps.all other (homes q other (ap (λ procs. lives procs q) (sym same) ∙ living) (ap (λ procs. (process_in procs q).seg) (sym same) ∙ there));
+      homes = λ q other living there. homes q other (alive q living) (ap (λ procs. (process_in procs q).seg) (sym same) ∙ there);
+      lived = λ q other living there. lived q other (alive q living) (ap (λ procs. (process_in procs q).seg) (sym same) ∙ there);
     }
 
 dead_and_alive : (b : Bool) → b ≡ false → b ≡ true → ⊥
@@ -93,6 +99,7 @@ unfolding bare new_kernel
 whole_bare segments consoles printers some few = record {
   sound = sound_new consoles printers some few;
   homes = λ p seg living there. absurd (dead_and_alive _ (nobody_lives p) living);
+  lived = λ p seg living there. absurd (dead_and_alive _ (nobody_lives p) living);
 }
 
 home_bare : (segments : List SegmentSpec) (seg : ℕ) → All IsSegment segments → seg < length segments → IsHome (new_memory segments) seg
@@ -233,7 +240,7 @@ may_place_again system p seg name priority console program other next size may f
     let memory = laid_out system.memory seg program in
     let same = same_segments_laid_out system.memory seg program in
     let there : segment_of (occupied memory seg) other ≡ segment_of memory other = segment_of_allocated memory seg other Occupied apart in
-    let keeps : KeepsHomes system.memory (occupied memory seg) = keeps_both _ memory _ (keeps_same _ _ same) (keeps_allocated memory seg Occupied) in
+    let keeps : KeepsHomes system.memory (occupied memory seg) = keeps_both _ memory _ (keeps_same _ _ same) (keeps_occupied memory seg) in
     record {
       bare = bare_placed system p seg name priority console program may free;
       home = keeps.all other again.home;

@@ -1,5 +1,6 @@
 -- A whole system stays whole through each part of a step.
-use Rattle.std.proofs.Common.{◌≡◌, ◌∙◌, ℕ, Bool, true, false, List, Option, Some, None, ◌==◌, if◌then◌else◌, refl, sym, ap, subst, IsNone, arith}
+use Rattle.std.proofs.Common.{◌≡◌, ◌≢◌, ◌∙◌, ℕ, ◌+◌, ◌&&◌, Bool, true, false, List, Option, Some, None, ◌==◌, if◌then◌else◌, refl, sym, ap, subst, IsNone, arith}
+use Rattle.std.proofs.lemmas.Bool.Decides.{nat_tests}
 use Rattle.std.proofs.lemmas.List.{set-get_or}
 use Rattle.z80_regs.specs.Outcome.{Outcome}
 use Rattle.z80_regs.specs.declared.regs.Regs.{Regs}
@@ -7,10 +8,11 @@ use Rattle.mpm_base.specs.Calls.{Taken, Answer}
 use Rattle.mpm_base.specs.declared.call.Outcome.{Outcome as Ended_how}
 use Rattle.mpm_base.specs.declared.call.Outcome.TheVariants.{Done, Held, Retry, Ended}
 use Rattle.z80_ext.specs.Instruction.{registers_after, actions_of}
-use Rattle.mpm_banks.specs.Memory.{Memory, HasSegment, byte_at}
+use Rattle.mpm_banks.specs.Memory.{Memory, HasSegment, segment_of, byte_at}
+use Rattle.mpm_banks.specs.Allocations.{lowest_free}
 use Rattle.mpm_banks.specs.Actions.{memory_after, devices_after}
 use Rattle.mpm_gate.specs.Replies.{answered, returned}
-use Rattle.mpm_procs.specs.Table.{lives, Lives, process_in, call_of, with_process}
+use Rattle.mpm_procs.specs.Table.{Table, lives, Lives, process_in, call_of, with_process}
 use Rattle.mpm_procs.specs.Opening.{blank}
 use Rattle.mpm_procs.proofs.MapLaws.{lives_below, lives_changed, process_changed, process_behind, call_behind, call_changed, lives_behind}
 use Rattle.mpm_kernel.specs.Kernel.{Kernel, IsSound, IsReady, with_changed}
@@ -19,6 +21,8 @@ use Rattle.mpm_kernel.specs.Dispatch.{discharged}
 use Rattle.mpm_kernel.proofs.SoundLaws.{sound_changed, sound_call, sound_devices, sound_spoke, sound_picked, sound_discharged, sound_called, lives_called, runner_lives}
 use Rattle.mpm_kernel.proofs.HomeLaws.{SameHomes, homes_stay, homes_changed, homes_call, homes_discharged, homes_called, call_called, procs_picked, procs_spoke}
 use Rattle.mpm_xdos.specs.Creating.{home_base}
+use Rattle.mpm_xdos.specs.Ending.{is_segment, lives_in}
+use Rattle.mpm_xdos.proofs.Homes.{home_here}
 use Rattle.mpm_xdos.proofs.CreatedLaws.{made_created}
 use Rattle.mpm_machine.specs.declared.system.System.{System}
 use Rattle.mpm_machine.specs.declared.gate.Gate.{Gate}
@@ -27,7 +31,7 @@ use Rattle.mpm_machine.specs.State.{IsHome, IsWhole, speaking}
 use Rattle.mpm_machine.specs.Ending.{ended}
 use Rattle.mpm_machine.specs.Serving.{with_regs, asked, keeping, Served, reserving, releasing, creating, calling, served, said_by, replied, completing, outcome_of, gate_step}
 use Rattle.mpm_machine.specs.Step.{counted, illegal, illegal_text, instructed, ran, instruction_at, acted_at, gate_before, acted_by, acted, at_instruction, step_of}
-use Rattle.mpm_machine.proofs.HomeLaws.{KeepsHomes, keeps_placed, keeps_acted, keeps_reserved, keeps_released, keeps_without}
+use Rattle.mpm_machine.proofs.HomeLaws.{KeepsHomes, keeps_placed, keeps_acted, keeps_reserved, keeps_released, leaves_without, free_or_lived, found_is_free}
 
 -- the segment of a process is a home
 pub segment_is_home : (system : System) (p seg : ℕ) → IsWhole system → Lives system.kernel.procs p → (process_in system.kernel.procs p).seg ≡ Some seg
@@ -38,12 +42,20 @@ pub segment_is_there : (system : System) (p seg : ℕ) → IsWhole system → Li
     → HasSegment system.memory seg
 segment_is_there system p seg w h home = (w.homes p seg h home).exists
 
+-- a segment that can be reserved is nobody's home
+pub free_is_empty : (system : System) (base : Option ℕ) (pages p seg : ℕ) → IsWhole system → lowest_free system.memory base pages ≡ Some seg
+    → Lives system.kernel.procs p → (process_in system.kernel.procs p).seg ≢ Some seg
+free_is_empty system base pages p seg w found h = λ home.
+    free_or_lived (segment_of system.memory seg).allocation
+    (found_is_free system.memory base pages seg found) (w.lived p seg h home)
+
 -- another kernel, whose processes live where some lived before
 pub whole_kernel : (system : System) (kernel : Kernel) → IsWhole system → IsSound kernel → SameHomes system.kernel kernel
     → IsWhole (record system { kernel = kernel })
 whole_kernel system kernel w s homes = record {
   sound = s;
   homes = λ p seg h home. let there = homes.all p seg h home in w.homes there.who seg there.lives there.home;
+  lived = λ p seg h home. let there = homes.all p seg h home in w.lived there.who seg there.lives there.home;
 }
 
 -- another memory, in which each home is one
@@ -52,7 +64,12 @@ pub whole_memory : (system : System) (memory : Memory) → IsWhole system → Ke
 whole_memory system memory w keeps = record {
   sound = w.sound;
   homes = λ p seg h home. keeps.all seg (w.homes p seg h home);
+  lived = λ p seg h home. keeps.lived seg (w.homes p seg h home) (w.lived p seg h home);
 }
+
+-- more steps are counted
+pub whole_steps : (system : System) (steps : ℕ) → IsWhole system → IsWhole (record system { steps = steps })
+whole_steps system steps w = record { sound = w.sound; homes = w.homes; lived = w.lived }
 
 -- a system is whole behind a part of the step of a process, which lives and keeps its call
 pub record StaysWhole (p : ℕ) (old new : System) : Type 0 where
@@ -97,13 +114,27 @@ lives_behind_text old kernel console p bytes h is =
     ap (λ (k : Kernel). lives k.procs p) is ∙ ap (λ procs. lives procs p) (procs_spoke old console bytes) ∙ h
 
 -- a process ends
+
+same_number : (n : ℕ) → (n == n) ≡ true
+same_number n = grind (arith, nat_tests)
+
+lives_there : (procs : Table) (seg q : ℕ) → Lives procs q → (process_in procs q).seg ≡ Some seg → lives_in procs seg q ≡ true
+lives_there procs seg q living there = ap (λ b. b && is_segment seg (process_in procs q).seg) living ∙ ap (is_segment seg) there ∙ same_number seg
+
 whole_ended : (p : ℕ) (system : System) → IsWhole system → Lives system.kernel.procs p → IsWhole (ended p system)
 unfolding ended
 whole_ended p system w h =
     let gone = record system { kernel = discharged system.kernel p } in
-    whole_memory gone _
-    (whole_kernel system _ w (sound_discharged system.kernel p w.sound h) (homes_discharged system.kernel p w.sound.slots h))
-    (keeps_without system.memory system.kernel p)
+    let whole = whole_kernel system _ w (sound_discharged system.kernel p w.sound h) (homes_discharged system.kernel p w.sound.slots h) in
+    let leaves = leaves_without system.memory system.kernel p in
+    record {
+      sound = whole.sound;
+      homes = λ q seg living there. leaves.all seg (whole.homes q seg living there);
+      lived = λ q seg living there.
+          leaves.lived seg (whole.homes q seg living there)
+          (home_here gone.kernel.procs seg q (lives_below gone.kernel.procs q whole.sound.slots living) (lives_there gone.kernel.procs seg q living there))
+          (whole.lived q seg living there);
+    }
 
 whole_illegal : (p : ℕ) (system : System) → IsWhole system → Lives system.kernel.procs p → IsWhole (illegal p system).system
 unfolding illegal
@@ -191,8 +222,8 @@ pub whole_served : (call : Taken) (p : ℕ) (system : System) → IsWhole system
 unfolding served reserving releasing
 whole_served call p system w h ready =
     let f = call.function in
-    whole_if p system (f == 128) _ _ (whole_banks p _ system w h (keeps_reserved system.memory p _))
-    (whole_if p system (f == 129) _ _ (whole_banks p _ system w h (keeps_reserved system.memory p _))
+    whole_if p system (f == 128) _ _ (whole_banks p _ system w h (keeps_reserved system.memory p _ _))
+    (whole_if p system (f == 129) _ _ (whole_banks p _ system w h (keeps_reserved system.memory p _ _))
     (whole_if p system (f == 130) _ _ (whole_banks p _ system w h (keeps_released system.memory p _))
     (whole_if p system (f == 144) _ _ (whole_creating p system w h)
     (whole_calling p system w h ready))))
@@ -258,7 +289,7 @@ whole_acted system w = whole_acted_by system.kernel.running _ system w refl
 
 -- a step
 pub whole_counted : (system : System) → IsWhole system → IsWhole (counted system)
-whole_counted system w = record { sound = w.sound; homes = w.homes }
+whole_counted system w = whole_steps system (system.steps + 1) w
 
 pub sound_acted : (system behind : System) → IsWhole system → behind ≡ (acted system).system → IsSound behind.kernel
 sound_acted system behind w is =

@@ -1,22 +1,89 @@
--- What of memory a step may write.
-use Rattle.std.specs.Prelude.{◌≡◌, ◌≢◌, ℕ, true, Option, Some, None}
+-- What a step may write of memory, what a listed instruction changes, and what a call takes from memory.
+use Rattle.std.specs.Prelude.{◌≡◌, ℕ, ◌+◌, ◌<◌, ◌≤◌, true, false, List, Bool, Option, Some, None, IsSome, slice_index_or}
 use Rattle.std.specs.List.{list_any}
+use Rattle.z80_regs.specs.declared.regs.Regs.{Regs}
 use Rattle.z80_ext.specs.Instruction.{actions_of}
+use Rattle.mpm_base.specs.Calls.{Answer}
+use Rattle.mpm_base.specs.declared.call.Outcome.{Outcome}
+use Rattle.mpm_base.specs.declared.call.Outcome.TheVariants.{Done, Held, Retry, Ended}
+use Rattle.mpm_banks.specs.Memory.{Memory, byte_at, SameSegments}
 use Rattle.mpm_banks.specs.Actions.{writes_to}
 use Rattle.mpm_gate.specs.Replies.{IsPlacedAt}
+use Rattle.mpm_procs.specs.Table.{Lives, process_in}
+use Rattle.mpm_kernel.specs.Dispatch.{picked}
 use Rattle.mpm_machine.specs.declared.system.System.{System}
 use Rattle.mpm_machine.specs.declared.gate.Gate.{Gate}
 use Rattle.mpm_machine.specs.declared.gate.Gate.TheVariants.{End, Call}
-use Rattle.mpm_machine.specs.Serving.{asked, keeping, served}
-use Rattle.mpm_machine.specs.Step.{instruction_at, running_segment}
+use Rattle.mpm_machine.specs.Serving.{with_regs, asked, keeping, Served, served}
+use Rattle.mpm_machine.specs.Step.{instruction_at, gate_before}
 
--- the process that runs doesn't live in that segment
-abbrev pub LivesElsewhere : System → ℕ → Type 0
-LivesElsewhere system other = running_segment system.kernel.running system ≢ Some other
+-- a call that is done places its reply's bytes; another places none
+abbrev pub PlacesAt : Outcome → Answer → ℕ → ℕ → Type 0
+PlacesAt Done reply word at = IsPlacedAt reply word at
+PlacesAt Ended reply word at = ⊥
+PlacesAt Held reply word at = ⊥
+PlacesAt Retry reply word at = ⊥
 
--- a process of a segment writes there: its instruction does, or the reply to its call is placed there
+-- a process of a segment writes there: the reply to its call is placed there, or its instruction writes there
 abbrev pub WritesAt : Option Gate → ℕ → ℕ → System → ℕ → Type 0
 WritesAt (Some End) p seg system at = ⊥
 WritesAt (Some Call) p seg system at =
-    let call = asked p seg system in IsPlacedAt (served call p (keeping p call system)).reply call.word at
+    let call = asked p seg system in
+    let done = served call p (keeping p call system) in
+    PlacesAt done.outcome done.reply call.word at
 WritesAt None p seg system at = list_any (writes_to at) (actions_of (instruction_at p seg system)) ≡ true
+
+-- the process that runs lives in that segment, and writes at the address in this step
+pub record IsWritten (system : System) (seg at : ℕ) : Type 0 where
+  pub who : ℕ
+  pub runs : system.kernel.running ≡ Some who
+  pub lives : Lives system.kernel.procs who
+  pub home : (process_in system.kernel.procs who).seg ≡ Some seg
+  pub writes : WritesAt (gate_before who seg system) who seg system at
+
+-- a byte of a segment stays unless a process that lives there writes it, and a byte of common memory, whoever reads it,
+-- unless some process writes it
+pub record IsContained (old new : System) : Type 0 where
+  pub segments : (seg at : ℕ) → at < 49152 → (IsWritten old seg at → ⊥) → byte_at new.memory seg at ≡ byte_at old.memory seg at
+  pub common : (seg at : ℕ) → 49152 ≤ at → ((home : ℕ) → IsWritten old home at → ⊥) → byte_at new.memory seg at ≡ byte_at old.memory seg at
+
+-- the process that runs lives in that segment, and a listed instruction stands at its PC, and no gate
+pub record Instructs (system : System) (p seg : ℕ) : Type 0 where
+  pub runs : system.kernel.running ≡ Some p
+  pub home : (process_in system.kernel.procs p).seg ≡ Some seg
+  pub no_gate : gate_before p seg system ≡ None
+  pub listed : IsSome (instruction_at p seg system)
+
+-- one step was counted, and nothing else changed but a process's registers, bytes of memory, and that devices are no longer
+-- ready; then it was picked who runs
+pub record OnlyInstructed (p : ℕ) (old new : System) : Type 0 where
+  pub regs : Regs
+  pub ready : List Bool
+  pub memory : Memory
+  pub clears : (device : ℕ) → slice_index_or ready device false ≡ true → slice_index_or old.kernel.devices.ready device false ≡ true
+  pub bytes : SameSegments old.memory memory
+  pub is : new ≡ record old {
+    steps = old.steps + 1;
+    kernel = picked true (with_regs (record old.kernel { devices = record old.kernel.devices { ready = ready } }) p regs);
+    memory = memory;
+  }
+
+-- two systems have the same kernel, and the same segments in the same hands: their memories differ in bytes alone
+pub record DiffersInBytes (one other : System) : Type 0 where
+  pub kernel : other.kernel ≡ one.kernel
+  pub segments : SameSegments one.memory other.memory
+
+-- a call did the same in both
+pub record ServedAlike (one other : Served) : Type 0 where
+  pub kernel : other.system.kernel ≡ one.system.kernel
+  pub segments : SameSegments one.system.memory other.system.memory
+  pub outcome : other.outcome ≡ one.outcome
+  pub reply : other.reply ≡ one.reply
+
+-- the call that a process of a segment asks is served by what it took: whatever bytes stand in memory then, the kernel, the
+-- hands that have the segments, the outcome and the reply are the same
+abbrev pub IsServedByValue : System → ℕ → ℕ → Type 0
+IsServedByValue system p seg =
+    let call = asked p seg system in
+    let kept = keeping p call system in
+    (other : System) → DiffersInBytes kept other → ServedAlike (served call p kept) (served call p other)

@@ -1,6 +1,7 @@
 -- The machine as a kernel model: its state, and when a machine stands for a state.
 use Rattle.std.specs.Prelude.{◌≡◌, ℕ, ◌+◌, ◌≤◌, List, [], Option, Some}
 use Rattle.mpm_banks.specs.Memory.{Memory, HasSegment, segment_of}
+use Rattle.mpm_banks.specs.declared.segment.Allocation.TheVariants.{Occupied}
 use Rattle.mpm_procs.specs.Table.{Lives, process_in}
 use Rattle.mpm_kernel.specs.Kernel.{IsSound}
 use Rattle.mpm_kernel.specs.Columns.{spoke}
@@ -39,7 +40,13 @@ pub record IsHome (memory : Memory) (seg : ℕ) : Type 0 where
   pub pages : 4 ≤ (segment_of memory seg).pages
   pub end : (segment_of memory seg).base + (segment_of memory seg).pages ≤ 192
 
--- what is so of the system behind each step: the kernel is sound, and each process's segment exists
+-- processes live in the segment
+abbrev pub IsOccupied : Memory → ℕ → Type 0
+IsOccupied memory seg = (segment_of memory seg).allocation ≡ Occupied
+
+-- what is so of the system behind each step: the kernel is sound, and each process's segment exists and is nobody's to
+-- reserve
 pub record IsWhole (system : System) : Type 0 where
   pub sound : IsSound system.kernel
   pub homes : (p seg : ℕ) → Lives system.kernel.procs p → (process_in system.kernel.procs p).seg ≡ Some seg → IsHome system.memory seg
+  pub lived : (p seg : ℕ) → Lives system.kernel.procs p → (process_in system.kernel.procs p).seg ≡ Some seg → IsOccupied system.memory seg

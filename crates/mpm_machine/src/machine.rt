@@ -1,4 +1,4 @@
-ghost use Rattle.std.specs.Prelude.{◌≡◌, ℕ, ◌+◌, ◌-◌, ◌*◌, ◌<◌, ◌≤◌, List, Option, Some, IfOk, OnOk, IfErr, OnErr, IfSome, MatchOption, All, length};
+ghost use Rattle.std.specs.Prelude.{◌≡◌, ℕ, ◌+◌, ◌-◌, ◌*◌, ◌<◌, ◌≤◌, List, Option, Some, IfOk, OnOk, IfErr, OnErr, MatchOption, All, length, option_map};
 ghost use Rattle.mpm_port.specs.Causes.{HasCause};
 ghost use Rattle.mpm_port.specs.Texts.{appended};
 
@@ -57,7 +57,8 @@ impl Machine {
     ghost use Rattle.mpm_machine_file.specs.MachineFiles.{IsMachine, IsSegment};
     ghost use Rattle.mpm_machine.specs.State.{State, StandsFor, IsWhole};
     ghost use Rattle.mpm_machine.specs.Opening.{bare, booted, IsBare, MayPlace, with_placed, opening_system};
-    ghost use Rattle.mpm_machine.specs.Step.{next, after, EndsInStep};
+    ghost use Rattle.mpm_machine.specs.Contained.{IsContained, Instructs, OnlyInstructed, IsServedByValue};
+    ghost use Rattle.mpm_machine.specs.Step.{step_of, next, after, EndsInStep};
 
     /// The machine of a machine file. No process lives in it yet.
     ///
@@ -160,7 +161,7 @@ impl Machine {
     /// The registers of the process of that number, None where it doesn't live.
     pub fn regs(&self, p: Pid) -> Option<&Regs>
         ensures { MatchOption result (process_at self.now.kernel.procs p ≡ None)
-            (λ regs. IfSome (process_at self.now.kernel.procs p) (λ process. process.regs ≡ regs.now)) }
+            (λ regs. option_map (λ process. process.regs) (process_at self.now.kernel.procs p) ≡ Some regs.now) }
     {
         let process = self.system.kernel.process(p)?;
         Some(&process.regs)
@@ -181,6 +182,10 @@ impl Machine {
             → OnOk result (StandsFor self.new render.new (S.written sink.new) (next s) first) }
         ensures err { (s : State) (first : Option (List ℕ)) → StandsFor self.old render.old (S.written sink.old) s first
             → OnErr result (EndsBetween (S.written sink.new) first (rendered render.old.trace s.outputs) (rendered render.old.trace (next s).outputs)) }
+        ensures system { OnOk result (self.new ≡ (step_of self.old).system) }
+        ensures contained { OnOk result (IsContained self.old self.new) }
+        ensures instruction { (p seg : ℕ) → Instructs self.old p seg → OnOk result (OnlyInstructed p self.old self.new) }
+        ensures calls { (p seg : ℕ) → IsServedByValue self.old p seg }
         ensures whole { OnOk result (IsWhole self.new) }
         ensures count { OnOk result (self.new.steps ≡ self.old.steps + 1) }
         ensures trace { render.new.trace ≡ render.old.trace }

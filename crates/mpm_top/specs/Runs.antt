@@ -45,6 +45,13 @@ pub record Begins (form : Form) (told : Option (List ℕ)) (bytes : List ℕ) (s
   pub fits : length bytes ≤ room_of form
   pub is : system_of form bytes ≡ Some system
 
+-- a file holds bytes that are no machine file, or, where it isn't told, it may have held them
+pub record IsNoMachine (form : Form) (told : Option (List ℕ)) : Type 0 where
+  pub bytes : List ℕ
+  pub contents : MatchOption told ⊤ (λ file. bytes ≡ file)
+  pub fits : length bytes ≤ room_of form
+  pub none : system_of form bytes ≡ None
+
 -- behind the first text stands the closed text of the outputs of all steps, and nothing else
 pub record WritesAll (command : Command) (file first told : Option (List ℕ)) : Type 0 where
   pub bytes : List ℕ

@@ -6,7 +6,7 @@ ghost use Rattle.mpm_machine.specs.declared.system.System.{System};
 ghost use Rattle.mpm_machine.specs.State.{IsWhole};
 ghost use Rattle.mpm_machine.specs.Step.{after};
 ghost use Rattle.mpm_top.specs.Words.{Command, texts, command_of};
-ghost use Rattle.mpm_top.specs.Runs.{command_on, input_of as input_said, room_of as room_said, system_of, begun, StopsAt, WritesAll, WritesPart, IsRefusal, UnlessWriteFault, IsBootRefusal, IsRunStatus};
+ghost use Rattle.mpm_top.specs.Runs.{command_on, input_of as input_said, room_of as room_said, system_of, begun, StopsAt, IsNoMachine, WritesAll, WritesPart, IsRefusal, UnlessWriteFault, IsBootRefusal, IsRunStatus};
 
 use crate::words::{Asked, Form, read_words};
 use mpm_machine::{BootError, Machine, RunFault};
@@ -73,9 +73,9 @@ pub fn run_words<F: Files, D: Drives, S: Sink>(
         → F.failed_names files.new ≡ F.failed_names files.old
         → (result ≡ Status.TooLong (input_said command.form)) ⊎ (result ≡ Status.OutOfMemory) }
 
-    // MachineFault comes only where the file is no machine file, and always there.
+    // MachineFault comes only where the file holds no machine file, and always there.
     ensures machine_fault { (command : Command) → command_of (texts words.now) ≡ Some command → result ≡ Status.MachineFault
-        → MatchOption (F.contents files.old command.name) ⊤ (λ bytes. system_of command.form bytes ≡ None) }
+        → IsNoMachine command.form (F.contents files.old command.name) }
     ensures no_machine { (command : Command) → command_of (texts words.now) ≡ Some command
         → (bytes : List ℕ) → F.contents files.old command.name ≡ Some bytes → length bytes ≤ room_said command.form
         → system_of command.form bytes ≡ None → F.failed_names files.new ≡ F.failed_names files.old
@@ -154,7 +154,7 @@ fn run_file<F: Files, S: Sink>(
         → F.failed_names files.new ≡ F.failed_names files.old
         → (result ≡ Status.TooLong (input_said asked.form)) ⊎ (result ≡ Status.OutOfMemory) }
     ensures machine_fault { result ≡ Status.MachineFault
-        → MatchOption (F.contents files.old name.now) ⊤ (λ bytes. system_of asked.form bytes ≡ None) }
+        → IsNoMachine asked.form (F.contents files.old name.now) }
     ensures no_machine { (bytes : List ℕ) → F.contents files.old name.now ≡ Some bytes → length bytes ≤ room_said asked.form
         → system_of asked.form bytes ≡ None → F.failed_names files.new ≡ F.failed_names files.old
         → (result ≡ Status.MachineFault) ⊎ (result ≡ Status.OutOfMemory) }

@@ -47,26 +47,39 @@ fn strings(rt: &HostRuntime, words: &[&str]) -> Result<Vec<String>, Fail> {
     Ok(strings)
 }
 
-/// A file with these bytes.
-fn files_with(rt: &HostRuntime, bytes: &[u8]) -> Result<MemoryFiles, Fail> {
-    let mut files = MemoryFiles::new(rt.alloc());
-    files.add("file", bytes)?;
-    Ok(files)
+/// The calls of files and of a sink that are to fail, by their numbers; 0 is none.
+#[derive(Clone, Copy)]
+struct Failing {
+    fetch: u64,
+    put: u64,
 }
 
-/// Runs words over files and a sink whose call `failing` fails; 0 is no call.
-fn run(
+const NOTHING_FAILS: Failing = Failing { fetch: 0, put: 0 };
+
+/// Whether words end so over a file `file` with these bytes, and just this text is written.
+fn ends(
     rt: &HostRuntime,
     words: &[&str],
-    files: &mut MemoryFiles,
-    failing: u64,
-) -> Result<(Status, MemorySink), Fail> {
-    let words = strings(rt, words)?;
+    bytes: &[u8],
+    failing: Failing,
+    ending: Status,
+    text: &[u8],
+) -> Result<bool, Fail> {
+    let strings = strings(rt, words)?;
+    let mut files = MemoryFiles::new(rt.alloc());
+    files.add("file", bytes)?;
+    files.fail_at(failing.fetch)?;
     let mut drives = MemoryDrives::new(rt.alloc());
     let mut sink = MemorySink::new(rt.alloc(), 1024)?;
-    sink.fail_at(failing)?;
-    let status = run_words(rt.alloc(), words.as_slice(), files, &mut drives, &mut sink);
-    Ok((status, sink))
+    sink.fail_at(failing.put)?;
+    let status = run_words(
+        rt.alloc(),
+        strings.as_slice(),
+        &mut files,
+        &mut drives,
+        &mut sink,
+    );
+    Ok(status == ending && sink.written() == text)
 }
 
 #[test]
@@ -84,10 +97,8 @@ fn programs_write_their_text(rt: HostRuntime) -> Result<(), Fail> {
         (TAB_ALONE, "5", b"c0         \\\n"),
     ];
     for (bytes, steps, text) in rows {
-        let mut files = files_with(&rt, bytes)?;
-        let (status, sink) = run(&rt, &["program", "file", steps], &mut files, 0)?;
-        assert_eq!(rt; status, Status::Ran);
-        assert_eq!(rt; sink.written(), text);
+        let words = ["program", "file", steps];
+        assert!(rt; ends(&rt, &words, bytes, NOTHING_FAILS, Status::Ran, text)?);
     }
     Ok(())
 }
@@ -108,11 +119,8 @@ fn completed_calls_are_traced(rt: HostRuntime) -> Result<(), Fail> {
         ),
     ];
     for (bytes, steps, text) in rows {
-        let mut files = files_with(&rt, bytes)?;
         let words = ["program", "file", steps, "--trace"];
-        let (status, sink) = run(&rt, &words, &mut files, 0)?;
-        assert_eq!(rt; status, Status::Ran);
-        assert_eq!(rt; sink.written(), text);
+        assert!(rt; ends(&rt, &words, bytes, NOTHING_FAILS, Status::Ran, text)?);
     }
     Ok(())
 }
@@ -131,11 +139,18 @@ fn a_failed_put_names_its_step(rt: HostRuntime) -> Result<(), Fail> {
         ),
         (LETTER, &["program", "file", "9"], 1, 9, b""),
     ];
-    for (bytes, words, failing, step, text) in rows {
-        let mut files = files_with(&rt, bytes)?;
-        let (status, sink) = run(&rt, words, &mut files, failing)?;
-        assert_eq!(rt; status, Status::WriteFault { step });
-        assert_eq!(rt; sink.written(), text);
+    for (bytes, words, put, step, text) in rows {
+        let failing = Failing { fetch: 0, put };
+        assert!(rt;
+            ends(
+                &rt,
+                words,
+                bytes,
+                failing,
+                Status::WriteFault { step },
+                text
+            )?
+        );
     }
     Ok(())
 }
@@ -152,15 +167,13 @@ fn machine_files_boot_or_are_refused(rt: HostRuntime) -> Result<(), Fail> {
         (b"version = 1", Status::MachineFault),
         (b"version", Status::MachineFault),
     ];
-    for (line, expected) in rows {
+    for (line, ending) in rows {
         let mut text = Vec::new(rt.alloc());
         text.extend_from_slice(line)?;
         text.push(b'\n')?;
         text.extend_from_slice(MACHINE)?;
-        let mut files = files_with(&rt, text.as_slice())?;
-        let (status, sink) = run(&rt, &["run", "file", "10"], &mut files, 0)?;
-        assert_eq!(rt; status, expected);
-        assert_eq!(rt; sink.written(), b"".as_slice());
+        let words = ["run", "file", "10"];
+        assert!(rt; ends(&rt, &words, text.as_slice(), NOTHING_FAILS, ending, b"")?);
     }
     Ok(())
 }
@@ -175,29 +188,35 @@ fn inputs_have_their_greatest_lengths(rt: HostRuntime) -> Result<(), Fail> {
         let mut bytes = Vec::new(rt.alloc());
         bytes.extend_from_slice(first)?;
         bytes.resize(greatest, b' ')?;
-        let mut files = files_with(&rt, bytes.as_slice())?;
-        let (status, _) = run(&rt, &[word, "file", "9"], &mut files, 0)?;
-        assert_eq!(rt; status, Status::Ran);
+        let words = [word, "file", "9"];
+        assert!(rt;
+            ends(
+                &rt,
+                &words,
+                bytes.as_slice(),
+                NOTHING_FAILS,
+                Status::Ran,
+                b""
+            )?
+        );
         bytes.push(b' ')?;
-        let mut files = files_with(&rt, bytes.as_slice())?;
-        let (status, _) = run(&rt, &[word, "file", "9"], &mut files, 0)?;
-        assert_eq!(rt; status, Status::TooLong { what });
+        let ending = Status::TooLong { what };
+        assert!(rt; ends(&rt, &words, bytes.as_slice(), NOTHING_FAILS, ending, b"")?);
     }
     Ok(())
 }
 
 #[test]
 fn a_file_that_does_not_come_is_a_fault(rt: HostRuntime) -> Result<(), Fail> {
-    for (word, file, failing) in [
+    for (word, file, fetch) in [
         ("program", "file", 1),
         ("program", "other", 0),
         ("run", "file", 1),
         ("run", "other", 0),
     ] {
-        let mut files = files_with(&rt, MACHINE)?;
-        files.fail_at(failing)?;
-        let (status, _) = run(&rt, &[word, file, "9"], &mut files, 0)?;
-        assert_eq!(rt; status, Status::ReadFault);
+        let failing = Failing { fetch, put: 0 };
+        let words = [word, file, "9"];
+        assert!(rt; ends(&rt, &words, MACHINE, failing, Status::ReadFault, b"")?);
     }
     Ok(())
 }
@@ -234,10 +253,11 @@ fn words_have_a_form_or_are_refused(rt: HostRuntime) -> Result<(), Fail> {
         (&["run", "file", "1", "trace"], Status::Usage),
         (&["run", "file", "1", "--trace", "x"], Status::Usage),
     ];
-    for (words, expected) in rows {
-        let mut files = files_with(&rt, MACHINE)?;
-        let (status, _) = run(&rt, words, &mut files, 0)?;
-        assert_eq!(rt; status, expected, "{words:?}");
+    for (words, ending) in rows {
+        assert!(rt;
+            ends(&rt, words, MACHINE, NOTHING_FAILS, ending, b"")?,
+            "{words:?}"
+        );
     }
     Ok(())
 }

@@ -76,8 +76,8 @@ fn step_load(direction: Direction, regs: &mut Regs)
 {
     let more = is_more(regs);
     let target = walk(direction, pair_at(regs, Pair::DE));
-    count(direction, regs);
     set_pair(regs, Pair::DE, target);
+    count(direction, regs);
     regs.f = z80_alu::block_load_flags(more, regs.f);
 }
 

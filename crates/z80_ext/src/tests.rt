@@ -605,6 +605,42 @@ fn unlisted_bytes(rt: HostRuntime) -> Result<(), Fail> {
     Ok(())
 }
 
+/// JR -2, CALL 9234h and LD (HL),34h as they were decoded: neither R nor the shadow changes.
+#[test]
+fn decoded_instructions(rt: HostRuntime) -> Result<(), Fail> {
+    let mut memory = Memory::new(rt.alloc(), 65536)?;
+    let rows = [
+        (2, 0x18, 0xfe, 0x0000, 0x0100, 0xbefe, [0, 0, 0, 0]),
+        (
+            3,
+            0xcd,
+            0x00,
+            0x9234,
+            0x9234,
+            0xbefc,
+            [0xbefd, 0x01, 0xbefc, 0x03],
+        ),
+        (2, 0x36, 0x00, 0x0034, 0x0102, 0xbefe, [0, 0, 0x0708, 0x34]),
+    ];
+    for (length, opcode, displacement, operand, pc, sp, writes) in rows {
+        let instr = Instr {
+            length,
+            page: Page::Main,
+            opcode,
+            displacement,
+            operand,
+        };
+        memory.writes = [0; 4];
+        let mut regs = fixture();
+        main_page(&instr, &mut regs, &mut memory);
+        let mut want = fixture();
+        (want.pc, want.sp) = (pc, sp);
+        assert_eq!(rt; regs, want);
+        assert_eq!(rt; memory.writes, writes);
+    }
+    Ok(())
+}
+
 /// A prefix alone is no instruction of the main page, and a halted processor stays.
 #[test]
 fn stands_still(rt: HostRuntime) -> Result<(), Fail> {

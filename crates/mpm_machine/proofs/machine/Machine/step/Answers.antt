@@ -3,6 +3,9 @@ use Rattle.mpm_machine.specs.declared.system.System.{System}
 use Rattle.mpm_machine.specs.Writing.{Showed, Stopped}
 use Rattle.mpm_machine.specs.Step.{step_of}
 use Rattle.mpm_machine.proofs.StepLaws.{step_stands, step_stops}
+use Rattle.mpm_machine.proofs.Containment.{is_contained}
+use Rattle.mpm_machine.proofs.ServedLaws.{served_by_value}
+use Rattle.mpm_machine.proofs.InstructedLaws.{instructs_only}
 use Rattle.mpm_machine.proofs.machine.Machine.step.Goals as goal
 
 pub returns-in-Err-clause-err : goal.returns-in-Err-clause-err
@@ -18,6 +21,23 @@ returns-clause-ok g c s first stands =
     (g.S.Sink.written c.step.new.sink) s first
     (c.in_default.ensures.system ∙ ap (λ system. (step_of system).system) c.self.view_is)
     (subst P c.self.view_is c.in_default.ensures.ok) stands
+
+pub returns-clause-system : goal.returns-clause-system
+returns-clause-system g c = c.in_default.ensures.system ∙ ap (λ system. (step_of system).system) c.self.view_is
+
+pub returns-clause-contained : goal.returns-clause-contained
+returns-clause-contained g c =
+    is_contained c.args.self.now c.step.new.self c.requires.whole (c.in_default.ensures.system ∙ ap (λ system. (step_of system).system) c.self.view_is)
+
+pub returns-clause-instruction : goal.returns-clause-instruction
+returns-clause-instruction g c p seg stands =
+    instructs_only c.args.self.now c.step.new.self p seg stands (c.in_default.ensures.system ∙ ap (λ system. (step_of system).system) c.self.view_is)
+
+pub returns-clause-calls : goal.returns-clause-calls
+returns-clause-calls g c p seg = served_by_value c.args.self.now p seg
+
+pub returns-in-Err-clause-calls : goal.returns-in-Err-clause-calls
+returns-in-Err-clause-calls g c p seg = served_by_value c.args.self.now p seg
 
 pub returns-clause-count : goal.returns-clause-count
 returns-clause-count g c =

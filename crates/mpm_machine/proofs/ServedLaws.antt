@@ -1,0 +1,181 @@
+-- A call is served by what it took and by who has which segment, and never by the bytes of memory.
+use Rattle.std.proofs.Common.{◌≡◌, ◌∙◌, ℕ, suc, cond, not, ◌+◌, Bool, true, false, List, [], ◌∷◌, Option, Some, None, ◌&&◌, ◌==◌, nat_le, nat_lt, length, get_or, if◌then◌else◌, inl, inr, refl, sym, ap, subst, arith}
+use Rattle.std.specs.List.{position_or_len}
+use Rattle.std.proofs.lemmas.Bool.{cases_eq, cases_lt}
+use Rattle.std.proofs.Math.ListN.{get_or-eq_default}
+use Rattle.mpm_base.specs.Calls.{Taken}
+use Rattle.mpm_banks.specs.Memory.{Memory, no_segment, SameSegments, segment_of}
+use Rattle.mpm_banks.specs.MemoryLaws.{field_stays}
+use Rattle.mpm_banks.specs.declared.segment.Segment.{Segment}
+use Rattle.mpm_banks.specs.declared.segment.Allocation.{Allocation}
+use Rattle.mpm_banks.specs.declared.segment.Allocation.TheVariants.{Free, Reserved}
+use Rattle.mpm_banks.specs.Allocations.{is_free, is_owners, has_base, fits, lowest_free, allocated, reserved, released, is_reserved}
+use Rattle.mpm_banks.proofs.SegmentLaws.{count_allocated, allocation_of_allocated, segment_of_allocated}
+use Rattle.mpm_procs.specs.Table.{process_in}
+use Rattle.mpm_kernel.specs.Kernel.{Kernel}
+use Rattle.mpm_kernel.specs.Calls.{called}
+use Rattle.mpm_xdos.specs.Creating.{home_base, created, create_answer}
+use Rattle.mpm_machine.specs.declared.system.System.{System}
+use Rattle.mpm_machine.specs.Serving.{asked, keeping, byte_of, Served, reserve_reply, descriptor_of, base_asked, reserving, releasing, creating, calling, served}
+use Rattle.mpm_machine.specs.Contained.{DiffersInBytes, ServedAlike, IsServedByValue}
+
+-- the same segment is the lowest that is free
+
+fits_alike : (base : Option ℕ) (pages : ℕ) (one other : Segment) → other.base ≡ one.base → other.pages ≡ one.pages
+    → other.allocation ≡ one.allocation → fits base pages other ≡ fits base pages one
+fits_alike base pages one other first count hands =
+    ap (λ allocation. is_free allocation && (nat_le pages other.pages && has_base base other.base)) hands
+    ∙ ap (λ n. is_free one.allocation && (nat_le pages n && has_base base other.base)) count
+    ∙ ap (λ page. is_free one.allocation && (nat_le pages one.pages && has_base base page)) first
+
+first_alike : (test : Segment → Bool) (one other : List Segment) → length other ≡ length one
+    → ((k : ℕ) → test (get_or other k no_segment) ≡ test (get_or one k no_segment)) → position_or_len test other ≡ position_or_len test one
+first_alike test [] [] count each = refl
+first_alike test [] (s ∷ other) count each = absurd (omega arith)
+first_alike test (s ∷ one) [] count each = absurd (omega arith)
+first_alike test (s ∷ one) (t ∷ other) count each =
+    ap (λ b. cond (not b) (1 + position_or_len test other) 0) (each 0)
+    ∙ ap (λ n. cond (not (test s)) (1 + n) 0) (first_alike test one other (omega arith) (λ k. each (suc k)))
+
+lowest_alike : (one other : Memory) (base : Option ℕ) (pages : ℕ) → SameSegments one other → lowest_free other base pages ≡ lowest_free one base pages
+unfolding lowest_free
+lowest_alike one other base pages same =
+    let first = first_alike (fits base pages) one.segments other.segments same.count
+    (λ k. fits_alike base pages (segment_of one k) (segment_of other k) (same.base k) (same.pages k) (same.allocation k)) in
+    let found : ℕ → ℕ → Option ℕ = λ place count. cond (nat_lt place count) (Some place) None in
+    ap (λ place. found place (length other.segments)) first ∙ ap (found (position_or_len (fits base pages) one.segments)) same.count
+
+-- segments that are in the same hands go into the same hands
+
+itself : (memory : Memory) → SameSegments memory memory
+itself memory = record { count = refl; base = λ k. refl; pages = λ k. refl; allocation = λ k. refl }
+
+hands_there : (one other : Memory) (seg : ℕ) (allocation : Allocation) → SameSegments one other
+    → (segment_of (allocated other seg allocation) seg).allocation ≡ (segment_of (allocated one seg allocation) seg).allocation
+hands_there one other seg allocation same = elim (cases_lt seg (length one.segments)) [
+  | inl there ↦ allocation_of_allocated other seg allocation (omega (arith, there, same.count)) ∙ sym (allocation_of_allocated one seg allocation there)
+  | inr beyond ↦
+      ap (λ (s : Segment). s.allocation)
+      (get_or-eq_default (allocated other seg allocation).segments no_segment (omega (arith, beyond, same.count, count_allocated other seg allocation))
+      ∙ sym (get_or-eq_default (allocated one seg allocation).segments no_segment (omega (arith, beyond, count_allocated one seg allocation))))
+]
+
+allocated_alike : (one other : Memory) (seg : ℕ) (allocation : Allocation) → SameSegments one other
+    → SameSegments (allocated one seg allocation) (allocated other seg allocation)
+unfolding allocated
+allocated_alike one other seg allocation same = record {
+  count = count_allocated other seg allocation ∙ same.count ∙ sym (count_allocated one seg allocation);
+  base = λ k. field_stays (λ s. s.base) other.segments seg k _ refl ∙ same.base k ∙ sym (field_stays (λ s. s.base) one.segments seg k _ refl);
+  pages = λ k. field_stays (λ s. s.pages) other.segments seg k _ refl ∙ same.pages k ∙ sym (field_stays (λ s. s.pages) one.segments seg k _ refl);
+  allocation = λ k. elim (cases_eq k seg) [
+    | inl here ↦
+        let P : ℕ → Type 0 = λ n. (segment_of (allocated other seg allocation) n).allocation ≡ (segment_of (allocated one seg allocation) n).allocation in
+        subst P (sym here) (hands_there one other seg allocation same)
+    | inr apart ↦
+        ap (λ (s : Segment). s.allocation) (segment_of_allocated other seg k allocation apart)
+        ∙ same.allocation k
+        ∙ sym (ap (λ (s : Segment). s.allocation) (segment_of_allocated one seg k allocation apart))
+  ];
+}
+
+reserved_alike : (one other : Memory) (owner : ℕ) (seg : Option ℕ) → SameSegments one other → SameSegments (reserved one owner seg) (reserved other owner seg)
+unfolding reserved
+reserved_alike one other owner None same = same
+reserved_alike one other owner (Some seg) same = allocated_alike one other seg (Reserved owner) same
+
+reserved_by : (one other : Memory) (owner : ℕ) (found seg : Option ℕ) → found ≡ seg → SameSegments one other
+    → SameSegments (reserved one owner seg) (reserved other owner found)
+reserved_by one other owner found seg e same =
+    subst (λ s. SameSegments (reserved one owner seg) (reserved other owner s)) (sym e) (reserved_alike one other owner seg same)
+
+owner_alike : (one other : Memory) (owner seg : ℕ) → SameSegments one other → is_reserved other owner seg ≡ is_reserved one owner seg
+unfolding is_reserved
+owner_alike one other owner seg same = ap (is_owners owner) (same.allocation seg)
+
+same_if : (b : Bool) (one other one' other' : Memory) → SameSegments one other → SameSegments one' other'
+    → SameSegments (if b then one else one') (if b then other else other')
+same_if true one other one' other' is was = is
+same_if false one other one' other' is was = was
+
+released_alike : (one other : Memory) (owner seg : ℕ) → SameSegments one other → SameSegments (released one owner seg) (released other owner seg)
+unfolding released
+released_alike one other owner seg same =
+    let b = is_reserved one owner seg in
+    subst (λ c. SameSegments (if b then allocated one seg Free else one) (if c then allocated other seg Free else other)) (sym (owner_alike one other owner seg same))
+    (same_if b _ _ _ _ (allocated_alike one other seg Free same) same)
+
+-- so the call is served alike
+
+descriptor_alike : (one other : Memory) (seg : ℕ) → SameSegments one other → descriptor_of other seg ≡ descriptor_of one seg
+descriptor_alike one other seg same =
+    ap (λ base. base ∷ (segment_of other seg).pages ∷ 128 ∷ seg ∷ []) (same.base seg) ∙ ap (λ pages. (segment_of one seg).base ∷ pages ∷ 128 ∷ seg ∷ []) (same.pages seg)
+
+reply_alike : (one other : Memory) (call : Taken) (seg : Option ℕ) → SameSegments one other → reserve_reply other call seg ≡ reserve_reply one call seg
+reply_alike one other call None same = refl
+reply_alike one other call (Some seg) same =
+    ap (λ bytes. record { hl = 0; fcb = None; at = call.word; bytes = bytes }) (descriptor_alike one other seg same)
+
+reserving_alike : (base : Option ℕ) (call : Taken) (p : ℕ) (one other : System) → DiffersInBytes one other
+    → ServedAlike (reserving base call p one) (reserving base call p other)
+unfolding reserving
+reserving_alike base call p one other d =
+    let found = lowest_alike one.memory other.memory base (byte_of call 1) d.segments in
+    record {
+      kernel = d.kernel;
+      segments = reserved_by one.memory other.memory p _ _ found d.segments;
+      outcome = refl;
+      reply = ap (reserve_reply other.memory call) found ∙ reply_alike one.memory other.memory call _ d.segments;
+    }
+
+releasing_alike : (call : Taken) (p : ℕ) (one other : System) → DiffersInBytes one other → ServedAlike (releasing call p one) (releasing call p other)
+unfolding releasing
+releasing_alike call p one other d = record {
+  kernel = d.kernel;
+  segments = released_alike one.memory other.memory p (byte_of call 3) d.segments;
+  outcome = refl;
+  reply = ap (λ (b : Bool). record { hl = if b then 0 else 255; fcb = None; at = 0; bytes = [] }) (owner_alike one.memory other.memory p (byte_of call 3) d.segments);
+}
+
+home_base_alike : (one other : Memory) (seg : Option ℕ) → SameSegments one other → home_base other seg ≡ home_base one seg
+home_base_alike one other None same = refl
+home_base_alike one other (Some seg) same = same.base seg
+
+creating_alike : (p : ℕ) (one other : System) → DiffersInBytes one other → ServedAlike (creating p one) (creating p other)
+unfolding creating
+creating_alike p one other d =
+    let base : home_base other.memory (process_in other.kernel.procs p).seg ≡ home_base one.memory (process_in one.kernel.procs p).seg =
+    ap (λ (kernel : Kernel). home_base other.memory (process_in kernel.procs p).seg) d.kernel ∙ home_base_alike one.memory other.memory _ d.segments in
+    record {
+      kernel = ap (created other.kernel p) base ∙ ap (λ kernel. created kernel p (home_base one.memory (process_in one.kernel.procs p).seg)) d.kernel;
+      segments = d.segments;
+      outcome = refl;
+      reply = ap (λ value. record { hl = value; fcb = None; at = 0; bytes = [] })
+          (ap (create_answer other.kernel p) base ∙ ap (λ kernel. create_answer kernel p (home_base one.memory (process_in one.kernel.procs p).seg)) d.kernel);
+    }
+
+calling_alike : (p : ℕ) (one other : System) → DiffersInBytes one other → ServedAlike (calling p one) (calling p other)
+calling_alike p one other d = record {
+  kernel = ap (λ kernel. (called p kernel).kernel) d.kernel;
+  segments = d.segments;
+  outcome = ap (λ kernel. (called p kernel).outcome) d.kernel;
+  reply = ap (λ kernel. (called p kernel).reply) d.kernel;
+}
+
+alike_if : (b : Bool) (one one' other other' : Served) → ServedAlike one other → ServedAlike one' other'
+    → ServedAlike (if b then one else one') (if b then other else other')
+alike_if true one one' other other' is was = is
+alike_if false one one' other other' is was = was
+
+-- whatever bytes stand in memory, a call does the same, and answers the same
+pub serves_alike : (call : Taken) (p : ℕ) (one other : System) → DiffersInBytes one other → ServedAlike (served call p one) (served call p other)
+unfolding served
+serves_alike call p one other d =
+    let f = call.function in
+    alike_if (f == 128) _ _ _ _ (reserving_alike (base_asked true call) call p one other d)
+    (alike_if (f == 129) _ _ _ _ (reserving_alike (base_asked false call) call p one other d)
+    (alike_if (f == 130) _ _ _ _ (releasing_alike call p one other d)
+    (alike_if (f == 144) _ _ _ _ (creating_alike p one other d)
+    (calling_alike p one other d))))
+
+pub served_by_value : (system : System) (p seg : ℕ) → IsServedByValue system p seg
+served_by_value system p seg = λ other d. let call = asked p seg system in serves_alike call p (keeping p call system) other d
