@@ -11,6 +11,7 @@ pub fn number(status: Status) -> u8
         Status::Ran => 0,
         Status::Usage => 1,
         Status::MachineFault => 2,
+        Status::ScriptFault { .. } => 3,
         Status::TooLong { .. } => 5,
         Status::ReadFault => 6,
         Status::WriteFault { .. } => 8,
@@ -29,6 +30,7 @@ pub fn report(rt: &impl Eprint, status: Status) {
             )
         }
         Status::MachineFault => eprintln!(rt; "bad machine file"),
+        Status::ScriptFault { line } => eprintln!(rt; "bad script line {line}"),
         Status::TooLong { .. } => eprintln!(rt; "input too long"),
         Status::ReadFault => eprintln!(rt; "cannot read"),
         Status::WriteFault { step } => eprintln!(rt; "output failed at step {step}"),

@@ -1,7 +1,8 @@
 -- What a process's view of memory and devices is behind the changes of an instruction.
-use Rattle.std.proofs.Common.{◌≡◌, ◌≢◌, ℕ, ◌<◌, Bool, true, false, List, [], ◌∷◌, ◌||◌, ◌==◌, if◌then◌else◌, ap, refl, ◌∙◌, arith}
+use Rattle.std.proofs.Common.{◌≡◌, ◌≢◌, ℕ, ◌<◌, Bool, true, false, List, [], ◌∷◌, ◌||◌, ◌==◌, Option, None, Some, if◌then◌else◌, ap, refl, ◌∙◌, arith}
 use Rattle.std.proofs.lemmas.Bool.Decides.{nat_tests}
 use Rattle.std.specs.List.{list_any}
+use Rattle.std.specs.Prelude.{MatchOption}
 use Rattle.mpm_base.specs.declared.devices.Devices.{Devices}
 use Rattle.z80_regs.specs.Outcome.{Action, Write, Input, Leaves}
 use Rattle.mpm_banks.specs.Memory.{Memory, byte_at, with_byte, SameSegments}
@@ -46,6 +47,27 @@ leaves_acted (Input port ∷ rest) old new left =
       memory = later.memory ∙ ap (λ seg. memory_after rest seg left.0.banks.now) took.sides.seg ∙ ap (memory_after rest old.seg) took.memory;
       devices = later.devices ∙ ap (devices_after rest) took.devices;
     }
+
+-- the same where an answer tells whether the changes were made, or all stayed
+pub record ActedUnless (answer : Option ℕ) (actions : List Action) (old new : BankBus) : Type 0 where
+  pub sides : SameSides old new
+  pub memory : MatchOption answer (new.banks.now ≡ memory_after actions old.seg old.banks.now) (λ _. new.banks.now ≡ old.banks.now)
+  pub devices : MatchOption answer (new.devices.now ≡ devices_after actions old.devices.now) (λ _. new.devices.now ≡ old.devices.now)
+
+pub leaves_acted_unless : (answer : Option ℕ) (actions : List Action) (old new : BankBus)
+    → MatchOption answer (Leaves Wrote TookInput actions old new) (λ _. new ≡ old) → ActedUnless answer actions old new
+leaves_acted_unless None actions old new left =
+    let acted = leaves_acted actions old new left in
+    record { sides = acted.sides; memory = acted.memory; devices = acted.devices }
+leaves_acted_unless (Some other) actions old new same = record {
+  sides = record {
+    banks = ap (λ (b : BankBus). b.banks.ghost_name) same;
+    devices = ap (λ (b : BankBus). b.devices.ghost_name) same;
+    seg = ap (λ (b : BankBus). b.seg) same;
+  };
+  memory = ap (λ (b : BankBus). b.banks.now) same;
+  devices = ap (λ (b : BankBus). b.devices.now) same;
+}
 
 -- whatever an instruction of one process does, the segment of another stays
 pub memory_after_other_segment : (actions : List Action) (seg other at : ℕ) (memory : Memory) → other ≢ seg → at < 49152

@@ -1,15 +1,16 @@
 -- The bytes of a range: they are those that its addresses read, and what is written to them is what the addresses were
 -- written one by one.
-use Rattle.std.proofs.Common.{◌≡◌, ℕ, zero, suc, ◌+◌, ◌<◌, ◌≤◌, List, [], ◌∷◌, ◌++◌, Some, length, take, drop, get_or, set, refl, ap, sym, ◌∙◌, arith, append_assoc, length-append, length-take, length-drop, add-zero, add-one}
-use Rattle.std.proofs.lemmas.List.{drop-drop, set-get_or, length-set, take_all}
+use Rattle.std.proofs.Common.{◌≡◌, ℕ, zero, suc, ◌+◌, ◌<◌, ◌≤◌, List, [], ◌∷◌, ◌++◌, Some, length, take, drop, map, get_or, set, refl, ap, sym, ◌∙◌, arith, append_assoc, length-append, length-take, length-drop, add-zero, add-one}
+use Rattle.std.specs.List.{range_with_len}
+use Rattle.std.proofs.lemmas.List.{drop-drop, set-get_or, length-set, length-take-le, get_or-take, get_or-drop, take_all}
+use Rattle.std.proofs.lemmas.List.FromFn.{fill_by_all}
 use Rattle.std.proofs.lemmas.List.Edits.{sets, sets-eq}
-use Rattle.std.proofs.Math.Seq.{drop-cons}
 use Rattle.z80_regs.specs.Words.{onward}
 use Rattle.mpm_banks.specs.declared.segment.Segment.{Segment}
 use Rattle.mpm_banks.specs.declared.range.Space.{Space}
 use Rattle.mpm_banks.specs.declared.range.Space.TheVariants.{Common, InSegment}
 use Rattle.mpm_banks.specs.declared.range.Range.{Range}
-use Rattle.mpm_banks.specs.Memory.{Memory, no_segment, bytes_of, with_bytes_of, limit_of, At, place_of, byte_of, put_to, byte_at, with_byte, bytes_at, with_bytes}
+use Rattle.mpm_banks.specs.Memory.{Memory, no_segment, bytes_of, with_bytes_of, limit_of, At, place_of, byte_of, put_to, byte_at, with_byte, with_bytes}
 use Rattle.mpm_banks.specs.Stretches.{with_range}
 use Rattle.mpm_banks.specs.Ranges.{range_of, range_bytes, put_range}
 use Rattle.mpm_banks.specs.MemoryLaws.{place_is_at, place_of_put, bytes_back, space_is}
@@ -38,26 +39,37 @@ names_first : (memory : Memory) (seg address : ℕ) (space : Space) (from size :
 names_first memory seg address space from size names =
     ap (place_of memory seg) (sym (add-zero address)) ∙ names 0 (omega arith) ∙ ap (At space) (add-zero from)
 
-bytes_from : (memory : Memory) (seg address : ℕ) (space : Space) (from size : ℕ) → NamesFrom memory seg address space from size
-    → from + size ≤ length (bytes_of memory space) → take size (drop from (bytes_of memory space)) ≡ bytes_at memory seg address size
-unfolding bytes_at byte_at
-bytes_from memory seg address space from zero names inside = refl
-bytes_from memory seg address space from (suc size) names inside =
-    let bytes = bytes_of memory space in
-    let rest = bytes_from memory seg (onward address 1) space (from + 1) size (names_rest memory seg address space from size names) (omega arith) in
-    ap (take (suc size)) (drop-cons bytes from 0 (omega arith))
-    ∙ ap (λ byte. byte ∷ take size (drop (suc from) bytes)) (ap (byte_of memory) (sym (names_first memory seg address space from size names)))
-    ∙ ap (λ others. byte_at memory seg address ∷ others) (ap (λ n. take size (drop n bytes)) (sym (add-one from)) ∙ rest)
+byte_there : (memory : Memory) (seg address : ℕ) (space : Space) (from size k : ℕ) → NamesFrom memory seg address space from size → k < size
+    → get_or (take size (drop from (bytes_of memory space))) k 0 ≡ byte_at memory seg (onward address k)
+unfolding byte_at
+byte_there memory seg address space from size k names below =
+    let place = names k below in
+    let before = (place_is_at memory seg (address + k) space (from + k) place).before in
+    let low = limit_low space in
+    let here : onward address k ≡ address + k = omega arith in
+    get_or-take size (drop from (bytes_of memory space)) k 0 below
+    ∙ get_or-drop from (bytes_of memory space) k 0
+    ∙ ap (byte_of memory) (sym place)
+    ∙ ap (λ a. byte_of memory (place_of memory seg a)) (sym here)
+
+bytes_there : (memory : Memory) (seg address : ℕ) (space : Space) (from size : ℕ) → NamesFrom memory seg address space from size
+    → from + size ≤ length (bytes_of memory space)
+    → take size (drop from (bytes_of memory space)) ≡ map (λ k. byte_at memory seg (onward address k)) (range_with_len 0 size)
+bytes_there memory seg address space from size names inside =
+    let rest = drop from (bytes_of memory space) in
+    fill_by_all (λ k. byte_at memory seg (onward address k)) (take size rest) size 0
+    (length-take-le size rest (omega (arith, length-drop from (bytes_of memory space), inside)))
+    (λ k below. byte_there memory seg address space from size k names below)
 
 -- the bytes of a range are those that its addresses read
 pub range_bytes_is : (memory : Memory) (seg address size : ℕ) (range : Range) → range_of memory seg address size ≡ Some range
-    → range_bytes memory range ≡ bytes_at memory seg address size
+    → range_bytes memory range ≡ map (λ k. byte_at memory seg (onward address k)) (range_with_len 0 size)
 unfolding range_bytes
 range_bytes_is memory seg address size range is =
     let facts = found memory seg address size range is in
     let inside = found_inside memory seg address size range is in
     ap (λ n. take n (drop range.from (bytes_of memory range.space))) (omega arith)
-    ∙ bytes_from memory seg address range.space range.from size (λ k below. place_in_range memory seg address size range k is below) (omega arith)
+    ∙ bytes_there memory seg address range.space range.from size (λ k below. place_in_range memory seg address size range k is below) (omega arith)
 
 -- nothing but what stood there is put into a space
 put_nothing : (memory : Memory) (space : Space) → with_bytes_of memory space (bytes_of memory space) ≡ memory

@@ -3,6 +3,7 @@ use Rattle.std.proofs.Common.{◌≡◌, ◌≢◌, ℕ, zero, suc, ◌+◌, ◌
 use Rattle.std.proofs.lemmas.List.{length-replicate, length-map, length-set, get_or-map, get_or-set_same, get_or-set_other}
 use Rattle.std.proofs.lemmas.List.Quantifiers.{position-Some}
 use Rattle.std.proofs.Math.ListN.{get_or-eq_default}
+use Rattle.mpm_base.specs.Lists.{zeros}
 use Rattle.mpm_base.specs.declared.segment.SegmentSpec.{SegmentSpec}
 use Rattle.mpm_banks.specs.declared.segment.Segment.{Segment}
 use Rattle.mpm_banks.specs.declared.segment.Allocation.{Allocation}
@@ -11,7 +12,7 @@ use Rattle.mpm_banks.specs.declared.range.Space.{Space}
 use Rattle.mpm_banks.specs.declared.range.Space.TheVariants.{Common, InSegment}
 use Rattle.mpm_banks.specs.Memory.{Memory, no_segment, segment_of, HasSegment, IsSegment, IsMemory, first_of, limit_of, bytes_of, space_at, Place, At, Nowhere, place_from, place_of, byte_of, byte_at}
 use Rattle.mpm_banks.specs.MemoryLaws.{field_stays}
-use Rattle.mpm_banks.specs.Allocations.{FitsBelowCommon, new_segment, allocated, fits, lowest_free, reserved, released, is_reserved, all_released, freed, is_owners, spec_of, zeros}
+use Rattle.mpm_banks.specs.Allocations.{FitsBelowCommon, new_segment, allocated, fits, lowest_free, reserved, released, is_reserved, all_released, freed, is_owners, spec_of}
 
 -- each element of a list that a function made of another
 all_map : {A B : Type 0} (f : A → B) (P : A → Type 0) (Q : B → Type 0) (first : A) (xs : List A) → ((x : A) → P x → Q (f x)) → All P xs → All Q (map f xs)
@@ -69,14 +70,6 @@ unfolding reserved
 count_reserved memory owner None = refl
 count_reserved memory owner (Some seg) = count_allocated memory seg (Reserved owner)
 
-either_count : (b : Bool) (one other : Memory) (count : ℕ) → length one.segments ≡ count → length other.segments ≡ count → length (if b then one else other).segments ≡ count
-either_count true one other count is was = is
-either_count false one other count is was = was
-
-pub count_released : (memory : Memory) (owner seg : ℕ) → length (released memory owner seg).segments ≡ length memory.segments
-unfolding released
-count_released memory owner seg = either_count _ _ memory _ (count_allocated memory seg Free) refl
-
 pub count_all_released : (memory : Memory) (owner : ℕ) → length (all_released memory owner).segments ≡ length memory.segments
 unfolding all_released
 count_all_released memory owner = length-map memory.segments (freed owner)
@@ -97,24 +90,6 @@ unfolding allocated
 same_spaces memory seg allocation Common = (refl, refl)
 same_spaces memory seg allocation (InSegment other) =
     (ap (λ n. 256 * n) (field_stays (λ s. s.base) memory.segments seg other _ refl), field_stays (λ s. s.bytes) memory.segments seg other _ refl)
-
--- its bytes stay, and where they are
-pub place_of_allocated : (memory : Memory) (seg : ℕ) (allocation : Allocation) (other at : ℕ) → place_of (allocated memory seg allocation) other at ≡ place_of memory other at
-unfolding place_of
-place_of_allocated memory seg allocation other at =
-    let space = space_at other at in
-    let same = same_spaces memory seg allocation space in
-    ap (λ first. place_from space first (min (first + length (bytes_of (allocated memory seg allocation) space)) (limit_of space)) at) same.0
-    ∙ ap (λ (bytes : List ℕ). place_from space (first_of memory space) (min (first_of memory space + length bytes) (limit_of space)) at) same.1
-
-byte_of_allocated : (memory : Memory) (seg : ℕ) (allocation : Allocation) (place : Place) → byte_of (allocated memory seg allocation) place ≡ byte_of memory place
-byte_of_allocated memory seg allocation (At space index) = ap (λ bytes. get_or bytes index 0) (same_spaces memory seg allocation space).1
-byte_of_allocated memory seg allocation Nowhere = refl
-
-pub byte_at_allocated : (memory : Memory) (seg : ℕ) (allocation : Allocation) (other at : ℕ) → byte_at (allocated memory seg allocation) other at ≡ byte_at memory other at
-unfolding byte_at
-byte_at_allocated memory seg allocation other at =
-    ap (byte_of (allocated memory seg allocation)) (place_of_allocated memory seg allocation other at) ∙ byte_of_allocated memory seg allocation (place_of memory other at)
 
 -- the segment that is found is free, has the pages, and the base page where one is asked for; no lower one fits
 pub lowest_free_fits : (memory : Memory) (base : Option ℕ) (pages seg : ℕ) → lowest_free memory base pages ≡ Some seg

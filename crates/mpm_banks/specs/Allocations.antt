@@ -1,15 +1,12 @@
 -- Who has the segments: nobody, a process that reserved one, or the process that lives in it; and the memory of the
 -- beginning. (MP/M II Programmer's Guide, functions 128 to 130.)
-use Rattle.std.specs.Prelude.{ℕ, ◌+◌, ◌*◌, ◌≤◌, Bool, true, false, List, Option, Some, None, ◌&&◌, ◌==◌, nat_le, map, position, replicate, if◌then◌else◌}
+use Rattle.std.specs.Prelude.{ℕ, ◌+◌, ◌*◌, ◌≤◌, Bool, true, false, List, Option, Some, None, ◌&&◌, ◌==◌, nat_le, map, position, if◌then◌else◌}
+use Rattle.mpm_base.specs.Lists.{zeros}
 use Rattle.mpm_base.specs.declared.segment.SegmentSpec.{SegmentSpec}
 use Rattle.mpm_banks.specs.Memory.{Memory, segment_of, with_segment}
 use Rattle.mpm_banks.specs.declared.segment.Segment.{Segment}
 use Rattle.mpm_banks.specs.declared.segment.Allocation.{Allocation}
 use Rattle.mpm_banks.specs.declared.segment.Allocation.TheVariants.{Free, Reserved, Occupied}
-
--- so many zeros
-unfoldable pub zeros : ℕ → List ℕ
-zeros n = replicate n 0
 
 -- a segment of at least one page that ends below common memory
 pub record FitsBelowCommon (spec : SegmentSpec) : Type 0 where

@@ -1,6 +1,6 @@
 -- Banked memory as the addresses of a process: its segment from base page to last page, and common memory from C000h on.
 -- (MP/M II System Guide, "Memory Segment Base Page Initialization", "Common Memory".)
-use Rattle.std.specs.Prelude.{◌≡◌, ℕ, zero, suc, ◌+◌, ◌-◌, ◌*◌, min, ◌<◌, ◌≤◌, List, [], ◌∷◌, ◌&&◌, nat_lt, nat_le, length, All, slice_index, slice_index_or, slice_set, if◌then◌else◌}
+use Rattle.std.specs.Prelude.{◌≡◌, ℕ, ◌+◌, ◌-◌, ◌*◌, min, ◌<◌, ◌≤◌, List, [], ◌∷◌, ◌&&◌, nat_lt, nat_le, length, All, slice_index, slice_index_or, slice_set, if◌then◌else◌}
 use Rattle.z80_regs.specs.Words.{onward}
 use Rattle.mpm_banks.specs.declared.segment.Segment.{Segment}
 use Rattle.mpm_banks.specs.declared.segment.Allocation.TheVariants.{Free}
@@ -125,11 +125,6 @@ pub record SameSegments (old new : Memory) : Type 0 where
   pub base : (seg : ℕ) → (segment_of new seg).base ≡ (segment_of old seg).base
   pub pages : (seg : ℕ) → (segment_of new seg).pages ≡ (segment_of old seg).pages
   pub allocation : (seg : ℕ) → (segment_of new seg).allocation ≡ (segment_of old seg).allocation
-
--- so many bytes from an address on; behind FFFFh comes 0000h
-unfoldable pub bytes_at : Memory → ℕ → ℕ → ℕ → List ℕ
-bytes_at memory seg address zero = []
-bytes_at memory seg address (suc n) = byte_at memory seg address ∷ bytes_at memory seg (onward address 1) n
 
 -- bytes written one by one from an address on; behind FFFFh comes 0000h
 unfoldable pub with_bytes : Memory → ℕ → ℕ → List ℕ → Memory

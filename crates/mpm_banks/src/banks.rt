@@ -71,7 +71,7 @@ impl Banks {
     {
         let segment = &self.segments[usize::from(seg.0)];
         SegmentSpec {
-            base: segment.base,
+            base: segment.base.page(),
             pages: segment.pages,
         }
     }
@@ -189,12 +189,13 @@ impl Banks {
     pub fn put(&mut self, seg: Seg, address: u16, value: u8)
         ensures { self.new ≡ with_byte self.old seg address value }
     {
+        if let Some(segment) = self.segments.get_mut(usize::from(seg.0)) {
+            if segment.put(address, value) {
+                return;
+            }
+        }
         if address >= COMMON_BASE {
             self.common.set(usize::from(address - COMMON_BASE), value);
-            return;
-        }
-        if let Some(segment) = self.segments.get_mut(usize::from(seg.0)) {
-            segment.put(address, value);
         }
     }
 

@@ -1,4 +1,4 @@
-ghost use Rattle.std.specs.Prelude.{◌≡◌, ◌-◌, ◌<◌, ◌≤◌, IfOk, length, slice_get, slice_index, slice_range, slice_set};
+ghost use Rattle.std.specs.Prelude.{◌≡◌, ◌-◌, ◌<◌, ◌≤◌, IfOk, length, nat_lt, slice_get, slice_index, slice_range, slice_set};
 ghost use Rattle.std.specs.Borrow.{sem};
 
 use crate::OutOfMemory;
@@ -21,10 +21,10 @@ impl Model for Bytes {
 
 impl Bytes {
     ghost use Rattle.mpm_banks.specs.Lending.{LendsRange};
-    ghost use Rattle.mpm_banks.specs.Allocations.{zeros};
+    ghost use Rattle.mpm_base.specs.Lists.{zeros};
 
     /// So many bytes, all 0.
-    #[tactic(auto, unfolding(crate::specs::Allocations::zeros))]
+    #[tactic(auto, unfolding(mpm_base::specs::Lists::zeros))]
     pub fn zeros(alloc: Global, count: usize) -> Result<Bytes, OutOfMemory>
         requires { count ≤ 65536 }
         ensures { IfOk result (λ bytes. bytes ≡ zeros count) }
@@ -58,14 +58,17 @@ impl Bytes {
         self.items.get(index).copied()
     }
 
-    /// Writes the byte at an index, where there is one.
+    /// Writes the byte at an index, where there is one; answers whether there is.
     #[inline(always)]
-    pub fn set(&mut self, index: usize, value: u8)
-        ensures { self.new ≡ slice_set self.old index value }
+    pub fn set(&mut self, index: usize, value: u8) -> bool
+        ensures answer { result ≡ nat_lt index (length self.old) }
+        ensures after { self.new ≡ slice_set self.old index value }
     {
         if index < self.items.len() {
             self.items[index] = value;
+            return true;
         }
+        false
     }
 
     /// The bytes of a range.

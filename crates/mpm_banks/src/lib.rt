@@ -4,6 +4,7 @@
 mod banks;
 mod bus;
 mod bytes;
+mod first_page;
 mod range;
 mod segment;
 mod window;

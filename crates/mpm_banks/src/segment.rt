@@ -2,6 +2,7 @@ ghost use Rattle.std.specs.Prelude.{◌≡◌, ◌+◌, ◌≤◌, ◌<◌, ◌-
 
 use crate::OutOfMemory;
 use crate::bytes::Bytes;
+use crate::first_page::FirstPage;
 use crate::range::{Range, Space};
 use mpm_base::{Pid, Seg, SegmentSpec};
 use std::alloc::Global;
@@ -20,14 +21,14 @@ pub(crate) enum Allocation {
 /// A memory segment: its first page, its number of pages, who has it, and 256 bytes for each page.
 #[derive(Drop)]
 pub(crate) struct Segment {
-    pub base: u8,
+    pub base: FirstPage,
     pub pages: u8,
     pub allocation: Allocation,
     pub bytes: Bytes,
 }
 
 impl Segment {
-    ghost use Rattle.mpm_banks.specs.Stretches.{byte_among, put_among};
+    ghost use Rattle.mpm_banks.specs.Stretches.{is_among, byte_among, put_among};
     ghost use Rattle.mpm_banks.specs.Memory.{IsSegment};
     ghost use Rattle.mpm_banks.specs.Ranges.{range_from};
     ghost use Rattle.mpm_banks.specs.Allocations.{new_segment, fits, freed};
@@ -37,7 +38,7 @@ impl Segment {
         ensures { IfOk result (λ segment. segment ≡ new_segment spec) }
     {
         Ok(Segment {
-            base: spec.base,
+            base: FirstPage::new(spec.base),
             pages: spec.pages,
             allocation: Allocation::Free,
             bytes: Bytes::zeros(alloc, 256 * usize::from(spec.pages))?,
@@ -50,7 +51,7 @@ impl Segment {
     {
         let has_base = match base {
             None => true,
-            Some(asked) => self.base == asked,
+            Some(asked) => self.base.page() == asked,
         };
         self.allocation == Allocation::Free && pages <= self.pages && has_base
     }
@@ -73,14 +74,15 @@ impl Segment {
         self.bytes.get(self.index(address))
     }
 
-    /// Writes the byte that an address names, if it names one of the segment's.
+    /// Writes the byte that an address names, if it names one of the segment's; answers whether it does.
     #[inline(always)]
-    pub fn put(&mut self, address: u16, value: u8)
+    pub fn put(&mut self, address: u16, value: u8) -> bool
         requires { IsSegment self.old }
-        ensures { self.new ≡ record self.old { bytes = put_among (256 * self.old.base) self.old.bytes address value } }
+        ensures answer { result ≡ is_among (256 * self.old.base) self.old.bytes address }
+        ensures after { self.new ≡ record self.old { bytes = put_among (256 * self.old.base) self.old.bytes address value } }
     {
         let index = self.index(address);
-        self.bytes.set(index, value);
+        self.bytes.set(index, value)
     }
 
     /// How far an address is behind the first of the segment; below that one, more than the segment has bytes.
@@ -89,7 +91,7 @@ impl Segment {
         ensures behind { 256 * self.now.base ≤ address → result ≡ address - 256 * self.now.base }
         ensures below { address < 256 * self.now.base → 65536 ≤ result }
     {
-        usize::from(address).wrapping_sub(256 * usize::from(self.base))
+        usize::from(address).wrapping_sub(self.base.address())
     }
 
     /// The range that `size` addresses from one on name in this segment, which has the number `seg`; none where they
@@ -98,7 +100,7 @@ impl Segment {
         requires { IsSegment self.now }
         ensures { result ≡ range_from (Space.InSegment seg) (256 * self.now.base) (256 * self.now.base + length self.now.bytes) address size }
     {
-        let first = 256 * usize::from(self.base);
+        let first = self.base.address();
         let from = usize::from(address);
         let to = from + usize::from(size);
         if from < first || first + self.bytes.len() < to {

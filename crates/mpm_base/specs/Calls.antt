@@ -1,5 +1,6 @@
 -- A kernel call as it was taken, and its reply, as contracts see them: without what stands behind the bytes that count.
-use Rattle.std.specs.Prelude.{ℕ, List, [], Option, None, replicate}
+use Rattle.std.specs.Prelude.{ℕ, List, [], Option, None}
+use Rattle.mpm_base.specs.Lists.{zeros}
 
 -- a call: its function, its parameter, its caller's DMA address, the file control block at its parameter (zeros where
 -- it reads none), and the other bytes that it reads, in order
@@ -16,10 +17,6 @@ pub record Answer : Type 0 where
   pub fcb : Option (List ℕ)
   pub at : ℕ
   pub bytes : List ℕ
-
--- so many zeros
-unfoldable pub zeros : ℕ → List ℕ
-zeros n = replicate n 0
 
 -- the call with nothing in it
 abbrev pub no_call : Taken

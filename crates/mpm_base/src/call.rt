@@ -33,10 +33,11 @@ impl Model for Call {
 }
 
 impl Call {
-    ghost use Rattle.mpm_base.specs.Calls.{Taken, no_call, zeros};
+    ghost use Rattle.mpm_base.specs.Lists.{zeros};
+    ghost use Rattle.mpm_base.specs.Calls.{Taken, no_call};
 
     /// A call with all fields 0.
-    #[tactic(auto, unfolding(crate::specs::Calls::zeros))]
+    #[tactic(auto, unfolding(crate::specs::Lists::zeros))]
     pub fn new() -> Call
         ensures { result ≡ no_call }
     {
@@ -51,7 +52,7 @@ impl Call {
     }
 
     /// Sets all fields to 0.
-    #[tactic(auto, unfolding(crate::specs::Calls::zeros))]
+    #[tactic(auto, unfolding(crate::specs::Lists::zeros))]
     pub fn clear(&mut self)
         ensures { self.new ≡ no_call }
     {
@@ -64,7 +65,7 @@ impl Call {
     }
 
     /// Begins a call that has read nothing yet.
-    #[tactic(auto, unfolding(crate::specs::Calls::zeros))]
+    #[tactic(auto, unfolding(crate::specs::Lists::zeros))]
     pub fn begin(&mut self, function: u8, word: u16, dma: u16)
         ensures { self.new ≡ record { function = function; word = word; dma = dma; fcb = zeros 36; bytes = [] } }
     {

@@ -1,5 +1,5 @@
 -- A block that is claimed or freed: what is free then, and how many are.
-use Rattle.std.proofs.Common.{◌≡◌, ◌≢◌, ℕ, ◌+◌, ◌<◌, Bool, true, false, not, cond, List, Some, length, get_or, ap, ◌∙◌, arith, refl, sym}
+use Rattle.std.proofs.Common.{◌≡◌, ◌≢◌, ℕ, ◌+◌, ◌<◌, Bool, true, false, not, cond, List, Some, length, ap, ◌∙◌, arith, refl, sym}
 use Rattle.std.specs.Prelude.{slice_set}
 use Rattle.std.proofs.lemmas.Bool.{false≢true}
 use Rattle.std.proofs.lemmas.List.{get_or-set_same, get_or-set_other, set-get_or}
@@ -40,21 +40,15 @@ freed_again blocks block was =
 abbrev free_bit : Bool → ℕ
 free_bit used = cond (not used) 1 0
 
-one_less : (a b c : ℕ) → a + c ≡ b + 0 → c ≡ 1 → a + 1 ≡ b
-one_less a b c h k = omega arith
-
-one_more : (a b c : ℕ) → a + c ≡ b + 1 → c ≡ 0 → a ≡ b + 1
-one_more a b c h k = omega arith
-
 -- a free block that is claimed leaves one less
 pub claimed_count : (blocks : Blocks) (block : ℕ) → block < length blocks.used → is_used blocks block ≡ false → free_count (claimed blocks block) + 1 ≡ free_count blocks
 claimed_count blocks block h was_free =
-    one_less _ _ (free_bit (get_or blocks.used block true)) (sum_by-set free_bit blocks.used block true true h) (ap free_bit was_free)
+    omega (arith, sum_by-set free_bit blocks.used block true true h, ap free_bit was_free)
 
 -- a used block that is freed leaves one more
 pub freed_count : (blocks : Blocks) (block : ℕ) → block < length blocks.used → is_used blocks block ≡ true → free_count (freed blocks block) ≡ free_count blocks + 1
 freed_count blocks block h was_used =
-    one_more _ _ (free_bit (get_or blocks.used block true)) (sum_by-set free_bit blocks.used block false true h) (ap free_bit was_used)
+    omega (arith, sum_by-set free_bit blocks.used block false true h, ap free_bit was_used)
 
 -- the lowest free block is one of the disk's
 pub least_within : (blocks : Blocks) (block : ℕ) → least_of blocks ≡ Some block → block < length blocks.used

@@ -16,17 +16,17 @@ no_flags = replicate 32 Clear
 abbrev pub flag_at : List Flag → ℕ → Flag
 flag_at flags flag = slice_index_or flags flag Clear
 
--- a process waits for a flag: a set one is cleared and lets it pass, at a clear one it waits, and where another waits it
--- doesn't
+-- a process waits for a flag: a set one is cleared and lets it pass, at a clear one it waits, as it does where it waited
+-- already, and where another waits it doesn't
 abbrev pub behind_wait : ℕ → Flag → Flag
 behind_wait p Clear = Waits p
 behind_wait p Set = Clear
 behind_wait p (Waits other) = Waits other
 
-abbrev pub wait_answer : Flag → FlagWait
-wait_answer Clear = Begins
-wait_answer Set = Passed
-wait_answer (Waits other) = Underrun
+abbrev pub wait_answer : ℕ → Flag → FlagWait
+wait_answer p Clear = Begins
+wait_answer p Set = Passed
+wait_answer p (Waits other) = if other == p then Begins else Underrun
 
 -- a flag is set: who waits for it is woken and it stays clear, and one that is set already stays so
 abbrev pub behind_set : Flag → Flag

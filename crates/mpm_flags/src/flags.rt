@@ -69,7 +69,7 @@ impl Flags {
     pub fn wait(&mut self, p: Pid, flag: u8) -> FlagWait
         requires { flag < 32 }
         ensures flags { self.new ≡ with_flag self.old flag (behind_wait p (flag_at self.old flag)) }
-        ensures answer { result ≡ wait_answer (flag_at self.old flag) }
+        ensures answer { result ≡ wait_answer p (flag_at self.old flag) }
     {
         let place = usize::from(flag);
         let state = self.flags[place];
@@ -82,6 +82,7 @@ impl Flags {
                 self.flags[place] = Flag::Clear;
                 FlagWait::Passed
             }
+            Flag::Waits(other) if other.0 == p.0 => FlagWait::Waits,
             Flag::Waits(_) => FlagWait::Underrun,
         }
     }

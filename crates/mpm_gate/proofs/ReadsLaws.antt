@@ -7,7 +7,7 @@ use Rattle.std.proofs.lemmas.Bool.{false≢true}
 use Rattle.std.proofs.lemmas.Bool.Decides.{nat_tests}
 use Rattle.z80_regs.specs.Words.{onward, word_of}
 use Rattle.z80_regs.specs.declared.regs.Regs.{Regs}
-use Rattle.mpm_base.specs.Calls.{zeros}
+use Rattle.mpm_base.specs.Lists.{zeros}
 use Rattle.mpm_gate.specs.Bytes.{word_from, bytes_from}
 use Rattle.mpm_gate.specs.Texts.{text_from}
 use Rattle.mpm_gate.specs.Reads.{Row, table, is_among, reads_by, reads_of, most_read, is_fixed}

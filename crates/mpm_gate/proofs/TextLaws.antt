@@ -1,6 +1,7 @@
 -- Texts: as a walk through memory finds them, and that one goes on behind another.
 use Rattle.std.proofs.Common.{◌≡◌, ℕ, suc, ◌+◌, ◌-◌, ◌<◌, ◌≤◌, Bool, true, false, not, cond, List, [], ◌∷◌, ◌++◌, length, get_or, take, map, refl, ap, sym, ◌∙◌, arith}
 use Rattle.std.specs.Prelude.{take_while}
+use Rattle.std.proofs.lemmas.Bool.{not-true}
 use Rattle.std.specs.List.{range_with_len, prefix_len}
 use Rattle.std.proofs.lemmas.List.{append-nil, length-take, take_all, get_or-take}
 use Rattle.std.proofs.lemmas.List.Sums.{take_while-cons, prefix_len_passes}
@@ -52,10 +53,6 @@ text_more end memory address k byte whole here goes_on =
     ∙ front_of_two p (bytes_from memory address k) (byte ∷ []) whole
     ∙ ap (λ xs. bytes_from memory address k ++ xs) last
     ∙ sym one_more
-
-not_true : (b : Bool) → not b ≡ true → b ≡ false
-not_true true is = sym is
-not_true false is = refl
 
 -- a text that ends at once
 ends_at_once : (end : TextEnd) (memory : ℕ → ℕ) (address n : ℕ) → ends end (memory (onward address 0)) ≡ true → text_from end memory address (suc n) ≡ []
@@ -126,5 +123,5 @@ text_passes end memory address most k below =
     let p : ℕ → Bool = λ byte. not (ends end byte) in
     let bytes : List ℕ = bytes_from memory address most in
     let inside : k < prefix_len p bytes = omega (arith, length-take (prefix_len p bytes) bytes) in
-    not_true (ends end (get_or (take (prefix_len p bytes) bytes) k 0))
+    not-true (ends end (get_or (take (prefix_len p bytes) bytes) k 0))
     (ap (λ byte. not (ends end byte)) (get_or-take (prefix_len p bytes) bytes k 0 inside) ∙ prefix_len_passes p bytes k 0 inside)

@@ -3,7 +3,8 @@
 use Rattle.std.specs.Prelude.{ℕ, zero, suc, ◌*◌, List, [], ◌++◌, ◌==◌, if◌then◌else◌}
 use Rattle.z80_regs.specs.Words.{onward, word_of}
 use Rattle.z80_regs.specs.declared.regs.Regs.{Regs}
-use Rattle.mpm_base.specs.Calls.{Taken, zeros}
+use Rattle.mpm_base.specs.Lists.{zeros}
+use Rattle.mpm_base.specs.Calls.{Taken}
 use Rattle.mpm_gate.specs.Bytes.{word_from, bytes_from}
 use Rattle.mpm_gate.specs.Texts.{text_from}
 use Rattle.mpm_gate.specs.Reads.{reads_of}

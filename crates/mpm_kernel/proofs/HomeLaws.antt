@@ -1,16 +1,26 @@
 -- In which segments the processes live, and which calls they keep, behind a change of the kernel.
-use Rattle.std.proofs.Common.{◌≡◌, ◌≢◌, ◌∙◌, ℕ, Bool, true, false, ◌&&◌, ◌||◌, ◌==◌, List, Option, Some, None, if◌then◌else◌, inl, inr, refl, sym, ap, arith}
-use Rattle.std.proofs.lemmas.Bool.{cases_eq}
+use Rattle.std.proofs.Common.{◌≡◌, ◌≢◌, ◌∙◌, ℕ, Bool, true, false, ◌&&◌, ◌||◌, ◌==◌, List, [], Option, Some, None, if◌then◌else◌, inl, inr, refl, sym, ap, arith}
+use Rattle.std.proofs.lemmas.Bool.{cases_eq, false≢true}
 use Rattle.mpm_base.specs.Calls.{Taken}
 use Rattle.mpm_procs.specs.Table.{HasSlots, lives, Lives, process_in, call_of, with_process, with_call, lowest_free, added, without}
 use Rattle.mpm_procs.specs.declared.process.Process.{Process}
 use Rattle.mpm_procs.specs.declared.process.NewProcess.{NewProcess}
 use Rattle.mpm_procs.specs.Opening.{opening}
 use Rattle.mpm_procs.proofs.MapLaws.{lives_below, process_changed, process_kept, lives_changed, call_behind, process_behind, lives_behind, free_below, free_is_dead, lives_added_other, process_added, process_added_other, call_added_other, lives_without, lives_without_other, process_without_other}
-use Rattle.mpm_kernel.specs.Kernel.{Kernel, IsSound, with_changed}
+use Rattle.mpm_kernel.specs.Kernel.{Kernel, IsSound, with_changed, with_completed}
 use Rattle.mpm_kernel.specs.Columns.{spoke}
-use Rattle.mpm_kernel.specs.Calls.{Called, valued, low_parameter, is_count, with_user, with_multi, call_done, called}
-use Rattle.mpm_kernel.specs.Dispatch.{admitted, in_slot, discharged, stays, picked, behind_equals, with_priority}
+use Rattle.mpm_kernel.specs.Called.{Called, valued, low_parameter}
+use Rattle.mpm_kernel.specs.Waiting.{polled, is_flag, behind_flag_wait, waited, flag_waited, flag_set, slept}
+use Rattle.mpm_kernel.specs.Dates.{names_time, date_set, date_told, time_told}
+use Rattle.mpm_kernel.specs.Calls.{is_count, with_user, with_multi, call_done, called}
+use Rattle.mpm_kernel.specs.Events.{happened, handed_out}
+use Rattle.mpm_script.specs.declared.event.Event.{Event}
+use Rattle.mpm_flags.specs.States.{flag_at, wait_answer}
+use Rattle.mpm_flags.specs.declared.flags.FlagWait.{FlagWait}
+use Rattle.mpm_flags.specs.declared.flags.FlagWait.TheVariants.{Passed, Waits, Underrun}
+use Rattle.std.specs.Prelude.{nat_lt, slice_index_or}
+use Rattle.mpm_kernel.proofs.SoundLaws.{sound_with_completed, procs_signalled, procs_happened}
+use Rattle.mpm_kernel.specs.Dispatch.{admitted, in_slot, discharged, stays, picked, unlisted, moved, behind_equals, with_priority}
 
 -- a process lives in a segment
 pub record IsLivedIn (kernel : Kernel) (seg : ℕ) : Type 0 where
@@ -64,16 +74,12 @@ homes_call kernel p call = record {
   };
 }
 
-dead_and_alive : (b : Bool) → b ≡ false → b ≡ true → ⊥
-dead_and_alive true e f = absurd (cc)
-dead_and_alive false e f = absurd (cc)
-
 -- a process ends
 pub homes_discharged : (kernel : Kernel) (p : ℕ) → HasSlots kernel.procs → Lives kernel.procs p → SameHomes kernel (discharged kernel p)
 unfolding discharged
 homes_discharged kernel p slots h = record {
   all = λ q seg living home. elim (cases_eq q p) [
-    | inl equal ↦ absurd (dead_and_alive _ (ap (lives (without kernel.procs p)) equal ∙ lives_without kernel.procs p (omega (arith, slots.alive, lives_below kernel.procs p slots h))) living)
+    | inl equal ↦ absurd (false≢true (sym (ap (lives (without kernel.procs p)) equal ∙ lives_without kernel.procs p (omega (arith, slots.alive, lives_below kernel.procs p slots h))) ∙ living))
     | inr other ↦ record {
       who = q;
       lives = sym (lives_without_other kernel.procs p q other) ∙ living;
@@ -112,7 +118,7 @@ homes_in_slot kernel new (Some p) slots free home_of = homes_admitted kernel p n
 
 -- who lived lives on as a process begins, and keeps its call
 living_is_taken : (kernel : Kernel) (p q : ℕ) → lowest_free kernel.procs ≡ Some p → Lives kernel.procs q → q ≢ p
-living_is_taken kernel p q free h = λ equal. dead_and_alive _ (free_is_dead kernel.procs p free) (ap (lives kernel.procs) (sym equal) ∙ h)
+living_is_taken kernel p q free h = λ equal. false≢true (sym (free_is_dead kernel.procs p free) ∙ ap (lives kernel.procs) (sym equal) ∙ h)
 
 pub lives_on : (kernel : Kernel) (new : NewProcess) (slot : Option ℕ) (q : ℕ) → lowest_free kernel.procs ≡ slot → Lives kernel.procs q
     → Lives (in_slot kernel new slot).procs q
@@ -144,78 +150,143 @@ pub procs_spoke : (kernel : Kernel) (console : ℕ) (bytes : List ℕ) → (spok
 unfolding spoke
 procs_spoke kernel console bytes = refl
 
--- the calls of the kernel: who lives, lives where somebody lived, and the caller keeps its call
+-- the calls of the kernel: who lives, lives where somebody lived, and each process keeps its call
 
-record KeepsHome (p : ℕ) (old : Kernel) (called : Called) : Type 0 where
+record KeepsHome (old : Kernel) (called : Called) : Type 0 where
   pub homes : SameHomes old called.kernel
-  pub call : call_of called.kernel.procs p ≡ call_of old.procs p
+  pub call : (q : ℕ) → call_of called.kernel.procs q ≡ call_of old.procs q
 
-kept_if : (p : ℕ) (old : Kernel) (b : Bool) (x y : Called) → KeepsHome p old x → KeepsHome p old y → KeepsHome p old (if b then x else y)
-kept_if p old true x y s t = s
-kept_if p old false x y s t = t
+kept_if : (old : Kernel) (b : Bool) (x y : Called) → KeepsHome old x → KeepsHome old y → KeepsHome old (if b then x else y)
+kept_if old true x y s t = s
+kept_if old false x y s t = t
 
-kept_kernel_if : (p : ℕ) (old : Kernel) (b : Bool) (x y : Kernel) (value : ℕ) → KeepsHome p old (valued value x) → KeepsHome p old (valued value y)
-    → KeepsHome p old (valued value (if b then x else y))
-kept_kernel_if p old true x y value s t = s
-kept_kernel_if p old false x y value s t = t
+kept_kernel_if : (old : Kernel) (b : Bool) (x y : Kernel) (value : ℕ) → KeepsHome old (valued value x) → KeepsHome old (valued value y)
+    → KeepsHome old (valued value (if b then x else y))
+kept_kernel_if old true x y value s t = s
+kept_kernel_if old false x y value s t = t
 
-kept_same : (p : ℕ) (kernel : Kernel) (called : Called) → called.kernel.procs ≡ kernel.procs → KeepsHome p kernel called
-kept_same p kernel called e = record { homes = homes_stay kernel called.kernel e; call = ap (λ procs. call_of procs p) e }
+kept_same : (kernel : Kernel) (called : Called) → called.kernel.procs ≡ kernel.procs → KeepsHome kernel called
+kept_same kernel called e = record { homes = homes_stay kernel called.kernel e; call = λ q. ap (λ procs. call_of procs q) e }
 
 kept_changed : (p value : ℕ) (kernel : Kernel) (process : Process) → IsSound kernel → Lives kernel.procs p
-    → process.seg ≡ (process_in kernel.procs p).seg → KeepsHome p kernel (valued value (with_changed kernel p process))
+    → process.seg ≡ (process_in kernel.procs p).seg → KeepsHome kernel (valued value (with_changed kernel p process))
 kept_changed p value kernel process s h same = record {
   homes = homes_changed kernel p process s.slots h same;
-  call = call_behind kernel.procs p p process;
+  call = λ q. call_behind kernel.procs p q process;
 }
 
 kept_user : (call : Taken) (p value : ℕ) (kernel : Kernel) → IsSound kernel → Lives kernel.procs p
-    → KeepsHome p kernel (valued value (with_user call p (process_in kernel.procs p) kernel))
+    → KeepsHome kernel (valued value (with_user call p (process_in kernel.procs p) kernel))
 unfolding with_user
 kept_user call p value kernel s h =
-    kept_kernel_if p kernel (low_parameter call == 255) _ _ value (kept_same p kernel _ refl) (kept_changed p value kernel _ s h refl)
+    kept_kernel_if kernel (low_parameter call == 255) _ _ value (kept_same kernel _ refl) (kept_changed p value kernel _ s h refl)
 
 kept_multi : (call : Taken) (p value : ℕ) (kernel : Kernel) → IsSound kernel → Lives kernel.procs p
-    → KeepsHome p kernel (valued value (with_multi call p (process_in kernel.procs p) kernel))
+    → KeepsHome kernel (valued value (with_multi call p (process_in kernel.procs p) kernel))
 unfolding with_multi
 kept_multi call p value kernel s h =
-    kept_kernel_if p kernel (is_count (low_parameter call)) _ _ value (kept_changed p value kernel _ s h refl) (kept_same p kernel _ refl)
+    kept_kernel_if kernel (is_count (low_parameter call)) _ _ value (kept_changed p value kernel _ s h refl) (kept_same kernel _ refl)
 
-kept_behind : (p value : ℕ) (kernel : Kernel) → KeepsHome p kernel (valued value (behind_equals kernel p))
+kept_behind : (p value : ℕ) (kernel : Kernel) → KeepsHome kernel (valued value (behind_equals kernel p))
 unfolding behind_equals
-kept_behind p value kernel = kept_same p kernel _ refl
+kept_behind p value kernel = kept_same kernel _ refl
 
 kept_priority : (p value priority : ℕ) (kernel : Kernel) → IsSound kernel → Lives kernel.procs p
-    → KeepsHome p kernel (valued value (with_priority kernel p priority))
+    → KeepsHome kernel (valued value (with_priority kernel p priority))
 unfolding with_priority behind_equals
 kept_priority p value priority kernel s h =
     let process = record (process_in kernel.procs p) { priority = priority } in
     record {
       homes = homes_both kernel (with_changed kernel p process) _ (homes_changed kernel p process s.slots h refl) (homes_stay _ _ refl);
-      call = call_behind kernel.procs p p process;
+      call = λ q. call_behind kernel.procs p q process;
     }
 
+kept_polled : (call : Taken) (p : ℕ) (kernel : Kernel) → KeepsHome kernel (polled call p kernel)
+unfolding polled moved
+kept_polled call p kernel =
+    kept_if kernel (nat_lt 15 (low_parameter call)) _ _ (kept_same kernel _ refl)
+    (kept_if kernel (slice_index_or kernel.devices.ready (low_parameter call) false) _ _ (kept_same kernel _ refl) (kept_same kernel _ refl))
+
+kept_waited : (answer : FlagWait) (p : ℕ) (kernel : Kernel) → (waited answer p kernel).kernel.procs ≡ kernel.procs
+unfolding waited unlisted
+kept_waited Passed p kernel = refl
+kept_waited Waits p kernel = refl
+kept_waited Underrun p kernel = refl
+
+kept_flag_waited : (call : Taken) (p : ℕ) (kernel : Kernel) → KeepsHome kernel (flag_waited call p kernel)
+unfolding flag_waited
+kept_flag_waited call p kernel =
+    let flag = low_parameter call in
+    kept_if kernel (is_flag flag) _ _
+    (kept_same kernel _ (kept_waited (wait_answer p (flag_at kernel.flags flag)) p (behind_flag_wait kernel p flag))) (kept_same kernel _ refl)
+
+kept_flag_set : (call : Taken) (kernel : Kernel) → KeepsHome kernel (flag_set call kernel)
+unfolding flag_set
+kept_flag_set call kernel =
+    kept_if kernel (is_flag (low_parameter call)) _ _ (kept_same kernel _ (procs_signalled (low_parameter call) kernel)) (kept_same kernel _ refl)
+
+kept_slept : (call : Taken) (p : ℕ) (kernel : Kernel) → KeepsHome kernel (slept call p kernel)
+unfolding slept unlisted
+kept_slept call p kernel = kept_if kernel (call.word == 0) _ _ (kept_behind p 0 kernel) (kept_same kernel _ refl)
+
+kept_date_set : (call : Taken) (kernel : Kernel) → KeepsHome kernel (date_set call kernel)
+unfolding date_set
+kept_date_set call kernel = kept_if kernel (names_time call) _ _ (kept_same kernel _ refl) (kept_same kernel _ refl)
+
+procs_date_told : (call : Taken) (kernel : Kernel) → (date_told call kernel).kernel.procs ≡ kernel.procs
+unfolding date_told
+procs_date_told call kernel = refl
+
+procs_time_told : (call : Taken) (kernel : Kernel) → (time_told call kernel).kernel.procs ≡ kernel.procs
+unfolding time_told
+procs_time_told call kernel = refl
+
 kept_call_done : (call : Taken) (p : ℕ) (kernel : Kernel) → IsSound kernel → Lives kernel.procs p
-    → KeepsHome p kernel (call_done call p (process_in kernel.procs p) kernel)
+    → KeepsHome kernel (call_done call p (process_in kernel.procs p) kernel)
 unfolding call_done
 kept_call_done call p kernel s h =
     let f = call.function in
-    let same : (called : Called) → called.kernel.procs ≡ kernel.procs → KeepsHome p kernel called = kept_same p kernel in
-    kept_if p kernel (f == 0 || f == 143) _ _ (same _ refl)
-    (kept_if p kernel (f == 2 || f == 9) _ _ (same _ refl)
-    (kept_if p kernel (f == 12 || f == 163) _ _ (same _ refl)
-    (kept_if p kernel (f == 25) _ _ (same _ refl)
-    (kept_if p kernel (f == 26) _ _ (kept_changed p 0 kernel _ s h refl)
-    (kept_if p kernel (f == 32) _ _ (kept_user call p _ kernel s h)
-    (kept_if p kernel (f == 44) _ _ (kept_multi call p _ kernel s h)
-    (kept_if p kernel (f == 45) _ _ (kept_changed p 0 kernel _ s h refl)
-    (kept_if p kernel (f == 106) _ _ (kept_changed p 0 kernel _ s h refl)
-    (kept_if p kernel (f == 142) _ _ (kept_behind p 0 kernel)
-    (kept_if p kernel (f == 145) _ _ (kept_priority p 0 (low_parameter call) kernel s h)
-    (same _ refl)))))))))))
+    let same : (called : Called) → called.kernel.procs ≡ kernel.procs → KeepsHome kernel called = kept_same kernel in
+    kept_if kernel (f == 0 || f == 143) _ _ (same _ refl)
+    (kept_if kernel (f == 2 || f == 9) _ _ (same _ refl)
+    (kept_if kernel (f == 12 || f == 163) _ _ (same _ refl)
+    (kept_if kernel (f == 25) _ _ (same _ refl)
+    (kept_if kernel (f == 26) _ _ (kept_changed p 0 kernel _ s h refl)
+    (kept_if kernel (f == 32) _ _ (kept_user call p _ kernel s h)
+    (kept_if kernel (f == 44) _ _ (kept_multi call p _ kernel s h)
+    (kept_if kernel (f == 45) _ _ (kept_changed p 0 kernel _ s h refl)
+    (kept_if kernel (f == 104) _ _ (kept_date_set call kernel)
+    (kept_if kernel (f == 105) _ _ (same _ (procs_date_told call kernel))
+    (kept_if kernel (f == 106) _ _ (kept_changed p 0 kernel _ s h refl)
+    (kept_if kernel (f == 131) _ _ (kept_polled call p kernel)
+    (kept_if kernel (f == 132) _ _ (kept_flag_waited call p kernel)
+    (kept_if kernel (f == 133) _ _ (kept_flag_set call kernel)
+    (kept_if kernel (f == 141) _ _ (kept_slept call p kernel)
+    (kept_if kernel (f == 142) _ _ (kept_behind p 0 kernel)
+    (kept_if kernel (f == 145) _ _ (kept_priority p 0 (low_parameter call) kernel s h)
+    (kept_if kernel (f == 155) _ _ (same _ (procs_time_told call kernel))
+    (same _ refl))))))))))))))))))
+
+homes_through : (old new : Kernel) → SameHomes (with_completed old []) new → SameHomes old new
+homes_through old new homes = homes_both old (with_completed old []) new (homes_stay old (with_completed old []) refl) homes
 
 pub homes_called : (p : ℕ) (kernel : Kernel) → IsSound kernel → Lives kernel.procs p → SameHomes kernel (called p kernel).kernel
-homes_called p kernel s h = (kept_call_done (call_of kernel.procs p) p kernel s h).homes
+homes_called p kernel s h =
+    homes_through kernel _ (kept_call_done (call_of kernel.procs p) p (with_completed kernel []) (sound_with_completed kernel [] s) h).homes
+
+-- a call changes no call that is kept, its own or another
+pub calls_called : (p : ℕ) (kernel : Kernel) → IsSound kernel → Lives kernel.procs p
+    → (q : ℕ) → call_of (called p kernel).kernel.procs q ≡ call_of kernel.procs q
+calls_called p kernel s h q =
+    (kept_call_done (call_of kernel.procs p) p (with_completed kernel []) (sound_with_completed kernel [] s) h).call q
 
 pub call_called : (p : ℕ) (kernel : Kernel) → IsSound kernel → Lives kernel.procs p → call_of (called p kernel).kernel.procs p ≡ call_of kernel.procs p
-call_called p kernel s h = (kept_call_done (call_of kernel.procs p) p kernel s h).call
+call_called p kernel s h = calls_called p kernel s h p
+
+-- and so does an event
+pub homes_happened : (event : Event) (kernel : Kernel) → SameHomes kernel (happened event kernel)
+homes_happened event kernel = homes_stay kernel (happened event kernel) (procs_happened event kernel)
+
+pub procs_handed_out : (kernel : Kernel) → (handed_out kernel).procs ≡ kernel.procs
+unfolding handed_out
+procs_handed_out kernel = refl

@@ -1,373 +1,466 @@
--- What a sound kernel stays through.
-use Rattle.std.proofs.Common.{◌≡◌, ◌≢◌, ◌∙◌, ℕ, ◌<◌, ◌≤◌, Bool, true, false, eqb, ◌&&◌, ◌||◌, ◌==◌, List, [], ◌∷◌, Option, Some, None, if◌then◌else◌, inl, inr, refl, sym, ap, subst, arith}
-use Rattle.std.proofs.lemmas.Bool.{cases_eq}
+-- What a sound kernel stays through: its calls and its events. The laws on its parts are told here too.
+use Rattle.std.proofs.Common.{◌≡◌, ◌≢◌, ◌∙◌, ℕ, ◌+◌, ◌<◌, ◌≤◌, Bool, true, false, ◌||◌, ◌==◌, List, [], ◌∷◌, drop, Option, Some, None, if◌then◌else◌, refl, sym, ap, subst, arith}
+use Rattle.std.specs.List.{AllByRecursion}
 use Rattle.std.proofs.lemmas.Bool.Decides.{nat_tests}
 use Rattle.std.proofs.lemmas.List.{length-set}
 use Rattle.mpm_base.specs.Calls.{Taken}
-use Rattle.mpm_base.specs.declared.devices.Devices.{Devices}
-use Rattle.mpm_ready.specs.Order.{Member, first_of, in_list}
-use Rattle.mpm_ready.specs.Tables.{list_at, list_of, inserted, removed, put_back, rotated}
-use Rattle.mpm_ready.proofs.TableLaws.{table_inserted, table_removed, list_of_inserted, list_of_inserted_other, list_of_removed, list_of_removed_other, list_of_known, list_of_none, table_none}
-use Rattle.mpm_procs.specs.Table.{lives, Lives, process_in, call_of, with_process, with_call, lowest_free, added, without}
+use Rattle.mpm_ready.specs.Order.{in_list}
+use Rattle.mpm_ready.specs.Tables.{list_at, list_of}
+use Rattle.mpm_ready.proofs.TableLaws.{list_of_known}
+use Rattle.mpm_flags.specs.declared.flags.Flag.{Flag}
+use Rattle.mpm_flags.specs.declared.flags.FlagWait.TheVariants.{Waits as Begins, Underrun}
+use Rattle.mpm_flags.specs.declared.flags.FlagSet.{FlagSet}
+use Rattle.mpm_flags.specs.declared.flags.FlagSet.TheVariants.{Set as IsSet, Woke as Woken, Overrun}
+use Rattle.mpm_flags.specs.declared.flags.Flag.TheVariants.{Clear, Set, Waits}
+use Rattle.mpm_flags.specs.States.{flag_at, with_flag, behind_wait, wait_answer, behind_set, set_answer}
+use Rattle.mpm_base.proofs.CountLaws.{one_if, one_if_true, one_if_false}
+use Rattle.mpm_clock.specs.declared.moment.Moment.{Moment}
+use Rattle.std.specs.Prelude.{nat_lt, slice_index_or}
+use Rattle.mpm_clock.specs.Delays.{delays_of, woken_by_tick}
+use Rattle.mpm_clock.specs.Times.{set_to, delayed, ticked}
+use Rattle.mpm_clock.proofs.DelayLaws.{delays_ticked, delays_more_own, delays_more_other}
+use Rattle.mpm_procs.specs.Table.{Table, lives, Lives, process_in, call_of}
 use Rattle.mpm_procs.specs.declared.process.Process.{Process}
-use Rattle.mpm_procs.specs.declared.process.NewProcess.{NewProcess}
-use Rattle.mpm_procs.specs.Opening.{opening}
-use Rattle.mpm_procs.proofs.MapLaws.{lives_below, process_changed, process_kept, lives_changed, slots_changed, slots_behind, free_below, free_is_dead, lives_added, lives_added_other, process_added, process_added_other, slots_added, lives_without, lives_without_other, process_without_other, slots_without, slots_none, nobody_lives}
-use Rattle.mpm_kernel.specs.Kernel.{Kernel, ready, IsReady, IsFit, IsSound, with_changed}
-use Rattle.mpm_kernel.specs.Columns.{spoke}
-use Rattle.mpm_kernel.specs.Calls.{Called, valued, low_parameter, is_count, with_user, with_multi, call_done, called}
-use Rattle.mpm_kernel.specs.Dispatch.{new_kernel, admitted, in_slot, discharged, runs_still, picked, stays, behind_equals, with_priority}
-
-dead_and_alive : (b : Bool) → b ≡ false → b ≡ true → ⊥
-dead_and_alive true e f = absurd (cc)
-dead_and_alive false e f = absurd (cc)
-
-none_and_some : (o : Option ℕ) (n : ℕ) → o ≡ None → o ≡ Some n → ⊥
-none_and_some None n e f = absurd (cc)
-none_and_some (Some m) n e f = absurd (cc)
-
--- no process lives
-pub sound_new : (consoles printers : ℕ) → 1 ≤ consoles → consoles ≤ 8 → IsSound (new_kernel consoles printers)
-unfolding new_kernel
-sound_new consoles printers some few = record {
-  some = some;
-  few = few;
-  columns = refl;
-  slots = slots_none;
-  table = table_none;
-  fit = λ p living. absurd (dead_and_alive _ (nobody_lives p) living);
-  listed = λ p list e. absurd (none_and_some _ list (list_of_none p) e);
-  runs = λ p e. absurd (none_and_some None p refl e);
-}
-
--- a process is another one that fits
-pub sound_changed : (kernel : Kernel) (p : ℕ) (process : Process) → IsSound kernel → Lives kernel.procs p → IsFit kernel.consoles process
-    → IsSound (with_changed kernel p process)
-sound_changed kernel p process s h fit = record {
-  some = s.some;
-  few = s.few;
-  columns = s.columns;
-  slots = slots_changed kernel.procs p process s.slots;
-  table = s.table;
-  fit = λ q living. elim (cases_eq q p) [
-    | inl same ↦
-        let P : Process → Type 0 = λ x. IsFit kernel.consoles x in
-        let at : process_in (with_process kernel.procs p process) q ≡ process =
-        ap (process_in (with_process kernel.procs p process)) same
-        ∙ process_changed kernel.procs p process (omega (arith, s.slots.processes, lives_below kernel.procs p s.slots h)) in
-        subst P (sym at) fit
-    | inr other ↦
-        let P : Process → Type 0 = λ x. IsFit kernel.consoles x in
-        subst P (sym (process_kept kernel.procs p q process other)) (s.fit q (sym (lives_changed kernel.procs p q process) ∙ living))
-  ];
-  listed = λ q list e. lives_changed kernel.procs p q process ∙ s.listed q list e;
-  runs = s.runs;
-}
-
--- a process keeps another call
-pub sound_call : (kernel : Kernel) (p : ℕ) (call : Taken) → IsSound kernel → IsSound (record kernel { procs = with_call kernel.procs p call })
-unfolding with_call
-sound_call kernel p call s = record {
-  some = s.some;
-  few = s.few;
-  columns = s.columns;
-  slots = slots_behind kernel.procs p call s.slots;
-  table = s.table;
-  fit = s.fit;
-  listed = s.listed;
-  runs = s.runs;
-}
-
-pub sound_devices : (kernel : Kernel) (devices : Devices) → IsSound kernel → IsSound (record kernel { devices = devices })
-sound_devices kernel devices s = record {
-  some = s.some;
-  few = s.few;
-  columns = s.columns;
-  slots = s.slots;
-  table = s.table;
-  fit = s.fit;
-  listed = s.listed;
-  runs = s.runs;
-}
-
-pub sound_spoke : (kernel : Kernel) (console : ℕ) (bytes : List ℕ) → IsSound kernel → IsSound (spoke kernel console bytes)
-unfolding spoke
-sound_spoke kernel console bytes s = record {
-  some = s.some;
-  few = s.few;
-  columns = length-set kernel.columns console _ ∙ s.columns;
-  slots = s.slots;
-  table = s.table;
-  fit = s.fit;
-  listed = s.listed;
-  runs = s.runs;
-}
-
-first_is_in : (ms : List Member) (p : ℕ) → first_of ms ≡ Some p → in_list p ms ≡ true
-unfolding first_of in_list
-first_is_in [] p e = absurd (cc)
-first_is_in (m ∷ ms) p e = grind (arith, nat_tests, e)
-
-sound_if : (b : Bool) (x y : Kernel) → IsSound x → IsSound y → IsSound (if b then x else y)
-sound_if true x y s t = s
-sound_if false x y s t = t
-
-unlisted_if_dead : (o : Option ℕ) → ((list : ℕ) → o ≡ Some list → ⊥) → o ≡ None
-unlisted_if_dead None h = refl
-unlisted_if_dead (Some list) h = absurd (h list refl)
-
-not_equal : (p q : ℕ) → p ≢ q → eqb p q ≡ false
-not_equal p q h = grind (arith, nat_tests)
-
-some_same : (a b : ℕ) → Some a ≡ Some b → a ≡ b
-some_same a b e = grind (e, arith)
-
-runs_other : (p q : ℕ) (running : Option ℕ) → runs_still p running ≡ Some q → (q ≢ p) × (running ≡ Some q)
-runs_other p q None e = absurd (cc)
-runs_other p q (Some other) e = elim (cases_eq other p) [
-  | inl same ↦ absurd (none_and_some (runs_still p (Some other)) q (grind (arith, nat_tests)) e)
-  | inr distinct ↦
-      let stays : runs_still p (Some other) ≡ Some other = grind (arith, nat_tests) in
-      let is : Some other ≡ Some q = sym stays ∙ e in
-      ((λ same. distinct (some_same other q is ∙ same)), is)
-]
-
-fit_opening : (consoles : ℕ) (new : NewProcess) → new.console < consoles → IsFit consoles (opening new)
-unfolding opening
-fit_opening consoles new h = record { console = h; some = omega arith; few = omega arith }
-
--- the first of the ready list is ready
-pub first_is_ready : (kernel : Kernel) (p : ℕ) → IsSound kernel → first_of (list_at kernel.lists ready) ≡ Some p → IsReady kernel p
-first_is_ready kernel p s e = list_of_known kernel.lists p ready s.table (first_is_in (list_at kernel.lists ready) p e)
-
--- who runs lives
-pub runner_lives : (kernel : Kernel) (p : ℕ) → IsSound kernel → kernel.running ≡ Some p → Lives kernel.procs p
-runner_lives kernel p s e = s.listed p ready (s.runs p e)
-
--- who runs is picked
-pub sound_picked : (kernel : Kernel) (instruction : Bool) → IsSound kernel → IsSound (picked instruction kernel)
-unfolding picked
-sound_picked kernel instruction s = sound_if (instruction && stays kernel kernel.running) kernel _ s (record {
-  some = s.some;
-  few = s.few;
-  columns = s.columns;
-  slots = s.slots;
-  table = s.table;
-  fit = s.fit;
-  listed = s.listed;
-  runs = λ p e. first_is_ready kernel p s e;
-})
-
--- a slot where nobody lives stands in no list
-pub free_is_unlisted : (kernel : Kernel) (p : ℕ) → IsSound kernel → lowest_free kernel.procs ≡ Some p → list_of kernel.lists p ≡ None
-free_is_unlisted kernel p s free =
-    unlisted_if_dead (list_of kernel.lists p) (λ list e. dead_and_alive _ (free_is_dead kernel.procs p free) (s.listed p list e))
-
--- a process ends
-pub sound_discharged : (kernel : Kernel) (p : ℕ) → IsSound kernel → Lives kernel.procs p → IsSound (discharged kernel p)
-unfolding discharged
-sound_discharged kernel p s h =
-    let below : p < 32 = lives_below kernel.procs p s.slots h in
-    record {
-      some = s.some;
-      few = s.few;
-      columns = s.columns;
-      slots = slots_without kernel.procs p s.slots;
-      table = table_removed kernel.lists p s.table;
-      fit = λ q living. elim (cases_eq q p) [
-        | inl same ↦ absurd (dead_and_alive _ (ap (lives (without kernel.procs p)) same ∙ lives_without kernel.procs p (omega (arith, s.slots.alive))) living)
-        | inr other ↦
-            let P : Process → Type 0 = λ x. IsFit kernel.consoles x in
-            subst P (sym (process_without_other kernel.procs p q other)) (s.fit q (sym (lives_without_other kernel.procs p q other) ∙ living))
-      ];
-      listed = λ q list e. elim (cases_eq q p) [
-        | inl same ↦ absurd (none_and_some _ list (ap (list_of (removed kernel.lists p)) same ∙ list_of_removed kernel.lists p) e)
-        | inr other ↦
-            lives_without_other kernel.procs p q other
-            ∙ s.listed q list (sym (list_of_removed_other kernel.lists p q s.table (not_equal p q (λ e. other (sym e)))) ∙ e)
-      ];
-      runs = λ q e.
-          let other : q ≢ p = (runs_other p q kernel.running e).0 in
-          list_of_removed_other kernel.lists p q s.table (not_equal p q (λ e. other (sym e)))
-          ∙ s.runs q (runs_other p q kernel.running e).1;
-    }
-
--- a process begins
-pub sound_admitted : (kernel : Kernel) (p : ℕ) (new : NewProcess) → IsSound kernel → lowest_free kernel.procs ≡ Some p → new.console < kernel.consoles
-    → IsSound (admitted kernel p new)
-unfolding admitted
-sound_admitted kernel p new s free console =
-    let below : p < 32 = omega (arith, free_below kernel.procs p free, s.slots.alive) in
-    let member : Member = record { slot = p; priority = new.priority } in
-    let none = free_is_unlisted kernel p s free in
-    record {
-      some = s.some;
-      few = s.few;
-      columns = s.columns;
-      slots = slots_added kernel.procs p new s.slots;
-      table = table_inserted kernel.lists ready member s.table (omega arith) below none;
-      fit = λ q living. elim (cases_eq q p) [
-        | inl same ↦
-            let P : Process → Type 0 = λ x. IsFit kernel.consoles x in
-            let at = ap (process_in (added kernel.procs p new)) same ∙ process_added kernel.procs p new (omega (arith, s.slots.processes)) in
-            subst P (sym at) (fit_opening kernel.consoles new console)
-        | inr other ↦
-            let P : Process → Type 0 = λ x. IsFit kernel.consoles x in
-            subst P (sym (process_added_other kernel.procs p q new other)) (s.fit q (sym (lives_added_other kernel.procs p q new other) ∙ living))
-      ];
-      listed = λ q list e. elim (cases_eq q p) [
-        | inl same ↦ ap (lives (added kernel.procs p new)) same ∙ lives_added kernel.procs p new (omega (arith, s.slots.alive))
-        | inr other ↦
-            lives_added_other kernel.procs p q new other
-            ∙ s.listed q list (sym (list_of_inserted_other kernel.lists ready member q s.table (omega arith) below none (not_equal p q (λ e. other (sym e)))) ∙ e)
-      ];
-      runs = λ q e. elim (cases_eq q p) [
-        | inl same ↦ ap (list_of (inserted kernel.lists ready member)) same ∙ list_of_inserted kernel.lists ready member s.table (omega arith) below none
-        | inr other ↦
-            list_of_inserted_other kernel.lists ready member q s.table (omega arith) below none (not_equal p q (λ e. other (sym e)))
-            ∙ s.runs q e
-      ];
-    }
-
-pub sound_in_slot : (kernel : Kernel) (new : NewProcess) (slot : Option ℕ) → IsSound kernel → lowest_free kernel.procs ≡ slot → new.console < kernel.consoles
-    → IsSound (in_slot kernel new slot)
-sound_in_slot kernel new None s free console = s
-sound_in_slot kernel new (Some p) s free console = sound_admitted kernel p new s free console
-
-pub consoles_in_slot : (kernel : Kernel) (new : NewProcess) (slot : Option ℕ) → (in_slot kernel new slot).consoles ≡ kernel.consoles
-unfolding admitted
-consoles_in_slot kernel new None = refl
-consoles_in_slot kernel new (Some p) = refl
-
--- a ready process is put behind its equals
-pub sound_behind_equals : (kernel : Kernel) (p : ℕ) → IsSound kernel → Lives kernel.procs p → IsReady kernel p → IsSound (behind_equals kernel p)
-unfolding behind_equals put_back
-sound_behind_equals kernel p s h is_ready =
-    let below : p < 32 = lives_below kernel.procs p s.slots h in
-    let member : Member = record { slot = p; priority = (process_in kernel.procs p).priority } in
-    let gone = removed kernel.lists p in
-    let table = table_removed kernel.lists p s.table in
-    let none = list_of_removed kernel.lists p in
-    let K : List (List Member) → Type 0 = λ lists. IsSound (record kernel { lists = lists }) in
-    let turned : inserted gone ready member ≡ rotated kernel.lists p member.priority = ap (put_back kernel.lists p member.priority) (sym is_ready) in
-    let same : (q : ℕ) → q ≢ p → list_of (inserted gone ready member) q ≡ list_of kernel.lists q =
-    λ q other. list_of_inserted_other gone ready member q table (omega arith) below none (not_equal p q (λ e. other (sym e)))
-    ∙ list_of_removed_other kernel.lists p q s.table (not_equal p q (λ e. other (sym e))) in
-    subst K turned (record {
-      some = s.some;
-      few = s.few;
-      columns = s.columns;
-      slots = s.slots;
-      table = table_inserted gone ready member table (omega arith) below none;
-      fit = s.fit;
-      listed = λ q list e. elim (cases_eq q p) [
-        | inl equal ↦ ap (lives kernel.procs) equal ∙ h
-        | inr other ↦ s.listed q list (sym (same q other) ∙ e)
-      ];
-      runs = λ q e. elim (cases_eq q p) [
-        | inl equal ↦ ap (list_of (inserted gone ready member)) equal ∙ list_of_inserted gone ready member table (omega arith) below none
-        | inr other ↦ same q other ∙ s.runs q e
-      ];
-    })
-
-pub lives_behind_equals : (kernel : Kernel) (p : ℕ) → Lives kernel.procs p → Lives (behind_equals kernel p).procs p
-unfolding behind_equals
-lives_behind_equals kernel p h = h
-
-pub ready_behind_equals : (kernel : Kernel) (p : ℕ) → IsSound kernel → Lives kernel.procs p → IsReady kernel p → IsReady (behind_equals kernel p) p
-unfolding behind_equals put_back
-ready_behind_equals kernel p s h is_ready =
-    let member : Member = record { slot = p; priority = (process_in kernel.procs p).priority } in
-    let gone = removed kernel.lists p in
-    let P : List (List Member) → Type 0 = λ lists. list_of lists p ≡ Some ready in
-    let turned : inserted gone ready member ≡ rotated kernel.lists p member.priority = ap (put_back kernel.lists p member.priority) (sym is_ready) in
-    subst P turned (list_of_inserted gone ready member (table_removed kernel.lists p s.table) (omega arith) (lives_below kernel.procs p s.slots h) (list_of_removed kernel.lists p))
+use Rattle.mpm_procs.proofs.MapLaws.{lives_changed}
+use Rattle.mpm_kernel.specs.Kernel.{Kernel, ready, poll_list, is_waiter, flags_of, IsReady, IsFit, IsSound, CompletedLive, with_changed, with_completed}
+use Rattle.mpm_kernel.specs.Dispatch.{at_rest, stays, is_ready, behind_equals, with_priority, unlisted, moved, all_ready, all_woken, runner_behind}
+use Rattle.mpm_kernel.specs.Calls.{is_count, with_user, with_multi, call_done, called}
+use Rattle.mpm_kernel.specs.Called.{Called, valued, low_parameter, refusal}
+use Rattle.mpm_kernel.specs.Waiting.{polled, is_flag, waited, flag_waited, with_woken, signalled, flag_set, slept}
+use Rattle.mpm_kernel.specs.Dates.{names_time, named_moment, date_set, date_told, time_told}
+use Rattle.mpm_kernel.specs.Events.{MayCome, with_tick, clock_ticked, pollers, with_ready, device_ready, happens, happened, first_completed, handed_out}
+use Rattle.mpm_script.specs.Events.{IsEvent}
+use Rattle.mpm_script.specs.declared.event.Event.{Event}
+use Rattle.mpm_script.specs.declared.event.Event.TheVariants.{Tick, Key, Ready, Int}
+use Rattle.mpm_kernel.proofs.PlaceLaws.{flags_with, all_by_counts, all_members}
+pub use Rattle.mpm_kernel.proofs.Soundness.{none_and_some, sound_new, sound_changed, sound_call, sound_devices, sound_spoke, first_is_in, some_same, first_is_ready, listed, listed_once, not_delayed, runner_lives, sound_picked, free_is_unlisted, sound_discharged, sound_admitted, sound_in_slot, consoles_in_slot, completed_in_slot, sound_ready, sound_moved, sound_unlisted, sound_fewer, sound_behind_equals, lives_behind_equals, sound_all_ready, procs_all_ready, running_all_ready, is_ready_true, sound_runner_behind, completed_if, procs_runner_behind, sound_with_completed, sound_completed, MayBeReady}
 
 -- the calls of the kernel
 
--- what a call leaves is sound, and its process lives and is ready
+-- what a call leaves is sound, its process lives, and so does each whose held call it completed
 record StaysSound (p : ℕ) (called : Called) : Type 0 where
   pub sound : IsSound called.kernel
   pub lives : Lives called.kernel.procs p
-  pub ready : IsReady called.kernel p
+  pub completed : CompletedLive called.kernel
 
-called_if : (p : ℕ) (b : Bool) (x y : Called) → StaysSound p x → StaysSound p y → StaysSound p (if b then x else y)
-called_if p true x y s t = s
-called_if p false x y s t = t
+nobody : (kernel : Kernel) → kernel.completed ≡ [] → CompletedLive kernel
+nobody kernel none =
+    let P : List ℕ → Type 0 = λ ps. AllByRecursion (λ p. Lives kernel.procs p) ps in
+    subst P (sym none) tt
+
+called_if : (p : ℕ) (b : Bool) (x y : Called) → (b ≡ true → StaysSound p x) → (b ≡ false → StaysSound p y) → StaysSound p (if b then x else y)
+called_if p true x y s t = s refl
+called_if p false x y s t = t refl
+
+kernel_if : (p : ℕ) (b : Bool) (x y : Kernel) (value : ℕ) → (b ≡ true → StaysSound p (valued value x)) → (b ≡ false → StaysSound p (valued value y))
+    → StaysSound p (valued value (if b then x else y))
+kernel_if p true x y value s t = s refl
+kernel_if p false x y value s t = t refl
+
+-- a process that is ready and lives, in a sound kernel that has completed no call yet
+record Calls (p : ℕ) (kernel : Kernel) : Type 0 where
+  pub sound : IsSound kernel
+  pub lives : Lives kernel.procs p
+  pub ready : IsReady kernel p
+  pub none : kernel.completed ≡ []
+
+same : (p value : ℕ) (kernel : Kernel) → Calls p kernel → StaysSound p (valued value kernel)
+same p value kernel c = record { sound = c.sound; lives = c.lives; completed = nobody kernel c.none }
 
 -- the process with a field changed
-stays_changed : (p value : ℕ) (kernel : Kernel) (process : Process) → IsSound kernel → Lives kernel.procs p → IsReady kernel p
-    → IsFit kernel.consoles process → StaysSound p (valued value (with_changed kernel p process))
-stays_changed p value kernel process s h is_ready fit = record {
-  sound = sound_changed kernel p process s h fit;
-  lives = lives_changed kernel.procs p p process ∙ h;
-  ready = is_ready;
+stays_changed : (p value : ℕ) (kernel : Kernel) (process : Process) → Calls p kernel → IsFit kernel.consoles process
+    → StaysSound p (valued value (with_changed kernel p process))
+stays_changed p value kernel process c fit = record {
+  sound = sound_changed kernel p process c.sound c.lives fit;
+  lives = lives_changed kernel.procs p p process ∙ c.lives;
+  completed = nobody (with_changed kernel p process) c.none;
 }
 
-kernel_if : (p : ℕ) (b : Bool) (x y : Kernel) (value : ℕ) → StaysSound p (valued value x) → StaysSound p (valued value y)
-    → StaysSound p (valued value (if b then x else y))
-kernel_if p true x y value s t = s
-kernel_if p false x y value s t = t
-
-counted_if : (p : ℕ) (b : Bool) (x y : Kernel) (value : ℕ) → StaysSound p (valued value y) → (b ≡ true → StaysSound p (valued value x))
-    → StaysSound p (valued value (if b then x else y))
-counted_if p true x y value s t = t refl
-counted_if p false x y value s t = s
-
-stays_user : (call : Taken) (p value : ℕ) (kernel : Kernel) → IsSound kernel → Lives kernel.procs p → IsReady kernel p
-    → StaysSound p (valued value (with_user call p (process_in kernel.procs p) kernel))
+stays_user : (call : Taken) (p value : ℕ) (kernel : Kernel) → Calls p kernel → StaysSound p (valued value (with_user call p (process_in kernel.procs p) kernel))
 unfolding with_user
-stays_user call p value kernel s h is_ready =
-    let fit = s.fit p h in
-    kernel_if p (low_parameter call == 255) _ _ value (record { sound = s; lives = h; ready = is_ready })
-    (stays_changed p value kernel _ s h is_ready (record { console = fit.console; some = fit.some; few = fit.few }))
+stays_user call p value kernel c =
+    let fit = c.sound.fit p c.lives in
+    kernel_if p (low_parameter call == 255) _ _ value (λ _. same p value kernel c)
+    (λ _. stays_changed p value kernel _ c (record { console = fit.console; some = fit.some; few = fit.few }))
 
-stays_multi : (call : Taken) (p value : ℕ) (kernel : Kernel) → IsSound kernel → Lives kernel.procs p → IsReady kernel p
-    → StaysSound p (valued value (with_multi call p (process_in kernel.procs p) kernel))
+stays_multi : (call : Taken) (p value : ℕ) (kernel : Kernel) → Calls p kernel → StaysSound p (valued value (with_multi call p (process_in kernel.procs p) kernel))
 unfolding with_multi
-stays_multi call p value kernel s h is_ready =
-    let fit = s.fit p h in
-    counted_if p (is_count (low_parameter call)) _ _ value (record { sound = s; lives = h; ready = is_ready })
-    (λ is. stays_changed p value kernel _ s h is_ready (record { console = fit.console; some = grind (arith, nat_tests, is); few = grind (arith, nat_tests, is) }))
+stays_multi call p value kernel c =
+    let fit = c.sound.fit p c.lives in
+    kernel_if p (is_count (low_parameter call)) _ _ value
+    (λ is. stays_changed p value kernel _ c (record { console = fit.console; some = grind (arith, nat_tests, is); few = grind (arith, nat_tests, is) }))
+    (λ _. same p value kernel c)
 
-stays_behind : (p value : ℕ) (kernel : Kernel) → IsSound kernel → Lives kernel.procs p → IsReady kernel p → StaysSound p (valued value (behind_equals kernel p))
-stays_behind p value kernel s h is_ready = record {
-  sound = sound_behind_equals kernel p s h is_ready;
-  lives = lives_behind_equals kernel p h;
-  ready = ready_behind_equals kernel p s h is_ready;
+completed_behind_equals : (kernel : Kernel) (p : ℕ) → (behind_equals kernel p).completed ≡ kernel.completed
+unfolding behind_equals
+completed_behind_equals kernel p = refl
+
+stays_behind : (p value : ℕ) (kernel : Kernel) → Calls p kernel → StaysSound p (valued value (behind_equals kernel p))
+stays_behind p value kernel c = record {
+  sound = sound_behind_equals kernel p c.sound c.lives c.ready;
+  lives = lives_behind_equals kernel p p c.lives;
+  completed = nobody (behind_equals kernel p) (completed_behind_equals kernel p ∙ c.none);
 }
 
-stays_priority : (p value priority : ℕ) (kernel : Kernel) → IsSound kernel → Lives kernel.procs p → IsReady kernel p
-    → StaysSound p (valued value (with_priority kernel p priority))
+stays_priority : (p value priority : ℕ) (kernel : Kernel) → Calls p kernel → StaysSound p (valued value (with_priority kernel p priority))
 unfolding with_priority
-stays_priority p value priority kernel s h is_ready =
-    let fit = s.fit p h in
+stays_priority p value priority kernel c =
+    let fit = c.sound.fit p c.lives in
     let process = record (process_in kernel.procs p) { priority = priority } in
-    let lives = lives_changed kernel.procs p p process ∙ h in
-    let sound = sound_changed kernel p process s h (record { console = fit.console; some = fit.some; few = fit.few }) in
-    stays_behind p value (with_changed kernel p process) sound lives is_ready
+    stays_behind p value (with_changed kernel p process) (record {
+      sound = sound_changed kernel p process c.sound c.lives (record { console = fit.console; some = fit.some; few = fit.few });
+      lives = lives_changed kernel.procs p p process ∙ c.lives;
+      ready = c.ready;
+      none = c.none;
+    })
 
-stays_call_done : (call : Taken) (p : ℕ) (kernel : Kernel) → IsSound kernel → Lives kernel.procs p → IsReady kernel p
-    → StaysSound p (call_done call p (process_in kernel.procs p) kernel)
+-- waiting for a device, for a flag, for the clock
+
+stays_polled : (call : Taken) (p : ℕ) (kernel : Kernel) → Calls p kernel → StaysSound p (polled call p kernel)
+unfolding polled moved
+stays_polled call p kernel c =
+    let device = low_parameter call in
+    called_if p (nat_lt 15 device) _ _ (λ _. same p refusal kernel c)
+    (λ fits. called_if p (slice_index_or kernel.devices.ready device false) _ _ (λ _. same p 0 kernel c) (λ _. record {
+      sound = sound_moved kernel (poll_list device) p c.sound c.lives (grind (arith, nat_tests, fits)) (listed_once kernel p ready c.sound c.ready);
+      lives = c.lives;
+      completed = nobody (at_rest (moved kernel (poll_list device) p) p) c.none;
+    }))
+
+-- a flag's state and the number of those for whom it waits
+waiter_own : (p q : ℕ) → q ≡ p → one_if (is_waiter q (Waits p)) ≡ 1
+waiter_own p q e = one_if_true (p == q) (grind (arith, nat_tests, e))
+
+waiter_other : (p q : ℕ) → q ≢ p → one_if (is_waiter q (Waits p)) ≡ 0
+waiter_other p q other = one_if_false (p == q) (grind (arith, nat_tests, other))
+
+flags_from : (kernel : Kernel) (flag : ℕ) (old new : Flag) (q : ℕ) → IsSound kernel → flag < 32 → flag_at kernel.flags flag ≡ old
+    → flags_of (with_flag kernel.flags flag new) q + one_if (is_waiter q old) ≡ flags_of kernel.flags q + one_if (is_waiter q new)
+flags_from kernel flag old new q s below is =
+    let P : Flag → Type 0 = λ f. flags_of (with_flag kernel.flags flag new) q + one_if (is_waiter q f) ≡ flags_of kernel.flags q + one_if (is_waiter q new) in
+    subst P is (flags_with kernel.flags flag new q (omega (arith, s.flags, below)))
+
+-- a flag for which nobody waits afterwards who didn't before
+sound_flag : (kernel : Kernel) (flag : ℕ) (old new : Flag) → IsSound kernel → flag < 32 → flag_at kernel.flags flag ≡ old
+    → ((q : ℕ) → one_if (is_waiter q new) ≤ one_if (is_waiter q old)) → IsSound (record kernel { flags = with_flag kernel.flags flag new })
+sound_flag kernel flag old new s below is no_more =
+    sound_fewer kernel (with_flag kernel.flags flag new) kernel.clock s (length-set kernel.flags flag new ∙ s.flags)
+    (λ q. omega (arith, flags_from kernel flag old new q s below is, no_more q)) (λ q. omega arith)
+
+-- a process that is ready waits for no flag
+waits_not : (kernel : Kernel) (flag other p : ℕ) → Calls p kernel → flag < 32 → flag_at kernel.flags flag ≡ Waits other → other ≡ p → ⊥
+waits_not kernel flag other p c below is same =
+    omega (arith, listed_once kernel p ready c.sound c.ready, flags_from kernel flag (Waits other) Clear p c.sound below is, waiter_own other p (sym same))
+
+waited_if : (b : Bool) (p : ℕ) (kernel : Kernel) → (b ≡ true → ⊥) → StaysSound p (valued refusal kernel)
+    → StaysSound p (waited (if b then Begins else Underrun) p kernel)
+unfolding waited
+waited_if true p kernel never stays = absurd (never refl)
+waited_if false p kernel never stays = stays
+
+stays_waited : (state : Flag) (p flag : ℕ) (kernel : Kernel) → Calls p kernel → flag < 32 → flag_at kernel.flags flag ≡ state
+    → StaysSound p (waited (wait_answer p state) p (record kernel { flags = with_flag kernel.flags flag (behind_wait p state) }))
+unfolding waited unlisted
+stays_waited Clear p flag kernel c below is =
+    let behind = with_flag kernel.flags flag (Waits p) in
+    record {
+      sound = sound_unlisted kernel p behind kernel.clock c.sound c.lives (length-set kernel.flags flag (Waits p) ∙ c.sound.flags)
+          (omega (arith, listed_once kernel p ready c.sound c.ready, flags_from kernel flag Clear (Waits p) p c.sound below is, waiter_own p p refl))
+          (λ q other. omega (arith, flags_from kernel flag Clear (Waits p) q c.sound below is, waiter_other p q other));
+      lives = c.lives;
+      completed = nobody (at_rest (unlisted (record kernel { flags = behind }) p) p) c.none;
+    }
+stays_waited Set p flag kernel c below is = record {
+  sound = sound_flag kernel flag Set Clear c.sound below is (λ q. omega arith);
+  lives = c.lives;
+  completed = nobody (record kernel { flags = with_flag kernel.flags flag Clear }) c.none;
+}
+stays_waited (Waits other) p flag kernel c below is =
+    let behind = record kernel { flags = with_flag kernel.flags flag (Waits other) } in
+    waited_if (other == p) p behind (λ same. waits_not kernel flag other p c below is (grind (arith, nat_tests, same))) (record {
+      sound = sound_flag kernel flag (Waits other) (Waits other) c.sound below is (λ q. omega arith);
+      lives = c.lives;
+      completed = nobody behind c.none;
+    })
+
+pub flag_below : (flag : ℕ) → is_flag flag ≡ true → flag < 32
+flag_below flag is = grind (arith, nat_tests, is)
+
+stays_flag_waited : (call : Taken) (p : ℕ) (kernel : Kernel) → Calls p kernel → StaysSound p (flag_waited call p kernel)
+unfolding flag_waited
+stays_flag_waited call p kernel c =
+    let flag = low_parameter call in
+    called_if p (is_flag flag) _ _ (λ is. stays_waited (flag_at kernel.flags flag) p flag kernel c (flag_below flag is) refl) (λ _. same p refusal kernel c)
+
+-- a flag is set
+record Woke (kernel : Kernel) : Type 0 where
+  pub sound : IsSound kernel
+  pub completed : CompletedLive kernel
+
+-- who waits for a flag lives, and waits for nothing else
+pub waiter_lives : (kernel : Kernel) (flag q : ℕ) → IsSound kernel → flag < 32 → flag_at kernel.flags flag ≡ Waits q → Lives kernel.procs q
+waiter_lives kernel flag q s below is =
+    s.live q (omega (arith, flags_from kernel flag (Waits q) Clear q s below is, waiter_own q q refl))
+
+woke_by : (state : Flag) (flag : ℕ) (kernel : Kernel) → IsSound kernel → CompletedLive kernel → flag < 32 → flag_at kernel.flags flag ≡ state
+    → Woke (with_woken (set_answer state) (record kernel { flags = with_flag kernel.flags flag (behind_set state) }))
+unfolding with_woken all_ready moved
+woke_by Clear flag kernel s live below is = record { sound = sound_flag kernel flag Clear Set s below is (λ q. omega arith); completed = live }
+woke_by Set flag kernel s live below is = record { sound = sound_flag kernel flag Set Set s below is (λ q. omega arith); completed = live }
+woke_by (Waits p) flag kernel s live below is =
+    let behind = record kernel { flags = with_flag kernel.flags flag Clear } in
+    let lives = waiter_lives kernel flag p s below is in
+    let nowhere_else : flags_of behind.flags p + delays_of kernel.clock.delays p ≡ 0 =
+    omega (arith, s.once p, flags_from kernel flag (Waits p) Clear p s below is, waiter_own p p refl) in
+    record {
+      sound = sound_with_completed _ (p ∷ []) (sound_ready behind p (sound_flag kernel flag (Waits p) Clear s below is (λ q. omega arith)) lives nowhere_else);
+      completed = (lives, tt);
+    }
+
+woke_signalled : (flag : ℕ) (kernel : Kernel) → IsSound kernel → CompletedLive kernel → flag < 32 → Woke (signalled flag kernel)
+unfolding signalled
+woke_signalled flag kernel s live below = woke_by (flag_at kernel.flags flag) flag kernel s live below refl
+
+pub procs_with_woken : (answer : FlagSet) (kernel : Kernel) → (with_woken answer kernel).procs ≡ kernel.procs
+unfolding with_woken
+procs_with_woken IsSet kernel = refl
+procs_with_woken Overrun kernel = refl
+procs_with_woken (Woken p) kernel = procs_all_ready (p ∷ []) kernel
+
+pub procs_signalled : (flag : ℕ) (kernel : Kernel) → (signalled flag kernel).procs ≡ kernel.procs
+unfolding signalled
+procs_signalled flag kernel =
+    procs_with_woken (set_answer (flag_at kernel.flags flag)) (record kernel { flags = with_flag kernel.flags flag (behind_set (flag_at kernel.flags flag)) })
+
+stays_flag_set : (call : Taken) (p : ℕ) (kernel : Kernel) → Calls p kernel → StaysSound p (flag_set call kernel)
+unfolding flag_set
+stays_flag_set call p kernel c =
+    let flag = low_parameter call in
+    called_if p (is_flag flag) _ _
+    (λ is. let woke = woke_signalled flag kernel c.sound (nobody kernel c.none) (flag_below flag is) in
+    record { sound = woke.sound; lives = ap (λ procs. lives procs p) (procs_signalled flag kernel) ∙ c.lives; completed = woke.completed })
+    (λ _. same p refusal kernel c)
+
+delays_delayed : (kernel : Kernel) (p ticks q : ℕ) → q ≢ p → delays_of (delayed kernel.clock p ticks).delays q ≡ delays_of kernel.clock.delays q
+unfolding delayed
+delays_delayed kernel p ticks q other = delays_more_other kernel.clock.delays (record { slot = p; ticks = ticks }) q (λ e. other (sym e))
+
+delays_delayed_own : (kernel : Kernel) (p ticks : ℕ) → delays_of (delayed kernel.clock p ticks).delays p ≡ delays_of kernel.clock.delays p + 1
+unfolding delayed
+delays_delayed_own kernel p ticks = delays_more_own kernel.clock.delays (record { slot = p; ticks = ticks }) p refl
+
+stays_slept : (call : Taken) (p : ℕ) (kernel : Kernel) → Calls p kernel → StaysSound p (slept call p kernel)
+unfolding slept unlisted
+stays_slept call p kernel c =
+    let clock = delayed kernel.clock p call.word in
+    called_if p (call.word == 0) _ _ (λ _. stays_behind p 0 kernel c) (λ _. record {
+      sound = sound_unlisted kernel p kernel.flags clock c.sound c.lives c.sound.flags
+          (omega (arith, listed_once kernel p ready c.sound c.ready, delays_delayed_own kernel p call.word))
+          (λ q other. omega (arith, delays_delayed kernel p call.word q other));
+      lives = c.lives;
+      completed = nobody (at_rest (record (unlisted kernel p) { clock = clock }) p) c.none;
+    })
+
+-- the date and the time
+sound_set : (kernel : Kernel) (moment : Moment) → IsSound kernel → IsSound (record kernel { clock = set_to kernel.clock moment })
+unfolding set_to
+sound_set kernel moment s = sound_fewer kernel kernel.flags (set_to kernel.clock moment) s s.flags (λ q. omega arith) (λ q. omega arith)
+
+stays_date_set : (call : Taken) (p : ℕ) (kernel : Kernel) → Calls p kernel → StaysSound p (date_set call kernel)
+unfolding date_set
+stays_date_set call p kernel c = called_if p (names_time call) _ _
+    (λ _. record {
+      sound = sound_set kernel (named_moment call) c.sound;
+      lives = c.lives;
+      completed = nobody (record kernel { clock = set_to kernel.clock (named_moment call) }) c.none;
+    })
+    (λ _. same p refusal kernel c)
+
+stays_told : (p : ℕ) (kernel : Kernel) (called : Called) → called.kernel ≡ kernel → Calls p kernel → StaysSound p called
+stays_told p kernel called e c =
+    let s = same p 0 kernel c in
+    let P : Kernel → Type 0 = λ k. IsSound k × (Lives k.procs p × CompletedLive k) in
+    let t : P called.kernel = subst P (sym e) (s.sound, (s.lives, s.completed)) in
+    record { sound = t.0; lives = t.1.0; completed = t.1.1 }
+
+kernel_date_told : (call : Taken) (kernel : Kernel) → (date_told call kernel).kernel ≡ kernel
+unfolding date_told
+kernel_date_told call kernel = refl
+
+kernel_time_told : (call : Taken) (kernel : Kernel) → (time_told call kernel).kernel ≡ kernel
+unfolding time_told
+kernel_time_told call kernel = refl
+
+stays_call_done : (call : Taken) (p : ℕ) (kernel : Kernel) → Calls p kernel → StaysSound p (call_done call p (process_in kernel.procs p) kernel)
 unfolding call_done
-stays_call_done call p kernel s h is_ready =
-    let fit = s.fit p h in
+stays_call_done call p kernel c =
+    let fit = c.sound.fit p c.lives in
     let f = call.function in
-    called_if p (f == 0 || f == 143) _ _ (record { sound = s; lives = h; ready = is_ready })
-    (called_if p (f == 2 || f == 9) _ _ (record { sound = s; lives = h; ready = is_ready })
-    (called_if p (f == 12 || f == 163) _ _ (record { sound = s; lives = h; ready = is_ready })
-    (called_if p (f == 25) _ _ (record { sound = s; lives = h; ready = is_ready })
-    (called_if p (f == 26) _ _ (stays_changed p 0 kernel _ s h is_ready (record { console = fit.console; some = fit.some; few = fit.few }))
-    (called_if p (f == 32) _ _ (stays_user call p _ kernel s h is_ready)
-    (called_if p (f == 44) _ _ (stays_multi call p _ kernel s h is_ready)
-    (called_if p (f == 45) _ _ (stays_changed p 0 kernel _ s h is_ready (record { console = fit.console; some = fit.some; few = fit.few }))
-    (called_if p (f == 106) _ _ (stays_changed p 0 kernel _ s h is_ready (record { console = fit.console; some = fit.some; few = fit.few }))
-    (called_if p (f == 142) _ _ (stays_behind p 0 kernel s h is_ready)
-    (called_if p (f == 145) _ _ (stays_priority p 0 (low_parameter call) kernel s h is_ready)
-    (record { sound = s; lives = h; ready = is_ready })))))))))))
+    let s = same p 0 kernel c in
+    called_if p (f == 0 || f == 143) _ _ (λ _. record { sound = s.sound; lives = s.lives; completed = s.completed })
+    (λ _. called_if p (f == 2 || f == 9) _ _ (λ _. same p _ kernel c)
+    (λ _. called_if p (f == 12 || f == 163) _ _ (λ _. same p _ kernel c)
+    (λ _. called_if p (f == 25) _ _ (λ _. same p _ kernel c)
+    (λ _. called_if p (f == 26) _ _ (λ _. stays_changed p 0 kernel _ c (record { console = fit.console; some = fit.some; few = fit.few }))
+    (λ _. called_if p (f == 32) _ _ (λ _. stays_user call p _ kernel c)
+    (λ _. called_if p (f == 44) _ _ (λ _. stays_multi call p _ kernel c)
+    (λ _. called_if p (f == 45) _ _ (λ _. stays_changed p 0 kernel _ c (record { console = fit.console; some = fit.some; few = fit.few }))
+    (λ _. called_if p (f == 104) _ _ (λ _. stays_date_set call p kernel c)
+    (λ _. called_if p (f == 105) _ _ (λ _. stays_told p kernel _ (kernel_date_told call kernel) c)
+    (λ _. called_if p (f == 106) _ _ (λ _. stays_changed p 0 kernel _ c (record { console = fit.console; some = fit.some; few = fit.few }))
+    (λ _. called_if p (f == 131) _ _ (λ _. stays_polled call p kernel c)
+    (λ _. called_if p (f == 132) _ _ (λ _. stays_flag_waited call p kernel c)
+    (λ _. called_if p (f == 133) _ _ (λ _. stays_flag_set call p kernel c)
+    (λ _. called_if p (f == 141) _ _ (λ _. stays_slept call p kernel c)
+    (λ _. called_if p (f == 142) _ _ (λ _. stays_behind p 0 kernel c)
+    (λ _. called_if p (f == 145) _ _ (λ _. stays_priority p 0 (low_parameter call) kernel c)
+    (λ _. called_if p (f == 155) _ _ (λ _. stays_told p kernel _ (kernel_time_told call kernel) c)
+    (λ _. same p _ kernel c))))))))))))))))))
+
+-- a process that is ready may call
+begun : (p : ℕ) (kernel : Kernel) → IsSound kernel → Lives kernel.procs p → IsReady kernel p → Calls p (with_completed kernel [])
+begun p kernel s h is_ready = record { sound = sound_with_completed kernel [] s; lives = h; ready = is_ready; none = refl }
 
 pub sound_called : (p : ℕ) (kernel : Kernel) → IsSound kernel → Lives kernel.procs p → IsReady kernel p → IsSound (called p kernel).kernel
-sound_called p kernel s h is_ready = (stays_call_done (call_of kernel.procs p) p kernel s h is_ready).sound
+sound_called p kernel s h is_ready = (stays_call_done (call_of kernel.procs p) p _ (begun p kernel s h is_ready)).sound
 
 pub lives_called : (p : ℕ) (kernel : Kernel) → IsSound kernel → Lives kernel.procs p → IsReady kernel p → Lives (called p kernel).kernel.procs p
-lives_called p kernel s h is_ready = (stays_call_done (call_of kernel.procs p) p kernel s h is_ready).lives
+lives_called p kernel s h is_ready = (stays_call_done (call_of kernel.procs p) p _ (begun p kernel s h is_ready)).lives
+
+pub live_called : (p : ℕ) (kernel : Kernel) → IsSound kernel → Lives kernel.procs p → IsReady kernel p → CompletedLive (called p kernel).kernel
+live_called p kernel s h is_ready = (stays_call_done (call_of kernel.procs p) p _ (begun p kernel s h is_ready)).completed
+
+-- events
+
+-- who is woken by a tick lived, and waits for nothing behind it
+sound_ticked : (kernel : Kernel) → IsSound kernel → IsSound (with_tick kernel)
+unfolding ticked
+sound_ticked kernel s =
+    sound_fewer kernel kernel.flags (ticked kernel.clock) s s.flags (λ q. omega arith) (λ q. omega (arith, delays_ticked kernel.clock.delays q))
+
+may_by_tick : (kernel : Kernel) → IsSound kernel
+    → AllByRecursion (MayBeReady (with_tick kernel)) (woken_by_tick kernel.clock.delays)
+unfolding ticked
+may_by_tick kernel s =
+    all_by_counts (MayBeReady (with_tick kernel)) (woken_by_tick kernel.clock.delays)
+    (λ p some. (s.live p (omega (arith, delays_ticked kernel.clock.delays p, some)), omega (arith, delays_ticked kernel.clock.delays p, some, s.once p)))
+
+all_live : (kernel : Kernel) (ps : List ℕ) → AllByRecursion (MayBeReady kernel) ps → AllByRecursion (λ p. Lives kernel.procs p) ps
+all_live kernel [] may = tt
+all_live kernel (p ∷ ps) may = (may.0.0, all_live kernel ps may.1)
+
+-- processes that wait for nothing else are woken
+woke_all : (ps : List ℕ) (kernel : Kernel) → IsSound kernel → AllByRecursion (MayBeReady kernel) ps → Woke (all_woken ps kernel)
+woke_all ps kernel s may =
+    let P : Table → Type 0 = λ procs. AllByRecursion (λ p. Lives procs p) ps in
+    record {
+      sound = sound_with_completed (all_ready ps kernel) ps (sound_all_ready ps kernel s may);
+      completed = subst P (sym (procs_all_ready ps kernel)) (all_live kernel ps may);
+    }
+
+-- in a tick, and as a device becomes ready
+pub live_by_tick : (kernel : Kernel) → IsSound kernel → AllByRecursion (λ p. Lives kernel.procs p) (woken_by_tick kernel.clock.delays)
+live_by_tick kernel s = all_live (with_tick kernel) (woken_by_tick kernel.clock.delays) (may_by_tick kernel s)
+
+pub sound_woken_by_tick : (kernel : Kernel) → IsSound kernel → IsSound (all_woken (woken_by_tick kernel.clock.delays) (with_tick kernel))
+sound_woken_by_tick kernel s = (woke_all (woken_by_tick kernel.clock.delays) (with_tick kernel) (sound_ticked kernel s) (may_by_tick kernel s)).sound
+
+pub sound_with_ready : (kernel : Kernel) (device byte : ℕ) → IsSound kernel → IsSound (with_ready kernel device byte)
+sound_with_ready kernel device byte s = sound_devices kernel (with_ready kernel device byte).devices s
+
+completed_runner_behind : (running : Option ℕ) (kernel : Kernel) → (runner_behind running kernel).completed ≡ kernel.completed
+unfolding runner_behind behind_equals
+completed_runner_behind None kernel = refl
+completed_runner_behind (Some p) kernel = completed_if (is_ready (list_of kernel.lists p)) (behind_equals kernel p) kernel refl
+
+all_kept : (old new : Table) (ps : List ℕ) → ((q : ℕ) → Lives old q → Lives new q) → AllByRecursion (λ q. Lives old q) ps
+    → AllByRecursion (λ q. Lives new q) ps
+all_kept old new [] lives live = tt
+all_kept old new (p ∷ ps) lives live = (lives p live.0, all_kept old new ps lives live.1)
+
+-- who is completed lives on where everybody does
+pub live_kept : (old new : Kernel) → new.completed ≡ old.completed → ((q : ℕ) → Lives old.procs q → Lives new.procs q)
+    → CompletedLive old → CompletedLive new
+live_kept old new same lives live =
+    let P : List ℕ → Type 0 = λ ps. AllByRecursion (λ q. Lives new.procs q) ps in
+    subst P (sym same) (all_kept old.procs new.procs old.completed lives live)
+
+live_same : (old new : Kernel) → new.procs ≡ old.procs → new.completed ≡ old.completed → CompletedLive old → CompletedLive new
+live_same old new procs completed live =
+    let P : Table → Type 0 = λ t. AllByRecursion (λ p. Lives t p) old.completed in
+    let Q : List ℕ → Type 0 = λ ps. AllByRecursion (λ p. Lives new.procs p) ps in
+    subst Q (sym completed) (subst P (sym procs) live)
+
+woke_clock_ticked : (kernel : Kernel) → IsSound kernel → Woke (clock_ticked kernel)
+unfolding clock_ticked
+woke_clock_ticked kernel s =
+    let behind = all_woken (woken_by_tick kernel.clock.delays) (with_tick kernel) in
+    let woke : Woke behind = woke_all (woken_by_tick kernel.clock.delays) (with_tick kernel) (sound_ticked kernel s) (may_by_tick kernel s) in
+    record {
+      sound = sound_runner_behind kernel.running behind woke.sound;
+      completed = live_same behind (runner_behind kernel.running behind) (procs_runner_behind kernel.running behind) (completed_runner_behind kernel.running behind) woke.completed;
+    }
+
+-- who polls a device lives, and waits for nothing else
+pub poller_in_list : (kernel : Kernel) (device p : ℕ) → IsSound kernel → in_list p (list_at kernel.lists (poll_list device)) ≡ true → MayBeReady kernel p
+poller_in_list kernel device p s here =
+    let list = list_of_known kernel.lists p (poll_list device) s.table here in
+    (listed kernel p (poll_list device) s list, listed_once kernel p (poll_list device) s list)
+
+pub may_by_device : (kernel : Kernel) (device : ℕ) → IsSound kernel → AllByRecursion (MayBeReady kernel) (pollers kernel device)
+unfolding pollers
+may_by_device kernel device s =
+    all_members (MayBeReady kernel) (list_at kernel.lists (poll_list device)) (λ p here. poller_in_list kernel device p s here)
+
+woke_device_ready : (kernel : Kernel) (device byte : ℕ) → IsSound kernel → Woke (device_ready kernel device byte)
+unfolding device_ready
+woke_device_ready kernel device byte s =
+    woke_all (pollers kernel device) (with_ready kernel device byte) (sound_devices kernel _ s) (may_by_device kernel device s)
+
+woke_happens : (event : Event) (kernel : Kernel) → MayCome event → IsSound kernel → CompletedLive kernel → Woke (happens event kernel)
+unfolding happens
+woke_happens Tick kernel may s live = woke_clock_ticked kernel s
+woke_happens (Key console byte) kernel may s live = record { sound = s; completed = live }
+woke_happens (Ready device byte) kernel may s live = woke_device_ready kernel device byte s
+woke_happens (Int flag) kernel may s live = woke_signalled flag kernel s live may
+
+pub sound_happened : (event : Event) (kernel : Kernel) → MayCome event → IsSound kernel → IsSound (happened event kernel)
+sound_happened event kernel may s = (woke_happens event (with_completed kernel []) may (sound_with_completed kernel [] s) tt).sound
+
+pub live_happened : (event : Event) (kernel : Kernel) → MayCome event → IsSound kernel → CompletedLive (happened event kernel)
+live_happened event kernel may s = (woke_happens event (with_completed kernel []) may (sound_with_completed kernel [] s) tt).completed
+
+-- no event changes a process or the call that it keeps
+procs_happens : (event : Event) (kernel : Kernel) → (happens event kernel).procs ≡ kernel.procs
+unfolding happens clock_ticked device_ready
+procs_happens Tick kernel =
+    procs_runner_behind kernel.running _ ∙ procs_all_ready (woken_by_tick kernel.clock.delays) (with_tick kernel)
+procs_happens (Key console byte) kernel = refl
+procs_happens (Ready device byte) kernel = procs_all_ready (pollers kernel device) (with_ready kernel device byte)
+procs_happens (Int flag) kernel = procs_signalled flag kernel
+
+pub procs_happened : (event : Event) (kernel : Kernel) → (happened event kernel).procs ≡ kernel.procs
+procs_happened event kernel = procs_happens event (with_completed kernel [])
+
+-- those who are left once one was handed out live, and so did that one
+dropped_live : (procs : Table) (ps : List ℕ) → AllByRecursion (λ p. Lives procs p) ps → AllByRecursion (λ p. Lives procs p) (drop 1 ps)
+dropped_live procs [] live = tt
+dropped_live procs (p ∷ ps) live = live.1
+
+pub live_handed_out : (kernel : Kernel) → CompletedLive kernel → CompletedLive (handed_out kernel)
+unfolding handed_out
+live_handed_out kernel live = dropped_live kernel.procs kernel.completed live
+
+first_lives : (procs : Table) (ps : List ℕ) (p : ℕ) → AllByRecursion (λ q. Lives procs q) ps → first_completed ps ≡ Some p → Lives procs p
+first_lives procs [] p live e = absurd (none_and_some None p refl e)
+first_lives procs (q ∷ ps) p live e = ap (lives procs) (sym (some_same q p e)) ∙ live.0
+
+pub completed_lives : (kernel : Kernel) (p : ℕ) → CompletedLive kernel → first_completed kernel.completed ≡ Some p → Lives kernel.procs p
+completed_lives kernel p live e = first_lives kernel.procs kernel.completed p live e
+
+-- what a script may ask for may come
+pub may_come : (event : Event) → IsEvent event → MayCome event
+may_come Tick is = tt
+may_come (Key console byte) is = tt
+may_come (Ready device byte) is = is
+may_come (Int flag) is = omega (arith, is.1)

@@ -1,6 +1,6 @@
 -- Bytes that come to a console one behind another.
 use Rattle.std.proofs.Common.{◌≡◌, ◌∙◌, ℕ, ◌-◌, ◌%◌, ◌<◌, ◌≤◌, Bool, true, false, ◌==◌, if◌then◌else◌, List, [], ◌∷◌, ◌++◌, set, get_or, take, replicate, refl, sym, ap, arith}
-use Rattle.std.proofs.lemmas.List.{get_or-set_same, set-get_or, set-set, length-set}
+use Rattle.std.proofs.lemmas.List.{get_or-set_same, set-get_or, set-set}
 use Rattle.mpm_kernel.specs.Kernel.{Kernel, HasColumns}
 use Rattle.mpm_kernel.specs.Columns.{columns_after, tab_text, spoke, wrote, spaces_for}
 use Rattle.mpm_kernel.proofs.ColumnLaws.{columns_nil, columns_append, first_spaces}

@@ -1,39 +1,19 @@
 -- What the kernel's calls do and answer, by the call that the process keeps. (MP/M II Programmer's Guide, the functions
 -- named.)
-use Rattle.std.specs.Prelude.{ℕ, ◌%◌, Bool, List, ◌++◌, ◌&&◌, ◌||◌, ◌==◌, nat_le, min, length, take, drop, replicate, if◌then◌else◌}
-use Rattle.mpm_base.specs.Calls.{Taken, Answer, answering}
-use Rattle.mpm_base.specs.declared.call.Outcome.{Outcome}
-use Rattle.mpm_base.specs.declared.call.Outcome.TheVariants.{Done, Ended}
+use Rattle.std.specs.Prelude.{ℕ, ◌%◌, Bool, List, [], ◌++◌, ◌&&◌, ◌||◌, ◌==◌, nat_le, min, length, take, drop, replicate, if◌then◌else◌}
+use Rattle.mpm_base.specs.Calls.{Taken, answering}
+use Rattle.mpm_base.specs.declared.call.Outcome.TheVariants.{Ended}
 use Rattle.mpm_procs.specs.Table.{process_in, call_of}
 use Rattle.mpm_procs.specs.declared.process.Process.{Process}
-use Rattle.mpm_kernel.specs.Kernel.{Kernel, with_changed}
+use Rattle.mpm_kernel.specs.Kernel.{Kernel, with_changed, with_completed}
 use Rattle.mpm_kernel.specs.Dispatch.{behind_equals, with_priority}
-
--- what becomes of the kernel and of the call, and the reply
-pub record Called : Type 0 where
-  pub kernel : Kernel
-  pub outcome : Outcome
-  pub reply : Answer
-
--- the call is done and answers a value
-abbrev pub valued : ℕ → Kernel → Called
-valued value kernel = record { kernel = kernel; outcome = Done; reply = answering value }
-
--- the call is done and answers nothing, which is 0
-abbrev pub done : Kernel → Called
-done kernel = valued 0 kernel
-
--- the parameter's low byte, which came in E
-abbrev pub low_parameter : Taken → ℕ
-low_parameter call = call.word % 256
+use Rattle.mpm_kernel.specs.Waiting.{polled, flag_waited, flag_set, slept}
+use Rattle.mpm_kernel.specs.Dates.{date_set, date_told, time_told}
+pub use Rattle.mpm_kernel.specs.Called.{Called, valued, done, low_parameter, refusal}
 
 -- the version: MP/M II, whose file system is that of CP/M 3
 abbrev pub version : ℕ
 version = 304
-
--- an answer that refuses
-abbrev pub refusal : ℕ
-refusal = 255
 
 -- function 32: FFh asks for the user, another byte sets it modulo 16
 unfoldable pub user_value : Taken → Process → ℕ
@@ -71,11 +51,18 @@ call_done call p process kernel =
     else (if function == 32 then valued (user_value call process) (with_user call p process kernel)
     else (if function == 44 then valued (multi_value call) (with_multi call p process kernel)
     else (if function == 45 then done (with_changed kernel p (record process { error_mode = low_parameter call }))
+    else (if function == 104 then date_set call kernel
+    else (if function == 105 then date_told call kernel
     else (if function == 106 then done (with_changed kernel p (record process { password = eight_of call.bytes }))
+    else (if function == 131 then polled call p kernel
+    else (if function == 132 then flag_waited call p kernel
+    else (if function == 133 then flag_set call kernel
+    else (if function == 141 then slept call p kernel
     else (if function == 142 then done (behind_equals kernel p)
     else (if function == 145 then done (with_priority kernel p (low_parameter call))
-    else (valued 65535 kernel)))))))))))
+    else (if function == 155 then time_told call kernel
+    else (valued 65535 kernel))))))))))))))))))
 
 -- the call that a process keeps is done
 abbrev pub called : ℕ → Kernel → Called
-called p kernel = call_done (call_of kernel.procs p) p (process_in kernel.procs p) kernel
+called p kernel = call_done (call_of kernel.procs p) p (process_in kernel.procs p) (with_completed kernel [])

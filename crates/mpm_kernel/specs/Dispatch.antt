@@ -1,23 +1,29 @@
 -- Which process runs: the first of the ready list. (MP/M II System Guide, "Dispatcher"; Programmer's Guide, functions 142,
 -- 144 and 145.)
-use Rattle.std.specs.Prelude.{ℕ, Bool, false, not, Option, Some, None, ◌&&◌, ◌||◌, ◌==◌, replicate, if◌then◌else◌}
+use Rattle.std.specs.Prelude.{ℕ, Bool, false, not, Option, Some, None, List, [], ◌∷◌, ◌&&◌, ◌||◌, ◌==◌, replicate, if◌then◌else◌}
 use Rattle.z80_regs.specs.declared.regs.Regs.{Regs}
 use Rattle.mpm_ready.specs.Order.{first_of}
 use Rattle.mpm_ready.specs.Tables.{no_lists, list_at, list_of, inserted, removed, rotated}
+use Rattle.mpm_flags.specs.States.{no_flags, left as without_waiter}
+use Rattle.mpm_clock.specs.declared.moment.Moment.{Moment}
+use Rattle.mpm_clock.specs.Times.{new_clock, left as without_delay}
 use Rattle.mpm_procs.specs.Table.{no_processes, process_in, added, without}
 use Rattle.mpm_procs.specs.declared.process.NewProcess.{NewProcess}
-use Rattle.mpm_kernel.specs.Kernel.{Kernel, ready, with_changed}
+use Rattle.mpm_kernel.specs.Kernel.{Kernel, ready, with_changed, with_completed}
 
--- the kernel of a machine as it begins: no process lives
-unfoldable pub new_kernel : ℕ → ℕ → Kernel
-new_kernel consoles printers = record {
+-- the kernel of a machine as it begins at a moment: no process lives
+unfoldable pub new_kernel : ℕ → ℕ → Moment → Kernel
+new_kernel consoles printers now = record {
   procs = no_processes;
   lists = no_lists;
   running = None;
+  flags = no_flags;
+  clock = new_clock now;
   devices = record { ready = replicate 16 false; last = replicate 16 0 };
   consoles = consoles;
   printers = printers;
   columns = replicate 8 0;
+  completed = [];
 }
 
 -- a process begins in a slot, and is ready
@@ -37,13 +43,39 @@ abbrev pub runs_still : ℕ → Option ℕ → Option ℕ
 runs_still p None = None
 runs_still p (Some other) = if other == p then None else Some other
 
--- a process ends: it stands in no list
+-- a process that doesn't run any more
+abbrev pub at_rest : Kernel → ℕ → Kernel
+at_rest kernel p = record kernel { running = runs_still p kernel.running }
+
+-- a process ends: it stands in no list, and waits neither for a flag nor for the clock; nobody's call was completed by that
 unfoldable pub discharged : Kernel → ℕ → Kernel
 discharged kernel p = record kernel {
   procs = without kernel.procs p;
   lists = removed kernel.lists p;
   running = runs_still p kernel.running;
+  flags = without_waiter kernel.flags p;
+  clock = without_delay kernel.clock p;
+  completed = [];
 }
+
+-- a process stands in no list
+unfoldable pub unlisted : Kernel → ℕ → Kernel
+unlisted kernel p = record kernel { lists = removed kernel.lists p }
+
+-- a process stands in another list, or in one now, where its priority puts it
+unfoldable pub moved : Kernel → ℕ → ℕ → Kernel
+moved kernel list p = record kernel {
+  lists = inserted (removed kernel.lists p) list (record { slot = p; priority = (process_in kernel.procs p).priority });
+}
+
+-- processes become ready, one after the other
+unfoldable pub all_ready : List ℕ → Kernel → Kernel
+all_ready [] kernel = kernel
+all_ready (p ∷ ps) kernel = all_ready ps (moved kernel ready p)
+
+-- the held calls of processes are completed: they become ready, in that order
+abbrev pub all_woken : List ℕ → Kernel → Kernel
+all_woken ps kernel = with_completed (all_ready ps kernel) ps
 
 -- interrupts are off, or an EI has not taken effect yet
 abbrev pub is_held_off : Regs → Bool
@@ -74,3 +106,8 @@ behind_equals kernel p =
 unfoldable pub with_priority : Kernel → ℕ → ℕ → Kernel
 with_priority kernel p priority =
     behind_equals (with_changed kernel p (record (process_in kernel.procs p) { priority = priority })) p
+
+-- the process that runs, if it is ready, is put behind its equals
+unfoldable pub runner_behind : Option ℕ → Kernel → Kernel
+runner_behind None kernel = kernel
+runner_behind (Some p) kernel = if is_ready (list_of kernel.lists p) then behind_equals kernel p else kernel

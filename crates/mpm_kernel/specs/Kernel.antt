@@ -1,25 +1,38 @@
 -- The kernel as the record of its parts, each the value of the crate that keeps it.
-use Rattle.std.specs.Prelude.{◌≡◌, ℕ, ◌<◌, ◌≤◌, List, Option, Some, length}
+use Rattle.std.specs.Prelude.{◌≡◌, ℕ, ◌+◌, ◌<◌, ◌≤◌, Bool, false, List, Option, Some, None, ◌==◌, count_by, length}
+use Rattle.std.specs.List.{AllByRecursion}
 use Rattle.mpm_base.specs.declared.devices.Devices.{Devices}
 use Rattle.mpm_ready.specs.Order.{Member}
 use Rattle.mpm_ready.specs.Tables.{list_of, IsTable}
+use Rattle.mpm_flags.specs.declared.flags.Flag.{Flag}
+use Rattle.mpm_flags.specs.declared.flags.Flag.TheVariants.{Clear, Set, Waits}
+use Rattle.mpm_clock.specs.Delays.{delays_of}
+use Rattle.mpm_clock.specs.Times.{Clock}
 use Rattle.mpm_procs.specs.Table.{Table, HasSlots, Lives, process_in, with_process}
 use Rattle.mpm_procs.specs.declared.process.Process.{Process}
 
--- the processes, the lists in which they stand, the process that runs, the polled devices, how many consoles and
--- printers there are, and the column of each console
+-- the processes, the lists in which they stand, the process that runs, the flags, the clock, the polled devices, how many
+-- consoles and printers there are, the column of each console, and the processes whose held calls the last call or event
+-- completed, in order, which were not handed out yet
 pub record Kernel : Type 0 where
   pub procs : Table
   pub lists : List (List Member)
   pub running : Option ℕ
+  pub flags : List Flag
+  pub clock : Clock
   pub devices : Devices
   pub consoles : ℕ
   pub printers : ℕ
   pub columns : List ℕ
+  pub completed : List ℕ
 
 -- the number of the ready list
 abbrev pub ready : ℕ
 ready = 0
+
+-- the number of the list of those who poll a device
+abbrev pub poll_list : ℕ → ℕ
+poll_list device = 1 + device
 
 -- a process is ready
 abbrev pub IsReady : Kernel → ℕ → Type 0
@@ -28,6 +41,31 @@ IsReady kernel p = list_of kernel.lists p ≡ Some ready
 -- the kernel with a process changed
 abbrev pub with_changed : Kernel → ℕ → Process → Kernel
 with_changed kernel p process = record kernel { procs = with_process kernel.procs p process }
+
+-- the kernel with other processes whose held calls were completed
+abbrev pub with_completed : Kernel → List ℕ → Kernel
+with_completed kernel ps = record kernel { completed = ps }
+
+-- the places where a process stands: it is in a list, it waits for flags, delays are its
+
+unfoldable pub in_lists : Option ℕ → ℕ
+in_lists None = 0
+in_lists (Some list) = 1
+
+abbrev pub is_waiter : ℕ → Flag → Bool
+is_waiter p Clear = false
+is_waiter p Set = false
+is_waiter p (Waits other) = other == p
+
+unfoldable pub flags_of : List Flag → ℕ → ℕ
+flags_of flags p = count_by (is_waiter p) flags
+
+abbrev pub places : Kernel → ℕ → ℕ
+places kernel p = in_lists (list_of kernel.lists p) + flags_of kernel.flags p + delays_of kernel.clock.delays p
+
+-- each process whose held call was completed lives
+abbrev pub CompletedLive : Kernel → Type 0
+CompletedLive kernel = AllByRecursion (λ p. Lives kernel.procs p) kernel.completed
 
 -- what is so of each process: its console is there, and its multi-sector count is 1 to 16
 pub record IsFit (consoles : ℕ) (process : Process) : Type 0 where
@@ -39,13 +77,15 @@ pub record IsFit (consoles : ℕ) (process : Process) : Type 0 where
 abbrev pub HasColumns : Kernel → Type 0
 HasColumns kernel = length kernel.columns ≡ 8
 
--- what is so of the kernel behind each step
+-- what is so of the kernel behind each step: a process is in at most one place, and only living ones are
 pub record IsSound (kernel : Kernel) : Type 0 where
   pub some : 1 ≤ kernel.consoles
   pub few : kernel.consoles ≤ 8
   pub columns : HasColumns kernel
   pub slots : HasSlots kernel.procs
   pub table : IsTable kernel.lists
+  pub flags : length kernel.flags ≡ 32
   pub fit : (p : ℕ) → Lives kernel.procs p → IsFit kernel.consoles (process_in kernel.procs p)
-  pub listed : (p list : ℕ) → list_of kernel.lists p ≡ Some list → Lives kernel.procs p
+  pub once : (p : ℕ) → places kernel p ≤ 1
+  pub live : (p : ℕ) → 0 < places kernel p → Lives kernel.procs p
   pub runs : (p : ℕ) → kernel.running ≡ Some p → IsReady kernel p

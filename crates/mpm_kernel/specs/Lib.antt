@@ -1,5 +1,9 @@
 pub mod Kernel
 pub mod Dispatch
 pub mod Columns
+pub mod Called
+pub mod Waiting
+pub mod Dates
 pub mod Calls
+pub mod Events
 pub mod Lending

@@ -2,6 +2,7 @@ ghost use Rattle.std.specs.Prelude.{◌≡◌};
 ghost use Rattle.mpm_kernel.specs.Calls.{eight_of};
 
 use crate::Kernel;
+use crate::waiting::REFUSED;
 use mpm_base::{Outcome, Pid, Reply};
 
 /// The version that functions 12 and 163 answer: MP/M II, whose file system is that of CP/M 3.
@@ -10,24 +11,23 @@ const VERSION: u16 = 0x0130;
 /// The answer of a function that isn't there.
 const NO_FUNCTION: u16 = 0xFFFF;
 
-/// The answer of a call that is refused.
-const REFUSED: u16 = 0x00FF;
-
 impl Kernel {
     ghost use Rattle.mpm_procs.specs.Table.{Lives, call_of, process_in};
-    ghost use Rattle.mpm_kernel.specs.Kernel.{IsReady, with_changed};
+    ghost use Rattle.mpm_kernel.specs.Kernel.{IsReady, IsSound, with_changed};
     ghost use Rattle.mpm_kernel.specs.Dispatch.{with_priority};
     ghost use Rattle.mpm_kernel.specs.Calls.{called, user_value, with_user, multi_value, with_multi, low_parameter};
 
     /// Does the call that a ready process keeps.
-    #[tactic(auto, unfolding(crate::specs::Calls::call_done))]
+    #[tactic(auto, using(crate::proofs::SoundLaws::sound_with_completed), unfolding(crate::specs::Calls::call_done))]
     pub fn call(&mut self, p: Pid, reply: &mut Reply) -> Outcome
+        requires sound { IsSound self.old }
         requires lives { Lives self.old.procs p }
         requires ready { IsReady self.old p }
         ensures kernel { self.new ≡ (called p self.old).kernel }
         ensures outcome { result ≡ (called p self.old).outcome }
         ensures reply { reply.new ≡ (called p self.old).reply }
     {
+        self.completed.clear();
         let call = self.procs.call(p);
         let function = call.function;
         let word = call.word;
@@ -38,22 +38,41 @@ impl Kernel {
             2 | 9 => {}
             12 | 163 => reply.answer(VERSION),
             25 => reply.answer(u16::from(self.procs.get(p).drive)),
-            26 => {
-                let process = self.procs.get_mut(p);
-                process.dma = word;
-            }
+            26 => self.set_dma(p, word),
             32 => reply.answer(self.user(p, byte)),
             44 => reply.answer(self.set_multi(p, byte)),
-            45 => {
-                let process = self.procs.get_mut(p);
-                process.error_mode = byte;
-            }
+            45 => self.set_error_mode(p, byte),
+            104 => return self.set_date(p, reply),
+            105 => return self.tell_date(p, reply),
             106 => self.set_password(p),
+            131 => return self.poll(p, byte, reply),
+            132 => return self.wait_flag(p, byte, reply),
+            133 => return self.set_flag(p, byte, reply),
+            141 => return self.sleep(p, word, reply),
             142 => self.rotate(p),
             145 => self.set_priority(p, byte),
+            155 => return self.tell_time(p, reply),
             _ => reply.answer(NO_FUNCTION),
         }
         Outcome::Done
+    }
+
+    /// The DMA address is set.
+    fn set_dma(&mut self, p: Pid, word: u16)
+        requires { Lives self.old.procs p }
+        ensures { self.new ≡ with_changed self.old p (record (process_in self.old.procs p) { dma = word }) }
+    {
+        let process = self.procs.get_mut(p);
+        process.dma = word;
+    }
+
+    /// The error mode is set.
+    fn set_error_mode(&mut self, p: Pid, byte: u8)
+        requires { Lives self.old.procs p }
+        ensures { self.new ≡ with_changed self.old p (record (process_in self.old.procs p) { error_mode = byte }) }
+    {
+        let process = self.procs.get_mut(p);
+        process.error_mode = byte;
     }
 
     /// Answers the user, or sets it modulo 16 and answers 0.

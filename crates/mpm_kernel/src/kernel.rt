@@ -2,8 +2,13 @@ ghost use Rattle.std.specs.Prelude.{◌≡◌, ℕ, ◌<◌, ◌≤◌, Some, No
 ghost use Rattle.std.specs.Borrow.{sem};
 ghost use Rattle.mpm_kernel.specs.Columns.{column_after as column_of};
 ghost use Rattle.mpm_kernel.specs.Dispatch.{is_held_off};
+ghost use Rattle.mpm_clock.specs.Times.{IsTime};
+ghost use Rattle.mpm_kernel.specs.Waiting.{completion_value as value_of_completion};
 
-use mpm_base::{Call, Devices, Pid, Seg};
+use crate::completed::Completed;
+use mpm_base::{Call, Devices, Pid, Reply, Seg};
+use mpm_clock::{Clock, Moment};
+use mpm_flags::Flags;
 use mpm_procs::{NewProcess, NoSlot, Process, Procs};
 use mpm_ready::Lists;
 use std::alloc::{AllocError, Global};
@@ -11,18 +16,21 @@ use std::marker::Model;
 use z80_regs::Regs;
 
 /// The number of the ready list.
-const READY: u8 = 0;
+pub(crate) const READY: u8 = 0;
 
 /// The kernel of a machine.
 #[derive(Drop)]
 pub struct Kernel {
     pub(crate) procs: Procs,
     pub(crate) lists: Lists,
-    running: Option<Pid>,
-    devices: Devices,
+    pub(crate) running: Option<Pid>,
+    pub(crate) flags: Flags,
+    pub(crate) clock: Clock,
+    pub(crate) devices: Devices,
     consoles: u8,
     printers: u8,
     columns: [u16; 8],
+    pub(crate) completed: Completed,
 }
 
 impl Model for Kernel {
@@ -30,37 +38,44 @@ impl Model for Kernel {
 
     ghost Value = { Kernel };
 
-    ghost view = { λ k. record { procs = k.procs; lists = k.lists; running = k.running; devices = k.devices; consoles = k.consoles; printers = k.printers; columns = k.columns } };
+    ghost view = { λ k. record { procs = k.procs; lists = k.lists; running = k.running; flags = k.flags; clock = k.clock; devices = k.devices; consoles = k.consoles; printers = k.printers; columns = k.columns; completed = k.completed } };
 }
 
 impl Kernel {
     ghost use Rattle.mpm_procs.specs.Table.{Lives, lives, process_at, process_in, call_of, lowest_free, free_slots};
     ghost use Rattle.mpm_ready.specs.Order.{first_of};
     ghost use Rattle.mpm_ready.specs.Tables.{list_at};
-    ghost use Rattle.mpm_kernel.specs.Kernel.{ready, IsReady, IsSound};
-    ghost use Rattle.mpm_kernel.specs.Dispatch.{new_kernel, in_slot, discharged, stays, picked, behind_equals};
+    ghost use Rattle.mpm_kernel.specs.Kernel.{ready, IsReady, IsSound, CompletedLive};
+    ghost use Rattle.mpm_kernel.specs.Dispatch.{new_kernel, in_slot, at_rest, discharged, stays, picked, behind_equals};
     ghost use Rattle.mpm_kernel.specs.Columns.{wrote, spaces_for};
+    ghost use Rattle.mpm_kernel.specs.Waiting.{completion_reply};
+    ghost use Rattle.mpm_kernel.specs.Events.{first_completed, handed_out};
+    ghost use Rattle.mpm_clock.specs.Times.{moment_of};
     ghost use Rattle.mpm_kernel.specs.Lending.{LendsProcess, LendsRegs, LendsCall, LendsDevices};
 
-    /// The kernel of a machine with 1 to 8 consoles and at most 4 printers, in which no process lives.
+    /// The kernel of a machine with 1 to 8 consoles and at most 4 printers, in which no process lives, at a moment.
     ///
     /// # Errors
     /// Where no memory is found. All that it will need is taken here.
     #[tactic(auto, unfolding(crate::specs::Dispatch::new_kernel))]
-    pub fn new(alloc: Global, consoles: u8, printers: u8) -> Result<Kernel, AllocError>
+    pub fn new(alloc: Global, consoles: u8, printers: u8, now: Moment) -> Result<Kernel, AllocError>
         requires some { 1 ≤ consoles }
         requires few { consoles ≤ 8 }
         requires printers { printers ≤ 4 }
-        ensures { IfOk result (λ kernel. kernel ≡ new_kernel consoles printers) }
+        requires time { IsTime now }
+        ensures { IfOk result (λ kernel. kernel ≡ new_kernel consoles printers now) }
     {
         Ok(Kernel {
             procs: Procs::new(alloc)?,
             lists: Lists::new(),
             running: None,
+            flags: Flags::new(),
+            clock: Clock::new(now.date, now.hour, now.minute, now.second),
             devices: Devices::new(),
             consoles,
             printers,
             columns: [0; 8],
+            completed: Completed::new(),
         })
     }
 
@@ -206,9 +221,40 @@ impl Kernel {
     {
         self.procs.end(p);
         let _list = self.lists.remove(p);
+        self.flags.leave(p);
+        self.clock.leave(p);
+        self.rest(p);
+        self.completed.clear();
+    }
+
+    /// A process doesn't run any more.
+    pub(crate) fn rest(&mut self, p: Pid)
+        ensures { self.new ≡ at_rest self.old p }
+    {
         if self.running == Some(p) {
             self.running = None;
         }
+    }
+
+    /// The date and the time.
+    pub fn now(&self) -> Moment
+        ensures moment { result ≡ moment_of self.now.clock }
+        ensures time { IsTime result }
+    {
+        self.clock.now()
+    }
+
+    /// Hands out the process whose held call was completed first by the last call or event, with that call's reply.
+    #[tactic(auto, using(crate::proofs::SoundLaws::completed_lives), unfolding(crate::specs::Events::handed_out, crate::specs::Waiting::completion_of))]
+    pub fn completed(&mut self, reply: &mut Reply) -> Option<Pid>
+        requires { CompletedLive self.old }
+        ensures process { result ≡ first_completed self.old.completed }
+        ensures kernel { self.new ≡ handed_out self.old }
+        ensures reply { MatchOption result (reply.new ≡ reply.old) (λ p. reply.new ≡ completion_reply self.old p) }
+    {
+        let p = self.completed.take()?;
+        reply.answer(completion_value(self.procs.call(p).function));
+        Some(p)
     }
 
     /// Picks the process that runs behind a step: the first that is ready. Behind an instruction the running process keeps
@@ -285,4 +331,14 @@ fn holds_off(regs: &Regs) -> bool
     ensures { result ≡ is_held_off regs.now }
 {
     !regs.iff1 || regs.shadow
+}
+
+/// What a held call answers as it is completed, by its function.
+fn completion_value(function: u8) -> u16
+    ensures { result ≡ value_of_completion function }
+{
+    match function {
+        131 | 132 | 141 => 0,
+        _ => 0xFFFF,
+    }
 }

@@ -1,8 +1,13 @@
-//! The kernel: processes, the lists in which they stand, which of them runs, and the calls that concern these alone.
+//! The kernel: processes, the lists in which they stand, which of them runs, what they wait for, and what calls and events
+//! make of these.
 #![tactic(auto)]
 
 mod call;
+mod completed;
+mod dates;
+mod events;
 mod kernel;
+mod waiting;
 
 pub use kernel::Kernel;
 pub use mpm_procs::NoSlot;

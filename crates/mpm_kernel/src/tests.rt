@@ -1,9 +1,12 @@
 ghost use Rattle.std.specs.Prelude.{◌≡◌, ◌≤◌, length, IfOk};
-ghost use Rattle.mpm_kernel.specs.Kernel.{IsSound};
+ghost use Rattle.mpm_kernel.specs.Kernel.{IsSound, CompletedLive};
+ghost use Rattle.mpm_kernel.specs.Events.{MayCome};
 
 use super::*;
 use mpm_base::{Name8, Outcome, Pid, Reply, Seg};
+use mpm_clock::Moment;
 use mpm_procs::{NewProcess, Process};
+use mpm_script::Event;
 use std::alloc::Global;
 use std::test::Fail;
 
@@ -26,12 +29,18 @@ fn begin(kernel: &mut Kernel, priority: u8)
     });
 }
 
-/// A kernel of two consoles with one process of priority 200, which runs.
+/// A kernel of two consoles with one process of priority 200, which runs, at 23:59:58 of day 300.
 #[tactic(auto, using(crate::proofs::SoundLaws::sound_new, crate::proofs::SoundLaws::sound_picked))]
 fn kernel_of_one(alloc: Global) -> Result<Kernel, OutOfMemory>
     ensures { IfOk result (λ kernel. IsSound kernel) }
 {
-    let mut kernel = Kernel::new(alloc, 2, 1)?;
+    let now = Moment {
+        date: 300,
+        hour: 23,
+        minute: 59,
+        second: 58,
+    };
+    let mut kernel = Kernel::new(alloc, 2, 1, now)?;
     begin(&mut kernel, 200);
     kernel.pick(false);
     Ok(kernel)
@@ -47,8 +56,14 @@ fn next(kernel: &mut Kernel, instruction: bool) -> Option<Pid>
     kernel.running()
 }
 
-/// The process that runs asks for a function, which reads some bytes: the outcome and the value.
-fn ask_with(kernel: &mut Kernel, function: u8, word: u16, bytes: &[u8]) -> Option<(Outcome, u16)>
+/// The process that runs asks for a function, which reads some bytes: the outcome.
+fn serve(
+    kernel: &mut Kernel,
+    function: u8,
+    word: u16,
+    bytes: &[u8],
+    reply: &mut Reply,
+) -> Option<Outcome>
     requires sound { IsSound kernel.old }
     requires few { length bytes.now ≤ 8 }
     ensures { IsSound kernel.new }
@@ -60,8 +75,17 @@ fn ask_with(kernel: &mut Kernel, function: u8, word: u16, bytes: &[u8]) -> Optio
     let call = kernel.call_mut(p);
     call.begin(function, word, 0x0080);
     call.append(bytes);
+    Some(kernel.call(p, reply))
+}
+
+/// The process that runs asks for a function, which reads some bytes: the outcome and the value.
+fn ask_with(kernel: &mut Kernel, function: u8, word: u16, bytes: &[u8]) -> Option<(Outcome, u16)>
+    requires sound { IsSound kernel.old }
+    requires few { length bytes.now ≤ 8 }
+    ensures { IsSound kernel.new }
+{
     let mut reply = Reply::new();
-    let outcome = kernel.call(p, &mut reply);
+    let outcome = serve(kernel, function, word, bytes, &mut reply)?;
     Some((outcome, reply.hl))
 }
 
@@ -103,6 +127,61 @@ fn end(kernel: &mut Kernel)
     if let Some(p) = kernel.running() {
         kernel.discharge(p);
     }
+}
+
+/// The process that runs next, which ends.
+fn next_ends(kernel: &mut Kernel) -> Option<Pid>
+    requires { IsSound kernel.old }
+    ensures { IsSound kernel.new }
+{
+    let p = next(kernel, false);
+    end(kernel);
+    p
+}
+
+/// A process ends, if it lives.
+#[tactic(auto, using(crate::proofs::SoundLaws::sound_discharged))]
+fn abort(kernel: &mut Kernel, p: Pid)
+    requires { IsSound kernel.old }
+    ensures { IsSound kernel.new }
+{
+    if kernel.lives(p) {
+        kernel.discharge(p);
+    }
+}
+
+/// Hands out a process whose held call was completed, with its value.
+#[tactic(auto, using(crate::proofs::SoundLaws::sound_completed, crate::proofs::SoundLaws::live_handed_out))]
+fn hand_out(kernel: &mut Kernel) -> Option<(Pid, u16)>
+    requires sound { IsSound kernel.old }
+    requires live { CompletedLive kernel.old }
+    ensures sound { IsSound kernel.new }
+    ensures live { CompletedLive kernel.new }
+{
+    let mut reply = Reply::new();
+    let p = kernel.completed(&mut reply);
+    match p {
+        Some(p) => Some((p, reply.hl)),
+        None => None,
+    }
+}
+
+/// An event comes: the first two whose held calls it completes, with their values.
+#[tactic(auto, using(crate::proofs::SoundLaws::sound_happened, crate::proofs::SoundLaws::live_happened))]
+fn happen(kernel: &mut Kernel, event: Event) -> [Option<(Pid, u16)>; 2]
+    requires sound { IsSound kernel.old }
+    requires comes { MayCome event }
+    ensures { IsSound kernel.new }
+{
+    kernel.event(event);
+    let first = hand_out(kernel);
+    let second = hand_out(kernel);
+    [first, second]
+}
+
+/// The call is held.
+fn held() -> Option<(Outcome, u16)> {
+    Some((Outcome::Held, 0))
 }
 
 /// The call is done, and answers that value.
@@ -228,5 +307,183 @@ fn tabs_go_to_the_next_column_divisible_by_eight(rt: HostRuntime) -> Result<(), 
     assert_eq!(rt; kernel.write(1, b'\t', false), 0);
     assert_eq!(rt; kernel.write(1, b'\t', true), 8);
     assert_eq!(rt; kernel.write(0, b'\t', true), 8);
+    Ok(())
+}
+
+#[test]
+fn a_flag_is_set_once(rt: HostRuntime) -> Result<(), Fail> {
+    let mut kernel = kernel_of_one(rt.alloc())?;
+    assert_eq!(rt; ask(&mut kernel, 133, 5), done(0));
+    assert_eq!(rt; ask(&mut kernel, 133, 5), done(0x00FF));
+    assert_eq!(rt; ask(&mut kernel, 132, 5), done(0));
+    assert_eq!(rt; ask(&mut kernel, 133, 5), done(0));
+    Ok(())
+}
+
+#[test]
+fn flags_of_the_system_are_refused(rt: HostRuntime) -> Result<(), Fail> {
+    let mut kernel = kernel_of_one(rt.alloc())?;
+    assert_eq!(rt; ask(&mut kernel, 132, 3), done(0x00FF));
+    assert_eq!(rt; ask(&mut kernel, 133, 3), done(0x00FF));
+    assert_eq!(rt; ask(&mut kernel, 132, 32), done(0x00FF));
+    assert_eq!(rt; ask(&mut kernel, 133, 32), done(0x00FF));
+    assert_eq!(rt; ask(&mut kernel, 133, 0x0104), done(0));
+    assert_eq!(rt; ask(&mut kernel, 133, 31), done(0));
+    Ok(())
+}
+
+#[test]
+fn one_process_waits_for_a_flag(rt: HostRuntime) -> Result<(), Fail> {
+    let mut kernel = kernel_of_one(rt.alloc())?;
+    begin(&mut kernel, 200);
+    assert_eq!(rt; ask(&mut kernel, 132, 6), held());
+    assert_eq!(rt; next(&mut kernel, false), Some(Pid(1)));
+    assert_eq!(rt; ask(&mut kernel, 132, 6), done(0x00FF));
+    assert_eq!(rt;
+        happen(&mut kernel, Event::Int { flag: 6 }),
+        [Some((Pid(0), 0)), None]
+    );
+    assert_eq!(rt; happen(&mut kernel, Event::Int { flag: 6 }), [None, None]);
+    assert_eq!(rt; ask(&mut kernel, 132, 6), done(0));
+    Ok(())
+}
+
+#[test]
+fn who_waits_for_a_flag_is_completed_by_its_setting(rt: HostRuntime) -> Result<(), Fail> {
+    let mut kernel = kernel_of_one(rt.alloc())?;
+    begin(&mut kernel, 201);
+    assert_eq!(rt; ask(&mut kernel, 132, 31), held());
+    assert_eq!(rt; next(&mut kernel, false), Some(Pid(1)));
+    assert_eq!(rt; ask(&mut kernel, 133, 31), done(0));
+    assert_eq!(rt; next(&mut kernel, false), Some(Pid(0)));
+    assert_eq!(rt; ask(&mut kernel, 133, 31), done(0));
+    Ok(())
+}
+
+#[test]
+fn a_tick_puts_who_runs_behind_those_it_wakes(rt: HostRuntime) -> Result<(), Fail> {
+    let mut kernel = kernel_of_one(rt.alloc())?;
+    assert_eq!(rt; ask(&mut kernel, 141, 1), held());
+    begin(&mut kernel, 199);
+    assert_eq!(rt; next(&mut kernel, false), Some(Pid(1)));
+    assert_eq!(rt; ask(&mut kernel, 141, 1), held());
+    begin(&mut kernel, 200);
+    assert_eq!(rt; next(&mut kernel, false), Some(Pid(2)));
+    assert_eq!(rt;
+        happen(&mut kernel, Event::Tick),
+        [Some((Pid(0), 0)), Some((Pid(1), 0))]
+    );
+    assert_eq!(rt; next_ends(&mut kernel), Some(Pid(1)));
+    assert_eq!(rt; next_ends(&mut kernel), Some(Pid(0)));
+    assert_eq!(rt; next_ends(&mut kernel), Some(Pid(2)));
+    assert_eq!(rt; next_ends(&mut kernel), None);
+    Ok(())
+}
+
+#[test]
+fn a_delay_of_no_ticks_is_a_dispatch(rt: HostRuntime) -> Result<(), Fail> {
+    let mut kernel = kernel_of_one(rt.alloc())?;
+    begin(&mut kernel, 200);
+    assert_eq!(rt; ask(&mut kernel, 141, 0), done(0));
+    assert_eq!(rt; next(&mut kernel, false), Some(Pid(1)));
+    assert_eq!(rt; happen(&mut kernel, Event::Tick), [None, None]);
+    assert_eq!(rt; next(&mut kernel, false), Some(Pid(0)));
+    Ok(())
+}
+
+#[test]
+fn a_poll_waits_until_its_device_is_ready(rt: HostRuntime) -> Result<(), Fail> {
+    let mut kernel = kernel_of_one(rt.alloc())?;
+    assert_eq!(rt; ask(&mut kernel, 131, 16), done(0x00FF));
+    assert_eq!(rt; ask(&mut kernel, 131, 2), held());
+    assert_eq!(rt; next(&mut kernel, false), None);
+    assert_eq!(rt;
+        happen(&mut kernel, Event::Ready { device: 1, byte: 7 }),
+        [None, None]
+    );
+    assert_eq!(rt;
+        happen(&mut kernel, Event::Ready { device: 2, byte: 9 }),
+        [Some((Pid(0), 0)), None]
+    );
+    assert_eq!(rt; next(&mut kernel, false), Some(Pid(0)));
+    assert_eq!(rt; ask(&mut kernel, 131, 2), done(0));
+    assert_eq!(rt; ask(&mut kernel, 131, 2), done(0));
+    assert_eq!(rt; kernel.devices_mut().last[2], 9);
+    Ok(())
+}
+
+#[test]
+fn who_ends_waits_no_more(rt: HostRuntime) -> Result<(), Fail> {
+    let mut kernel = kernel_of_one(rt.alloc())?;
+    assert_eq!(rt; ask(&mut kernel, 132, 7), held());
+    begin(&mut kernel, 200);
+    assert_eq!(rt; next(&mut kernel, false), Some(Pid(1)));
+    assert_eq!(rt; ask(&mut kernel, 141, 1), held());
+    abort(&mut kernel, Pid(0));
+    abort(&mut kernel, Pid(1));
+    assert_eq!(rt; happen(&mut kernel, Event::Int { flag: 7 }), [None, None]);
+    assert_eq!(rt; happen(&mut kernel, Event::Tick), [None, None]);
+    assert_eq!(rt; next(&mut kernel, false), None);
+    Ok(())
+}
+
+#[test]
+fn a_key_changes_nothing(rt: HostRuntime) -> Result<(), Fail> {
+    let mut kernel = kernel_of_one(rt.alloc())?;
+    let key = Event::Key {
+        console: 0,
+        byte: b'A',
+    };
+    assert_eq!(rt; happen(&mut kernel, key), [None, None]);
+    assert_eq!(rt; next(&mut kernel, true), Some(Pid(0)));
+    Ok(())
+}
+
+#[test]
+fn the_date_is_set_and_told_in_packed_decimal(rt: HostRuntime) -> Result<(), Fail> {
+    let mut kernel = kernel_of_one(rt.alloc())?;
+    let mut reply = Reply::new();
+    assert_eq!(rt;
+        ask_with(&mut kernel, 104, 0x0200, &[1, 2, 0x12, 0x60]),
+        done(0x00FF)
+    );
+    assert_eq!(rt;
+        ask_with(&mut kernel, 104, 0x0200, &[1, 2, 0x24, 0x00]),
+        done(0x00FF)
+    );
+    assert_eq!(rt;
+        ask_with(&mut kernel, 104, 0x0200, &[1, 2, 0x0A, 0x00]),
+        done(0x00FF)
+    );
+    assert_eq!(rt;
+        serve(&mut kernel, 105, 0x0300, &[], &mut reply),
+        Some(Outcome::Done)
+    );
+    assert_eq!(rt; (reply.hl, reply.at), (0x58, 0x0300));
+    assert_eq!(rt; reply.placed(), [0x2C, 0x01, 0x23, 0x59].as_slice());
+    assert_eq!(rt;
+        ask_with(&mut kernel, 104, 0x0200, &[1, 2, 0x12, 0x34]),
+        done(0)
+    );
+    assert_eq!(rt;
+        serve(&mut kernel, 105, 0x0300, &[], &mut reply),
+        Some(Outcome::Done)
+    );
+    assert_eq!(rt; (reply.hl, reply.at), (0, 0x0300));
+    assert_eq!(rt; reply.placed(), [0x01, 0x02, 0x12, 0x34].as_slice());
+    Ok(())
+}
+
+#[test]
+fn the_time_of_day_is_told_with_its_second(rt: HostRuntime) -> Result<(), Fail> {
+    let mut kernel = kernel_of_one(rt.alloc())?;
+    let mut reply = Reply::new();
+    assert_eq!(rt;
+        serve(&mut kernel, 155, 0x0300, &[], &mut reply),
+        Some(Outcome::Done)
+    );
+    assert_eq!(rt; (reply.hl, reply.at), (0, 0x0300));
+    assert_eq!(rt; reply.placed(), [0x2C, 0x01, 0x23, 0x59, 0x58].as_slice());
+    assert_eq!(rt; kernel.now().second, 58);
     Ok(())
 }

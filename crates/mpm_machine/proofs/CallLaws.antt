@@ -1,5 +1,5 @@
 -- A call that is done: its text, its reply and its record, one behind another.
-use Rattle.std.proofs.Common.{◌≡◌, ◌∙◌, ℕ, List, [], ◌∷◌, Option, sym, ap, subst}
+use Rattle.std.proofs.Common.{◌≡◌, ◌∙◌, ℕ, List, ◌++◌, Option, sym, ap, subst}
 use Rattle.mpm_base.specs.Calls.{Taken, Answer}
 use Rattle.mpm_base.specs.declared.call.Outcome.{Outcome}
 use Rattle.mpm_banks.specs.Memory.{byte_at}
@@ -8,78 +8,84 @@ use Rattle.mpm_kernel.specs.Kernel.{IsReady}
 use Rattle.mpm_render.specs.Outputs.{Output}
 use Rattle.mpm_render.specs.Shown.{Kept}
 use Rattle.mpm_machine.specs.declared.system.System.{System}
-use Rattle.mpm_machine.specs.State.{IsWhole}
-use Rattle.mpm_machine.specs.Serving.{asked, keeping, IsTaken, Served, served, said_by, replied, completing, completion, outcome_of, gate_step}
+use Rattle.mpm_machine.specs.State.{Change, IsWhole}
+use Rattle.mpm_machine.specs.Serving.{asked, keeping, IsTaken, Served, served, said_by, popped, answering_call, completing, outcome_of, gate_step}
 use Rattle.mpm_machine.specs.Writing.{Showed, Stopped}
 use Rattle.mpm_machine.proofs.WritingLaws.{showed_behind, stopped_before, stopped_behind}
-use Rattle.mpm_machine.proofs.WholeLaws.{StaysWhole, Keeps, keeps_call, whole_served, whole_said, whole_replied}
+use Rattle.mpm_machine.proofs.WholeLaws.{StaysWhole, Keeps, keeps_call, whole_served, whole_said, whole_popped}
 use Rattle.mpm_machine.proofs.TakenLaws.{call_is_taken}
 
--- the system behind the text, and behind the reply, as they are reached
-pub record Answered (reply : Answer) (p seg : ℕ) (old said answered : System) : Type 0 where
-  pub lives : Lives answered.kernel.procs p
-  pub call : call_of answered.kernel.procs p ≡ call_of old.kernel.procs p
-  pub system : answered ≡ (completing reply (call_of old.kernel.procs p) p seg old).system
+-- the system behind the text and the return address, as it is reached
+pub record Popped (p seg : ℕ) (old behind : System) : Type 0 where
+  pub lives : Lives behind.kernel.procs p
+  pub call : call_of behind.kernel.procs p ≡ call_of old.kernel.procs p
+  pub is : behind ≡ popped p seg (said_by (call_of old.kernel.procs p) p seg old).system
 
-pub lives_behind_text : (p seg : ℕ) (old said : System) → IsWhole old → Lives old.kernel.procs p
+pub lives_said : (p seg : ℕ) (old said : System) → IsWhole old → Lives old.kernel.procs p
     → said ≡ (said_by (call_of old.kernel.procs p) p seg old).system → Lives said.kernel.procs p
-lives_behind_text p seg old said w h is =
+lives_said p seg old said w h is =
     let P : System → Type 0 = λ system. Lives system.kernel.procs p in
     subst P (sym is) (whole_said (call_of old.kernel.procs p) p seg old w h).lives
 
-pub answered_behind : (reply : Answer) (p seg : ℕ) (old said answered : System) → IsWhole old → Lives old.kernel.procs p
-    → said ≡ (said_by (call_of old.kernel.procs p) p seg old).system
-    → answered ≡ replied reply (call_of said.kernel.procs p) p seg said → Answered reply p seg old said answered
-unfolding completing
-answered_behind reply p seg old said answered w h is was =
-    let call = call_of old.kernel.procs p in
-    let spoke = (said_by call p seg old).system in
-    let text = whole_said call p seg old w h in
-    let same : call_of said.kernel.procs p ≡ call = ap (λ (s : System). call_of s.kernel.procs p) is ∙ text.call in
-    let whole : answered ≡ replied reply call p seg spoke =
-    was ∙ ap (λ c. replied reply c p seg said) same ∙ ap (replied reply call p seg) is in
-    let placed = whole_replied reply call p seg spoke text.whole text.lives in
+pub popped_behind : (p seg : ℕ) (old said behind : System) → IsWhole old → Lives old.kernel.procs p
+    → said ≡ (said_by (call_of old.kernel.procs p) p seg old).system → behind ≡ popped p seg said → Popped p seg old behind
+popped_behind p seg old said behind w h is was =
+    let spoke = (said_by (call_of old.kernel.procs p) p seg old).system in
+    let text = whole_said (call_of old.kernel.procs p) p seg old w h in
+    let taken = whole_popped p seg spoke text.whole text.lives in
+    let whole : behind ≡ popped p seg spoke = was ∙ ap (popped p seg) is in
     let P : System → Type 0 = λ system. Lives system.kernel.procs p in
     record {
-      lives = subst P (sym whole) placed.lives;
-      call = ap (λ (s : System). call_of s.kernel.procs p) whole ∙ placed.call ∙ text.call;
-      system = whole;
+      lives = subst P (sym whole) taken.lives;
+      call = ap (λ (s : System). call_of s.kernel.procs p) whole ∙ taken.call ∙ text.call;
+      is = whole;
     }
 
--- the outputs are those of the text, and then the record
-news_of : (reply : Answer) (p seg : ℕ) (old said answered : System) → Answered reply p seg old said answered
-    → completion (call_of answered.kernel.procs p) p answered ∷ (said_by (call_of old.kernel.procs p) p seg old).news
+-- the reply and the record that follow are those of the call
+answers_call : (reply : Answer) (p seg : ℕ) (old behind : System) → Popped p seg old behind
+    → answering_call reply (call_of behind.kernel.procs p) p seg behind
+    ≡ answering_call reply (call_of old.kernel.procs p) p seg (popped p seg (said_by (call_of old.kernel.procs p) p seg old).system)
+answers_call reply p seg old behind so =
+    ap (λ call. answering_call reply call p seg behind) so.call ∙ ap (answering_call reply (call_of old.kernel.procs p) p seg) so.is
+
+pub completed_system : (reply : Answer) (p seg : ℕ) (old behind new : System) → Popped p seg old behind
+    → new ≡ (answering_call reply (call_of behind.kernel.procs p) p seg behind).system
+    → new ≡ (completing reply (call_of old.kernel.procs p) p seg old).system
+unfolding completing
+completed_system reply p seg old behind new so is = is ∙ ap (λ (change : Change). change.system) (answers_call reply p seg old behind so)
+
+completed_news : (reply : Answer) (p seg : ℕ) (old behind : System) → Popped p seg old behind
+    → (answering_call reply (call_of behind.kernel.procs p) p seg behind).news ++ (said_by (call_of old.kernel.procs p) p seg old).news
     ≡ (completing reply (call_of old.kernel.procs p) p seg old).news
 unfolding completing
-news_of reply p seg old said answered a =
-    let news = (said_by (call_of old.kernel.procs p) p seg old).news in
-    ap (λ call. completion call p answered ∷ news) a.call ∙ ap (λ system. completion (call_of old.kernel.procs p) p system ∷ news) a.system
+completed_news reply p seg old behind so =
+    ap (λ (change : Change). change.news ++ (said_by (call_of old.kernel.procs p) p seg old).news) (answers_call reply p seg old behind so)
 
 pub showed_call : (k0 : Kept) (t0 : Option (List ℕ)) (k1 : Kept) (t1 : Option (List ℕ)) (k2 : Kept) (t2 : Option (List ℕ))
-    (reply : Answer) (p seg : ℕ) (old said answered : System) → Answered reply p seg old said answered
+    (reply : Answer) (p seg : ℕ) (old behind : System) → Popped p seg old behind
     → Showed k0 t0 k1 t1 (said_by (call_of old.kernel.procs p) p seg old).news
-    → Showed k1 t1 k2 t2 (completion (call_of answered.kernel.procs p) p answered ∷ [])
+    → Showed k1 t1 k2 t2 (answering_call reply (call_of behind.kernel.procs p) p seg behind).news
     → Showed k0 t0 k2 t2 (completing reply (call_of old.kernel.procs p) p seg old).news
-showed_call k0 t0 k1 t1 k2 t2 reply p seg old said answered a text last =
+showed_call k0 t0 k1 t1 k2 t2 reply p seg old behind so text last =
     let P : List Output → Type 0 = λ news. Showed k0 t0 k2 t2 news in
-    subst P (news_of reply p seg old said answered a) (showed_behind k0 t0 k1 t1 k2 t2 _ _ text last)
+    subst P (completed_news reply p seg old behind so) (showed_behind k0 t0 k1 t1 k2 t2 _ _ text last)
 
--- a stop in the text, or in the record
+-- a stop in the text, or behind it
 
 pub stopped_text : (kept : Kept) (told told' : Option (List ℕ)) (reply : Answer) (p seg : ℕ) (old : System)
     → Stopped kept told told' (said_by (call_of old.kernel.procs p) p seg old).news
     → Stopped kept told told' (completing reply (call_of old.kernel.procs p) p seg old).news
 unfolding completing
-stopped_text kept told told' reply p seg old stopped = stopped_before kept told told' _ (completion _ p _ ∷ []) stopped
+stopped_text kept told told' reply p seg old stopped = stopped_before kept told told' _ _ stopped
 
-pub stopped_record : (k0 : Kept) (t0 : Option (List ℕ)) (k1 : Kept) (t1 t2 : Option (List ℕ)) (reply : Answer) (p seg : ℕ) (old said answered : System)
-    → k1.trace ≡ k0.trace → Answered reply p seg old said answered
+pub stopped_record : (k0 : Kept) (t0 : Option (List ℕ)) (k1 : Kept) (t1 t2 : Option (List ℕ)) (reply : Answer) (p seg : ℕ) (old behind : System)
+    → k1.trace ≡ k0.trace → Popped p seg old behind
     → Showed k0 t0 k1 t1 (said_by (call_of old.kernel.procs p) p seg old).news
-    → Stopped k1 t1 t2 (completion (call_of answered.kernel.procs p) p answered ∷ [])
+    → Stopped k1 t1 t2 (answering_call reply (call_of behind.kernel.procs p) p seg behind).news
     → Stopped k0 t0 t2 (completing reply (call_of old.kernel.procs p) p seg old).news
-stopped_record k0 t0 k1 t1 t2 reply p seg old said answered same a text stopped =
+stopped_record k0 t0 k1 t1 t2 reply p seg old behind same so text stopped =
     let P : List Output → Type 0 = λ news. Stopped k0 t0 t2 news in
-    subst P (news_of reply p seg old said answered a) (stopped_behind k0 t0 k1 t1 t2 _ _ same text stopped)
+    subst P (completed_news reply p seg old behind so) (stopped_behind k0 t0 k1 t1 t2 _ _ same text stopped)
 
 -- the gate step of a call: it is taken, done, and what its outcome brings about follows
 

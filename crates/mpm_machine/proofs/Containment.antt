@@ -1,7 +1,9 @@
--- What a step leaves of memory: each segment in which the running process doesn't live, and in its own segment and common
--- memory each byte that neither its instruction nor the reply to its call writes. What an instruction leaves of all else.
-use Rattle.std.proofs.Common.{◌≡◌, ◌≢◌, ◌∙◌, ℕ, ◌<◌, ◌≤◌, Bool, true, false, Option, Some, None, ◌==◌, if◌then◌else◌, inl, inr, refl, sym, subst}
-use Rattle.std.proofs.lemmas.Bool.{cases_eq}
+-- What a step leaves of memory: each byte of a segment that is written neither by the instruction of a process that lives there
+-- nor by the reply to a call of one, and each byte of common memory that no instruction and no reply writes.
+use Rattle.std.proofs.Common.{◌≡◌, ◌≢◌, ◌∙◌, ℕ, zero, suc, ◌<◌, ◌≤◌, Bool, true, false, ◌||◌, List, [], ◌∷◌, Option, Some, None, ◌==◌, if◌then◌else◌, get_or, set, inl, inr, refl, sym, ap, subst, arith}
+use Rattle.std.specs.List.{list_any, AllByRecursion}
+use Rattle.std.proofs.lemmas.Bool.{cases_eq, eq-eqb, or_right}
+use Rattle.std.proofs.lemmas.Bool.Decides.{nat_tests}
 use Rattle.z80_regs.specs.Outcome.{Outcome}
 use Rattle.z80_ext.specs.Instruction.{actions_of}
 use Rattle.mpm_base.specs.Calls.{Taken, Answer}
@@ -15,8 +17,13 @@ use Rattle.mpm_banks.specs.declared.segment.Allocation.TheVariants.{Free}
 use Rattle.mpm_banks.proofs.SegmentLaws.{SameBytes, reads_alike, same_bytes_itself, same_bytes_both, same_bytes_if, same_bytes_allocated, same_bytes_reserved, same_bytes_released, same_bytes_all_released}
 use Rattle.mpm_banks.proofs.ActionLaws.{memory_after_other_segment, memory_after_unwritten}
 use Rattle.mpm_gate.specs.Replies.{placed, IsPlacedAt}
-use Rattle.mpm_gate.proofs.ReplyLaws.{others_keep, segments_keep}
-use Rattle.mpm_procs.specs.Table.{Table, Lives, process_in}
+use Rattle.mpm_gate.proofs.ReplyLaws.{others_keep, segments_keep, common_keeps}
+use Rattle.mpm_procs.specs.Table.{Table, Lives, process_in, call_of, with_process}
+use Rattle.mpm_procs.specs.Opening.{blank}
+use Rattle.mpm_procs.specs.declared.process.Process.{Process}
+use Rattle.mpm_script.specs.declared.event.Event.{Event}
+use Rattle.mpm_kernel.specs.Events.{handed_out}
+use Rattle.mpm_kernel.specs.Waiting.{completion_of, completion_reply}
 use Rattle.mpm_kernel.proofs.SoundLaws.{runner_lives}
 use Rattle.mpm_xdos.specs.Ending.{is_home, left_by, memory_without}
 use Rattle.mpm_machine.specs.declared.system.System.{System}
@@ -24,10 +31,12 @@ use Rattle.mpm_machine.specs.declared.gate.Gate.{Gate}
 use Rattle.mpm_machine.specs.declared.gate.Gate.TheVariants.{End, Call}
 use Rattle.mpm_machine.specs.State.{IsWhole, speaking}
 use Rattle.mpm_machine.specs.Ending.{ended}
-use Rattle.mpm_machine.specs.Serving.{asked, keeping, Served, served, reserving, releasing, creating, said_by, replied, completing, outcome_of, gate_step}
-use Rattle.mpm_machine.specs.Step.{ran, illegal, instructed, instruction_at, acted_at, gate_before, acted_by, acted, running_segment, counted, step_of}
-use Rattle.mpm_machine.specs.Contained.{PlacesAt, WritesAt, IsWritten, IsContained, ServedAlike}
+use Rattle.mpm_machine.specs.Serving.{asked, keeping, Served, served, reserving, releasing, creating, said_by, popped, replied, answering_call, completing, outcome_of, gate_step}
+use Rattle.mpm_machine.specs.Finishing.{finished, handed, finishing, all_finished}
+use Rattle.mpm_machine.specs.Step.{ran, illegal, instructed, instruction_at, acted_at, gate_before, acted_by, acted, running_segment, coming, interrupted, begun_by, with_finished, counted, step_of}
+use Rattle.mpm_machine.specs.Contained.{PlacesAt, WritesAt, IsWritten, behind_begun, IsAnswered, IsContained, ServedAlike}
 use Rattle.mpm_machine.proofs.ServedLaws.{serves_alike}
+use Rattle.mpm_machine.proofs.WholeLaws.{whole_counted, live_begun}
 
 -- an end, and a call before its reply, change no byte
 
@@ -64,7 +73,7 @@ illegal_alike p system = ended_alike p _
 outcome_leaves : (outcome : CallOutcome) (reply : Answer) (call : Taken) (p seg : ℕ) (system : System) (other at : ℕ)
     → (outcome ≡ Done → byte_at (placed reply call.word seg system.memory) other at ≡ byte_at system.memory other at)
     → byte_at (outcome_of outcome reply call p seg system).system.memory other at ≡ byte_at system.memory other at
-unfolding completing replied said_by speaking
+unfolding completing popped answering_call replied said_by speaking
 outcome_leaves Done reply call p seg system other at leaves = leaves refl
 outcome_leaves Ended reply call p seg system other at leaves = reads_alike system.memory _ (ended_alike p system) other at
 outcome_leaves Held reply call p seg system other at leaves = refl
@@ -139,50 +148,168 @@ writes_begun None p seg system at writes = writes
 
 -- what the process that runs leaves
 
-own : (p home : ℕ) (system : System) (seg at : ℕ) → system.kernel.running ≡ Some p → Lives system.kernel.procs p
+own : (p home : ℕ) (system : System) (seg at : ℕ) → coming (counted system) ≡ None → system.kernel.running ≡ Some p → Lives system.kernel.procs p
     → (process_in system.kernel.procs p).seg ≡ Some home → (IsWritten system home at → ⊥)
     → byte_at (acted_at (gate_before p home system) p home (counted system)).system.memory home at ≡ byte_at system.memory home at
-own p home system seg at runs living there none =
+own p home system seg at quiet runs living there none =
     unwritten_at (gate_before p home system) p home (counted system) at
-    (λ writes. none (record { who = p; runs = runs; lives = living; home = there; writes = writes_begun (gate_before p home system) p home system at writes }))
+    (λ writes. none (record { quiet = quiet; who = p; runs = runs; lives = living; home = there; writes = writes_begun (gate_before p home system) p home system at writes }))
 
-segments_by : (running home : Option ℕ) (system : System) (seg at : ℕ) → system.kernel.running ≡ running → running_segment running system ≡ home
+segments_by : (running home : Option ℕ) (system : System) (seg at : ℕ) → coming (counted system) ≡ None
+    → system.kernel.running ≡ running → running_segment running system ≡ home
     → ((p : ℕ) → running ≡ Some p → Lives system.kernel.procs p) → at < 49152 → (IsWritten system seg at → ⊥)
     → byte_at (acted_by running home (counted system)).system.memory seg at ≡ byte_at system.memory seg at
-segments_by None home system seg at runs there living below none = refl
-segments_by (Some p) None system seg at runs there living below none = refl
-segments_by (Some p) (Some home) system seg at runs there living below none = elim (cases_eq seg home) [
+segments_by None home system seg at quiet runs there living below none = refl
+segments_by (Some p) None system seg at quiet runs there living below none = refl
+segments_by (Some p) (Some home) system seg at quiet runs there living below none = elim (cases_eq seg home) [
   | inl same ↦
       let behind = (acted_at (gate_before p home system) p home (counted system)).system.memory in
       let unwritten : IsWritten system home at → ⊥ = subst (λ s. IsWritten system s at → ⊥) same none in
-      subst (λ s. byte_at behind s at ≡ byte_at system.memory s at) (sym same) (own p home system seg at runs (living p refl) there unwritten)
+      subst (λ s. byte_at behind s at ≡ byte_at system.memory s at) (sym same) (own p home system seg at quiet runs (living p refl) there unwritten)
   | inr other ↦ elsewhere_at (gate_before p home system) p home (counted system) seg at other below
 ]
 
-common_by : (running home : Option ℕ) (system : System) (seg at : ℕ) → system.kernel.running ≡ running → running_segment running system ≡ home
+common_by : (running home : Option ℕ) (system : System) (seg at : ℕ) → coming (counted system) ≡ None
+    → system.kernel.running ≡ running → running_segment running system ≡ home
     → ((p : ℕ) → running ≡ Some p → Lives system.kernel.procs p) → 49152 ≤ at → ((s : ℕ) → IsWritten system s at → ⊥)
     → byte_at (acted_by running home (counted system)).system.memory seg at ≡ byte_at system.memory seg at
-common_by None home system seg at runs there living above none = refl
-common_by (Some p) None system seg at runs there living above none = refl
-common_by (Some p) (Some home) system seg at runs there living above none =
+common_by None home system seg at quiet runs there living above none = refl
+common_by (Some p) None system seg at quiet runs there living above none = refl
+common_by (Some p) (Some home) system seg at quiet runs there living above none =
     byte_at_common (acted_at (gate_before p home system) p home (counted system)).system.memory seg home at above
-    ∙ own p home system seg at runs (living p refl) there (none home)
+    ∙ own p home system seg at quiet runs (living p refl) there (none home)
     ∙ byte_at_common system.memory home seg at above
 
 segment_of_begun : (running : Option ℕ) (system : System) → running_segment running (counted system) ≡ running_segment running system
 segment_of_begun None system = refl
 segment_of_begun (Some p) system = refl
 
--- so each byte that changes is written by the process that runs
-pub step_is_contained : (system : System) → IsWhole system → IsContained system (step_of system).system
-unfolding step_of acted
-step_is_contained system w =
+-- so does what a step begins with, and an event leaves every byte
+
+segments_begun : (event : Option Event) (system : System) (seg at : ℕ) → IsWhole system → coming (counted system) ≡ event
+    → at < 49152 → (IsWritten system seg at → ⊥) → byte_at (begun_by event (counted system)).system.memory seg at ≡ byte_at system.memory seg at
+unfolding acted interrupted
+segments_begun None system seg at w quiet below none =
     let running = system.kernel.running in
-    let home = sym (segment_of_begun running system) in
-    let living = λ (p : ℕ) (runs : running ≡ Some p). runner_lives system.kernel p w.sound runs in
+    segments_by running _ system seg at quiet refl (sym (segment_of_begun running system)) (λ p runs. runner_lives system.kernel p w.sound runs) below none
+segments_begun (Some event) system seg at w comes below none = refl
+
+common_begun : (event : Option Event) (system : System) (seg at : ℕ) → IsWhole system → coming (counted system) ≡ event
+    → 49152 ≤ at → ((home : ℕ) → IsWritten system home at → ⊥) → byte_at (begun_by event (counted system)).system.memory seg at ≡ byte_at system.memory seg at
+unfolding acted interrupted
+common_begun None system seg at w quiet above none =
+    let running = system.kernel.running in
+    common_by running _ system seg at quiet refl (sym (segment_of_begun running system)) (λ p runs. runner_lives system.kernel p w.sound runs) above none
+common_begun (Some event) system seg at w comes above none = refl
+
+-- each process has the home and the call that it had, while the replies to held calls are placed
+
+record SameReplies (first now : System) : Type 0 where
+  homes : (q : ℕ) → (process_in now.kernel.procs q).seg ≡ (process_in first.kernel.procs q).seg
+  calls : (q : ℕ) → call_of now.kernel.procs q ≡ call_of first.kernel.procs q
+
+home_kept : (processes : List Process) (p q : ℕ) (new : Process) → new.seg ≡ (get_or processes p blank).seg
+    → (get_or (set processes p new) q blank).seg ≡ (get_or processes q blank).seg
+home_kept [] p q new same = refl
+home_kept (x ∷ processes) zero zero new same = same
+home_kept (x ∷ processes) zero (suc q) new same = refl
+home_kept (x ∷ processes) (suc p) zero new same = refl
+home_kept (x ∷ processes) (suc p) (suc q) new same = home_kept processes p q new same
+
+finished_keeps : (seg : Option ℕ) (p : ℕ) (first system : System) → SameReplies first system → SameReplies first (finished seg p (handed system)).system
+unfolding answering_call replied handed_out with_process
+finished_keeps None p first system same = record { homes = same.homes; calls = same.calls }
+finished_keeps (Some seg) p first system same = record {
+  homes = λ q. home_kept system.kernel.procs.processes p q _ refl ∙ same.homes q;
+  calls = same.calls;
+}
+
+-- a byte is left where no reply to those calls comes to stand
+
+Unplaced : System → ℕ → ℕ → ℕ → Type 0
+Unplaced first who seg at = (home : ℕ) → (process_in first.kernel.procs who).seg ≡ Some home → (memory : Memory)
+    → byte_at (placed (completion_reply first.kernel who) (call_of first.kernel.procs who).word home memory) seg at ≡ byte_at memory seg at
+
+finished_leaves : (home : Option ℕ) (p : ℕ) (first system : System) (seg at : ℕ) → SameReplies first system
+    → (process_in system.kernel.procs p).seg ≡ home → Unplaced first p seg at
+    → byte_at (finished home p (handed system)).system.memory seg at ≡ byte_at system.memory seg at
+unfolding answering_call replied handed_out Unplaced
+finished_leaves None p first system seg at same there unplaced = refl
+finished_leaves (Some home) p first system seg at same there unplaced =
+    ap (λ call. byte_at (placed (completion_of call) call.word home system.memory) seg at) (same.calls p)
+    ∙ unplaced home (sym (same.homes p) ∙ there) system.memory
+
+finishing_leaves : (ps : List ℕ) (first system : System) (seg at : ℕ) → SameReplies first system
+    → ((who : ℕ) → list_any (λ p. p == who) ps ≡ true → Unplaced first who seg at)
+    → byte_at (finishing ps system).system.memory seg at ≡ byte_at system.memory seg at
+unfolding finishing
+finishing_leaves [] first system seg at same unplaced = refl
+finishing_leaves (p ∷ ps) first system seg at same unplaced =
+    let home = (process_in system.kernel.procs p).seg in
+    finishing_leaves ps first (finished home p (handed system)).system seg at (finished_keeps home p first system same)
+    (λ who among. unplaced who (or_right (p == who) _ among))
+    ∙ finished_leaves home p first system seg at same refl (unplaced p (ap (λ b. b || list_any (λ q. q == p) ps) (eq-eqb p p refl)))
+
+itself : (system : System) → SameReplies system system
+itself system = record { homes = λ q. refl; calls = λ q. refl }
+
+all_leave : (system : System) (seg at : ℕ)
+    → ((who : ℕ) → list_any (λ p. p == who) system.kernel.completed ≡ true → Unplaced system who seg at)
+    → byte_at (all_finished system).system.memory seg at ≡ byte_at system.memory seg at
+all_leave system seg at unplaced = finishing_leaves system.kernel.completed system system seg at (itself system) unplaced
+
+-- what is so of each of them
+
+of_each : (P : ℕ → Type 0) (ps : List ℕ) (who : ℕ) → AllByRecursion P ps → list_any (λ p. p == who) ps ≡ true → P who
+of_each P [] who all among = absurd (cc)
+of_each P (p ∷ ps) who all among = elim (cases_eq p who) [
+  | inl same ↦ subst P same all.0
+  | inr other ↦ of_each P ps who all.1 (grind (arith, nat_tests, among, other))
+]
+
+-- whose held call is completed lives, so no reply is placed but where one of those calls is answered
+
+begun_lives : (system : System) (who : ℕ) → IsWhole system → list_any (λ p. p == who) (behind_begun system).kernel.completed ≡ true
+    → Lives (behind_begun system).kernel.procs who
+begun_lives system who w among =
+    let live = live_begun (counted system) (behind_begun system) (whole_counted system w) refl in
+    of_each (λ p. Lives (behind_begun system).kernel.procs p) (behind_begun system).kernel.completed who live among
+
+answered_there : (system : System) (who home at : ℕ) → IsWhole system → list_any (λ p. p == who) (behind_begun system).kernel.completed ≡ true
+    → (process_in (behind_begun system).kernel.procs who).seg ≡ Some home → (IsAnswered system home at → ⊥)
+    → IsPlacedAt (completion_reply (behind_begun system).kernel who) (call_of (behind_begun system).kernel.procs who).word at → ⊥
+answered_there system who home at w among there none places =
+    none (record { who = who; among = among; lives = begun_lives system who w among; home = there; places = places })
+
+unplaced_segments : (system : System) (seg at who : ℕ) → IsWhole system → at < 49152 → (IsAnswered system seg at → ⊥)
+    → list_any (λ p. p == who) (behind_begun system).kernel.completed ≡ true → Unplaced (behind_begun system) who seg at
+unfolding Unplaced
+unplaced_segments system seg at who w below none among = λ home there memory. elim (cases_eq seg home) [
+  | inl same ↦
+      let behind = placed (completion_reply (behind_begun system).kernel who) (call_of (behind_begun system).kernel.procs who).word home memory in
+      let unanswered : IsAnswered system home at → ⊥ = subst (λ s. IsAnswered system s at → ⊥) same none in
+      subst (λ s. byte_at behind s at ≡ byte_at memory s at) (sym same) (others_keep _ _ home memory at (answered_there system who home at w among there unanswered))
+  | inr other ↦ segments_keep _ _ home memory seg at other below
+]
+
+unplaced_common : (system : System) (seg at who : ℕ) → IsWhole system → 49152 ≤ at → ((home : ℕ) → IsAnswered system home at → ⊥)
+    → list_any (λ p. p == who) (behind_begun system).kernel.completed ≡ true → Unplaced (behind_begun system) who seg at
+unfolding Unplaced
+unplaced_common system seg at who w above none among =
+    λ home there memory. common_keeps _ _ home memory seg at above (answered_there system who home at w among there (none home))
+
+-- so each byte that changes is written by the process that runs, or is of the reply to a held call
+pub step_is_contained : (system : System) → IsWhole system → IsContained system (step_of system).system
+unfolding step_of with_finished
+step_is_contained system w =
+    let begun = behind_begun system in
     record {
-      segments = λ seg at below none. segments_by running _ system seg at refl home living below none;
-      common = λ seg at above none. common_by running _ system seg at refl home living above none;
+      segments = λ seg at below unwritten unanswered.
+          all_leave begun seg at (λ who among. unplaced_segments system seg at who w below unanswered among)
+          ∙ segments_begun (coming (counted system)) system seg at w refl below unwritten;
+      common = λ seg at above unwritten unanswered.
+          all_leave begun seg at (λ who among. unplaced_common system seg at who w above unanswered among)
+          ∙ common_begun (coming (counted system)) system seg at w refl above unwritten;
     }
 
 pub is_contained : (old new : System) → IsWhole old → new ≡ (step_of old).system → IsContained old new

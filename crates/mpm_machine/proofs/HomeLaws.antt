@@ -1,7 +1,7 @@
 -- Each process's segment stays a home: whatever becomes of memory, a segment keeps its place and its size, and one in which
 -- processes live goes into no other hands.
 use Rattle.std.proofs.Common.{◌≡◌, ◌∙◌, ℕ, Bool, true, false, List, Option, Some, None, if◌then◌else◌, inl, inr, length, refl, sym, ap, subst, arith, ◌≢◌}
-use Rattle.std.proofs.lemmas.Bool.{cases_eq, and_parts}
+use Rattle.std.proofs.lemmas.Bool.{cases_eq, and_parts, false≢true}
 use Rattle.std.proofs.lemmas.List.{length-map, length-set, get_or-map}
 use Rattle.mpm_base.specs.Calls.{Answer}
 use Rattle.z80_regs.specs.Outcome.{Action}
@@ -59,10 +59,6 @@ keeps_same old new same = record {
 home_if : (b : Bool) (one other : Memory) (seg : ℕ) → IsHome one seg → IsHome other seg → IsHome (if b then one else other) seg
 home_if true one other seg is was = is
 home_if false one other seg is was = was
-
-left_or_lived : (b : Bool) → b ≡ false → b ≡ true → ⊥
-left_or_lived true e f = absurd (cc)
-left_or_lived false e f = absurd (cc)
 
 -- bytes change
 pub keeps_placed : (answer : Answer) (word seg : ℕ) (memory : Memory) → KeepsHomes memory (placed answer word seg memory)
@@ -168,7 +164,7 @@ vacated_if : (memory : Memory) (procs : Table) (seg other : ℕ) (b : Bool) → 
     → IsOccupied (if b then memory else (vacated memory seg)) other
 vacated_if memory procs seg other true lived home h = h
 vacated_if memory procs seg other false lived home h =
-    lived_elsewhere memory seg Free other (λ same. left_or_lived _ lived (ap (is_home procs) (sym same) ∙ home)) h
+    lived_elsewhere memory seg Free other (λ same. false≢true (sym lived ∙ ap (is_home procs) (sym same) ∙ home)) h
 
 lived_left : (memory : Memory) (procs : Table) (seg : Option ℕ) (other : ℕ) → is_home procs other ≡ true → IsOccupied memory other
     → IsOccupied (left_by memory procs seg) other

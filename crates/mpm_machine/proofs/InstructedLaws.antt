@@ -14,6 +14,7 @@ use Rattle.mpm_machine.specs.State.{Change, silent}
 use Rattle.mpm_machine.specs.Serving.{with_regs}
 use Rattle.mpm_machine.specs.Step.{ran, instructed, instruction_at, acted_at, acted_by, acted, running_segment, is_no_gate, instruction_by, at_instruction, counted, dispatched, step_of}
 use Rattle.mpm_machine.specs.Contained.{Instructs, OnlyInstructed}
+use Rattle.mpm_machine.proofs.QuietLaws.{step_quiet}
 
 -- a device is ready behind an instruction only where it was before
 
@@ -69,27 +70,29 @@ by_instruction system p seg i =
     ∙ ap (λ home. instruction_by (Some p) home begun) i.home
     ∙ ap is_no_gate i.no_gate
 
-step_instructs : (system : System) (p seg : ℕ) → Instructs system p seg → OnlyInstructed p system (step_of system).system
-unfolding step_of ran
-step_instructs system p seg i =
+step_instructs : (system : System) (p seg : ℕ) → Instructs system p seg → system.kernel.completed ≡ [] → OnlyInstructed p system (step_of system).system
+unfolding ran
+step_instructs system p seg i handed =
     let outcome = instruction_at p seg system in
     let begun = counted system in
     let actions = actions_of outcome in
     let devices = devices_after actions system.kernel.devices in
     let regs = registers_after outcome (process_in system.kernel.procs p).regs in
+    let behind = ran outcome p seg begun in
     record {
       regs = regs;
       ready = devices.ready;
       memory = memory_after actions seg system.memory;
       clears = λ device h. clears_all actions system.kernel.devices device h;
       bytes = same_segments_after actions seg system.memory;
-      is = ap (λ (change : Change). (dispatched (at_instruction begun) change).system) (acts system p seg i)
-          ∙ ap (λ b. (dispatched b (silent (ran outcome p seg begun))).system) (by_instruction system p seg i)
+      is = ap (λ (change : Change). change.system) (step_quiet system behind i.quiet (acts system p seg i) handed)
+          ∙ ap (λ b. (dispatched b (silent behind)).system) (by_instruction system p seg i)
           ∙ ap (λ (d : Devices). record begun {
             kernel = picked true (with_regs (record system.kernel { devices = d }) p regs);
             memory = memory_after actions seg system.memory;
           }) (only_ready actions system.kernel.devices);
     }
 
-pub instructs_only : (old new : System) (p seg : ℕ) → Instructs old p seg → new ≡ (step_of old).system → OnlyInstructed p old new
-instructs_only old new p seg i is = subst (OnlyInstructed p old) (sym is) (step_instructs old p seg i)
+pub instructs_only : (old new : System) (p seg : ℕ) → Instructs old p seg → old.kernel.completed ≡ [] → new ≡ (step_of old).system
+    → OnlyInstructed p old new
+instructs_only old new p seg i handed is = subst (OnlyInstructed p old) (sym is) (step_instructs old p seg i handed)

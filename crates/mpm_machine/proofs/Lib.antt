@@ -1,11 +1,14 @@
+pub mod InterruptLaws
 pub mod WritingLaws
 pub mod StringLaws
 pub mod HomeLaws
+pub mod FinishLaws
 pub mod WholeLaws
 pub mod TakenLaws
 pub mod CallLaws
 pub mod PlacedLaws
 pub mod StepLaws
+pub mod QuietLaws
 pub mod MovingLaws
 pub mod ServedLaws
 pub mod Containment

@@ -1,5 +1,5 @@
 -- Steps that are instructions of one process.
-use Rattle.std.proofs.Common.{◌≡◌, ◌∙◌, ℕ, zero, suc, ◌+◌, ◌<◌, Bool, true, false, ◌&&◌, List, ◌++◌, Option, Some, None, IsSome, IsNone, is_some, ◌-◌, if◌then◌else◌, inl, inr, length, refl, sym, ap, subst, arith, add-one, set-set, get_or-set_same}
+use Rattle.std.proofs.Common.{◌≡◌, ◌∙◌, ℕ, zero, suc, ◌+◌, ◌<◌, ◌≤◌, Bool, true, false, ◌&&◌, List, [], ◌++◌, ◌==◌, Option, Some, None, IsSome, IsNone, is_some, ◌-◌, if◌then◌else◌, inl, inr, length, refl, sym, ap, subst, arith, add-one, set-set, get_or-set_same}
 use Rattle.std.proofs.lemmas.Bool.{cases_eq}
 use Rattle.z80_regs.specs.declared.regs.Regs.{Regs}
 use Rattle.z80_regs.specs.Outcome.{Outcome, Action}
@@ -26,11 +26,14 @@ use Rattle.mpm_machine.specs.declared.gate.Gate.{Gate}
 use Rattle.mpm_machine.specs.Gates.{last_page, gate_of}
 use Rattle.mpm_machine.specs.State.{State, Change, StandsFor, IsWhole, silent}
 use Rattle.mpm_machine.specs.Serving.{with_regs}
-use Rattle.mpm_machine.specs.Step.{ran, instructed, instruction_at, acted_at, gate_before, acted_by, acted, running_segment, at_instruction, counted, dispatched, step_of, next, after}
-use Rattle.mpm_machine.specs.Moving.{View, instruction_in, moved, moves, CanMove, Moves, Moved, view_of, with_view, RunsOn}
+use Rattle.mpm_machine.specs.Step.{ran, instructed, instruction_at, acted_at, gate_before, acted_by, acted, running_segment, at_instruction, lets_in, coming, counted, step_of, next, after}
+use Rattle.mpm_machine.specs.Interrupts.{due}
+use Rattle.mpm_script.specs.declared.event.Event.{Event}
+use Rattle.mpm_machine.specs.Moving.{View, instruction_in, moved, moves, CanMove, Moves, Moved, view_of, with_view, RunsOn, Quiet}
 use Rattle.mpm_machine.proofs.HomeLaws.{KeepsHomes, keeps_itself, keeps_both, keeps_acted}
 use Rattle.mpm_machine.proofs.WholeLaws.{same_regs, whole_kernel, whole_memory, whole_regs, whole_steps}
 use Rattle.mpm_machine.proofs.StepLaws.{after_nothing}
+use Rattle.mpm_machine.proofs.QuietLaws.{step_quiet}
 
 pub view_is : (a b : View) → a.regs ≡ b.regs → a.memory ≡ b.memory → a.devices ≡ b.devices → a ≡ b
 view_is a b regs memory devices =
@@ -57,12 +60,52 @@ moves_more n seg old now new m can is =
     }
 
 -- where no listed instruction stands, nothing changes
-pub unmoved : (seg : ℕ) (view new : View) (outcome : Option Outcome) → outcome ≡ instruction_in seg view → IsNone outcome
-    → new.regs ≡ registers_after outcome view.regs → new.memory ≡ memory_after (actions_of outcome) seg view.memory
-    → new.devices ≡ devices_after (actions_of outcome) view.devices → new ≡ view
+pub unmoved : (seg : ℕ) (view : View) → IsNone (instruction_in seg view) → moved seg view ≡ view
 unfolding memory_after devices_after
-unmoved seg view new None is none regs memory devices = view_is new view regs memory devices
-unmoved seg view new (Some outcome) is none regs memory devices = absurd (cc)
+unmoved seg view none = by_outcome (instruction_in seg view) none where
+  by_outcome : (outcome : Option Outcome) → IsNone outcome → (record {
+    regs = registers_after outcome view.regs;
+    memory = memory_after (actions_of outcome) seg view.memory;
+    devices = devices_after (actions_of outcome) view.devices;
+  }) ≡ view
+  by_outcome None none = refl
+  by_outcome (Some outcome) none = absurd (cc)
+
+none_and_some : (outcome : Option Outcome) → IsNone outcome → IsSome outcome → ⊥
+none_and_some None none some = absurd (cc)
+none_and_some (Some outcome) none some = absurd (cc)
+
+-- and it can't move on
+pub no_move : (seg : ℕ) (view new : View) → IsNone (instruction_in seg view) → new ≡ view → CanMove seg new → ⊥
+no_move seg view new none same can =
+    let some : IsSome (instruction_in seg view) = subst (λ v. IsSome (instruction_in seg v)) same can.listed in
+    none_and_some (instruction_in seg view) none some
+
+-- at most one instruction, where no gate stands
+
+none_unless : (outcome : Option Outcome) → (IsSome outcome → ⊥) → IsNone outcome
+none_unless None some = refl
+none_unless (Some outcome) some = absurd (some refl)
+
+nothing_listed : (seg : ℕ) (old new : View) → Moves 0 seg old new → (CanMove seg new → ⊥) → gate_of old.memory seg old.regs.pc ≡ None
+    → IsNone (instruction_in seg old)
+unfolding moves
+nothing_listed seg old new m stopped gate =
+    none_unless (instruction_in seg old) (λ listed. stopped (subst (CanMove seg) (sym m.is) (record { no_gate = gate; listed = listed })))
+
+pub moved_once : (n seg : ℕ) (old new : View) → Moves n seg old new → n ≤ 1 → (n < 1 → CanMove seg new → ⊥) → gate_of old.memory seg old.regs.pc ≡ None
+    → new ≡ moved seg old
+unfolding moves
+moved_once zero seg old new m most stopped gate = m.is ∙ sym (unmoved seg old (nothing_listed seg old new m (stopped (omega arith)) gate))
+moved_once (suc zero) seg old new m most stopped gate = m.is
+moved_once (suc (suc n)) seg old new m most stopped gate = absurd (omega (arith, most))
+
+pub listed_once : (n seg : ℕ) (old new : View) → Moves n seg old new → n ≤ 1 → (n < 1 → CanMove seg new → ⊥) → gate_of old.memory seg old.regs.pc ≡ None
+    → (n == 1) ≡ is_some (instruction_in seg old)
+unfolding moves
+listed_once zero seg old new m most stopped gate = sym (nothing_listed seg old new m (stopped (omega arith)) gate)
+listed_once (suc zero) seg old new m most stopped gate = sym (m.each 0 (omega arith)).listed
+listed_once (suc (suc n)) seg old new m most stopped gate = absurd (omega (arith, most))
 
 pub moves_to : (n seg : ℕ) (old now new : View) → Moves n seg old now → new ≡ now → Moves n seg old new
 moves_to n seg old now new m is = record { is = is ∙ m.is; each = m.each }
@@ -172,13 +215,27 @@ acted_view system p seg n view below on can =
     ∙ instructed_some (instruction_in seg view) p seg begun can.listed
     ∙ ap silent (ran_view system p seg n view below)
 
+-- no interrupt comes where none is due
+
+comes_not : (lets : Bool) (event : Option Event) → event ≡ None → (if lets then event else None) ≡ None
+comes_not true event e = e
+comes_not false event e = refl
+
+quiet_view : (system : System) (p n : ℕ) (view : View) → due (system.steps + n + 1) system.interrupts ≡ None
+    → coming (counted (with_view system p view n)) ≡ None
+unfolding coming with_view
+quiet_view system p n view quiet =
+    let begun = counted (with_view system p view n) in
+    comes_not (lets_in begun.kernel.running begun.kernel) (due (system.steps + n + 1) system.interrupts) quiet
+
 step_view : (system : System) (p seg n : ℕ) (view : View) → p < length system.kernel.procs.processes → RunsOn system p seg → CanMove seg view
+    → due (system.steps + n + 1) system.interrupts ≡ None
     → step_of (with_view system p view n) ≡ silent (with_view system p (moved seg view) (n + 1))
-unfolding step_of with_view
-step_view system p seg n view below on can =
+unfolding with_view
+step_view system p seg n view below on can quiet =
     let begun = counted (with_view system p view n) in
     let later = with_view system p (moved seg view) (n + 1) in
-    ap (dispatched (at_instruction begun)) (acted_view system p seg n view below on can)
+    step_quiet (with_view system p view n) later (quiet_view system p n view quiet) (acted_view system p seg n view below on can) on.handed
     ∙ ap (λ (kernel : Kernel). silent (record later { kernel = kernel })) (picked_same (at_instruction begun) later.kernel p on.running on.first)
 
 -- so n of them are n steps, which say nothing
@@ -187,37 +244,44 @@ with_system : State → System → State
 with_system s system = record s { system = system }
 
 next_view : (s : State) (p seg n : ℕ) (view : View) → p < length s.system.kernel.procs.processes → RunsOn s.system p seg → CanMove seg view
+    → due (s.system.steps + n + 1) s.system.interrupts ≡ None
     → next (with_system s (with_view s.system p view n)) ≡ with_system s (with_view s.system p (moved seg view) (n + 1))
 unfolding next with_system
-next_view s p seg n view below on can =
-    ap (λ (change : Change). record { system = change.system; outputs = change.news ++ s.outputs }) (step_view s.system p seg n view below on can)
+next_view s p seg n view below on can quiet =
+    ap (λ (change : Change). record { system = change.system; outputs = change.news ++ s.outputs }) (step_view s.system p seg n view below on can quiet)
 
 after_moves : (n : ℕ) (s : State) (p seg : ℕ) → p < length s.system.kernel.procs.processes → RunsOn s.system p seg
-    → ((k : ℕ) → k < n → CanMove seg (moves k seg (view_of s.system p)))
+    → ((k : ℕ) → k < n → CanMove seg (moves k seg (view_of s.system p))) → Quiet n s.system
     → after n s ≡ with_system s (with_view s.system p (moves n seg (view_of s.system p)) n)
 unfolding moves after with_system
-after_moves zero s p seg below on each = ap (λ system. record s { system = system }) (sym (view_itself s.system p))
-after_moves (suc n) s p seg below on each =
+after_moves zero s p seg below on each quiet = ap (λ system. record s { system = system }) (sym (view_itself s.system p))
+after_moves (suc n) s p seg below on each quiet =
     let view = moves n seg (view_of s.system p) in
-    ap next (after_moves n s p seg below on (λ k less. each k (omega (arith, less))))
-    ∙ next_view s p seg n view below on (each n (omega arith))
+    ap next (after_moves n s p seg below on (λ k less. each k (omega (arith, less))) (λ k less. quiet k (omega (arith, less))))
+    ∙ next_view s p seg n view below on (each n (omega arith)) (quiet n (omega arith))
     ∙ ap (λ count. record s { system = with_view s.system p (moved seg view) count }) (add-one n)
 
 pub runs_on : (system : System) (p seg : ℕ) → system.kernel.running ≡ Some p → first_of (list_at system.kernel.lists ready) ≡ Some p
-    → (process_in system.kernel.procs p).seg ≡ Some seg → RunsOn system p seg
-runs_on system p seg running first home = record { running = running; first = first; home = home }
+    → (process_in system.kernel.procs p).seg ≡ Some seg → system.kernel.completed ≡ [] → RunsOn system p seg
+runs_on system p seg running first home handed = record { running = running; first = first; home = home; handed = handed }
+
+-- so many steps in which nothing is due
+pub quiet_steps : (n quiet : ℕ) (system : System) → n ≤ quiet
+    → ((step : ℕ) → step ≤ system.steps + quiet → system.steps < step → due step system.interrupts ≡ None) → Quiet n system
+quiet_steps n quiet system few none = λ k below. none (system.steps + k + 1) (omega (arith, few, below)) (omega arith)
 
 -- what a machine stands for behind them
 pub moved_stands : (n p seg : ℕ) (old new : System) (kept : Kept) (told : Option (List ℕ)) (s : State) (first : Option (List ℕ))
-    → IsWhole old → RunsOn old p seg → Moved n p seg old new → StandsFor old kept told s first → StandsFor new kept told (after n s) first
+    → IsWhole old → RunsOn old p seg → Moved n p seg old new → Quiet n old → StandsFor old kept told s first
+    → StandsFor new kept told (after n s) first
 unfolding with_system
-moved_stands n p seg old new kept told s first w on moved stands =
+moved_stands n p seg old new kept told s first w on moved quiet stands =
     let below : p < length old.kernel.procs.processes =
     omega (arith, w.sound.slots.processes, lives_below old.kernel.procs p w.sound.slots (runner_lives old.kernel p w.sound on.running)) in
     let P : System → Type 0 = λ system. (p < length system.kernel.procs.processes) × RunsOn system p seg
-    × ((k : ℕ) → k < n → CanMove seg (moves k seg (view_of system p))) in
-    let facts : P s.system = subst P stands.parts (below, on, moved.moves.each) in
-    let behind = after_moves n s p seg facts.0 facts.1 facts.2 in
+    × ((k : ℕ) → k < n → CanMove seg (moves k seg (view_of system p))) × Quiet n system in
+    let facts : P s.system = subst P stands.parts (below, on, moved.moves.each, quiet) in
+    let behind = after_moves n s p seg facts.0 facts.1 facts.2 facts.3 in
     let whole : new ≡ with_view s.system p (moves n seg (view_of s.system p)) n =
     moved.is ∙ ap (λ v. with_view old p v n) moved.moves.is ∙ ap (λ system. with_view system p (moves n seg (view_of system p)) n) stands.parts in
     let Q : State → Type 0 = λ t. StandsFor new kept told t first in
@@ -229,7 +293,7 @@ whole_view : (system : System) (p n : ℕ) (view : View) → IsWhole system → 
 unfolding with_view
 whole_view system p n view w h keeps =
     let polled = record system.kernel { devices = view.devices } in
-    let before = whole_kernel system polled w (sound_devices system.kernel view.devices w.sound) (homes_stay _ _ refl) in
+    let before = whole_kernel system polled w (sound_devices system.kernel view.devices w.sound) w.live (homes_stay _ _ refl) in
     let changed = whole_regs p view.regs (record system { kernel = polled }) before h in
     let behind = whole_memory _ view.memory changed.whole keeps in
     whole_steps _ (system.steps + n) behind
@@ -258,3 +322,7 @@ stands_still system kept told s first stands =
 pub steps_behind : (n p seg : ℕ) (old new : System) → Moved n p seg old new → new.steps ≡ old.steps + n
 unfolding with_view
 steps_behind n p seg old new moved = ap (λ (system : System). system.steps) moved.is
+
+pub handed_behind : (n p seg : ℕ) (old new : System) → Moved n p seg old new → old.kernel.completed ≡ [] → new.kernel.completed ≡ []
+unfolding with_view
+handed_behind n p seg old new moved handed = ap (λ (system : System). system.kernel.completed) moved.is ∙ handed

@@ -1,6 +1,7 @@
 -- Programs that are placed into a machine in which no step was done.
 use Rattle.std.proofs.Common.{◌≡◌, ◌≢◌, ◌∙◌, ℕ, suc, cond, count_by, ◌+◌, ◌-◌, ◌*◌, ◌<◌, ◌≤◌, Bool, true, false, ◌&&◌, if◌then◌else◌, List, [], ◌∷◌, Option, Some, None, All, IsSome, length, codes, get_or, map, inl, inr, refl, sym, ap, subst, arith}
-use Rattle.std.proofs.lemmas.Bool.{cases_eq}
+use Rattle.std.proofs.lemmas.Bool.{cases_eq, false≢true}
+use Rattle.std.proofs.lemmas.Option.{same_Some}
 use Rattle.std.proofs.lemmas.List.{length-map, get_or-map}
 use Rattle.std.proofs.lemmas.List.Elements.{All-cons, All-nil}
 use Rattle.std.proofs.lemmas.List.Sums.{sum_by-cons, sum_by-set, count_by-le-length}
@@ -18,15 +19,21 @@ use Rattle.mpm_procs.specs.Opening.{opening}
 use Rattle.mpm_procs.specs.declared.process.NewProcess.{NewProcess}
 use Rattle.mpm_procs.proofs.CountLaws.{living_added, full_from_none}
 use Rattle.mpm_procs.proofs.MapLaws.{nobody_lives, free_below, free_is_dead, lives_added_other, process_added, process_added_other}
-use Rattle.mpm_kernel.specs.Kernel.{Kernel}
+use Rattle.std.specs.List.{AllByRecursion}
+use Rattle.mpm_kernel.specs.Kernel.{Kernel, CompletedLive}
 use Rattle.mpm_kernel.specs.Dispatch.{new_kernel, admitted, stays, picked}
 use Rattle.mpm_kernel.proofs.SoundLaws.{sound_new, sound_admitted, sound_picked}
 use Rattle.mpm_kernel.proofs.HomeLaws.{opening_home, procs_picked}
+use Rattle.mpm_script.specs.declared.event.Timed.{Timed}
+use Rattle.mpm_script.specs.Events.{IsTimed}
 use Rattle.mpm_machine_file.specs.MachineFiles.{IsSegment}
+use Rattle.mpm_machine_file.specs.declared.machine_file.MachineFile.{MachineFile}
 use Rattle.mpm_machine.specs.Gates.{last_page}
 use Rattle.mpm_machine.specs.declared.system.System.{System}
+use Rattle.mpm_machine.specs.declared.interrupts.Interrupts.{Interrupts}
 use Rattle.mpm_machine.specs.State.{IsHome, IsOccupied, IsWhole}
-use Rattle.mpm_machine.specs.Opening.{base_page, laid_out, placed_process, bare, is_lived_in, is_occupied, IsBare, MayPlace, with_placed, opening_system}
+use Rattle.mpm_machine.specs.Opening.{base_page, laid_out, placed_process, moment_of, booted, program_file, is_lived_in, is_occupied, IsBare, MayPlace, with_placed, opening_system}
+use Rattle.mpm_machine.proofs.WholeLaws.{same_picked}
 use Rattle.mpm_machine.proofs.HomeLaws.{KeepsHomes, keeps_same, keeps_both, keeps_occupied}
 
 -- a program that is laid out changes bytes alone
@@ -46,9 +53,6 @@ laid_out_is_there memory seg program there = omega (arith, (same_segments_laid_o
 
 -- the system is whole
 
-same_some : (a b : ℕ) → Some a ≡ Some b → a ≡ b
-same_some a b e = cc
-
 -- what is so of the segment in which a process begins, and of those in which others live, is so of each one's
 homes_admitted : (P : ℕ → Type 0) (kernel : Kernel) (p seg : ℕ) (new : NewProcess) → HasSlots kernel.procs → lowest_free kernel.procs ≡ Some p
     → new.seg ≡ Some seg → P seg
@@ -60,11 +64,16 @@ homes_admitted P kernel p seg new slots free is home homes q other living there 
       ap (process_in (added kernel.procs p new)) equal
       ∙ process_added kernel.procs p new (omega (arith, slots.processes, slots.alive, free_below kernel.procs p free)) in
       let seat : Some seg ≡ Some other = sym is ∙ sym (opening_home new) ∙ ap (λ x. x.seg) (sym at) ∙ there in
-      subst P (same_some seg other seat) home
+      subst P (same_Some seg other seat) home
   | inr another ↦
       homes q other (sym (lives_added_other kernel.procs p q new another) ∙ living)
       (ap (λ x. x.seg) (sym (process_added_other kernel.procs p q new another)) ∙ there)
 ]
+
+nobody_completed : (kernel : Kernel) → kernel.completed ≡ [] → CompletedLive kernel
+nobody_completed kernel none =
+    let P : List ℕ → Type 0 = λ ps. AllByRecursion (λ p. Lives kernel.procs p) ps in
+    subst P (sym none) tt
 
 pub whole_placed : (system : System) (p seg : ℕ) (name : Name8) (priority console : ℕ) (program : List ℕ) → MayPlace system seg console (length program)
     → lowest_free system.kernel.procs ≡ Some p → IsWhole (with_placed system p seg name priority console program)
@@ -86,20 +95,20 @@ whole_placed system p seg name priority console program may free =
     let alive = λ (q : ℕ) (living : Lives (picked false kernel).procs q). ap (λ procs. lives procs q) (sym same) ∙ living in
     record {
       sound = sound_picked kernel false (sound_admitted system.kernel p new w.sound free may.has_console);
+      live = nobody_completed (picked false kernel) (same_picked false kernel ∙ may.bare.handed);
+      script = w.script;
       homes = λ q other living there. homes q other (alive q living) (ap (λ procs. (process_in procs q).seg) (sym same) ∙ there);
       lived = λ q other living there. lived q other (alive q living) (ap (λ procs. (process_in procs q).seg) (sym same) ∙ there);
     }
 
-dead_and_alive : (b : Bool) → b ≡ false → b ≡ true → ⊥
-dead_and_alive true e f = absurd (cc)
-dead_and_alive false e f = absurd (cc)
-
-pub whole_bare : (segments : List SegmentSpec) (consoles printers : ℕ) → 1 ≤ consoles → consoles ≤ 8 → IsWhole (bare segments consoles printers)
-unfolding bare new_kernel
-whole_bare segments consoles printers some few = record {
-  sound = sound_new consoles printers some few;
-  homes = λ p seg living there. absurd (dead_and_alive _ (nobody_lives p) living);
-  lived = λ p seg living there. absurd (dead_and_alive _ (nobody_lives p) living);
+whole_booted : (file : MachineFile) (events : List Timed) → 1 ≤ file.consoles → file.consoles ≤ 8 → All IsTimed events → IsWhole (booted file events)
+unfolding booted new_kernel
+whole_booted file events some few script = record {
+  live = tt;
+  script = script;
+  sound = sound_new file.consoles file.printers (moment_of file) some few;
+  homes = λ p seg living there. absurd (false≢true (sym (nobody_lives p) ∙ living));
+  lived = λ p seg living there. absurd (false≢true (sym (nobody_lives p) ∙ living));
 }
 
 home_bare : (segments : List SegmentSpec) (seg : ℕ) → All IsSegment segments → seg < length segments → IsHome (new_memory segments) seg
@@ -178,6 +187,7 @@ bare_placed system p seg name priority console program may free =
     let more = living_added system.kernel.procs p new (free_below system.kernel.procs p free) (free_is_dead system.kernel.procs p free) in
     record {
       whole = whole_placed system p seg name priority console program may free;
+      handed = same_picked false kernel ∙ may.bare.handed;
       start = may.bare.start;
       few = omega (arith, count_allocated memory seg Occupied, same.count, may.bare.few);
       counted = omega (arith, ap living (procs_picked false kernel), more, count, before, may.bare.counted);
@@ -196,26 +206,29 @@ placed_is_bare old kernel memory laid new p seg name priority console program ma
     (lived ∙ ap (λ m. occupied m seg) written) in
     subst IsBare (sym whole) (bare_placed old p seg name priority console program may free)
 
-pub bare_is : (segments : List SegmentSpec) (consoles printers : ℕ) → 1 ≤ consoles → consoles ≤ 8 → length segments ≤ 16 → IsBare (bare segments consoles printers)
-unfolding bare new_kernel new_memory living no_processes
-bare_is segments consoles printers some few count = record {
-  whole = whole_bare segments consoles printers some few;
+pub booted_is_bare : (file : MachineFile) (events : List Timed) → 1 ≤ file.consoles → file.consoles ≤ 8 → length file.segments ≤ 16
+    → All IsTimed events → IsBare (booted file events)
+unfolding booted new_kernel new_memory living no_processes
+booted_is_bare file events some few count script = record {
+  whole = whole_booted file events some few script;
+  handed = refl;
   start = refl;
-  few = omega (arith, length-map segments new_segment, count);
-  counted = omega (arith, nobody_counts segments);
+  few = omega (arith, length-map file.segments new_segment, count);
+  counted = omega (arith, nobody_counts file.segments);
 }
 
 -- a program can be placed into each segment of a machine in which nobody lives
-pub may_place_bare : (segments : List SegmentSpec) (consoles printers seg console size : ℕ) → 1 ≤ consoles → consoles ≤ 8 → length segments ≤ 16
-    → All IsSegment segments → seg < length segments → console < consoles
-    → size + 640 ≤ 256 * (get_or segments seg (record { base = 0; pages = 0 })).pages
-    → MayPlace (bare segments consoles printers) seg console size
-unfolding bare new_kernel new_memory
-may_place_bare segments consoles printers seg console size some few count fit h has_console room =
+pub may_place_booted : (file : MachineFile) (events : List Timed) (seg console size : ℕ) → 1 ≤ file.consoles → file.consoles ≤ 8
+    → length file.segments ≤ 16 → All IsTimed events → All IsSegment file.segments → seg < length file.segments → console < file.consoles
+    → size + 640 ≤ 256 * (get_or file.segments seg (record { base = 0; pages = 0 })).pages
+    → MayPlace (booted file events) seg console size
+unfolding booted new_kernel new_memory
+may_place_booted file events seg console size some few count script fit h has_console room =
+    let segments = file.segments in
     let none : SegmentSpec = record { base = 0; pages = 0 } in
     let at : segment_of (new_memory segments) seg ≡ new_segment (get_or segments seg none) = get_or-map new_segment segments seg none no_segment h in
     record {
-      bare = bare_is segments consoles printers some few count;
+      bare = booted_is_bare file events some few count script;
       home = home_bare segments seg fit h;
       empty = ap is_occupied at;
       has_console = has_console;
@@ -250,20 +263,42 @@ may_place_again system p seg name priority console program other next size may f
     }
 
 -- the program of a machine of one segment
-pub may_place_program : (size : ℕ) → size ≤ 48512 → MayPlace (bare (record { base = 0; pages = 192 } ∷ []) 1 0) 0 0 size
+pub may_place_program : (size : ℕ) → size ≤ 48512 → MayPlace (booted program_file []) 0 0 size
 unfolding new_memory
 may_place_program size h =
     let whole : SegmentSpec = record { base = 0; pages = 192 } in
     let fits : IsSegment whole = record { pages = omega arith; end = omega arith } in
-    may_place_bare (whole ∷ []) 1 0 0 0 size (omega arith) (omega arith) (omega arith) (All-cons IsSegment whole [] fits (All-nil IsSegment)) (omega arith) (omega arith) (omega arith)
+    may_place_booted program_file [] 0 0 size (omega arith) (omega arith) (omega arith) (All-nil IsTimed) (All-cons IsSegment whole [] fits (All-nil IsSegment)) (omega arith) (omega arith) (omega arith)
+
+pub booted_parts : (file : MachineFile) (events : List Timed) (interrupts : Interrupts) (kernel : Kernel) (memory : Memory)
+    → 1 ≤ file.consoles → file.consoles ≤ 8 → length file.segments ≤ 16 → All IsTimed events
+    → interrupts ≡ record { tick_every = file.tick_every; ticks = 0; script = events }
+    → kernel ≡ new_kernel file.consoles file.printers (moment_of file) → memory ≡ new_memory file.segments
+    → IsBare (record { steps = 0; interrupts = interrupts; kernel = kernel; memory = memory })
+unfolding booted
+booted_parts file events interrupts kernel memory some few count script is was there =
+    let whole : record { steps = 0; interrupts = interrupts; kernel = kernel; memory = memory } ≡ booted file events =
+    ap (λ (i : Interrupts). record { steps = 0; interrupts = i; kernel = kernel; memory = memory }) is
+    ∙ ap (λ (k : Kernel). record { steps = 0; interrupts = record { tick_every = file.tick_every; ticks = 0; script = events }; kernel = k; memory = memory }) was
+    ∙ ap (λ (m : Memory). record {
+      steps = 0;
+      interrupts = record { tick_every = file.tick_every; ticks = 0; script = events };
+      kernel = new_kernel file.consoles file.printers (moment_of file);
+      memory = m;
+    }) there in
+    subst IsBare (sym whole) (booted_is_bare file events some few count script)
+
+pub booted_program : (file : MachineFile) (events : List Timed) (machine : System) → machine ≡ booted file events → file ≡ program_file → events ≡ []
+    → machine ≡ booted program_file []
+booted_program file events machine is was none = is ∙ ap (λ f. booted f events) was ∙ ap (booted program_file) none
 
 -- it is process 0
-pub opening_is : (program : List ℕ) (p : ℕ) (machine old : System) → old ≡ bare (record { base = 0; pages = 192 } ∷ []) 1 0
+pub opening_is : (program : List ℕ) (p : ℕ) (machine old : System) → old ≡ booted program_file []
     → lowest_free old.kernel.procs ≡ Some p → machine ≡ with_placed old p 0 (record { 0 = codes "PROGRAM " }) 200 0 program → machine ≡ opening_system program
-unfolding opening_system bare new_kernel lowest_free no_processes
+unfolding opening_system booted new_kernel lowest_free no_processes
 opening_is program p machine old is free placed =
     let first : Some 0 ≡ Some p = sym (ap (λ (s : System). lowest_free s.kernel.procs) is) ∙ free in
     let name : Name8 = record { 0 = codes "PROGRAM " } in
     placed
-    ∙ ap (λ n. with_placed old n 0 name 200 0 program) (sym (same_some 0 p first))
+    ∙ ap (λ n. with_placed old n 0 name 200 0 program) (sym (same_Some 0 p first))
     ∙ ap (λ s. with_placed s 0 0 name 200 0 program) is

@@ -1,19 +1,24 @@
 -- Laws of a step and of n steps.
-use Rattle.std.proofs.Common.{◌≡◌, ◌∙◌, ℕ, zero, suc, ◌+◌, ◌-◌, ◌<◌, ◌≤◌, Bool, true, false, ◌==◌, List, ◌++◌, Option, Some, None, if◌then◌else◌, refl, ap, sym, subst, arith, add-one}
+use Rattle.std.proofs.Common.{◌≡◌, ◌∙◌, ℕ, zero, suc, ◌+◌, ◌-◌, ◌<◌, ◌≤◌, Bool, true, false, ◌==◌, List, [], ◌∷◌, ◌++◌, Option, Some, None, if◌then◌else◌, refl, ap, sym, subst, arith, add-one}
 use Rattle.z80_regs.specs.Outcome.{Outcome}
 use Rattle.mpm_base.specs.Calls.{Taken, Answer}
 use Rattle.mpm_base.specs.declared.call.Outcome.{Outcome as CallOutcome}
 use Rattle.mpm_base.specs.declared.call.Outcome.TheVariants.{Done, Held, Retry, Ended}
 use Rattle.mpm_render.specs.Outputs.{rendered}
 use Rattle.mpm_render.specs.Shown.{Kept, Shows, EndsBetween}
+use Rattle.mpm_script.specs.declared.event.Event.{Event}
+use Rattle.mpm_procs.specs.Table.{process_in}
 use Rattle.mpm_machine.specs.declared.system.System.{System}
+use Rattle.mpm_machine.proofs.FinishLaws.{first_finished}
 use Rattle.mpm_machine.specs.declared.gate.Gate.{Gate}
 use Rattle.mpm_machine.specs.declared.gate.Gate.TheVariants.{End, Call}
 use Rattle.mpm_machine.specs.Writing.{Showed, Stopped}
 use Rattle.mpm_machine.specs.State.{State, speaking, StandsFor}
 use Rattle.mpm_machine.specs.Ending.{ended}
-use Rattle.mpm_machine.specs.Serving.{asked, keeping, Served, reserving, releasing, creating, served, said_by, replied, completing, outcome_of, gate_step}
-use Rattle.mpm_machine.specs.Step.{ran, illegal, instructed, instruction_at, acted_at, gate_before, acted_by, acted, counted, step_of, next, after, EndsInStep}
+use Rattle.mpm_machine.specs.Serving.{asked, keeping, Served, reserving, releasing, creating, served, said_by, popped, replied, answering_call, completing, outcome_of, gate_step}
+use Rattle.mpm_machine.specs.Finishing.{finished, handed, finishing, all_finished}
+use Rattle.mpm_machine.proofs.WritingLaws.{stopped_before, stopped_behind}
+use Rattle.mpm_machine.specs.Step.{ran, illegal, instructed, instruction_at, acted_at, gate_before, acted_by, acted, coming, interrupted, begun_by, with_finished, counted, step_of, next, after, EndsInStep}
 
 -- a step that a machine does is the state's next
 
@@ -54,7 +59,7 @@ served_steps call p system =
 
 outcome_steps : (outcome : CallOutcome) (reply : Answer) (call : Taken) (p seg : ℕ) (system : System)
     → (outcome_of outcome reply call p seg system).system.steps ≡ system.steps
-unfolding completing said_by speaking replied ended
+unfolding completing said_by speaking popped answering_call replied ended
 outcome_steps Done reply call p seg system = refl
 outcome_steps Ended reply call p seg system = refl
 outcome_steps Held reply call p seg system = refl
@@ -82,9 +87,43 @@ acted_by_steps None seg system = refl
 acted_by_steps (Some p) None system = refl
 acted_by_steps (Some p) (Some seg) system = acted_at_steps (gate_before p seg system) p seg system
 
+begun_steps : (event : Option Event) (system : System) → (begun_by event system).system.steps ≡ system.steps
+unfolding acted interrupted
+begun_steps None system = acted_by_steps system.kernel.running _ system
+begun_steps (Some event) system = refl
+
+finished_steps : (seg : Option ℕ) (p : ℕ) (system : System) → (finished seg p system).system.steps ≡ system.steps
+unfolding answering_call replied
+finished_steps None p system = refl
+finished_steps (Some seg) p system = refl
+
+finishing_steps : (ps : List ℕ) (system : System) → (finishing ps system).system.steps ≡ system.steps
+unfolding finishing
+finishing_steps [] system = refl
+finishing_steps (p ∷ ps) system =
+    finishing_steps ps (first_finished p system) ∙ finished_steps (process_in system.kernel.procs p).seg p (handed system)
+
 pub step_steps : (system : System) → (step_of system).system.steps ≡ system.steps + 1
-unfolding step_of acted
-step_steps system = acted_by_steps system.kernel.running _ (counted system)
+unfolding step_of with_finished
+step_steps system =
+    let begun = counted system in
+    finishing_steps _ (begun_by (coming begun) begun).system ∙ begun_steps (coming begun) begun
+
+-- writing that stops at the beginning of a step, or at an answer behind it, stops within the step
+
+pub stopped_begun : (system : System) (kept : Kept) (told told' : Option (List ℕ))
+    → Stopped kept told told' (begun_by (coming (counted system)) (counted system)).news → Stopped kept told told' (step_of system).news
+unfolding step_of with_finished
+stopped_begun system kept told told' stopped = stopped_before kept told told' _ _ stopped
+
+pub stopped_finished : (system begun : System) (k0 : Kept) (t0 : Option (List ℕ)) (k1 : Kept) (t1 t2 : Option (List ℕ)) → k1.trace ≡ k0.trace
+    → begun ≡ (begun_by (coming (counted system)) (counted system)).system
+    → Showed k0 t0 k1 t1 (begun_by (coming (counted system)) (counted system)).news → Stopped k1 t1 t2 (all_finished begun).news
+    → Stopped k0 t0 t2 (step_of system).news
+unfolding step_of with_finished
+stopped_finished system begun k0 t0 k1 t1 t2 same is shown stopped =
+    let P : System → Type 0 = λ s. Stopped k1 t1 t2 (all_finished s).news in
+    stopped_behind k0 t0 k1 t1 t2 _ _ same shown (subst P is stopped)
 
 -- n steps
 

@@ -1,5 +1,5 @@
 -- A whole system stays whole through each part of a step.
-use Rattle.std.proofs.Common.{◌≡◌, ◌≢◌, ◌∙◌, ℕ, ◌+◌, ◌&&◌, Bool, true, false, List, Option, Some, None, ◌==◌, if◌then◌else◌, refl, sym, ap, subst, IsNone, arith}
+use Rattle.std.proofs.Common.{◌≡◌, ◌≢◌, ◌∙◌, ℕ, ◌+◌, ◌&&◌, Bool, true, false, List, [], ◌∷◌, Option, Some, None, ◌==◌, if◌then◌else◌, refl, sym, ap, subst, IsNone, IfSome, All, arith}
 use Rattle.std.proofs.lemmas.Bool.Decides.{nat_tests}
 use Rattle.std.proofs.lemmas.List.{set-get_or}
 use Rattle.z80_regs.specs.Outcome.{Outcome}
@@ -12,15 +12,18 @@ use Rattle.mpm_banks.specs.Memory.{Memory, HasSegment, segment_of, byte_at}
 use Rattle.mpm_banks.specs.Allocations.{lowest_free}
 use Rattle.mpm_banks.specs.Actions.{memory_after, devices_after}
 use Rattle.mpm_gate.specs.Replies.{answered, returned}
-use Rattle.mpm_procs.specs.Table.{Table, lives, Lives, process_in, call_of, with_process}
+use Rattle.mpm_procs.specs.Table.{Table, lives, Lives, process_in, call_of, with_process, with_call}
 use Rattle.mpm_procs.specs.Opening.{blank}
 use Rattle.mpm_procs.proofs.MapLaws.{lives_below, lives_changed, process_changed, process_behind, call_behind, call_changed, lives_behind}
-use Rattle.mpm_kernel.specs.Kernel.{Kernel, IsSound, IsReady, with_changed}
+use Rattle.mpm_kernel.specs.Kernel.{Kernel, IsSound, IsReady, CompletedLive, with_changed}
 use Rattle.mpm_kernel.specs.Columns.{spoke}
-use Rattle.mpm_kernel.specs.Dispatch.{discharged}
-use Rattle.mpm_kernel.proofs.SoundLaws.{sound_changed, sound_call, sound_devices, sound_spoke, sound_picked, sound_discharged, sound_called, lives_called, runner_lives}
-use Rattle.mpm_kernel.proofs.HomeLaws.{SameHomes, homes_stay, homes_changed, homes_call, homes_discharged, homes_called, call_called, procs_picked, procs_spoke}
-use Rattle.mpm_xdos.specs.Creating.{home_base}
+use Rattle.mpm_script.specs.declared.event.Event.{Event}
+use Rattle.mpm_script.specs.Events.{IsTimed}
+use Rattle.mpm_kernel.specs.Dispatch.{discharged, stays, picked}
+use Rattle.mpm_kernel.specs.Events.{MayCome, first_completed, happened}
+use Rattle.mpm_kernel.proofs.SoundLaws.{sound_changed, sound_call, sound_devices, sound_spoke, sound_picked, sound_discharged, sound_called, lives_called, live_called, sound_happened, live_happened, sound_completed, live_handed_out, completed_lives, live_kept, runner_lives}
+use Rattle.mpm_kernel.proofs.HomeLaws.{SameHomes, homes_stay, homes_changed, homes_call, homes_discharged, homes_called, homes_happened, call_called, procs_picked, procs_spoke, procs_handed_out}
+use Rattle.mpm_xdos.specs.Creating.{home_base, created}
 use Rattle.mpm_xdos.specs.Ending.{is_segment, lives_in}
 use Rattle.mpm_xdos.proofs.Homes.{home_here}
 use Rattle.mpm_xdos.proofs.CreatedLaws.{made_created}
@@ -29,8 +32,13 @@ use Rattle.mpm_machine.specs.declared.gate.Gate.{Gate}
 use Rattle.mpm_machine.specs.declared.gate.Gate.TheVariants.{End, Call}
 use Rattle.mpm_machine.specs.State.{IsHome, IsWhole, speaking}
 use Rattle.mpm_machine.specs.Ending.{ended}
-use Rattle.mpm_machine.specs.Serving.{with_regs, asked, keeping, Served, reserving, releasing, creating, calling, served, said_by, replied, completing, outcome_of, gate_step}
-use Rattle.mpm_machine.specs.Step.{counted, illegal, illegal_text, instructed, ran, instruction_at, acted_at, gate_before, acted_by, acted, at_instruction, step_of}
+use Rattle.mpm_machine.specs.Serving.{with_regs, asked, keeping, Served, reserving, releasing, creating, calling, served, said_by, popped, replied, completion, answering_call, completing, outcome_of, gate_step}
+use Rattle.mpm_machine.specs.Interrupts.{due, behind_due}
+use Rattle.mpm_machine.specs.declared.interrupts.Interrupts.{Interrupts}
+use Rattle.mpm_machine.specs.Finishing.{finished, handed, finishing, all_finished}
+use Rattle.mpm_machine.specs.Step.{counted, illegal, illegal_text, instructed, ran, instruction_at, acted_at, gate_before, acted_by, acted, lets_in, coming, roused, interrupted, begun_by, instruction_unless, with_finished, step_of}
+use Rattle.mpm_machine.proofs.InterruptLaws.{due_may, script_behind_due}
+use Rattle.mpm_machine.proofs.FinishLaws.{first_finished, left_completed, handed_finished}
 use Rattle.mpm_machine.proofs.HomeLaws.{KeepsHomes, keeps_placed, keeps_acted, keeps_reserved, keeps_released, leaves_without, free_or_lived, found_is_free}
 
 -- the segment of a process is a home
@@ -50,10 +58,12 @@ free_is_empty system base pages p seg w found h = λ home.
     (found_is_free system.memory base pages seg found) (w.lived p seg h home)
 
 -- another kernel, whose processes live where some lived before
-pub whole_kernel : (system : System) (kernel : Kernel) → IsWhole system → IsSound kernel → SameHomes system.kernel kernel
+pub whole_kernel : (system : System) (kernel : Kernel) → IsWhole system → IsSound kernel → CompletedLive kernel → SameHomes system.kernel kernel
     → IsWhole (record system { kernel = kernel })
-whole_kernel system kernel w s homes = record {
+whole_kernel system kernel w s live homes = record {
   sound = s;
+  live = live;
+  script = w.script;
   homes = λ p seg h home. let there = homes.all p seg h home in w.homes there.who seg there.lives there.home;
   lived = λ p seg h home. let there = homes.all p seg h home in w.lived there.who seg there.lives there.home;
 }
@@ -63,13 +73,15 @@ pub whole_memory : (system : System) (memory : Memory) → IsWhole system → Ke
     → IsWhole (record system { memory = memory })
 whole_memory system memory w keeps = record {
   sound = w.sound;
+  live = w.live;
+  script = w.script;
   homes = λ p seg h home. keeps.all seg (w.homes p seg h home);
   lived = λ p seg h home. keeps.lived seg (w.homes p seg h home) (w.lived p seg h home);
 }
 
 -- more steps are counted
 pub whole_steps : (system : System) (steps : ℕ) → IsWhole system → IsWhole (record system { steps = steps })
-whole_steps system steps w = record { sound = w.sound; homes = w.homes; lived = w.lived }
+whole_steps system steps w = record { sound = w.sound; live = w.live; homes = w.homes; lived = w.lived; script = w.script }
 
 -- a system is whole behind a part of the step of a process, which lives and keeps its call
 pub record StaysWhole (p : ℕ) (old new : System) : Type 0 where
@@ -86,19 +98,24 @@ whole_regs p regs system w h =
     record {
       whole = whole_kernel system _ w
           (sound_changed system.kernel p process w.sound h (record { console = fit.console; some = fit.some; few = fit.few }))
+          (live_kept system.kernel (with_changed system.kernel p process) refl (λ q living. lives_changed system.kernel.procs p q process ∙ living) w.live)
           (homes_changed system.kernel p process w.sound.slots h refl);
       lives = lives_changed system.kernel.procs p p process ∙ h;
       call = call_behind system.kernel.procs p p process;
     }
 
 -- bytes come to a console
+live_spoke : (kernel : Kernel) (console : ℕ) (bytes : List ℕ) → CompletedLive kernel → CompletedLive (spoke kernel console bytes)
+unfolding spoke
+live_spoke kernel console bytes live = live
+
 pub whole_speaking : (console p : ℕ) (bytes : List ℕ) (system : System) → IsWhole system → Lives system.kernel.procs p
     → StaysWhole p system (speaking console bytes system).system
 unfolding speaking
 whole_speaking console p bytes system w h =
     let same = procs_spoke system.kernel console bytes in
     record {
-      whole = whole_kernel system _ w (sound_spoke system.kernel console bytes w.sound) (homes_stay _ _ same);
+      whole = whole_kernel system _ w (sound_spoke system.kernel console bytes w.sound) (live_spoke system.kernel console bytes w.live) (homes_stay _ _ same);
       lives = ap (λ procs. lives procs p) same ∙ h;
       call = ap (λ procs. call_of procs p) same;
     }
@@ -107,7 +124,9 @@ pub whole_behind_text : (system : System) (kernel : Kernel) (console : ℕ) (byt
     → IsWhole (record system { kernel = kernel })
 whole_behind_text system kernel console bytes w is =
     let P : Kernel → Type 0 = λ k. IsWhole (record system { kernel = k }) in
-    subst P (sym is) (whole_kernel system _ w (sound_spoke system.kernel console bytes w.sound) (homes_stay _ _ (procs_spoke system.kernel console bytes)))
+    subst P (sym is)
+    (whole_kernel system _ w (sound_spoke system.kernel console bytes w.sound) (live_spoke system.kernel console bytes w.live)
+    (homes_stay _ _ (procs_spoke system.kernel console bytes)))
 
 pub lives_behind_text : (old kernel : Kernel) (console p : ℕ) (bytes : List ℕ) → Lives old.procs p → kernel ≡ spoke old console bytes → Lives kernel.procs p
 lives_behind_text old kernel console p bytes h is =
@@ -121,14 +140,21 @@ same_number n = grind (arith, nat_tests)
 lives_there : (procs : Table) (seg q : ℕ) → Lives procs q → (process_in procs q).seg ≡ Some seg → lives_in procs seg q ≡ true
 lives_there procs seg q living there = ap (λ b. b && is_segment seg (process_in procs q).seg) living ∙ ap (is_segment seg) there ∙ same_number seg
 
+live_discharged : (kernel : Kernel) (p : ℕ) → CompletedLive (discharged kernel p)
+unfolding discharged
+live_discharged kernel p = tt
+
 whole_ended : (p : ℕ) (system : System) → IsWhole system → Lives system.kernel.procs p → IsWhole (ended p system)
 unfolding ended
 whole_ended p system w h =
     let gone = record system { kernel = discharged system.kernel p } in
-    let whole = whole_kernel system _ w (sound_discharged system.kernel p w.sound h) (homes_discharged system.kernel p w.sound.slots h) in
+    let whole = whole_kernel system _ w (sound_discharged system.kernel p w.sound h) (live_discharged system.kernel p)
+    (homes_discharged system.kernel p w.sound.slots h) in
     let leaves = leaves_without system.memory system.kernel p in
     record {
       sound = whole.sound;
+      live = whole.live;
+      script = w.script;
       homes = λ q seg living there. leaves.all seg (whole.homes q seg living there);
       lived = λ q seg living there.
           leaves.lived seg (whole.homes q seg living there)
@@ -147,7 +173,7 @@ whole_ran : (outcome : Option Outcome) (p seg : ℕ) (system : System) → IsWho
 unfolding ran
 whole_ran outcome p seg system w h =
     let polled = record system.kernel { devices = devices_after (actions_of outcome) system.kernel.devices } in
-    let before = whole_kernel system polled w (sound_devices system.kernel _ w.sound) (homes_stay _ _ refl) in
+    let before = whole_kernel system polled w (sound_devices system.kernel _ w.sound) w.live (homes_stay _ _ refl) in
     whole_memory _ _ (whole_regs p (registers_after outcome (process_in system.kernel.procs p).regs) (record system { kernel = polled }) before h).whole
     (keeps_acted (actions_of outcome) seg system.memory)
 
@@ -174,24 +200,42 @@ pub whole_said : (call : Taken) (p seg : ℕ) (system : System) → IsWhole syst
 unfolding said_by
 whole_said call p seg system w h = whole_speaking (process_in system.kernel.procs p).console p _ system w h
 
-pub whole_replied : (reply : Answer) (call : Taken) (p seg : ℕ) (system : System) → IsWhole system → Lives system.kernel.procs p
-    → StaysWhole p system (replied reply call p seg system)
-unfolding replied
+pub whole_popped : (p seg : ℕ) (system : System) → IsWhole system → Lives system.kernel.procs p → StaysWhole p system (popped p seg system)
+unfolding popped
+whole_popped p seg system w h = whole_regs p (returned (byte_at system.memory seg) (process_in system.kernel.procs p).regs) system w h
+
+whole_replied : (reply : Answer) (call : Taken) (p seg : ℕ) (system : System) → IsWhole system → Lives system.kernel.procs p
+    → StaysWhole p system (answering_call reply call p seg system).system
+unfolding answering_call replied
 whole_replied reply call p seg system w h =
-    let process = process_in system.kernel.procs p in
-    let changed = whole_regs p (answered reply.hl (returned (byte_at system.memory seg) process.regs)) system w h in
+    let changed = whole_regs p (answered reply.hl (process_in system.kernel.procs p).regs) system w h in
     record {
       whole = whole_memory _ _ changed.whole (keeps_placed reply call.word seg system.memory);
       lives = changed.lives;
       call = changed.call;
     }
 
+pub lives_replied : (reply : Answer) (call : Taken) (p seg : ℕ) (old behind : System) → Lives old.kernel.procs p → behind ≡ replied reply call p seg old
+    → Lives behind.kernel.procs p
+unfolding replied
+lives_replied reply call p seg old behind h is =
+    ap (λ (s : System). lives s.kernel.procs p) is ∙ lives_changed old.kernel.procs p p _ ∙ h
+
+-- the record that follows is that of the call
+pub answered_news : (reply : Answer) (p seg : ℕ) (old behind : System) → behind ≡ replied reply (call_of old.kernel.procs p) p seg old
+    → completion (call_of behind.kernel.procs p) p behind ∷ [] ≡ (answering_call reply (call_of old.kernel.procs p) p seg old).news
+unfolding answering_call replied
+answered_news reply p seg old behind is =
+    ap (λ (s : System). completion (call_of s.kernel.procs p) p s ∷ []) is
+    ∙ ap (λ call. completion call p (replied reply (call_of old.kernel.procs p) p seg old) ∷ []) (call_behind old.kernel.procs p p _)
+
 whole_completing : (reply : Answer) (call : Taken) (p seg : ℕ) (system : System) → IsWhole system → Lives system.kernel.procs p
     → IsWhole (completing reply call p seg system).system
 unfolding completing
 whole_completing reply call p seg system w h =
     let said = whole_said call p seg system w h in
-    (whole_replied reply call p seg _ said.whole said.lives).whole
+    let behind = whole_popped p seg _ said.whole said.lives in
+    (whole_replied reply call p seg _ behind.whole behind.lives).whole
 
 -- a call is done
 whole_if : (p : ℕ) (old : System) (b : Bool) (one other : Served) → StaysWhole p old one.system → StaysWhole p old other.system
@@ -206,13 +250,19 @@ whole_banks p memory system w h keeps = record { whole = whole_memory system mem
 whole_creating : (p : ℕ) (system : System) → IsWhole system → Lives system.kernel.procs p → StaysWhole p system (creating p system).system
 unfolding creating
 whole_creating p system w h =
-    let made = made_created system.kernel p (home_base system.memory (process_in system.kernel.procs p).seg) w.sound h in
-    record { whole = whole_kernel system _ w made.sound made.homes; lives = made.lives p h; call = made.call p h }
+    let base = home_base system.memory (process_in system.kernel.procs p).seg in
+    let made = made_created system.kernel p base w.sound h in
+    record {
+      whole = whole_kernel system _ w made.sound (live_kept system.kernel (created system.kernel p base) made.completed made.lives w.live) made.homes;
+      lives = made.lives p h;
+      call = made.call p h;
+    }
 
 whole_calling : (p : ℕ) (system : System) → IsWhole system → Lives system.kernel.procs p → IsReady system.kernel p
     → StaysWhole p system (calling p system).system
 whole_calling p system w h ready = record {
-  whole = whole_kernel system _ w (sound_called p system.kernel w.sound h ready) (homes_called p system.kernel w.sound h);
+  whole = whole_kernel system _ w (sound_called p system.kernel w.sound h ready) (live_called p system.kernel w.sound h ready)
+      (homes_called p system.kernel w.sound h);
   lives = lives_called p system.kernel w.sound h ready;
   call = call_called p system.kernel w.sound h;
 }
@@ -246,7 +296,9 @@ keeps_call p call system w h =
     let slots = taken.whole.sound.slots in
     let below = lives_below system.kernel.procs p w.sound.slots h in
     record {
-      whole = whole_kernel _ _ taken.whole (sound_call kernel p call taken.whole.sound) (homes_call kernel p call);
+      whole = whole_kernel _ _ taken.whole (sound_call kernel p call taken.whole.sound)
+          (live_kept kernel (record kernel { procs = with_call kernel.procs p call }) refl (λ q living. lives_behind kernel.procs p q call ∙ living) taken.whole.live)
+          (homes_call kernel p call);
       lives = lives_behind kernel.procs p p call ∙ taken.lives;
       ready = λ ready. ready;
       call = call_changed kernel.procs p call (omega (arith, slots.calls, below));
@@ -257,7 +309,7 @@ whole_outcome : (outcome : Ended_how) (reply : Answer) (call : Taken) (p seg : �
     → IsWhole (outcome_of outcome reply call p seg system).system
 whole_outcome Done reply call p seg system w h = whole_completing reply call p seg system w h
 whole_outcome Ended reply call p seg system w h = whole_ended p system w h
-whole_outcome Held reply call p seg system w h = w
+whole_outcome Held reply call p seg system w h = (whole_popped p seg system w h).whole
 whole_outcome Retry reply call p seg system w h = w
 
 -- the gate step of a call
@@ -287,18 +339,128 @@ whole_acted : (system : System) → IsWhole system → IsWhole (acted system).sy
 unfolding acted
 whole_acted system w = whole_acted_by system.kernel.running _ system w refl
 
+-- an event comes
+
+whole_roused : (running : Option ℕ) (system : System) → IsWhole system → system.kernel.running ≡ running
+    → IsWhole (record system { kernel = roused running system.kernel })
+whole_roused None system w e = w
+whole_roused (Some p) system w e =
+    (whole_regs p (record (process_in system.kernel.procs p).regs { halted = false }) system w (runner_lives system.kernel p w.sound e)).whole
+
+whole_interrupts : (system : System) (interrupts : Interrupts) → IsWhole system → All IsTimed interrupts.script
+    → IsWhole (record system { interrupts = interrupts })
+whole_interrupts system interrupts w script = record { sound = w.sound; live = w.live; homes = w.homes; lived = w.lived; script = script }
+
+pub whole_due : (system : System) (interrupts : Interrupts) → IsWhole system → interrupts ≡ behind_due system.steps system.interrupts
+    → IsWhole (record system { interrupts = interrupts })
+whole_due system interrupts w is =
+    let P : Interrupts → Type 0 = λ i. All IsTimed i.script in
+    whole_interrupts system interrupts w (subst P (sym is) (script_behind_due system.steps system.interrupts w.script))
+
+pub sound_roused : (system behind : System) → IsWhole system → behind ≡ record system { kernel = roused system.kernel.running system.kernel }
+    → IsSound behind.kernel
+sound_roused system behind w is =
+    let P : System → Type 0 = λ s. IsSound s.kernel in
+    subst P (sym is) (whole_roused system.kernel.running system w refl).sound
+
+whole_interrupted : (event : Event) (system : System) → MayCome event → IsWhole system → IsWhole (interrupted event system)
+unfolding interrupted
+whole_interrupted event system may w =
+    let before = whole_roused system.kernel.running system w refl in
+    let kernel = roused system.kernel.running system.kernel in
+    whole_interrupts _ (behind_due system.steps system.interrupts)
+    (whole_kernel _ (happened event kernel) before (sound_happened event kernel may before.sound) (live_happened event kernel may before.sound)
+    (homes_happened event kernel))
+    (script_behind_due system.steps system.interrupts w.script)
+
+whole_begun : (event : Option Event) (system : System) → IfSome event MayCome → IsWhole system → IsWhole (begun_by event system).system
+whole_begun None system may w = whole_acted system w
+whole_begun (Some event) system may w = whole_interrupted event system may w
+
+-- the held calls that were completed are answered
+
+whole_finished : (seg : Option ℕ) (p : ℕ) (system : System) → IsWhole system → Lives system.kernel.procs p → IsWhole (finished seg p system).system
+whole_finished None p system w h = w
+whole_finished (Some seg) p system w h = (whole_replied _ _ p seg system w h).whole
+
+whole_handed : (system : System) → IsWhole system → IsWhole (handed system)
+whole_handed system w =
+    whole_kernel system _ w (sound_completed system.kernel w.sound) (live_handed_out system.kernel w.live) (homes_stay _ _ (procs_handed_out system.kernel))
+
+whole_finishing : (ps : List ℕ) (system : System) → IsWhole system → system.kernel.completed ≡ ps → IsWhole (finishing ps system).system
+unfolding finishing
+whole_finishing [] system w e = w
+whole_finishing (p ∷ ps) system w e =
+    let living = completed_lives system.kernel p w.live (ap first_completed e) in
+    let same = ap (λ procs. lives procs p) (procs_handed_out system.kernel) ∙ living in
+    let first = whole_finished (process_in system.kernel.procs p).seg p (handed system) (whole_handed system w) same in
+    whole_finishing ps (first_finished p system) first (left_completed p ps system e)
+
 -- a step
 pub whole_counted : (system : System) → IsWhole system → IsWhole (counted system)
 whole_counted system w = whole_steps system (system.steps + 1) w
 
-pub sound_acted : (system behind : System) → IsWhole system → behind ≡ (acted system).system → IsSound behind.kernel
-sound_acted system behind w is =
+whole_finished_all : (event : Option Event) (system : System) → IfSome event MayCome → IsWhole system
+    → IsWhole (with_finished (begun_by event system)).system
+unfolding with_finished
+whole_finished_all event system may w = whole_finishing _ (begun_by event system).system (whole_begun event system may w) refl
+
+-- the event that comes may come
+
+coming_if : (b : Bool) (event : Option Event) → IfSome event MayCome → IfSome (if b then event else None) MayCome
+coming_if true event may = may
+coming_if false event may = tt
+
+coming_may : (system : System) → IsWhole system → IfSome (coming system) MayCome
+unfolding coming
+coming_may system w =
+    coming_if (lets_in system.kernel.running system.kernel) (due system.steps system.interrupts) (due_may system.steps system.interrupts w.script)
+
+-- who is picked leaves whose calls were completed
+live_if : (b : Bool) (one other : Kernel) → CompletedLive one → CompletedLive other → CompletedLive (if b then one else other)
+live_if true one other is was = is
+live_if false one other is was = was
+
+live_picked : (instruction : Bool) (kernel : Kernel) → CompletedLive kernel → CompletedLive (picked instruction kernel)
+unfolding picked
+live_picked instruction kernel live = live_if (instruction && stays kernel kernel.running) kernel _ live live
+
+-- behind the beginning of a step, and behind its answers
+
+pub live_begun : (system behind : System) → IsWhole system → behind ≡ (begun_by (coming system) system).system → CompletedLive behind.kernel
+live_begun system behind w is =
+    let P : System → Type 0 = λ s. CompletedLive s.kernel in
+    subst P (sym is) (whole_begun (coming system) system (coming_may system w) w).live
+
+pub sound_finished : (system begun behind : System) → IsWhole system → begun ≡ (begun_by (coming system) system).system
+    → behind ≡ (all_finished begun).system → IsSound behind.kernel
+unfolding with_finished
+sound_finished system begun behind w is was =
     let P : System → Type 0 = λ s. IsSound s.kernel in
-    subst P (sym is) (whole_acted system w).sound
+    subst P (sym (was ∙ ap (λ s. (all_finished s).system) is)) (whole_finished_all (coming system) system (coming_may system w) w).sound
+
+-- nobody is left to be handed out behind a step
+
+same_if : (b : Bool) (one other : Kernel) → other.completed ≡ one.completed → (if b then one else other).completed ≡ one.completed
+same_if true one other e = refl
+same_if false one other e = e
+
+pub same_picked : (instruction : Bool) (kernel : Kernel) → (picked instruction kernel).completed ≡ kernel.completed
+unfolding picked
+same_picked instruction kernel = same_if (instruction && stays kernel kernel.running) kernel _ refl
+
+pub handed_step : (begun behind : System) (kernel : Kernel) (instruction : Bool) → behind ≡ (all_finished begun).system
+    → kernel ≡ picked instruction behind.kernel → kernel.completed ≡ []
+handed_step begun behind kernel instruction is was =
+    ap (λ (k : Kernel). k.completed) was ∙ same_picked instruction behind.kernel ∙ ap (λ (s : System). s.kernel.completed) is
+    ∙ handed_finished begun.kernel.completed begun refl
 
 pub whole_step : (system : System) → IsWhole system → IsWhole (step_of system).system
 unfolding step_of
 whole_step system w =
     let begun = counted system in
-    let behind = whole_acted begun (whole_counted system w) in
-    whole_kernel _ _ behind (sound_picked _ (at_instruction begun) behind.sound) (homes_stay _ _ (procs_picked (at_instruction begun) _))
+    let event = coming begun in
+    let counts = whole_counted system w in
+    let instruction = instruction_unless event begun in
+    let behind = whole_finished_all event begun (coming_may begun counts) counts in
+    whole_kernel _ _ behind (sound_picked _ instruction behind.sound) (live_picked instruction _ behind.live) (homes_stay _ _ (procs_picked instruction _))

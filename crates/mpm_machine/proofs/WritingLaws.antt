@@ -6,7 +6,7 @@ use Rattle.mpm_render.specs.declared.unit.Unit2.{Unit2}
 use Rattle.mpm_render.specs.declared.unit.Unit2.TheVariants.{Console}
 use Rattle.mpm_render.specs.Outputs.{Output, Said, said, rendered}
 use Rattle.mpm_render.specs.Shown.{Kept, Shows, EndsBetween}
-use Rattle.mpm_render.proofs.Laws.{said_nil, said_cons, rendered_grows}
+use Rattle.mpm_render.proofs.Laws.{said_nil, said_cons, said_append, rendered_grows}
 use Rattle.mpm_render.proofs.Grows.{begins_refl, begins_trans, widened}
 use Rattle.mpm_machine.specs.Writing.{spoken, Showed, Stopped}
 
@@ -25,11 +25,6 @@ spoken_nil n = said_nil (Console n) []
 pub spoken_one : (n b : ℕ) → spoken n (b ∷ []) ≡ Said (Console n) b ∷ []
 unfolding spoken
 spoken_one n b = said_cons (Console n) b [] [] ∙ said_nil (Console n) (Said (Console n) b ∷ [])
-
-said_append : (u : Unit2) (a b : List ℕ) (os : List Output) → said u (a ++ b) os ≡ said u b (said u a os)
-said_append u [] b os = ap (said u b) (sym (said_nil u os))
-said_append u (x ∷ a) b os =
-    said_cons u x (a ++ b) os ∙ (said_append u a b (Said u x ∷ os) ∙ ap (said u b) (sym (said_cons u x a os)))
 
 pub spoken_append : (n : ℕ) (a b : List ℕ) → spoken n (a ++ b) ≡ spoken n b ++ spoken n a
 unfolding spoken

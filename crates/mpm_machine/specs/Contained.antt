@@ -1,5 +1,5 @@
 -- What a step may write of memory, what a listed instruction changes, and what a call takes from memory.
-use Rattle.std.specs.Prelude.{◌≡◌, ℕ, ◌+◌, ◌<◌, ◌≤◌, true, false, List, Bool, Option, Some, None, IsSome, slice_index_or}
+use Rattle.std.specs.Prelude.{◌≡◌, ℕ, ◌+◌, ◌<◌, ◌≤◌, true, false, List, Bool, Option, Some, None, IsSome, ◌==◌, slice_index_or}
 use Rattle.std.specs.List.{list_any}
 use Rattle.z80_regs.specs.declared.regs.Regs.{Regs}
 use Rattle.z80_ext.specs.Instruction.{actions_of}
@@ -9,13 +9,14 @@ use Rattle.mpm_base.specs.declared.call.Outcome.TheVariants.{Done, Held, Retry, 
 use Rattle.mpm_banks.specs.Memory.{Memory, byte_at, SameSegments}
 use Rattle.mpm_banks.specs.Actions.{writes_to}
 use Rattle.mpm_gate.specs.Replies.{IsPlacedAt}
-use Rattle.mpm_procs.specs.Table.{Lives, process_in}
+use Rattle.mpm_procs.specs.Table.{Lives, process_in, call_of}
 use Rattle.mpm_kernel.specs.Dispatch.{picked}
+use Rattle.mpm_kernel.specs.Waiting.{completion_reply}
 use Rattle.mpm_machine.specs.declared.system.System.{System}
 use Rattle.mpm_machine.specs.declared.gate.Gate.{Gate}
 use Rattle.mpm_machine.specs.declared.gate.Gate.TheVariants.{End, Call}
 use Rattle.mpm_machine.specs.Serving.{with_regs, asked, keeping, Served, served}
-use Rattle.mpm_machine.specs.Step.{instruction_at, gate_before}
+use Rattle.mpm_machine.specs.Step.{instruction_at, gate_before, coming, begun_by, counted}
 
 -- a call that is done places its reply's bytes; another places none
 abbrev pub PlacesAt : Outcome → Answer → ℕ → ℕ → Type 0
@@ -33,22 +34,40 @@ WritesAt (Some Call) p seg system at =
     PlacesAt done.outcome done.reply call.word at
 WritesAt None p seg system at = list_any (writes_to at) (actions_of (instruction_at p seg system)) ≡ true
 
--- the process that runs lives in that segment, and writes at the address in this step
+-- no event comes in this step, and the process that runs lives in that segment, and writes at the address
 pub record IsWritten (system : System) (seg at : ℕ) : Type 0 where
+  pub quiet : coming (counted system) ≡ None
   pub who : ℕ
   pub runs : system.kernel.running ≡ Some who
   pub lives : Lives system.kernel.procs who
   pub home : (process_in system.kernel.procs who).seg ≡ Some seg
   pub writes : WritesAt (gate_before who seg system) who seg system at
 
--- a byte of a segment stays unless a process that lives there writes it, and a byte of common memory, whoever reads it,
--- unless some process writes it
-pub record IsContained (old new : System) : Type 0 where
-  pub segments : (seg at : ℕ) → at < 49152 → (IsWritten old seg at → ⊥) → byte_at new.memory seg at ≡ byte_at old.memory seg at
-  pub common : (seg at : ℕ) → 49152 ≤ at → ((home : ℕ) → IsWritten old home at → ⊥) → byte_at new.memory seg at ≡ byte_at old.memory seg at
+-- the system behind what a step begins with, an event or what the running process does, as the held calls that were
+-- completed are to be answered
+abbrev pub behind_begun : System → System
+behind_begun system = let begun = counted system in (begun_by (coming begun) begun).system
 
--- the process that runs lives in that segment, and a listed instruction stands at its PC, and no gate
+-- the held call of a process that lives in that segment is completed in this step, and its reply is placed at the address
+pub record IsAnswered (system : System) (seg at : ℕ) : Type 0 where
+  pub who : ℕ
+  pub among : list_any (λ p. p == who) (behind_begun system).kernel.completed ≡ true
+  pub lives : Lives (behind_begun system).kernel.procs who
+  pub home : (process_in (behind_begun system).kernel.procs who).seg ≡ Some seg
+  pub places : IsPlacedAt (completion_reply (behind_begun system).kernel who) (call_of (behind_begun system).kernel.procs who).word at
+
+-- a byte of a segment stays unless a process that lives there writes it or has its call's reply placed there, and a byte of
+-- common memory, whoever reads it, unless some process does
+pub record IsContained (old new : System) : Type 0 where
+  pub segments : (seg at : ℕ) → at < 49152 → (IsWritten old seg at → ⊥) → (IsAnswered old seg at → ⊥)
+      → byte_at new.memory seg at ≡ byte_at old.memory seg at
+  pub common : (seg at : ℕ) → 49152 ≤ at → ((home : ℕ) → IsWritten old home at → ⊥) → ((home : ℕ) → IsAnswered old home at → ⊥)
+      → byte_at new.memory seg at ≡ byte_at old.memory seg at
+
+-- no event comes in this step, and the process that runs lives in that segment, and a listed instruction stands at its PC,
+-- and no gate
 pub record Instructs (system : System) (p seg : ℕ) : Type 0 where
+  pub quiet : coming (counted system) ≡ None
   pub runs : system.kernel.running ≡ Some p
   pub home : (process_in system.kernel.procs p).seg ≡ Some seg
   pub no_gate : gate_before p seg system ≡ None

@@ -1,9 +1,11 @@
 pub mod Gates
+pub mod Interrupts
 pub mod Writing
 pub mod State
 pub mod Opening
 pub mod Ending
 pub mod Serving
+pub mod Finishing
 pub mod Step
 pub mod Moving
 pub mod Contained

@@ -1,6 +1,7 @@
 -- How a program is laid out in its segment, and how its process begins. (MP/M II System Guide, "Memory Segment Base Page
 -- Initialization".)
-use Rattle.std.specs.Prelude.{◌≡◌, ℕ, ◌+◌, ◌-◌, ◌*◌, ◌<◌, ◌≤◌, Bool, true, false, List, [], ◌∷◌, ◌++◌, Some, length, count_by, replicate, codes}
+use Rattle.std.specs.Prelude.{◌≡◌, ℕ, ◌+◌, ◌-◌, ◌*◌, ◌<◌, ◌≤◌, Bool, true, false, List, [], ◌∷◌, ◌++◌, Some, None, length, count_by, codes}
+use Rattle.mpm_base.specs.Lists.{zeros}
 use Rattle.mpm_base.specs.declared.number.Name8.{Name8}
 use Rattle.mpm_base.specs.declared.segment.SegmentSpec.{SegmentSpec}
 use Rattle.mpm_banks.specs.Memory.{Memory, segment_of, with_bytes}
@@ -11,14 +12,12 @@ use Rattle.mpm_banks.specs.declared.segment.Allocation.TheVariants.{Free, Reserv
 use Rattle.mpm_procs.specs.Table.{living}
 use Rattle.mpm_procs.specs.declared.process.NewProcess.{NewProcess}
 use Rattle.mpm_kernel.specs.Dispatch.{new_kernel, admitted, picked}
+use Rattle.mpm_clock.specs.declared.moment.Moment.{Moment}
+use Rattle.mpm_script.specs.declared.event.Timed.{Timed}
 use Rattle.mpm_machine_file.specs.declared.machine_file.MachineFile.{MachineFile}
 use Rattle.mpm_machine.specs.Gates.{last_page}
 use Rattle.mpm_machine.specs.declared.system.System.{System}
-use Rattle.mpm_machine.specs.State.{State, IsWhole, IsHome}
-
--- so many zeros
-unfoldable pub zeros : ℕ → List ℕ
-zeros n = replicate n 0
+use Rattle.mpm_machine.specs.State.{IsWhole, IsHome}
 
 -- the jumps to the gates of a last page: at 00h to the one that ends the process, at 05h to the one that calls the kernel
 abbrev pub gate_jumps : ℕ → List ℕ
@@ -54,14 +53,18 @@ placed_process spec seg name priority console = record {
   drive = 0;
 }
 
--- a machine in which no process lives
-unfoldable pub bare : List SegmentSpec → ℕ → ℕ → System
-bare segments consoles printers =
-    record { steps = 0; kernel = new_kernel consoles printers; memory = new_memory segments }
+-- the moment at which the machine of a machine file begins
+abbrev pub moment_of : MachineFile → Moment
+moment_of file = record { date = file.date; hour = file.hour; minute = file.minute; second = file.second }
 
--- the machine of a machine file, in which no process lives
-abbrev pub booted : MachineFile → System
-booted file = bare file.segments file.consoles file.printers
+-- the machine of a machine file and of the events of its script, in which no process lives
+unfoldable pub booted : MachineFile → List Timed → System
+booted file events = record {
+  steps = 0;
+  interrupts = record { tick_every = file.tick_every; ticks = 0; script = events };
+  kernel = new_kernel file.consoles file.printers (moment_of file);
+  memory = new_memory file.segments;
+}
 
 -- a process lives in the segment
 abbrev pub is_lived_in : Allocation → Bool
@@ -75,6 +78,7 @@ is_occupied segment = is_lived_in segment.allocation
 -- a machine into which programs may be placed: no step was done, and no more processes live than segments are lived in
 pub record IsBare (system : System) : Type 0 where
   pub whole : IsWhole system
+  pub handed : system.kernel.completed ≡ []
   pub start : system.steps ≡ 0
   pub few : length system.memory.segments ≤ 16
   pub counted : living system.kernel.procs ≤ count_by is_occupied system.memory.segments
@@ -94,11 +98,22 @@ with_placed system p seg name priority console program = record system {
   memory = occupied (laid_out system.memory seg program) seg;
 }
 
--- the system as a program begins: it is the process `PROGRAM ` in the one segment, of 192 pages
-unfoldable pub opening_system : List ℕ → System
-opening_system program =
-    with_placed (bare (record { base = 0; pages = 192 } ∷ []) 1 0) 0 0 (record { 0 = codes "PROGRAM " }) 200 0 program
+-- the machine of a program: one console, no printer, one segment of 192 pages, no ticks
+abbrev pub program_file : MachineFile
+program_file = record {
+  consoles = 1;
+  printers = 0;
+  tick_every = 0;
+  disk_turn = 0;
+  date = 1;
+  hour = 0;
+  minute = 0;
+  second = 0;
+  segments = record { base = 0; pages = 192 } ∷ [];
+  drives = [];
+  script = None;
+}
 
--- the state as a program begins
-unfoldable pub opening : List ℕ → State
-opening program = record { system = opening_system program; outputs = [] }
+-- the system as a program begins: it is the process `PROGRAM ` in the one segment
+unfoldable pub opening_system : List ℕ → System
+opening_system program = with_placed (booted program_file []) 0 0 (record { 0 = codes "PROGRAM " }) 200 0 program

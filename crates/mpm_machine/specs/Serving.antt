@@ -1,6 +1,6 @@
 -- The gate step of a kernel call: what it reads is taken, it is done, and its reply is placed. (MP/M II Programmer's Guide,
 -- "BDOS Calling Conventions"; functions 128 to 130, memory segments; 144, create process.)
-use Rattle.std.specs.Prelude.{ℕ, ◌%◌, ◌≤◌, length, Bool, true, false, List, [], ◌∷◌, Option, Some, None, ◌==◌, slice_index, slice_index_or, if◌then◌else◌}
+use Rattle.std.specs.Prelude.{ℕ, ◌%◌, ◌≤◌, length, Bool, true, false, List, [], ◌∷◌, ◌++◌, Option, Some, None, ◌==◌, slice_index, slice_index_or, if◌then◌else◌}
 use Rattle.z80_regs.specs.declared.regs.Regs.{Regs}
 use Rattle.z80_regs.specs.Words.{word_of}
 use Rattle.mpm_base.specs.Calls.{Taken, Answer, answering}
@@ -118,12 +118,18 @@ call_text call column memory =
     if call.function == 2 then tab_text column (call.word % 256)
     else (if call.function == 9 then expanded column (text_from Dollar memory call.word 65536) else [])
 
--- the reply is placed behind the return address that was taken from the stack
+-- the return address is taken from the stack
+unfoldable pub popped : ℕ → ℕ → System → System
+popped p seg system =
+    let process = process_in system.kernel.procs p in
+    record system { kernel = with_regs system.kernel p (returned (byte_at system.memory seg) process.regs) }
+
+-- the reply is placed
 unfoldable pub replied : Answer → Taken → ℕ → ℕ → System → System
 replied reply call p seg system =
     let process = process_in system.kernel.procs p in
     record system {
-      kernel = with_regs system.kernel p (answered reply.hl (returned (byte_at system.memory seg) process.regs));
+      kernel = with_regs system.kernel p (answered reply.hl process.regs);
       memory = placed reply call.word seg system.memory;
     }
 
@@ -147,18 +153,25 @@ said_by call p seg system =
     let process = process_in system.kernel.procs p in
     speaking process.console (call_text call (slice_index system.kernel.columns process.console) (byte_at system.memory seg)) system
 
--- a call that is done: its text, its reply, its record
+-- a call whose reply is placed, and then its record
+unfoldable pub answering_call : Answer → Taken → ℕ → ℕ → System → Change
+answering_call reply call p seg system =
+    let behind = replied reply call p seg system in
+    record { system = behind; news = completion call p behind ∷ [] }
+
+-- a call that is done: its text, its reply behind the return address, its record
 unfoldable pub completing : Answer → Taken → ℕ → ℕ → System → Change
 completing reply call p seg system =
     let spoke = said_by call p seg system in
-    let behind = replied reply call p seg spoke.system in
-    record { system = behind; news = completion call p behind ∷ spoke.news }
+    let behind = answering_call reply call p seg (popped p seg spoke.system) in
+    record { system = behind.system; news = behind.news ++ spoke.news }
 
--- what a served call brings about
+-- what a served call brings about: the return address is taken as it is done or held, and one that is to be tried again stays
+-- at the gate
 abbrev pub outcome_of : Outcome → Answer → Taken → ℕ → ℕ → System → Change
 outcome_of Done reply call p seg system = completing reply call p seg system
 outcome_of Ended reply call p seg system = silent (ended p system)
-outcome_of Held reply call p seg system = silent system
+outcome_of Held reply call p seg system = silent (popped p seg system)
 outcome_of Retry reply call p seg system = silent system
 
 -- the gate step of a call

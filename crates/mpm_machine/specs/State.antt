@@ -1,9 +1,10 @@
 -- The machine as a kernel model: its state, and when a machine stands for a state.
-use Rattle.std.specs.Prelude.{◌≡◌, ℕ, ◌+◌, ◌≤◌, List, [], Option, Some}
+use Rattle.std.specs.Prelude.{◌≡◌, ℕ, ◌+◌, ◌≤◌, List, [], All, Option, Some}
 use Rattle.mpm_banks.specs.Memory.{Memory, HasSegment, segment_of}
 use Rattle.mpm_banks.specs.declared.segment.Allocation.TheVariants.{Occupied}
 use Rattle.mpm_procs.specs.Table.{Lives, process_in}
-use Rattle.mpm_kernel.specs.Kernel.{IsSound}
+use Rattle.mpm_script.specs.Events.{IsTimed}
+use Rattle.mpm_kernel.specs.Kernel.{IsSound, CompletedLive}
 use Rattle.mpm_kernel.specs.Columns.{spoke}
 use Rattle.mpm_render.specs.Outputs.{Output}
 use Rattle.mpm_render.specs.Shown.{Kept, Shows}
@@ -44,9 +45,11 @@ pub record IsHome (memory : Memory) (seg : ℕ) : Type 0 where
 abbrev pub IsOccupied : Memory → ℕ → Type 0
 IsOccupied memory seg = (segment_of memory seg).allocation ≡ Occupied
 
--- what is so of the system behind each step: the kernel is sound, and each process's segment exists and is nobody's to
--- reserve
+-- what is so of the system within a step and behind it: the kernel is sound, whose held calls were completed lives, each
+-- process's segment exists and is nobody's to reserve, and the script has events that there may be
 pub record IsWhole (system : System) : Type 0 where
   pub sound : IsSound system.kernel
+  pub live : CompletedLive system.kernel
   pub homes : (p seg : ℕ) → Lives system.kernel.procs p → (process_in system.kernel.procs p).seg ≡ Some seg → IsHome system.memory seg
   pub lived : (p seg : ℕ) → Lives system.kernel.procs p → (process_in system.kernel.procs p).seg ≡ Some seg → IsOccupied system.memory seg
+  pub script : All IsTimed system.interrupts.script

@@ -1,13 +1,16 @@
 -- One step, and n steps.
-use Rattle.std.specs.Prelude.{ℕ, zero, suc, ◌+◌, ◌-◌, ◌<◌, ◌≤◌, ◌/◌, ◌%◌, Bool, true, false, List, [], ◌∷◌, ◌++◌, Option, Some, None, codes}
+use Rattle.std.specs.Prelude.{ℕ, zero, suc, ◌+◌, ◌-◌, ◌<◌, ◌≤◌, Bool, true, false, not, ◌&&◌, if◌then◌else◌, List, [], ◌∷◌, ◌++◌, Option, Some, None, codes}
 use Rattle.z80_regs.specs.Outcome.{Outcome}
 use Rattle.z80_ext.specs.Instruction.{instruction, registers_after, actions_of}
 use Rattle.mpm_banks.specs.Memory.{byte_at}
 use Rattle.mpm_banks.specs.Ports.{port_byte}
 use Rattle.mpm_banks.specs.Actions.{memory_after, devices_after}
 use Rattle.mpm_procs.specs.Table.{process_in}
+use Rattle.mpm_script.specs.declared.event.Event.{Event}
+use Rattle.mpm_kernel.specs.Kernel.{Kernel}
 use Rattle.mpm_kernel.specs.Dispatch.{picked}
-use Rattle.mpm_render.specs.Lines.{hex_digit}
+use Rattle.mpm_kernel.specs.Events.{happened}
+use Rattle.mpm_render.specs.Lines.{hex_word}
 use Rattle.mpm_render.specs.Outputs.{rendered}
 use Rattle.mpm_render.specs.Shown.{EndsBetween}
 use Rattle.mpm_machine.specs.Gates.{gate_of}
@@ -17,11 +20,8 @@ use Rattle.mpm_machine.specs.declared.system.System.{System}
 use Rattle.mpm_machine.specs.State.{State, Change, silent, speaking}
 use Rattle.mpm_machine.specs.Ending.{ended}
 use Rattle.mpm_machine.specs.Serving.{with_regs, gate_step}
-
--- an address in four digits
-abbrev pub hex_word : ℕ → List ℕ
-hex_word word =
-    hex_digit (word / 4096) ∷ hex_digit (word / 256 % 16) ∷ hex_digit (word / 16 % 16) ∷ hex_digit (word % 16) ∷ []
+use Rattle.mpm_machine.specs.Finishing.{all_finished}
+use Rattle.mpm_machine.specs.Interrupts.{due, behind_due}
 
 -- what the kernel writes where a process comes to an unlisted opcode
 unfoldable pub illegal_text : ℕ → List ℕ
@@ -91,18 +91,63 @@ instruction_by (Some p) (Some seg) system = is_no_gate (gate_before p seg system
 unfoldable pub at_instruction : System → Bool
 at_instruction system = instruction_by system.kernel.running (running_segment system.kernel.running system) system
 
+-- an interrupt may come: no process runs, or the one that runs has interrupts on, and no EI that has not taken effect yet
+abbrev pub lets_in : Option ℕ → Kernel → Bool
+lets_in None kernel = true
+lets_in (Some p) kernel = let regs = (process_in kernel.procs p).regs in regs.iff1 && not regs.shadow
+
+-- the event that comes in a step
+unfoldable pub coming : System → Option Event
+coming system =
+    if lets_in system.kernel.running system.kernel then due system.steps system.interrupts else None
+
+-- the process that runs waits for an interrupt no more
+abbrev pub roused : Option ℕ → Kernel → Kernel
+roused None kernel = kernel
+roused (Some p) kernel = with_regs kernel p (record (process_in kernel.procs p).regs { halted = false })
+
+-- an event comes
+unfoldable pub interrupted : Event → System → System
+interrupted event system = record system {
+  kernel = happened event (roused system.kernel.running system.kernel);
+  interrupts = behind_due system.steps system.interrupts;
+}
+
+-- the event that comes, if one does
+abbrev pub interrupted_by : Option Event → System → System
+interrupted_by None system = system
+interrupted_by (Some event) system = interrupted event system
+
+-- what a step begins with: the event that comes, or else what the running process does
+abbrev pub begun_by : Option Event → System → Change
+begun_by None system = acted system
+begun_by (Some event) system = silent (interrupted event system)
+
+-- that was an instruction
+abbrev pub instruction_unless : Option Event → System → Bool
+instruction_unless None system = at_instruction system
+instruction_unless (Some event) system = false
+
+-- then the held calls that it completed are answered
+unfoldable pub with_finished : Change → Change
+with_finished change =
+    let finished = all_finished change.system in
+    record { system = finished.system; news = finished.news ++ change.news }
+
 -- one more step counted
 abbrev pub counted : System → System
 counted system = record system { steps = system.steps + 1 }
 
--- behind a step it is picked who runs
+-- and it is picked who runs
 abbrev pub dispatched : Bool → Change → Change
 dispatched instruction change =
     record change { system = record change.system { kernel = picked instruction change.system.kernel } }
 
 -- what a step makes of a system
 unfoldable pub step_of : System → Change
-step_of system = let begun = counted system in dispatched (at_instruction begun) (acted begun)
+step_of system =
+    let begun = counted system in
+    dispatched (instruction_unless (coming begun) begun) (with_finished (begun_by (coming begun) begun))
 
 -- one step
 unfoldable pub next : State → State

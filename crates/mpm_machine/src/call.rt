@@ -21,7 +21,7 @@ const ALLOCATED: u8 = 0x80;
 impl System {
     ghost use Rattle.mpm_banks.specs.Allocations.{released, is_reserved};
     ghost use Rattle.mpm_machine.specs.State.{IsWhole, IsHome};
-    ghost use Rattle.mpm_machine.specs.Serving.{asked, keeping, IsTaken, served, reserving, releasing, creating, calling, base_asked, said_by, replied, completing, completion, outcome_of, gate_step};
+    ghost use Rattle.mpm_machine.specs.Serving.{asked, keeping, IsTaken, served, reserving, releasing, creating, calling, base_asked, said_by, popped, replied, answering_call, completing, completion, outcome_of, gate_step};
     ghost use Rattle.mpm_machine.specs.Ending.{ended};
 
     /// The gate step of a kernel call of a process of a segment.
@@ -72,7 +72,11 @@ impl System {
                 self.end(p);
                 Ok(())
             }
-            Outcome::Held | Outcome::Retry => Ok(()),
+            Outcome::Held => {
+                self.pop(p, seg);
+                Ok(())
+            }
+            Outcome::Retry => Ok(()),
         }
     }
 
@@ -193,6 +197,27 @@ impl System {
         ensures trace { render.new.trace ≡ render.old.trace }
     {
         self.speak(p, seg, render, sink)?;
+        self.pop(p, seg);
+        self.answer(p, seg, reply, render, sink)
+    }
+
+    /// The reply to the call that a process keeps is placed, and its record is written.
+    #[tactic(auto, unfolding(crate::specs::Serving::answering_call))]
+    pub fn answer<S: Sink>(
+        &mut self,
+        p: Pid,
+        seg: Seg,
+        reply: &Reply,
+        render: &mut Render,
+        sink: &mut S,
+    ) -> Result<(), Failed>
+        requires lives { Lives self.old.kernel.procs p }
+        ensures system { OnOk result (self.new ≡ (answering_call reply.now (call_of self.old.kernel.procs p) p seg self.old).system) }
+        ensures ok { OnOk result (Showed render.old (S.written sink.old) render.new (S.written sink.new) (answering_call reply.now (call_of self.old.kernel.procs p) p seg self.old).news) }
+        ensures err { OnErr result (Stopped render.old (S.written sink.old) (S.written sink.new) (answering_call reply.now (call_of self.old.kernel.procs p) p seg self.old).news) }
+        ensures cause { HasCause (S.faults sink.old) (S.faults sink.new) result }
+        ensures trace { render.new.trace ≡ render.old.trace }
+    {
         self.reply(p, seg, reply);
         self.record(p, render, sink)
     }
@@ -232,7 +257,17 @@ impl System {
         }
     }
 
-    /// The reply is placed in its caller's registers and memory, behind the return address.
+    /// The return address of a call is taken from its caller's stack.
+    #[tactic(auto, unfolding(crate::specs::Serving::popped))]
+    fn pop(&mut self, p: Pid, seg: Seg)
+        requires lives { Lives self.old.kernel.procs p }
+        ensures { self.new ≡ popped p seg self.old }
+    {
+        let regs = self.kernel.regs_mut(p);
+        mpm_gate::take_return(&self.memory, seg, regs);
+    }
+
+    /// The reply is placed in its caller's registers and memory.
     #[tactic(auto, unfolding(crate::specs::Serving::replied))]
     fn reply(&mut self, p: Pid, seg: Seg, reply: &Reply)
         requires lives { Lives self.old.kernel.procs p }
@@ -240,7 +275,6 @@ impl System {
     {
         let word = self.kernel.kept_call(p).word;
         let regs = self.kernel.regs_mut(p);
-        mpm_gate::take_return(&self.memory, seg, regs);
         mpm_gate::put_reply(reply, word, &mut self.memory, seg, regs);
     }
 

@@ -48,5 +48,12 @@ pub(crate) fn gate_at(page: u8, address: u16) -> Option<Gate>
 pub(crate) fn is_gate(page: u8, address: u16) -> bool
     ensures { result ≡ is_some (gate_in page address) }
 {
-    address == u16::from_le_bytes([END, page]) || address == u16::from_le_bytes([CALL, page])
+    let [place, high] = address.to_le_bytes();
+    if high != page {
+        return false;
+    }
+    match place {
+        END | CALL => true,
+        _ => false,
+    }
 }

@@ -3,8 +3,10 @@
 
 mod call;
 mod console;
+mod finish;
 mod gate;
 mod instruction;
+mod interrupts;
 mod machine;
 mod opening;
 mod system;

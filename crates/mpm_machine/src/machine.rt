@@ -1,14 +1,17 @@
-ghost use Rattle.std.specs.Prelude.{◌≡◌, ℕ, ◌+◌, ◌-◌, ◌*◌, ◌<◌, ◌≤◌, List, Option, Some, IfOk, OnOk, IfErr, OnErr, MatchOption, All, length, option_map};
+ghost use Rattle.std.specs.Prelude.{◌≡◌, ℕ, ◌+◌, ◌-◌, ◌*◌, ◌<◌, ◌≤◌, List, [], Option, Some, IfOk, OnOk, IfErr, OnErr, MatchOption, All, length, option_map};
 ghost use Rattle.mpm_port.specs.Causes.{HasCause};
 ghost use Rattle.mpm_port.specs.Texts.{appended};
 
+use crate::interrupts::Interrupts;
+use crate::opening::{moment_of, program_file};
 use crate::system::System;
 use mpm_banks::Banks;
-use mpm_base::{Name8, Pid, Reply, Seg, SegmentSpec};
+use mpm_base::{Name8, Pid, Reply, Seg};
 use mpm_kernel::Kernel;
 use mpm_machine_file::MachineFile;
 use mpm_port::{Failed, Sink};
 use mpm_render::Render;
+use mpm_script::Script;
 use std::alloc::{AllocError, Global};
 use std::marker::Model;
 use z80_regs::Regs;
@@ -54,66 +57,50 @@ impl Machine {
     ghost use Rattle.mpm_procs.specs.Table.{process_at, lowest_free};
     ghost use Rattle.mpm_render.specs.Outputs.{rendered, closed};
     ghost use Rattle.mpm_render.specs.Shown.{Kept, EndsBetween};
-    ghost use Rattle.mpm_machine_file.specs.MachineFiles.{IsMachine, IsSegment};
+    ghost use Rattle.mpm_machine_file.specs.MachineFiles.{IsMachine};
     ghost use Rattle.mpm_machine.specs.State.{State, StandsFor, IsWhole};
-    ghost use Rattle.mpm_machine.specs.Opening.{bare, booted, IsBare, MayPlace, with_placed, opening_system};
+    ghost use Rattle.mpm_machine.specs.Opening.{booted, IsBare, MayPlace, with_placed, opening_system};
     ghost use Rattle.mpm_machine.specs.Contained.{IsContained, Instructs, OnlyInstructed, IsServedByValue};
     ghost use Rattle.mpm_machine.specs.Step.{step_of, next, after, EndsInStep};
 
-    /// The machine of a machine file. No process lives in it yet.
+    /// The machine of a machine file, and of its script's events. No process lives in it yet.
     ///
     /// # Errors
     /// Where no memory is found.
-    pub fn boot(alloc: Global, file: &MachineFile) -> Result<Machine, BootError>
+    pub fn boot(alloc: Global, file: &MachineFile, script: Script) -> Result<Machine, BootError>
         requires { IsMachine file.now }
-        ensures booted { IfOk result (λ machine. machine ≡ booted file.now) }
+        ensures booted { IfOk result (λ machine. machine ≡ booted file.now script) }
         ensures bare { IfOk result (λ machine. IsBare machine) }
     {
-        Machine::boot_bare(alloc, file)
+        Machine::boot_bare(alloc, file, script)
     }
 
-    /// The machine of a machine file, without processes: `place` puts programs into it.
+    /// The machine of a machine file, and of its script's events, without processes: `place` puts programs into it.
     ///
     /// # Errors
     /// Where no memory is found.
-    #[tactic(auto, using(crate::proofs::PlacedLaws::bare_is))]
-    pub fn boot_bare(alloc: Global, file: &MachineFile) -> Result<Machine, BootError>
-        requires { IsMachine file.now }
-        ensures booted { IfOk result (λ machine. machine ≡ booted file.now) }
-        ensures bare { IfOk result (λ machine. IsBare machine) }
-    {
-        let segments = file.segments.as_slice();
-        Machine::bare(alloc, segments, file.consoles, file.printers)
-    }
-
-    /// A machine in which no process lives: of 1 to 8 consoles, at most 4 printers, and 1 to 16 segments of at least four
-    /// pages that end below common memory.
-    #[tactic(auto, unfolding(crate::specs::Opening::bare))]
-    fn bare(
+    #[tactic(auto, unfolding(crate::specs::Opening::booted))]
+    pub fn boot_bare(
         alloc: Global,
-        segments: &[SegmentSpec],
-        consoles: u8,
-        printers: u8,
+        file: &MachineFile,
+        script: Script,
     ) -> Result<Machine, BootError>
-        requires some { 1 ≤ consoles }
-        requires few { consoles ≤ 8 }
-        requires printers { printers ≤ 4 }
-        requires segments { 1 ≤ length segments.now }
-        requires few_segments { length segments.now ≤ 16 }
-        requires fit { All IsSegment segments.now }
-        ensures { IfOk result (λ machine. machine ≡ bare segments.now consoles printers) }
+        requires { IsMachine file.now }
+        ensures booted { IfOk result (λ machine. machine ≡ booted file.now script) }
+        ensures bare { IfOk result (λ machine. IsBare machine) }
     {
-        let kernel = match Kernel::new(alloc, consoles, printers) {
+        let kernel = match Kernel::new(alloc, file.consoles, file.printers, moment_of(file)) {
             Ok(kernel) => kernel,
             Err(AllocError) => return Err(BootError::OutOfMemory),
         };
-        let memory = match Banks::new(alloc, segments) {
+        let memory = match Banks::new(alloc, file.segments.as_slice()) {
             Ok(memory) => memory,
             Err(AllocError) => return Err(BootError::OutOfMemory),
         };
         Ok(Machine {
             system: System {
                 steps: 0,
+                interrupts: Interrupts::new(file.tick_every, script),
                 kernel,
                 memory,
             },
@@ -129,12 +116,13 @@ impl Machine {
         ensures opening { IfOk result (λ machine. machine ≡ opening_system program.now) }
         ensures start { IfOk result (λ machine. machine.steps ≡ 0) }
         ensures whole { IfOk result (λ machine. IsWhole machine) }
+        ensures handed { IfOk result (λ machine. machine.kernel.completed ≡ []) }
     {
-        let segments = [SegmentSpec {
-            base: 0,
-            pages: 192,
-        }];
-        let mut machine = Machine::bare(alloc, &segments, 1, 0)?;
+        let file = match program_file(alloc) {
+            Ok(file) => file,
+            Err(AllocError) => return Err(BootError::OutOfMemory),
+        };
+        let mut machine = Machine::boot_bare(alloc, &file, Script::empty(alloc))?;
         let _p = machine.place(Seg(0), Name8(*b"PROGRAM "), 200, 0, program);
         Ok(machine)
     }
@@ -178,6 +166,7 @@ impl Machine {
     pub fn step<S: Sink>(&mut self, render: &mut Render, sink: &mut S) -> Result<(), StepFault>
         requires most { self.old.steps < 4000000000 }
         requires whole { IsWhole self.old }
+        requires handed { self.old.kernel.completed ≡ [] }
         ensures ok { (s : State) (first : Option (List ℕ)) → StandsFor self.old render.old (S.written sink.old) s first
             → OnOk result (StandsFor self.new render.new (S.written sink.new) (next s) first) }
         ensures err { (s : State) (first : Option (List ℕ)) → StandsFor self.old render.old (S.written sink.old) s first
@@ -187,6 +176,7 @@ impl Machine {
         ensures instruction { (p seg : ℕ) → Instructs self.old p seg → OnOk result (OnlyInstructed p self.old self.new) }
         ensures calls { (p seg : ℕ) → IsServedByValue self.old p seg }
         ensures whole { OnOk result (IsWhole self.new) }
+        ensures handed { OnOk result (self.new.kernel.completed ≡ []) }
         ensures count { OnOk result (self.new.steps ≡ self.old.steps + 1) }
         ensures trace { render.new.trace ≡ render.old.trace }
         ensures cause { HasCause (S.faults sink.old) (S.faults sink.new) result }
@@ -206,11 +196,13 @@ impl Machine {
     ) -> Result<(), RunFault>
         requires most { self.old.steps + n ≤ 4000000000 }
         requires whole { IsWhole self.old }
+        requires handed { self.old.kernel.completed ≡ [] }
         ensures ok { (s : State) (first : Option (List ℕ)) → StandsFor self.old render.old (S.written sink.old) s first
             → OnOk result (StandsFor self.new render.new (S.written sink.new) (after n s) first) }
         ensures err { (s : State) (first : Option (List ℕ)) → StandsFor self.old render.old (S.written sink.old) s first
             → IfErr result (λ fault. EndsInStep render.old.trace (S.written sink.new) first s n fault.step) }
         ensures whole { OnOk result (IsWhole self.new) }
+        ensures handed { OnOk result (self.new.kernel.completed ≡ []) }
         ensures count { OnOk result (self.new.steps ≡ self.old.steps + n) }
         ensures trace { render.new.trace ≡ render.old.trace }
         ensures cause { HasCause (S.faults sink.old) (S.faults sink.new) result }
@@ -235,6 +227,7 @@ impl Machine {
         requires some { 0 < most }
         requires room { self.old.steps + most ≤ 4000000000 }
         requires whole { IsWhole self.old }
+        requires handed { self.old.kernel.completed ≡ [] }
         ensures ok { (s : State) (first : Option (List ℕ)) → StandsFor self.old render.old (S.written sink.old) s first
             → IfOk result (λ steps. StandsFor self.new render.new (S.written sink.new) (after steps s) first) }
         ensures err { (s : State) (first : Option (List ℕ)) → StandsFor self.old render.old (S.written sink.old) s first
@@ -242,6 +235,7 @@ impl Machine {
         ensures some { IfOk result (λ steps. 0 < steps) }
         ensures few { IfOk result (λ steps. steps ≤ most) }
         ensures whole { OnOk result (IsWhole self.new) }
+        ensures handed { OnOk result (self.new.kernel.completed ≡ []) }
         ensures count { IfOk result (λ steps. self.new.steps ≡ self.old.steps + steps) }
         ensures trace { render.new.trace ≡ render.old.trace }
         ensures cause { HasCause (S.faults sink.old) (S.faults sink.new) result }
@@ -260,11 +254,13 @@ impl Machine {
     /// Instructions of the running process, at most so many, each of which is a step. Answers how many were done.
     fn run_on(&mut self, most: u64) -> u64
         requires whole { IsWhole self.old }
+        requires handed { self.old.kernel.completed ≡ [] }
         requires room { self.old.steps + most ≤ 4000000000 }
         ensures count { result ≤ most }
         ensures stands { (s : State) (kept : Kept) (told : Option (List ℕ)) (first : Option (List ℕ)) → StandsFor self.old kept told s first
             → StandsFor self.new kept told (after result s) first }
         ensures whole { IsWhole self.new }
+        ensures handed { self.new.kernel.completed ≡ [] }
         ensures steps { self.new.steps ≡ self.old.steps + result }
     {
         self.system.run_on(most)

@@ -1,16 +1,19 @@
-ghost use Rattle.std.specs.Prelude.{◌≡◌, ◌+◌, ◌*◌, ◌-◌, ◌≤◌, ◌<◌, false, Some, IsSome, length};
+ghost use Rattle.std.specs.Prelude.{IfOk, ◌≡◌, ◌+◌, ◌*◌, ◌-◌, ◌≤◌, ◌<◌, false, Some, IsSome, length};
 ghost use Rattle.mpm_banks.specs.Memory.{HasSegment, segment_of};
 ghost use Rattle.mpm_procs.specs.Table.{lowest_free};
 ghost use Rattle.mpm_kernel.specs.Kernel.{IsSound};
 ghost use Rattle.mpm_kernel.specs.Dispatch.{admitted, picked};
-ghost use Rattle.mpm_machine.specs.Opening.{IsBare, MayPlace, with_placed, base_page as base_page_of, laid_out, placed_process as process_placed};
+ghost use Rattle.mpm_machine.specs.Opening.{IsBare, MayPlace, with_placed, base_page as base_page_of, laid_out, placed_process as process_placed, moment_of as moment_said, program_file as program_said};
 
 use crate::system::System;
 use mpm_banks::Banks;
 use mpm_base::{Name8, Pid, Seg, SegmentSpec};
+use mpm_clock::Moment;
 use mpm_gate::put_bytes;
 use mpm_kernel::Kernel;
+use mpm_machine_file::{DriveSpecs, MachineFile, Segments};
 use mpm_procs::{NewProcess, NoSlot};
+use std::alloc::{AllocError, Global};
 
 impl System {
     /// Puts a program into a segment and adds its process.
@@ -29,11 +32,50 @@ impl System {
     }
 }
 
+/// The moment at which the machine of a machine file begins.
+pub(crate) fn moment_of(file: &MachineFile) -> Moment
+    ensures { result ≡ moment_said file.now }
+{
+    Moment {
+        date: file.date,
+        hour: file.hour,
+        minute: file.minute,
+        second: file.second,
+    }
+}
+
+/// The machine file of a program's machine.
+///
+/// # Errors
+/// Where no memory is found.
+pub(crate) fn program_file(alloc: Global) -> Result<MachineFile, AllocError>
+    ensures { IfOk result (λ file. file ≡ program_said) }
+{
+    let mut segments = Vec::new(alloc);
+    segments.push(SegmentSpec {
+        base: 0,
+        pages: 192,
+    })?;
+    Ok(MachineFile {
+        consoles: 1,
+        printers: 0,
+        tick_every: 0,
+        disk_turn: 0,
+        date: 1,
+        hour: 0,
+        minute: 0,
+        second: 0,
+        segments: Segments::of(segments),
+        drives: DriveSpecs::of(Vec::new(alloc)),
+        script: None,
+    })
+}
+
 /// The first bytes of a file control block without a name.
 const NO_NAME: [u8; 16] = [0, 32, 32, 32, 32, 32, 32, 32, 32, 32, 32, 32, 0, 0, 0, 0];
 
 /// The base page of a segment with that last page.
-#[tactic(auto, unfolding(crate::specs::Opening::base_page, crate::specs::Opening::zeros))]
+#[tactic(auto, unfolding(crate::specs::Opening::base_page, mpm_base::specs::Lists::zeros))]
 fn base_page(last_page: u8) -> [u8; 256]
     ensures { result ≡ base_page_of last_page }
 {

@@ -1,4 +1,4 @@
-ghost use Rattle.std.specs.Prelude.{◌≡◌, ◌↔◌, ◌<◌, ◌≤◌, ◌+◌, ℕ, List, Option, Some, IsNone, IfSome, IfOk, OnOk, OnErr};
+ghost use Rattle.std.specs.Prelude.{◌≡◌, ◌↔◌, ◌<◌, ◌≤◌, ◌+◌, ℕ, List, [], Option, Some, None, is_some, IfSome, IfOk, OnOk, OnErr};
 ghost use Rattle.mpm_port.specs.Causes.{HasCause};
 ghost use Rattle.mpm_procs.specs.Table.{Lives, process_in};
 ghost use Rattle.mpm_kernel.specs.Kernel.{IsReady};
@@ -8,18 +8,19 @@ ghost use Rattle.mpm_machine.specs.Writing.{Showed, Stopped};
 use crate::console::write_bytes;
 use crate::gate::{Gate, gate_at, page_of_gates};
 use crate::instruction::{execute, illegal_text, run_instructions};
+use crate::interrupts::Interrupts;
 use mpm_banks::Banks;
 use mpm_base::{Pid, Reply, Seg};
 use mpm_kernel::Kernel;
 use mpm_port::{Failed, Sink};
 use mpm_render::Render;
-use z80_ext::Stepped;
 
 /// What a machine keeps from step to step.
 #[derive(Drop)]
 pub(crate) struct System {
     /// The steps done.
     pub steps: u64,
+    pub interrupts: Interrupts,
     pub kernel: Kernel,
     pub memory: Banks,
 }
@@ -31,17 +32,20 @@ impl System {
     ghost use Rattle.mpm_ready.specs.Tables.{list_at};
     ghost use Rattle.mpm_kernel.specs.Kernel.{ready};
     ghost use Rattle.mpm_machine.specs.Moving.{Moved};
-    ghost use Rattle.mpm_machine.specs.Step.{acted, acted_at, at_instruction, gate_before, is_no_gate, step_of, instruction_at, ran, instructed, illegal, after};
+    ghost use Rattle.mpm_machine.specs.Interrupts.{due};
+    ghost use Rattle.mpm_machine.specs.Step.{acted, acted_at, at_instruction, gate_before, is_no_gate, coming, begun_by, instruction_unless, step_of, instruction_at, ran, instructed, illegal, after};
 
     /// Instructions of the running process, at most so many, each of which is a step: up to a gate or an unlisted opcode, and
     /// as long as the process runs on. Answers how many were done.
     pub fn run_on(&mut self, most: u64) -> u64
         requires whole { IsWhole self.old }
+        requires handed { self.old.kernel.completed ≡ [] }
         requires room { self.old.steps + most ≤ 4000000000 }
         ensures count { result ≤ most }
         ensures stands { (s : State) (kept : Kept) (told : Option (List ℕ)) (first : Option (List ℕ)) → StandsFor self.old kept told s first
             → StandsFor self.new kept told (after result s) first }
         ensures whole { IsWhole self.new }
+        ensures handed { self.new.kernel.completed ≡ [] }
         ensures steps { self.new.steps ≡ self.old.steps + result }
     {
         let Some(p) = self.runner() else {
@@ -50,7 +54,17 @@ impl System {
         let Some(seg) = self.kernel.segment(p) else {
             return 0;
         };
-        self.run_process(p, seg, most)
+        self.run_process(p, seg, most.min(self.quiet()))
+    }
+
+    /// So many steps at least in which no interrupt is due.
+    fn quiet(&self) -> u64
+        ensures { (step : ℕ) → step ≤ self.now.steps + result → self.now.steps < step → due step self.now.interrupts ≡ None }
+    {
+        self.interrupts
+            .next_step()
+            .saturating_sub(self.steps)
+            .saturating_sub(1)
     }
 
     /// The running process, where it is the first of the ready list, so that it runs on behind each instruction.
@@ -80,8 +94,8 @@ impl System {
         done
     }
 
-    /// One step: what the running process does, and then the dispatcher.
-    #[tactic(auto, using(crate::proofs::WholeLaws::whole_counted, crate::proofs::WholeLaws::whole_step, crate::proofs::StepLaws::step_steps), unfolding(crate::specs::Step::step_of))]
+    /// One step: an event or what the running process does, the held calls that this completed, and then the dispatcher.
+    #[tactic(auto, using(crate::proofs::WholeLaws::whole_counted, crate::proofs::WholeLaws::whole_step, crate::proofs::StepLaws::step_steps), unfolding(crate::specs::Step::step_of, crate::specs::Step::with_finished))]
     pub fn step<S: Sink>(
         &mut self,
         reply: &mut Reply,
@@ -90,18 +104,44 @@ impl System {
     ) -> Result<(), Failed>
         requires most { self.old.steps < 4000000000 }
         requires whole { IsWhole self.old }
+        requires handed { self.old.kernel.completed ≡ [] }
         ensures system { OnOk result (self.new ≡ (step_of self.old).system) }
         ensures ok { OnOk result (Showed render.old (S.written sink.old) render.new (S.written sink.new) (step_of self.old).news) }
         ensures err { OnErr result (Stopped render.old (S.written sink.old) (S.written sink.new) (step_of self.old).news) }
         ensures whole { OnOk result (IsWhole self.new) }
+        ensures handed { OnOk result (self.new.kernel.completed ≡ []) }
         ensures count { OnOk result (self.new.steps ≡ self.old.steps + 1) }
         ensures cause { HasCause (S.faults sink.old) (S.faults sink.new) result }
         ensures trace { render.new.trace ≡ render.old.trace }
     {
         self.steps += 1;
-        let instruction = self.act(reply, render, sink)?;
+        let instruction = self.begin(reply, render, sink)?;
+        self.finish_all(reply, render, sink)?;
         self.kernel.pick(instruction);
         Ok(())
+    }
+
+    /// What a step begins with: the event that comes, or else what the running process does. Answers whether that was an
+    /// instruction.
+    fn begin<S: Sink>(
+        &mut self,
+        reply: &mut Reply,
+        render: &mut Render,
+        sink: &mut S,
+    ) -> Result<bool, Failed>
+        requires most { self.old.steps ≤ 4000000000 }
+        requires whole { IsWhole self.old }
+        ensures system { OnOk result (self.new ≡ (begun_by (coming self.old) self.old).system) }
+        ensures instruction { IfOk result (λ instruction. instruction ≡ instruction_unless (coming self.old) self.old) }
+        ensures ok { OnOk result (Showed render.old (S.written sink.old) render.new (S.written sink.new) (begun_by (coming self.old) self.old).news) }
+        ensures err { OnErr result (Stopped render.old (S.written sink.old) (S.written sink.new) (begun_by (coming self.old) self.old).news) }
+        ensures cause { HasCause (S.faults sink.old) (S.faults sink.new) result }
+        ensures trace { render.new.trace ≡ render.old.trace }
+    {
+        if self.interrupt() {
+            return Ok(false);
+        }
+        self.act(reply, render, sink)
     }
 
     /// What the running process does in a step; answers whether that was an instruction.
@@ -174,7 +214,7 @@ impl System {
         gate_at(page_of_gates(&self.memory, seg), self.kernel.regs(p).pc)
     }
 
-    /// One instruction of a process of a segment.
+    /// One instruction of a process of a segment, which is at no gate.
     #[tactic(auto, using(crate::proofs::WholeLaws::ran_nothing), unfolding(crate::specs::Step::instructed))]
     fn execute<S: Sink>(
         &mut self,
@@ -185,29 +225,34 @@ impl System {
     ) -> Result<(), Failed>
         requires whole { IsWhole self.old }
         requires lives { Lives self.old.kernel.procs p }
+        requires home { IsHome self.old.memory seg }
+        requires gate { gate_before p seg self.old ≡ None }
         ensures system { OnOk result (self.new ≡ (instructed (instruction_at p seg self.old) p seg self.old).system) }
         ensures ok { OnOk result (Showed render.old (S.written sink.old) render.new (S.written sink.new) (instructed (instruction_at p seg self.old) p seg self.old).news) }
         ensures err { OnErr result (Stopped render.old (S.written sink.old) (S.written sink.new) (instructed (instruction_at p seg self.old) p seg self.old).news) }
         ensures cause { HasCause (S.faults sink.old) (S.faults sink.new) result }
         ensures trace { render.new.trace ≡ render.old.trace }
     {
-        match self.instruct(p, seg) {
-            Stepped::Ran => Ok(()),
-            Stepped::Illegal => self.illegal(p, render, sink),
+        if self.instruct(p, seg) {
+            return Ok(());
         }
+        self.illegal(p, render, sink)
     }
 
-    /// Runs the instruction at which a process of a segment stands. Where none stands there, nothing changes.
+    /// Runs the instruction at which a process of a segment stands, which is at no gate. False comes exactly where no listed
+    /// one stands there, and then nothing changes.
     #[tactic(auto, unfolding(crate::specs::Step::ran))]
-    fn instruct(&mut self, p: Pid, seg: Seg) -> Stepped
-        requires { Lives self.old.kernel.procs p }
-        ensures illegal { (result ≡ Stepped.Illegal) ↔ IsNone (instruction_at p seg self.old) }
+    fn instruct(&mut self, p: Pid, seg: Seg) -> bool
+        requires lives { Lives self.old.kernel.procs p }
+        requires home { IsHome self.old.memory seg }
+        requires gate { gate_before p seg self.old ≡ None }
+        ensures listed { result ≡ is_some (instruction_at p seg self.old) }
         ensures system { self.new ≡ ran (instruction_at p seg self.old) p seg self.old }
     {
         let mut regs = *self.kernel.regs(p);
-        let stepped = execute(&mut regs, &mut self.memory, seg, self.kernel.devices_mut());
+        let listed = execute(&mut regs, &mut self.memory, seg, self.kernel.devices_mut());
         *self.kernel.regs_mut(p) = regs;
-        stepped
+        listed
     }
 
     /// A process comes to an unlisted opcode: a text on its console, and its end.

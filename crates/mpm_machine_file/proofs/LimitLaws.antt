@@ -20,9 +20,6 @@ pub bind_some : {A B : Type 0} (found : Option A) (more : A → Option B) (y : B
 bind_some None more y e = absurd (none-some y e)
 bind_some (Some x) more y e = (x, refl, e)
 
-pub choice_some : {A : Type 0} (test : Bool) (x y : A) → (if test then Some x else None) ≡ Some y → (test ≡ true) × (x ≡ y)
-choice_some test x y e = cond_some test x y e
-
 -- a number between two limits
 abbrev pub IsBetween : ℕ → ℕ → ℕ → Type 0
 IsBetween least greatest n = (least ≤ n) × (n ≤ greatest)
@@ -32,7 +29,7 @@ between_test least greatest m n test same = (grind (arith, nat_tests), grind (ar
 
 within_limits : (least greatest : ℕ) (z : ℤ) (n : ℕ) → within least greatest z ≡ Some n → IsBetween least greatest n
 within_limits least greatest (pos m) n e =
-    let found = choice_some (nat_le least m && nat_le m greatest) m n e in between_test least greatest m n found.0 found.1
+    let found = cond_some (nat_le least m && nat_le m greatest) m n e in between_test least greatest m n found.0 found.1
 within_limits least greatest (negsuc m) n e = absurd (none-some n e)
 
 number_of_limits : (least greatest : ℕ) (value : Data) (n : ℕ) → number_of least greatest value ≡ Some n → IsBetween least greatest n
@@ -92,7 +89,7 @@ all_of_each P read each (item value rest) xs e =
 
 pub counted_limits : {A : Type 0} (least greatest : ℕ) (xs ys : List A) → counted least greatest xs ≡ Some ys → (xs ≡ ys) × IsBetween least greatest (length xs)
 counted_limits least greatest xs ys e =
-    let found = choice_some (nat_le least (length xs) && nat_le (length xs) greatest) xs ys e in
+    let found = cond_some (nat_le least (length xs) && nat_le (length xs) greatest) xs ys e in
     (found.1, between_test least greatest (length xs) (length xs) found.0 refl)
 
 pub is_document : (text : List ℕ) (table : Members) → IsUtf8 text → parse_document text ≡ Some table → document_of text ≡ Some table

@@ -4,7 +4,7 @@ use Rattle.std.specs.Prelude.{codes}
 use Rattle.std.specs.List.{AllByRecursion}
 use Rattle.std.specs.Option.{option_map_or}
 use Rattle.std.proofs.lemmas.Bool.Decides.{nat_tests}
-use Rattle.std.proofs.lemmas.Option.{same_Some, none-some}
+use Rattle.std.proofs.lemmas.Option.{same_Some, none-some, cond_some}
 use Rattle.std.proofs.lemmas.List.Elements.{All-from_recursion}
 use Rattle.toml.specs.Data.{Data, Members, get_member, as_table, as_array}
 use Rattle.mpm_base.specs.declared.segment.SegmentSpec.{SegmentSpec}
@@ -15,13 +15,13 @@ use Rattle.mpm_machine_file.specs.Fields.{only_keys, number_at, number_or, text_
 use Rattle.mpm_machine_file.specs.Segments.{segment_keys, segment_of, segments_of, segments_in}
 use Rattle.mpm_machine_file.specs.Drives.{drive_keys, letter_of, kind_of, drive_of, all_differ, by_letter, drives_of, drives_in}
 use Rattle.mpm_machine_file.specs.MachineFiles.{machine_keys, ticks_of, machine_of, document_of, whole_file_of, IsSegment, IsDrive, IsMachine}
-use Rattle.mpm_machine_file.proofs.LimitLaws.{bind_some, choice_some, IsBetween, between_test, number_at_limits, number_or_limits, text_at_limits, text_if_limits, all_of_each, counted_limits}
+use Rattle.mpm_machine_file.proofs.LimitLaws.{bind_some, IsBetween, between_test, number_at_limits, number_or_limits, text_at_limits, text_if_limits, all_of_each, counted_limits}
 use Rattle.std.specs.List.Sorted.{IsStrictlyIncreasing}
 use Rattle.mpm_machine_file.proofs.OrderLaws.{each_by_letter, length_by_letter, apart_from_differ, differ_from_apart, apart_by_letter, ascend_by_letter, increase_from_ascend}
 
 segment_made : (base pages : ℕ) (keys : Bool) (segment : SegmentSpec) → 4 ≤ pages → (if keys && nat_le (base + pages) 192 then Some (record { base = base; pages = pages }) else None) ≡ Some segment → IsSegment segment
 segment_made base pages keys segment some e =
-    let made = choice_some (keys && nat_le (base + pages) 192) (record { base = base; pages = pages }) segment e in
+    let made = cond_some (keys && nat_le (base + pages) 192) (record { base = base; pages = pages }) segment e in
     subst IsSegment made.1 (record { pages = some; end = grind (arith, nat_tests) })
 
 segment_limits : (value : Data) (segment : SegmentSpec) → segment_of value ≡ Some segment → IsSegment segment
@@ -61,12 +61,12 @@ pub record AreDrives (drives : List DriveSpec) : Type 0 where
 letter_limits : (text : List ℕ) (letter : ℕ) → letter_of text ≡ Some letter → IsBetween 65 80 letter
 letter_limits [] letter e = absurd (none-some letter e)
 letter_limits (byte ∷ []) letter e =
-    let found = choice_some (nat_le 65 byte && nat_le byte 80) byte letter e in between_test 65 80 byte letter found.0 found.1
+    let found = cond_some (nat_le 65 byte && nat_le byte 80) byte letter e in between_test 65 80 byte letter found.0 found.1
 letter_limits (byte ∷ more ∷ rest) letter e = absurd (none-some letter e)
 
 drive_made : (letter : ℕ) (kind : Kind) (image : List ℕ) (keys : Bool) (drive : DriveSpec) → IsBetween 65 80 letter → image ≢ [] → (if keys then Some (record { letter = letter; kind = kind; image = image }) else None) ≡ Some drive → IsDrive drive
 drive_made letter kind image keys drive fits named e =
-    subst IsDrive (choice_some keys (record { letter = letter; kind = kind; image = image }) drive e).1 (record { first = fits.0; last = fits.1; image = named })
+    subst IsDrive (cond_some keys (record { letter = letter; kind = kind; image = image }) drive e).1 (record { first = fits.0; last = fits.1; image = named })
 
 drive_limits : (value : Data) (drive : DriveSpec) → drive_of value ≡ Some drive → IsDrive drive
 unfolding drive_of
@@ -96,7 +96,7 @@ drives_limits value drives e =
     let read = bind_some (all_of drive_of items.0) _ drives items.2 in
     let few = bind_some (counted 0 16 read.0) _ drives read.2 in
     let count = counted_limits 0 16 read.0 few.0 few.1 in
-    let made = choice_some (all_differ few.0) (by_letter few.0) drives few.2 in
+    let made = cond_some (all_differ few.0) (by_letter few.0) drives few.2 in
     let each : AllByRecursion IsDrive few.0 = subst (AllByRecursion IsDrive) count.0 (all_of_each IsDrive drive_of drive_limits items.0 read.0 read.1) in
     let size : length few.0 ≤ 16 = rw (← count.0) count.1.1 in
     subst AreDrives made.1 (drives_made few.0 size each made.0)
@@ -116,7 +116,7 @@ ticks_limits : (table : Members) (ticks : ℕ) → ticks_of table ≡ Some ticks
 unfolding ticks_of
 ticks_limits table ticks e =
     let steps = bind_some (number_or (codes "tick_every") 0 0 1000000 table) _ ticks e in
-    let made = choice_some (steps.0 == 0 || nat_le 100 steps.0) steps.0 ticks steps.2 in
+    let made = cond_some (steps.0 == 0 || nat_le 100 steps.0) steps.0 ticks steps.2 in
     let fits = number_or_limits (codes "tick_every") 0 0 1000000 table steps.0 (omega arith, omega arith) steps.1 in
     ticks_made steps.0 ticks made.0 made.1 fits.1
   where
@@ -141,7 +141,7 @@ machine_limits table file e =
     let segments = bind_some (segments_in table) _ file second.2 in
     let drives = bind_some (drives_in table) _ file segments.2 in
     let script = bind_some (text_if (codes "script") table) _ file drives.2 in
-    let made = choice_some (only_keys machine_keys table) _ file script.2 in
+    let made = cond_some (only_keys machine_keys table) _ file script.2 in
     let console_limits = number_at_limits (codes "consoles") 1 8 table consoles.0 consoles.1 in
     let printer_limits = number_or_limits (codes "printers") 1 0 4 table printers.0 (lit≤ tt, lit≤ tt) printers.1 in
     let turn_limits = number_or_limits (codes "disk_turn") 0 0 1000 table turn.0 (lit≤ tt, lit≤ tt) turn.1 in

@@ -1,5 +1,5 @@
 -- The machine file: a TOML document of these keys and no others, each within its limits.
-use Rattle.std.specs.Prelude.{◌≡◌, ◌≢◌, ℕ, ◌+◌, ◌<◌, ◌≤◌, ◌⊎◌, Bool, true, ◌&&◌, ◌||◌, ◌==◌, nat_le, if◌then◌else◌, List, [], ◌∷◌, length, map, codes, All, is_none, Option, Some, None, IfSome}
+use Rattle.std.specs.Prelude.{◌≡◌, ◌≢◌, ℕ, ◌+◌, ◌<◌, ◌≤◌, ◌⊎◌, Bool, true, ◌&&◌, ◌||◌, ◌==◌, nat_le, if◌then◌else◌, List, [], ◌∷◌, length, map, codes, All, Option, Some, None, IfSome}
 use Rattle.std.specs.List.Sorted.{IsStrictlyIncreasing}
 use Rattle.std.specs.Str.{is_utf8}
 use Rattle.toml.specs.Data.{Members}
@@ -60,9 +60,9 @@ document_of text = if is_utf8 text then parse_document text else None
 unfoldable pub whole_file_of : List ℕ → Option MachineFile
 whole_file_of text = document_of text >>= machine_of
 
--- no part is asked for that isn't built yet: no ticks, no turns of a disk, no drives, no script
+-- no part is asked for that isn't built yet: no turns of a disk, no drives
 unfoldable pub is_built : MachineFile → Bool
-is_built file = file.tick_every == 0 && file.disk_turn == 0 && length file.drives == 0 && is_none file.script
+is_built file = file.disk_turn == 0 && length file.drives == 0
 
 -- the machine file that a text is, of parts that are built
 unfoldable pub machine_of_text : List ℕ → Option MachineFile

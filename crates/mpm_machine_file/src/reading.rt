@@ -17,7 +17,7 @@ use std::alloc::Global;
 use toml::Table;
 
 /// Reads a machine file: a TOML document in UTF-8. It is a fault exactly where the text isn't one, or asks for a part that
-/// isn't built yet: a script, ticks, a disk's turns or a drive.
+/// isn't built yet: a disk's turns or a drive.
 ///
 /// These are its keys, and no others may stand in it. Those marked * must be there.
 ///
@@ -52,10 +52,7 @@ pub fn read_machine(alloc: Global, text: &[u8]) -> Result<MachineFile, MachineEr
 fn is_built(file: &MachineFile) -> bool
     ensures { result ≡ spec.is_built file.now }
 {
-    file.tick_every == 0
-        && file.disk_turn == 0
-        && file.drives.as_slice().is_empty()
-        && file.script.is_none()
+    file.disk_turn == 0 && file.drives.as_slice().is_empty()
 }
 
 /// Reads a machine file, whichever parts it asks for.

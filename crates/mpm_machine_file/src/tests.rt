@@ -372,8 +372,8 @@ fn other_texts_of_toml_are_judged_by_the_form(rt: HostRuntime) -> Result<(), Fai
 #[test]
 fn parts_that_are_not_built_yet_are_faults(rt: HostRuntime) -> Result<(), Fail> {
     let rows = [
-        ("script = 'x'", false),
-        ("tick_every = 100", false),
+        ("script = 'x'", true),
+        ("tick_every = 100", true),
         ("disk_turn = 1", false),
         (
             "drive = [{ letter = 'A', kind = 'hd4', image = 'a' }]",

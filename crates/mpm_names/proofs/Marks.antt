@@ -1,8 +1,8 @@
 -- Which bytes may stand where: characters, blanks, marks, and what ends a name.
-use Rattle.std.proofs.Common.{◌≡◌, ℕ, Bool, true, false, not, ◌==◌, ◌&&◌, ◌||◌, sym, ap, ◌∙◌, refl}
+use Rattle.std.proofs.Common.{◌≡◌, ℕ, Bool, true, false, ◌==◌, ◌&&◌, ◌||◌, sym, ap, ◌∙◌, refl}
 use Rattle.std.specs.Prelude.{nat_le}
 use Rattle.std.specs.Cmp.{first_so, second_so}
-use Rattle.std.proofs.lemmas.Bool.{ne_eqb, false≢true}
+use Rattle.std.proofs.lemmas.Bool.{ne_eqb, false≢true, not-true}
 use Rattle.mpm_names.specs.Characters.{is_blank, is_delimiter, is_character}
 use Rattle.mpm_names.specs.Spellings.{is_end}
 
@@ -10,10 +10,6 @@ no_and : (a b : Bool) → (a && b && false) ≡ false
 no_and true true = refl
 no_and true false = refl
 no_and false b = refl
-
-not_true : (b : Bool) → not b ≡ true → b ≡ false
-not_true true h = absurd (false≢true h)
-not_true false h = refl
 
 none_of : (a b c : Bool) → (a || b || c) ≡ false → (a ≡ false) × (b ≡ false) × (c ≡ false)
 none_of true b c h = absurd (false≢true (sym h))
@@ -62,5 +58,5 @@ pub record Ends (byte : ℕ) : Type 0 where
 
 pub what_ends : (byte : ℕ) → is_end byte ≡ true → Ends byte
 what_ends byte h =
-    let marks = none_of (byte == 46) (byte == 58) (byte == 59) (not_true _ (second_so (is_delimiter byte) _ h)) in
+    let marks = none_of (byte == 46) (byte == 58) (byte == 59) (not-true _ (second_so (is_delimiter byte) _ h)) in
     record { character = no_character byte (first_so (is_delimiter byte) _ h); point = marks.0; colon = marks.1; semicolon = marks.2 }

@@ -1,5 +1,5 @@
 -- How many processes live, and in how many slots nobody does.
-use Rattle.std.proofs.Common.{◌≡◌, ◌≢◌, ◌∙◌, ℕ, ◌+◌, ◌<◌, ◌≤◌, Bool, true, false, not, cond, List, [], ◌∷◌, Option, Some, None, inl, inr, length, get_or, refl, sym, ap, arith}
+use Rattle.std.proofs.Common.{◌≡◌, ◌≢◌, ◌∙◌, ℕ, ◌+◌, ◌<◌, ◌≤◌, Bool, true, false, not, cond, List, [], ◌∷◌, Option, Some, None, inl, inr, length, refl, sym, ap, arith}
 use Rattle.std.specs.Prelude.{◌↔◌, IfSome, IsNone, count_by}
 use Rattle.std.specs.List.{position_or_len}
 use Rattle.std.proofs.lemmas.Bool.{false≢true, cases_lt, lt-ltb, le-ltb}
@@ -15,21 +15,16 @@ abbrev free_bit : Bool → ℕ
 free_bit b = cond (not b) 1 0
 
 -- a process more, one fewer
-one_more : (a b c : ℕ) → a + c ≡ b + 1 → c ≡ 0 → a ≡ b + 1
-one_more a b c h k = omega arith
-
-one_less : (a b c : ℕ) → a + c ≡ b + 0 → c ≡ 1 → a + 1 ≡ b
-one_less a b c h k = omega arith
 
 pub living_added : (table : Table) (p : ℕ) (new : NewProcess) → p < length table.alive → lives table p ≡ false → living (added table p new) ≡ living table + 1
 unfolding living added
 living_added table p new within free =
-    one_more _ _ (bit (get_or table.alive p false)) (sum_by-set bit table.alive p true false within) (ap bit free)
+    omega (arith, sum_by-set bit table.alive p true false within, ap bit free)
 
 pub living_without : (table : Table) (p : ℕ) → p < length table.alive → Lives table p → living (without table p) + 1 ≡ living table
 unfolding living without
 living_without table p within alive =
-    one_less _ _ (bit (get_or table.alive p false)) (sum_by-set bit table.alive p false false within) (ap bit alive)
+    omega (arith, sum_by-set bit table.alive p false false within, ap bit alive)
 
 -- the slots are those where a process lives and the free ones
 abbrev live_count : List Bool → ℕ

@@ -1,4 +1,3 @@
 pub mod MapLaws
 pub mod CountLaws
-pub mod Finding
 pub mod BlankLaws

@@ -1,6 +1,6 @@
 -- The table of processes is a finite map: what is changed in a slot is read back there, and every other slot stays.
-use Rattle.std.proofs.Common.{◌≡◌, ◌≢◌, ◌∙◌, ℕ, ◌<◌, Bool, true, false, not, Some, inl, inr, length, replicate, refl, arith}
-use Rattle.std.proofs.lemmas.Bool.{cases_lt}
+use Rattle.std.proofs.Common.{◌≡◌, ◌≢◌, ◌∙◌, ℕ, ◌<◌, true, false, not, Some, inl, inr, length, replicate, refl, arith}
+use Rattle.std.proofs.lemmas.Bool.{cases_lt, not-true}
 use Rattle.std.proofs.lemmas.List.Quantifiers.{position-Some}
 use Rattle.std.proofs.lemmas.List.{get_or-set_same, get_or-set_other, get_or_past, get_or-replicate, length-set, length-replicate}
 use Rattle.mpm_base.specs.Calls.{Taken, no_call}
@@ -73,17 +73,13 @@ slots_behind table p call h =
 
 -- one process more
 
-not_true : (b : Bool) → not b ≡ true → b ≡ false
-not_true false h = refl
-not_true true h = absurd (cc)
-
 pub free_below : (table : Table) (p : ℕ) → lowest_free table ≡ Some p → p < length table.alive
 unfolding lowest_free
 free_below table p h = (position-Some not table.alive p false h).0
 
 pub free_is_dead : (table : Table) (p : ℕ) → lowest_free table ≡ Some p → lives table p ≡ false
 unfolding lowest_free
-free_is_dead table p h = not_true _ (position-Some not table.alive p false h).1
+free_is_dead table p h = not-true _ (position-Some not table.alive p false h).1
 
 pub lives_added : (table : Table) (p : ℕ) (new : NewProcess) → p < length table.alive → Lives (added table p new) p
 unfolding added
@@ -100,10 +96,6 @@ process_added table p new h = get_or-set_same table.processes p (opening new) bl
 pub process_added_other : (table : Table) (p q : ℕ) (new : NewProcess) → q ≢ p → process_in (added table p new) q ≡ process_in table q
 unfolding added
 process_added_other table p q new h = get_or-set_other table.processes p q (opening new) blank h
-
-pub call_added : (table : Table) (p : ℕ) (new : NewProcess) → p < length table.calls → call_of (added table p new) p ≡ no_call
-unfolding added
-call_added table p new h = get_or-set_same table.calls p no_call no_call h
 
 pub call_added_other : (table : Table) (p q : ℕ) (new : NewProcess) → q ≢ p → call_of (added table p new) q ≡ call_of table q
 unfolding added
@@ -130,10 +122,6 @@ lives_without_other table p q h = get_or-set_other table.alive p q false false h
 pub process_without_other : (table : Table) (p q : ℕ) → q ≢ p → process_in (without table p) q ≡ process_in table q
 unfolding without
 process_without_other table p q h = get_or-set_other table.processes p q blank blank h
-
-pub call_without_other : (table : Table) (p q : ℕ) → q ≢ p → call_of (without table p) q ≡ call_of table q
-unfolding without
-call_without_other table p q h = get_or-set_other table.calls p q no_call no_call h
 
 pub slots_without : (table : Table) (p : ℕ) → HasSlots table → HasSlots (without table p)
 unfolding without

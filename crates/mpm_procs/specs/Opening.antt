@@ -1,13 +1,10 @@
 -- What a process begins with. (MP/M II Programmer's Guide, "Function 144: Create Process"; System Guide, "Process
 -- Descriptor Data Structure".)
-use Rattle.std.specs.Prelude.{ℕ, List, None, true, false, replicate}
+use Rattle.std.specs.Prelude.{ℕ, None, true, false}
 use Rattle.z80_regs.specs.declared.regs.Regs.{Regs}
+use Rattle.mpm_base.specs.Lists.{zeros}
 use Rattle.mpm_procs.specs.declared.process.Process.{Process}
 use Rattle.mpm_procs.specs.declared.process.NewProcess.{NewProcess}
-
--- so many zeros
-unfoldable pub zeros : ℕ → List ℕ
-zeros n = replicate n 0
 
 -- all registers 0 but PC and SP, interrupts on
 unfoldable pub opening_registers : ℕ → ℕ → Regs

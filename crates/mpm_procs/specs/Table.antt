@@ -1,8 +1,6 @@
 -- The processes as a finite map from the 32 slots, and the call that each keeps. A slot where no process lives is blank.
-use Rattle.std.specs.Prelude.{◌≡◌, ℕ, Bool, true, false, not, List, Option, Some, None, ◌&&◌, ◌==◌, length, position, find, count_by, bytes_eq, replicate, slice_index_or, slice_set, if◌then◌else◌}
-use Rattle.std.specs.List.{range_with_len}
+use Rattle.std.specs.Prelude.{◌≡◌, ℕ, Bool, true, false, not, List, Option, Some, None, length, position, count_by, replicate, slice_index_or, slice_set, if◌then◌else◌}
 use Rattle.mpm_base.specs.Calls.{Taken, no_call}
-use Rattle.mpm_base.specs.declared.number.Name8.{Name8}
 use Rattle.mpm_procs.specs.declared.process.Process.{Process}
 use Rattle.mpm_procs.specs.declared.process.NewProcess.{NewProcess}
 use Rattle.mpm_procs.specs.Opening.{opening, blank}
@@ -68,18 +66,6 @@ living table = count_by (λ alive. alive) table.alive
 -- how many slots are free
 unfoldable pub free_slots : Table → ℕ
 free_slots table = count_by not table.alive
-
--- whether a process of a name lives in a slot
-abbrev pub is_named : Table → Name8 → ℕ → Bool
-is_named table name slot = lives table slot && bytes_eq (process_in table slot).name.0 name.0
-
--- and has a console
-abbrev pub is_named_at : Table → Name8 → ℕ → ℕ → Bool
-is_named_at table name console slot = is_named table name slot && ((process_in table slot).console == console)
-
--- the lowest slot that passes a test
-unfoldable pub lowest : (ℕ → Bool) → Option ℕ
-lowest test = find test (range_with_len 0 32)
 
 -- a process begins in a slot
 unfoldable pub added : Table → ℕ → NewProcess → Table

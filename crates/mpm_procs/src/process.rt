@@ -61,7 +61,7 @@ impl Process {
     ghost use Rattle.mpm_procs.specs.Opening.{opening, blank};
 
     /// A process as it begins.
-    #[tactic(auto, unfolding(crate::specs::Opening::opening, crate::specs::Opening::zeros))]
+    #[tactic(auto, unfolding(crate::specs::Opening::opening, mpm_base::specs::Lists::zeros))]
     pub(crate) fn begin(new: &NewProcess) -> Process
         ensures { result ≡ opening new.now }
     {
@@ -88,7 +88,7 @@ impl Process {
     }
 
     /// What stands in a slot where no process lives.
-    #[tactic(auto, unfolding(crate::specs::Opening::blank, crate::specs::Opening::zeros))]
+    #[tactic(auto, unfolding(crate::specs::Opening::blank, mpm_base::specs::Lists::zeros))]
     pub(crate) fn none() -> Process
         ensures { result ≡ blank }
     {

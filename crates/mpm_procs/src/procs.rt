@@ -4,7 +4,7 @@ ghost use Rattle.std.specs.Borrow.{sem};
 ghost use Rattle.mpm_procs.specs.Opening.{blank};
 
 use crate::process::{NewProcess, Process};
-use mpm_base::{Call, Name8, Pid};
+use mpm_base::{Call, Pid};
 use std::alloc::{AllocError, Global};
 use std::marker::Model;
 
@@ -34,7 +34,7 @@ impl Model for Procs {
 }
 
 impl Procs {
-    ghost use Rattle.mpm_procs.specs.Table.{IsMap, no_processes, Lives, lives, process_in, call_of, lowest_free, free_slots, living, lowest, is_named, is_named_at, added, without};
+    ghost use Rattle.mpm_procs.specs.Table.{IsMap, no_processes, Lives, lives, process_in, call_of, lowest_free, free_slots, living, added, without};
     ghost use Rattle.mpm_procs.specs.Lending.{LendsProcess, LendsCall};
 
     /// No processes. All memory that they will need is taken here.
@@ -66,48 +66,6 @@ impl Procs {
         ensures { result ≡ free_slots self.now }
     {
         self.alive.iter().filter(|lives| !**lives).count()
-    }
-
-    /// The process of a name in the lowest slot, if any process has it.
-    #[tactic(auto, using(crate::proofs::Finding::failed_none, crate::proofs::Finding::failed_more, crate::proofs::Finding::found_lowest, crate::proofs::Finding::found_none))]
-    pub fn find(&self, name: Name8) -> Option<Pid>
-        ensures { result ≡ lowest (is_named self.now name) }
-    {
-        for slot in 0..SLOTS {
-            if self.is_named(slot, name) {
-                return Some(Pid(slot as u8));
-            }
-        }
-        None
-    }
-
-    /// The process of a name and a console in the lowest slot, if any process has both.
-    #[tactic(auto, using(crate::proofs::Finding::failed_none, crate::proofs::Finding::failed_more, crate::proofs::Finding::found_lowest, crate::proofs::Finding::found_none))]
-    pub fn find_at(&self, name: Name8, console: u8) -> Option<Pid>
-        ensures { result ≡ lowest (is_named_at self.now name console) }
-    {
-        for slot in 0..SLOTS {
-            if self.is_named_at(slot, name, console) {
-                return Some(Pid(slot as u8));
-            }
-        }
-        None
-    }
-
-    /// Whether a process of that name lives in a slot.
-    fn is_named(&self, slot: usize, name: Name8) -> bool
-        requires { slot < 32 }
-        ensures { result ≡ is_named self.now name slot }
-    {
-        self.alive[slot] && self.processes[slot].name == name
-    }
-
-    /// Whether one of that name and that console does.
-    fn is_named_at(&self, slot: usize, name: Name8, console: u8) -> bool
-        requires { slot < 32 }
-        ensures { result ≡ is_named_at self.now name console slot }
-    {
-        self.is_named(slot, name) && self.processes[slot].console == console
     }
 
     /// A new process, in the lowest free slot.

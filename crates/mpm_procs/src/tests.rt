@@ -117,21 +117,3 @@ fn a_slot_forgets_the_call_of_who_ended(rt: HostRuntime) -> Result<(), OutOfMemo
     assert_eq!(rt; procs.call(Pid(0)).word, 0);
     Ok(())
 }
-
-#[test]
-fn processes_are_found_by_name_and_console(rt: HostRuntime) -> Result<(), OutOfMemory> {
-    let mut procs = Procs::new(rt.alloc())?;
-    assert_eq!(rt; procs.find(Name8(*b"EDIT    ")), None);
-    assert_eq!(rt; procs.find(Name8([0; 8])), None);
-    assert_eq!(rt; procs.add(program(*b"SHOW    ", 0)), Ok(Pid(0)));
-    assert_eq!(rt; procs.add(program(*b"EDIT    ", 1)), Ok(Pid(1)));
-    assert_eq!(rt; procs.add(program(*b"EDIT    ", 2)), Ok(Pid(2)));
-    assert_eq!(rt; procs.find(Name8(*b"EDIT    ")), Some(Pid(1)));
-    assert_eq!(rt; procs.find(Name8(*b"EDIT   x")), None);
-    assert_eq!(rt; procs.find_at(Name8(*b"EDIT    "), 2), Some(Pid(2)));
-    assert_eq!(rt; procs.find_at(Name8(*b"EDIT    "), 0), None);
-    procs.end(Pid(1));
-    assert_eq!(rt; procs.find(Name8(*b"EDIT    ")), Some(Pid(2)));
-    assert_eq!(rt; procs.find_at(Name8(*b"EDIT    "), 1), None);
-    Ok(())
-}

@@ -1,7 +1,7 @@
 -- Laws on outputs: their text grows, and a byte leaves its line, the other lines and the text as they are said.
-use Rattle.std.proofs.Common.{◌≡◌, ◌≢◌, ℕ, ◌+◌, ◌%◌, ◌<◌, Bool, false, List, [], ◌∷◌, ◌++◌, Option, Result, OnOk, OnErr, Ok, Err, length, take, drop, set, reverse, get_or, refl, sym, ap, ◌∙◌, inl, inr, suc, subst, arith}
+use Rattle.std.proofs.Common.{◌≡◌, ◌≢◌, ℕ, ◌%◌, ◌<◌, Bool, false, List, [], ◌∷◌, ◌++◌, Option, Result, OnOk, OnErr, Ok, Err, length, take, set, reverse, get_or, refl, sym, ap, ◌∙◌, inl, inr, suc, subst, arith}
 use Rattle.std.proofs.lemmas.Grind.{reverse_onto}
-use Rattle.std.proofs.lemmas.List.{append-nil, length-reverse, length-take-le, take_more, take-append-drop, get_or_default, get_or-set_same, get_or-set_other}
+use Rattle.std.proofs.lemmas.List.{append-nil, length-reverse, length-take-le, get_or_default, get_or-set_same, get_or-set_other}
 use Rattle.std.proofs.lemmas.Bool.{cases_eq}
 use Rattle.std.proofs.lemmas.Bool.Decides.{nat_tests}
 use Rattle.mpm_port.specs.Texts.{Begins, appended, AppendsPart}
@@ -9,17 +9,13 @@ use Rattle.mpm_render.specs.declared.unit.Unit2.{Unit2}
 use Rattle.mpm_render.specs.declared.unit.Unit2.TheVariants.{Console, Printer}
 use Rattle.mpm_render.specs.Lines.{place_of, IsUnit, text_with, line_with}
 use Rattle.mpm_render.specs.Completions.{Completion}
-use Rattle.mpm_render.specs.Outputs.{Output, Said, Completed, said, since_end, pending, record_text, text_at, rendered, closed}
+use Rattle.mpm_render.specs.Outputs.{Output, Said, Completed, said, since_end, pending, record_text, text_at, rendered}
 use Rattle.mpm_render.specs.Shown.{Kept, line_of, Shows, EndsBetween}
 use Rattle.mpm_render.proofs.Grows.{begins_refl, begins_more, begins_trans, appended_nil, appended_twice, ends_within}
 
 pub rendered_grows : (trace : Bool) (o : Output) (os : List Output) → Begins (rendered trace os) (rendered trace (o ∷ os))
 unfolding rendered
 rendered_grows trace o os = begins_more (rendered trace os) (text_at trace o os)
-
-pub closed_grows : (trace : Bool) (os : List Output) → Begins (rendered trace os) (closed trace os)
-unfolding closed
-closed_grows trace os = record { rest = _; whole_is = refl }
 
 pub said_nil : (unit : Unit2) (os : List Output) → said unit [] os ≡ os
 unfolding said
@@ -43,18 +39,6 @@ said_grows trace unit (byte ∷ bytes) os =
 -- one more byte at the end
 pub said_push : (unit : Unit2) (bytes : List ℕ) (byte : ℕ) (os : List Output) → said unit (bytes ++ byte ∷ []) os ≡ Said unit byte ∷ said unit bytes os
 said_push unit bytes byte os = said_append unit bytes (byte ∷ []) os ∙ said_cons unit byte [] (said unit bytes os) ∙ said_nil unit (Said unit byte ∷ said unit bytes os)
-
--- in a loop over bytes: the byte at an index behind those before it
-pub said_take : (unit : Unit2) (bytes : List ℕ) (index other : ℕ) (os : List Output) → index < length bytes → said unit (take (index + 1) bytes) os ≡ Said unit (get_or bytes index other) ∷ said unit (take index bytes) os
-said_take unit bytes index other os inside =
-    ap (λ front. said unit front os) (take_more bytes index other inside) ∙ said_push unit (take index bytes) (get_or bytes index other) os
-
--- the text of the first bytes begins the text of all
-pub said_begins : (trace : Bool) (unit : Unit2) (index : ℕ) (bytes : List ℕ) (os : List Output) → Begins (rendered trace (said unit (take index bytes) os)) (rendered trace (said unit bytes os))
-said_begins trace unit index bytes os =
-    let P : List ℕ → Type 0 = λ all. Begins (rendered trace (said unit (take index bytes) os)) (rendered trace (said unit all os)) in
-    let Q : List Output → Type 0 = λ all. Begins (rendered trace (said unit (take index bytes) os)) (rendered trace all) in
-    subst P (take-append-drop index bytes) (subst Q (sym (said_append unit (take index bytes) (drop index bytes) os)) (said_grows trace unit (drop index bytes) (said unit (take index bytes) os)))
 
 -- a unit's place is one of the twelve
 pub place_small : (unit : Unit2) → IsUnit unit → place_of unit < 12

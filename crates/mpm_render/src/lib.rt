@@ -11,6 +11,7 @@ mod text;
 mod unit;
 
 pub use render::Render;
+pub use text::hex_word;
 pub use unit::Unit2;
 
 #[cfg(test)]

@@ -1,5 +1,5 @@
 ghost use Rattle.std.specs.Prelude.{◌≡◌, ℕ, ◌+◌, ◌*◌, ◌/◌, ◌%◌, ◌<◌, ◌≤◌, List, [], ◌∷◌, ◌++◌, length, flat_map, decimal};
-ghost use Rattle.mpm_render.specs.Lines.{escaped, label, hex_digit, hex_byte, hex_word, cut_line};
+ghost use Rattle.mpm_render.specs.Lines.{escaped, label, hex_digit, hex_byte, hex_word as word_text, cut_line};
 ghost use Rattle.mpm_render.specs.Completions.{completion, trace_line};
 
 use arrayvec::ArrayVec;
@@ -169,15 +169,13 @@ impl LineText {
     }
 
     /// The text with a space and a word of 16 bits behind it, in four hexadecimal digits.
-    #[tactic(auto, unfolding(crate::specs::Lines::hex_word))]
     fn push_word(&mut self, word: u16)
         requires { length self.old + 5 ≤ 805 }
-        ensures text { self.new ≡ self.old ++ (32 ∷ hex_word word) }
+        ensures text { self.new ≡ self.old ++ (32 ∷ word_text word) }
         ensures size { length self.new ≡ length self.old + 5 }
     {
         self.bytes.push(b' ');
-        self.push_hex((word / 256) as u8);
-        self.push_hex((word % 256) as u8);
+        self.bytes.try_extend_from_slice(&hex_word(word)).unwrap();
     }
 
     /// The text with a byte behind it, in two upper-case hexadecimal digits.
@@ -190,6 +188,21 @@ impl LineText {
         self.bytes.push(digit_of(byte / 16));
         self.bytes.push(digit_of(byte % 16));
     }
+}
+
+/// A word of 16 bits in four upper-case hexadecimal digits.
+#[tactic(auto, unfolding(crate::specs::Lines::hex_byte, crate::specs::Lines::hex_word))]
+pub fn hex_word(word: u16) -> [u8; 4]
+    ensures { result ≡ word_text word }
+{
+    let high = (word / 256) as u8;
+    let low = (word % 256) as u8;
+    [
+        digit_of(high / 16),
+        digit_of(high % 16),
+        digit_of(low / 16),
+        digit_of(low % 16),
+    ]
 }
 
 /// The upper-case hexadecimal digit of a number below 16.

@@ -1,6 +1,6 @@
 -- Steps of a reading that find something or nothing.
 use Rattle.std.proofs.Common.{◌≡◌, Bool, true, false, if◌then◌else◌, List, [], ◌∷◌, ◌++◌, Option, Some, None, option_map, refl, sym, ap, append_assoc}
-use Rattle.std.proofs.lemmas.Option.{none-some, cond_some}
+use Rattle.std.proofs.lemmas.Option.{none-some}
 use Rattle.mpm_script.specs.Numbers.{◌>>=◌}
 
 -- what is found, with some before it
@@ -19,9 +19,6 @@ bind_some (Some x) more y e = (x, refl, e)
 pub map_some : {A B : Type 0} (f : A → B) (found : Option A) (y : B) → option_map f found ≡ Some y → (x : A) × (found ≡ Some x) × (Some (f x) ≡ Some y)
 map_some f None y e = absurd (none-some y e)
 map_some f (Some x) y e = (x, refl, e)
-
-pub choice_some : {A : Type 0} (test : Bool) (x y : A) → (if test then Some x else None) ≡ Some y → (test ≡ true) × (x ≡ y)
-choice_some test x y e = cond_some test x y e
 
 -- one of two readings found something
 pub either_some : {A P : Type 0} (test : Bool) (one other : Option A) (y : A) → (if test then one else other) ≡ Some y → (one ≡ Some y → P) → (other ≡ Some y → P) → P

@@ -6,7 +6,7 @@ use Rattle.std.specs.List.Sorted.{IsNonDecreasing}
 use Rattle.std.specs.Option.{option_map_or}
 use Rattle.std.specs.Str.Lines.{lines}
 use Rattle.std.proofs.lemmas.Bool.Decides.{nat_tests}
-use Rattle.std.proofs.lemmas.Option.{same_Some, none-some}
+use Rattle.std.proofs.lemmas.Option.{same_Some, none-some, cond_some}
 use Rattle.std.proofs.lemmas.List.Elements.{All-from_recursion}
 use Rattle.mpm_script.specs.declared.event.Event.{Event}
 use Rattle.mpm_script.specs.declared.event.Event.TheVariants.{Tick, Key, Ready, Int}
@@ -15,7 +15,7 @@ use Rattle.mpm_script.specs.Numbers.{◌>>=◌, number_of}
 use Rattle.mpm_script.specs.Keys.{typed_of}
 use Rattle.mpm_script.specs.Events.{word, behind, typed_events, byte_of, ready_event, flag_event, event_of, events_of, at_step, step_of, is_skipped, line_of, IsEvent, IsTimed}
 use Rattle.mpm_script.specs.Scripts.{last_step, unless_bad, lines_from, script_of, IsScript}
-use Rattle.mpm_script.proofs.Finds.{bind_some, map_some, choice_some, either_some}
+use Rattle.mpm_script.proofs.Finds.{bind_some, map_some, either_some}
 use Rattle.mpm_script.proofs.DecimalLaws.{number_limit}
 
 -- the step behind some events, of which there may be none
@@ -79,7 +79,7 @@ flag_may_be : (text : List ℕ) (event : Event) → flag_event text ≡ Some eve
 unfolding flag_event
 flag_may_be text event e =
     let flag = bind_some (number_of 31 text) _ event e in
-    let made = choice_some (nat_le 4 flag.0) (Int flag.0) event flag.2 in
+    let made = cond_some (nat_le 4 flag.0) (Int flag.0) event flag.2 in
     subst IsEvent made.1 (from_test 4 flag.0 made.0, number_limit 31 text flag.0 flag.1)
   where
     from_test : (least n : ℕ) → nat_le least n ≡ true → least ≤ n
@@ -111,7 +111,7 @@ line_made before line events e =
     let step = bind_some (step_of before (word line)) _ events e in
     let found = bind_some (events_of (behind line)) _ events step.2 in
     let number = bind_some (number_of 4000000000 (word line)) _ step.0 step.1 in
-    let made = choice_some (nat_le before number.0) number.0 step.0 number.2 in
+    let made = cond_some (nat_le before number.0) number.0 step.0 number.2 in
     let limit = number_limit 4000000000 (word line) number.0 number.1 in
     at_made number.0 step.0 found.0 made.0 made.1 limit (events_may_be (behind line) found.0 found.1) (same_Some _ events found.2)
   where

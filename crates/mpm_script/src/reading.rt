@@ -9,7 +9,7 @@ use crate::script::Script;
 use crate::word::place_of;
 use std::alloc::Global;
 
-/// Reads a script, a text of at most 1,048,576 bytes. It is a fault exactly where a line is none of a script.
+/// Reads a script, a text of fewer than 4,294,967,295 bytes, so that its lines can be counted. It is a fault exactly where a line is none of a script.
 ///
 /// A line ends with LF, before which one CR is dropped; the last line may end with the text, and keeps its CR then. A
 /// line that is empty or begins with `#` says nothing. The others have one of these forms, with one space between the
@@ -24,7 +24,7 @@ use std::alloc::Global;
 /// STEP is 0 to 4,000,000,000, and no less than in the lines before. Numbers are decimal digits without a needless zero,
 /// HH is two hexadecimal digits of either case.
 pub fn read_script(alloc: Global, text: &[u8]) -> Result<Script, ScriptError>
-    requires { length text.now ≤ 1048576 }
+    requires { length text.now < 4294967295 }
     ensures ok { IfOk result (λ script. spec.script_of text.now ≡ Ok script) }
     ensures fault { IfErr result (λ error. Faults error (spec.script_of text.now)) }
 {
@@ -35,7 +35,7 @@ pub fn read_script(alloc: Global, text: &[u8]) -> Result<Script, ScriptError>
 /// The events of a text.
 #[tactic(auto, unfolding(crate::specs::Scripts::script_of))]
 fn events(alloc: Global, text: &[u8]) -> Result<Vec<Timed>, ScriptError>
-    requires { length text.now ≤ 1048576 }
+    requires { length text.now < 4294967295 }
     ensures { MatchResult result (λ events. spec.script_of text.now ≡ Ok events.items) (λ error. Faults error (spec.script_of text.now)) }
 {
     let mut events = Vec::new(alloc);

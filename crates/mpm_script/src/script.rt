@@ -1,5 +1,4 @@
-ghost use Rattle.std.specs.Prelude.{◌≡◌, ◌<◌, ◌≤◌, ℕ, List, [], length, map, Some, slice_get};
-ghost use Rattle.std.specs.List.Sorted.{IsNonDecreasing};
+ghost use Rattle.std.specs.Prelude.{◌≡◌, ◌<◌, ◌≤◌, ℕ, List, [], length, Some, slice_get};
 
 use crate::event::Timed;
 use std::alloc::Global;
@@ -42,10 +41,10 @@ impl Script {
         Script { events }
     }
 
-    /// How many events there are.
+    /// How many events there are. They are events of a script: none comes before the one in front of it.
     pub fn len(&self) -> usize
         ensures count { result ≡ length self.now }
-        ensures order { IsNonDecreasing (map (λ timed. timed.step) self.now) }
+        ensures script { IsScript self.now }
     {
         self.events.len()
     }

@@ -1,5 +1,5 @@
 -- Laws of decimal numbers, from their first digit on.
-use Rattle.std.proofs.Common.{◌≡◌, ℕ, ◌+◌, ◌-◌, ◌*◌, ◌<◌, ◌≤◌, List, [], ◌∷◌, true, false, Some, None, arith, add-one, drop, get_or, length, ◌++◌, refl}
+use Rattle.std.proofs.Common.{◌≡◌, ℕ, ◌+◌, ◌-◌, ◌*◌, ◌<◌, ◌≤◌, List, [], ◌∷◌, true, false, Some, None, arith, add-one, drop, get_or, length}
 use Rattle.std.proofs.Math.Seq.{drop-cons}
 use Rattle.std.proofs.lemmas.Bool.Decides.{nat_tests}
 use Rattle.std.specs.Char.{is_ascii_digit}
@@ -32,9 +32,3 @@ decimal_great before rest h =
 -- the rest from a place on is its first element and the rest behind that
 pub rest_from : (text : List ℕ) (i : ℕ) → i < length text → drop i text ≡ get_or text i 0 ∷ drop (i + 1) text
 rest_from text i h = rw (add-one, drop-cons text i 0)
-
--- a digit more is ten times the number and the digit
-pub value_push : (before : ℕ) (text : List ℕ) (digit : ℕ) → value_from before (text ++ digit ∷ []) ≡ 10 * value_from before text + (digit - 48)
-unfolding value_from
-value_push before [] digit = refl
-value_push before (first ∷ rest) digit = value_push (10 * before + (first - 48)) rest digit

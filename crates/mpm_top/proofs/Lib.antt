@@ -2,3 +2,5 @@ pub mod DecimalLaws
 pub mod CommandLaws
 pub mod RunLaws
 pub mod Examples
+pub mod EndingLaws
+pub mod BootLaws

@@ -6,48 +6,15 @@ ghost use Rattle.mpm_machine.specs.declared.system.System.{System};
 ghost use Rattle.mpm_machine.specs.State.{IsWhole};
 ghost use Rattle.mpm_machine.specs.Step.{after};
 ghost use Rattle.mpm_top.specs.Words.{Command, texts, command_of};
-ghost use Rattle.mpm_top.specs.Runs.{command_on, input_of as input_said, room_of as room_said, system_of, begun, StopsAt, IsNoMachine, WritesAll, WritesPart, IsRefusal, UnlessWriteFault, IsBootRefusal, IsRunStatus};
+ghost use Rattle.mpm_top.specs.Runs.{command_on, input_of as input_said, room_for, script_name, begun, StopsAt, WritesAll, WritesPart, Ends, EndsAs, ending, IsRefusal, UnlessWriteFault, UnlessReadFault};
 
-use crate::words::{Asked, Form, read_words};
-use mpm_machine::{BootError, Machine, RunFault};
-use mpm_machine_file::{MachineError, read_machine};
-use mpm_port::{Drives, FetchError, Fetched, Files, Sink};
+use crate::boot::boot;
+use crate::status::Status;
+use crate::words::{Asked, read_words};
+use mpm_machine::{Machine, RunFault};
+use mpm_port::{Drives, Files, Sink};
 use mpm_render::Render;
 use std::alloc::Global;
-
-/// The most bytes of a program: the room of its segment of 192 pages.
-const PROGRAM_ROOM: usize = 48_512;
-
-/// The most bytes of a machine file.
-const MACHINE_ROOM: usize = 65_536;
-
-/// An input that has a greatest length.
-#[derive(Clone, Copy, Debug, PartialEq, Eq)]
-pub enum Input {
-    /// A machine file, of at most 65,536 bytes.
-    MachineText,
-    /// A program file, of at most 48,512 bytes.
-    ProgramBytes,
-}
-
-/// How the program ended.
-#[derive(Clone, Copy, Debug, PartialEq, Eq)]
-pub enum Status {
-    /// All steps are done, and all output is written.
-    Ran,
-    /// The words have no form that the program knows.
-    Usage,
-    /// The machine file has not the form of one.
-    MachineFault,
-    /// An input is longer than it may be.
-    TooLong { what: Input },
-    /// A file that the words name could not be read.
-    ReadFault,
-    /// The output failed in this step, or behind the last one as the unfinished lines were closed.
-    WriteFault { step: u64 },
-    /// There was no memory to read and boot.
-    OutOfMemory,
-}
 
 /// Does what the words after the program's name ask. `drives` serve no command yet.
 pub fn run_words<F: Files, D: Drives, S: Sink>(
@@ -63,44 +30,32 @@ pub fn run_words<F: Files, D: Drives, S: Sink>(
 
     // Ran: what the sink was given is exactly the text of the outputs after those steps, and nothing failed.
     ensures ran { (command : Command) → command_of (texts words.now) ≡ Some command → result ≡ Status.Ran
-        → WritesAll command (F.contents files.old command.name) (S.written sink.old) (S.written sink.new) }
+        → WritesAll (F.contents files.old) command (S.written sink.old) (S.written sink.new) }
 
-    // TooLong comes only where the file is told to be longer, and always there.
-    ensures too_long { (command : Command) → command_of (texts words.now) ≡ Some command → (what : Input) → result ≡ Status.TooLong what
-        → (what ≡ input_said command.form) × MatchOption (F.contents files.old command.name) ⊤ (λ bytes. room_said command.form < length bytes) }
-    ensures long { (command : Command) → command_of (texts words.now) ≡ Some command
-        → (bytes : List ℕ) → F.contents files.old command.name ≡ Some bytes → room_said command.form < length bytes
-        → F.failed_names files.new ≡ F.failed_names files.old
-        → (result ≡ Status.TooLong (input_said command.form)) ⊎ (result ≡ Status.OutOfMemory) }
+    // Every ending has its reason in what the files hold, or in their failed names: MachineFault, ScriptFault, TooLong and
+    // ReadFault among them.
+    ensures reason { (command : Command) → command_of (texts words.now) ≡ Some command
+        → Ends (F.contents files.old) command.form command.name (F.failed_names files.old) (F.failed_names files.new) result }
+    ensures names { UnlessReadFault result (F.failed_names files.new ≡ F.failed_names files.old) }
 
-    // MachineFault comes only where the file holds no machine file, and always there.
-    ensures machine_fault { (command : Command) → command_of (texts words.now) ≡ Some command → result ≡ Status.MachineFault
-        → IsNoMachine command.form (F.contents files.old command.name) }
-    ensures no_machine { (command : Command) → command_of (texts words.now) ≡ Some command
-        → (bytes : List ℕ) → F.contents files.old command.name ≡ Some bytes → length bytes ≤ room_said command.form
-        → system_of command.form bytes ≡ None → F.failed_names files.new ≡ F.failed_names files.old
-        → (result ≡ Status.MachineFault) ⊎ (result ≡ Status.OutOfMemory) }
+    // And where the files are told, and nothing failed, the ending is the first that has a reason, or want of memory.
+    ensures told { (command : Command) → command_of (texts words.now) ≡ Some command
+        → (status : Status) → ending (F.contents files.old) command.form command.name ≡ Some status
+        → F.failed_names files.new ≡ F.failed_names files.old → (Rose (S.faults sink.old) (S.faults sink.new) → ⊥)
+        → EndsAs status result }
 
-    // ReadFault comes exactly where the file's own name joined the failed names.
-    ensures read { (command : Command) → command_of (texts words.now) ≡ Some command → result ≡ Status.ReadFault
-        → F.failed_names files.new ≡ F.failed_names files.old ++ (command.name ∷ []) }
-    ensures names { result ≢ Status.ReadFault → F.failed_names files.new ≡ F.failed_names files.old }
+    // ReadFault, or want of memory, comes where a file is told to be missing.
     ensures missing { (command : Command) → command_of (texts words.now) ≡ Some command
-        → F.missing files.old command.name → (result ≡ Status.ReadFault) ⊎ (result ≡ Status.OutOfMemory) }
+        → F.missing files.old command.name → EndsAs Status.ReadFault result }
+    ensures missing_script { (command : Command) → command_of (texts words.now) ≡ Some command
+        → (bytes script : List ℕ) → F.contents files.old command.name ≡ Some bytes → length bytes ≤ room_for (input_said command.form)
+        → script_name command.form bytes ≡ Some script → F.missing files.old script → EndsAs Status.ReadFault result }
 
     // WriteFault comes only where the sink's count rose, in the step and behind the text that it says.
     ensures write { (step : ℕ) → result ≡ Status.WriteFault step → Rose (S.faults sink.old) (S.faults sink.new) }
     ensures write_text { (command : Command) → command_of (texts words.now) ≡ Some command → (step : ℕ) → result ≡ Status.WriteFault step
-        → WritesPart command (F.contents files.old command.name) (S.written sink.old) (S.written sink.new) step }
+        → WritesPart (F.contents files.old) command (S.written sink.old) (S.written sink.new) step }
     ensures count { UnlessWriteFault result (S.faults sink.new ≡ S.faults sink.old) }
-
-    // Words that are accepted, a file that is told, not too long and of the form, and nothing that failed: it ran, or wanted
-    // memory.
-    ensures complete { (command : Command) → command_of (texts words.now) ≡ Some command
-        → (bytes : List ℕ) → F.contents files.old command.name ≡ Some bytes → length bytes ≤ room_said command.form
-        → (system : System) → system_of command.form bytes ≡ Some system
-        → F.failed_names files.new ≡ F.failed_names files.old → (Rose (S.faults sink.old) (S.faults sink.new) → ⊥)
-        → (result ≡ Status.Ran) ⊎ (result ≡ Status.OutOfMemory) }
 
     // After a refusal nothing is written; drives are as they were, and so is what the files hold.
     ensures nothing { IsRefusal result → sink.new ≡ sink.old }
@@ -111,33 +66,19 @@ pub fn run_words<F: Files, D: Drives, S: Sink>(
     let Some(asked) = read_words(words) else {
         return Status::Usage;
     };
-    run_file(alloc, words[1].as_str(), asked, files, sink)
+    run_command(alloc, name_of(words), asked, files, sink)
 }
 
-impl Form {
-    /// The input that the file of a command is.
-    fn input(self) -> Input
-        ensures { result ≡ input_said self }
-    {
-        match self {
-            Form::Program => Input::ProgramBytes,
-            Form::Run => Input::MachineText,
-        }
-    }
-
-    /// The most bytes of it.
-    fn room(self) -> usize
-        ensures { result ≡ room_said self }
-    {
-        match self {
-            Form::Program => PROGRAM_ROOM,
-            Form::Run => MACHINE_ROOM,
-        }
-    }
+/// The name of the file that the second word says.
+fn name_of(words: &[String]) -> &str
+    requires { 3 ≤ length words.now }
+    ensures { result.now ≡ slice_index_or (texts words.now) 1 [] }
+{
+    words[1].as_str()
 }
 
 /// Does what a command asks of a file.
-fn run_file<F: Files, S: Sink>(
+fn run_command<F: Files, S: Sink>(
     alloc: Global,
     name: &str,
     asked: Asked,
@@ -147,57 +88,20 @@ fn run_file<F: Files, S: Sink>(
     requires { asked.steps ≤ 4000000000 }
     ensures usage { result ≢ Status.Usage }
     ensures ran { result ≡ Status.Ran
-        → WritesAll (command_on name.now asked) (F.contents files.old name.now) (S.written sink.old) (S.written sink.new) }
-    ensures too_long { (what : Input) → result ≡ Status.TooLong what
-        → (what ≡ input_said asked.form) × MatchOption (F.contents files.old name.now) ⊤ (λ bytes. room_said asked.form < length bytes) }
-    ensures long { (bytes : List ℕ) → F.contents files.old name.now ≡ Some bytes → room_said asked.form < length bytes
-        → F.failed_names files.new ≡ F.failed_names files.old
-        → (result ≡ Status.TooLong (input_said asked.form)) ⊎ (result ≡ Status.OutOfMemory) }
-    ensures machine_fault { result ≡ Status.MachineFault
-        → IsNoMachine asked.form (F.contents files.old name.now) }
-    ensures no_machine { (bytes : List ℕ) → F.contents files.old name.now ≡ Some bytes → length bytes ≤ room_said asked.form
-        → system_of asked.form bytes ≡ None → F.failed_names files.new ≡ F.failed_names files.old
-        → (result ≡ Status.MachineFault) ⊎ (result ≡ Status.OutOfMemory) }
-    ensures read { result ≡ Status.ReadFault → F.failed_names files.new ≡ F.failed_names files.old ++ (name.now ∷ []) }
-    ensures names { result ≢ Status.ReadFault → F.failed_names files.new ≡ F.failed_names files.old }
-    ensures missing { F.missing files.old name.now → (result ≡ Status.ReadFault) ⊎ (result ≡ Status.OutOfMemory) }
+        → WritesAll (F.contents files.old) (command_on name.now asked) (S.written sink.old) (S.written sink.new) }
+    ensures reason { Ends (F.contents files.old) asked.form name.now (F.failed_names files.old) (F.failed_names files.new) result }
+    ensures names { UnlessReadFault result (F.failed_names files.new ≡ F.failed_names files.old) }
+    ensures missing { F.missing files.old name.now → EndsAs Status.ReadFault result }
+    ensures missing_script { (bytes script : List ℕ) → F.contents files.old name.now ≡ Some bytes → length bytes ≤ room_for (input_said asked.form)
+        → script_name asked.form bytes ≡ Some script → F.missing files.old script → EndsAs Status.ReadFault result }
     ensures write { (step : ℕ) → result ≡ Status.WriteFault step → Rose (S.faults sink.old) (S.faults sink.new) }
     ensures write_text { (step : ℕ) → result ≡ Status.WriteFault step
-        → WritesPart (command_on name.now asked) (F.contents files.old name.now) (S.written sink.old) (S.written sink.new) step }
+        → WritesPart (F.contents files.old) (command_on name.now asked) (S.written sink.old) (S.written sink.new) step }
     ensures count { UnlessWriteFault result (S.faults sink.new ≡ S.faults sink.old) }
-    ensures complete { (bytes : List ℕ) → F.contents files.old name.now ≡ Some bytes → length bytes ≤ room_said asked.form
-        → (system : System) → system_of asked.form bytes ≡ Some system
-        → F.failed_names files.new ≡ F.failed_names files.old → (Rose (S.faults sink.old) (S.faults sink.new) → ⊥)
-        → (result ≡ Status.Ran) ⊎ (result ≡ Status.OutOfMemory) }
     ensures nothing { IsRefusal result → sink.new ≡ sink.old }
     ensures files { (other : List ℕ) → F.contents files.new other ≡ F.contents files.old other }
 {
-    let mut bytes = Vec::new(alloc);
-    match files.fetch(name, asked.form.room(), &mut bytes) {
-        Ok(Fetched::Whole) => boot_and_run(alloc, bytes.as_slice(), asked, sink),
-        Ok(Fetched::Longer) => Status::TooLong {
-            what: asked.form.input(),
-        },
-        Err(FetchError::Failed) => Status::ReadFault,
-        Err(FetchError::OutOfMemory) => Status::OutOfMemory,
-    }
-}
-
-/// Boots the machine of a file's bytes and runs it.
-fn boot_and_run<S: Sink>(alloc: Global, bytes: &[u8], asked: Asked, sink: &mut S) -> Status
-    requires room { length bytes.now ≤ room_said asked.form }
-    requires limit { asked.steps ≤ 4000000000 }
-    ensures statuses { IsRunStatus asked.form bytes.now result }
-    ensures ran { result ≡ Status.Ran → (system : System) → system_of asked.form bytes.now ≡ Some system
-        → S.written sink.new ≡ appended (S.written sink.old) (closed asked.trace (after asked.steps (begun system)).outputs) }
-    ensures begins { IsRefusal result ⊎ IsSome (system_of asked.form bytes.now) }
-    ensures write { (step : ℕ) → result ≡ Status.WriteFault step → Rose (S.faults sink.old) (S.faults sink.new) }
-    ensures write_text { (step : ℕ) → result ≡ Status.WriteFault step → (system : System) → system_of asked.form bytes.now ≡ Some system
-        → StopsAt asked.trace (begun system) asked.steps (S.written sink.old) (S.written sink.new) step }
-    ensures count { UnlessWriteFault result (S.faults sink.new ≡ S.faults sink.old) }
-    ensures nothing { IsRefusal result → sink.new ≡ sink.old }
-{
-    match boot(alloc, asked.form, bytes) {
+    match boot(alloc, name, asked.form, files) {
         Ok(mut machine) => match run_to_end(&mut machine, asked, sink) {
             Ok(()) => Status::Ran,
             Err(fault) => Status::WriteFault { step: fault.step },
@@ -206,32 +110,10 @@ fn boot_and_run<S: Sink>(alloc: Global, bytes: &[u8], asked: Asked, sink: &mut S
     }
 }
 
-/// Boots the machine of a file's bytes.
-#[tactic(auto, unfolding(crate::specs::Runs::system_of))]
-fn boot(alloc: Global, form: Form, bytes: &[u8]) -> Result<Machine, Status>
-    requires { length bytes.now ≤ room_said form }
-    ensures system { IfOk result (λ machine. system_of form bytes.now ≡ Some machine) }
-    ensures whole { IfOk result (λ machine. IsWhole machine) }
-    ensures start { IfOk result (λ machine. machine.steps ≡ 0) }
-    ensures refused { IfErr result (λ status. IsBootRefusal form bytes.now status) }
-{
-    let booted = match form {
-        Form::Program => Machine::boot_program(alloc, bytes),
-        Form::Run => match read_machine(alloc, bytes) {
-            Ok(file) => Machine::boot(alloc, &file),
-            Err(MachineError::Fault) => return Err(Status::MachineFault),
-            Err(MachineError::OutOfMemory) => return Err(Status::OutOfMemory),
-        },
-    };
-    match booted {
-        Ok(machine) => Ok(machine),
-        Err(BootError::OutOfMemory) => Err(Status::OutOfMemory),
-    }
-}
-
 /// Runs a machine that begins for so many steps, and closes the unfinished lines.
 fn run_to_end<S: Sink>(machine: &mut Machine, asked: Asked, sink: &mut S) -> Result<(), RunFault>
     requires whole { IsWhole machine.old }
+    requires handed { machine.old.kernel.completed ≡ [] }
     requires start { machine.old.steps ≡ 0 }
     requires limit { asked.steps ≤ 4000000000 }
     ensures ok { OnOk result (S.written sink.new ≡ appended (S.written sink.old) (closed asked.trace (after asked.steps (begun machine.old)).outputs)) }

@@ -39,6 +39,10 @@ const CHAIN: &[u8] = b"\x0E\x90\x11\x08\x01\xCD\x05\x00\x08\x01\0\xC7\x18\x01LOO
 /// A machine of one console and one segment of all pages.
 const MACHINE: &[u8] = b"version = 1\nconsoles = 1\n[[segment]]\nbase = 0\npages = 192\n";
 
+/// That machine with a script of the name `keys`.
+const SCRIPTED: &[u8] =
+    b"version = 1\nconsoles = 1\nscript = 'keys'\n[[segment]]\nbase = 0\npages = 192\n";
+
 fn strings(rt: &HostRuntime, words: &[&str]) -> Result<Vec<String>, Fail> {
     let mut strings = Vec::new(rt.alloc());
     for word in words {
@@ -161,9 +165,9 @@ fn machine_files_boot_or_are_refused(rt: HostRuntime) -> Result<(), Fail> {
         (b"", Status::Ran),
         (b"printers = 4", Status::Ran),
         (b"colour = 1", Status::MachineFault),
-        (b"tick_every = 100", Status::MachineFault),
+        (b"tick_every = 100", Status::Ran),
         (b"disk_turn = 1", Status::MachineFault),
-        (b"script = 'keys.txt'", Status::MachineFault),
+        (b"script = 'missing'", Status::ReadFault),
         (b"version = 1", Status::MachineFault),
         (b"version", Status::MachineFault),
     ];
@@ -175,6 +179,46 @@ fn machine_files_boot_or_are_refused(rt: HostRuntime) -> Result<(), Fail> {
         let words = ["run", "file", "10"];
         assert!(rt; ends(&rt, &words, text.as_slice(), NOTHING_FAILS, ending, b"")?);
     }
+    Ok(())
+}
+
+/// Whether a run of ten steps of a machine whose script holds this text ends so.
+fn script_ends(rt: &HostRuntime, script: &[u8], ending: Status) -> Result<bool, Fail> {
+    let strings = strings(rt, &["run", "file", "10"])?;
+    let mut files = MemoryFiles::new(rt.alloc());
+    files.add("file", SCRIPTED)?;
+    files.add("keys", script)?;
+    let mut drives = MemoryDrives::new(rt.alloc());
+    let mut sink = MemorySink::new(rt.alloc(), 0)?;
+    let status = run_words(
+        rt.alloc(),
+        strings.as_slice(),
+        &mut files,
+        &mut drives,
+        &mut sink,
+    );
+    Ok(status == ending)
+}
+
+#[test]
+fn a_script_is_read_or_its_first_bad_line_is_told(rt: HostRuntime) -> Result<(), Fail> {
+    let rows: [(&[u8], Status); 4] = [
+        (b"", Status::Ran),
+        (b"5 tick\n5 tick\n", Status::Ran),
+        (b"5 tick\n4 tick\n", Status::ScriptFault { line: 2 }),
+        (b"\n# none\n5 tock\n", Status::ScriptFault { line: 3 }),
+    ];
+    for (script, ending) in rows {
+        assert!(rt; script_ends(&rt, script, ending)?);
+    }
+    let mut long = Vec::new(rt.alloc());
+    long.resize(1_048_576, b'\n')?;
+    assert!(rt; script_ends(&rt, long.as_slice(), Status::Ran)?);
+    long.push(b'\n')?;
+    let ending = Status::TooLong {
+        what: Input::ScriptText,
+    };
+    assert!(rt; script_ends(&rt, long.as_slice(), ending)?);
     Ok(())
 }
 

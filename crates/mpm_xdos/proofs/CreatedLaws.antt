@@ -9,7 +9,7 @@ use Rattle.mpm_procs.specs.Table.{Lives, process_in, call_of, lowest_free}
 use Rattle.mpm_procs.specs.declared.process.NewProcess.{NewProcess}
 use Rattle.mpm_kernel.specs.Kernel.{Kernel, IsSound}
 use Rattle.mpm_kernel.specs.Dispatch.{in_slot}
-use Rattle.mpm_kernel.proofs.SoundLaws.{sound_in_slot, consoles_in_slot}
+use Rattle.mpm_kernel.proofs.SoundLaws.{sound_in_slot, consoles_in_slot, completed_in_slot}
 use Rattle.mpm_kernel.proofs.HomeLaws.{SameHomes, homes_stay, homes_both, homes_in_slot, lives_on, keeps_call, keeps_process}
 use Rattle.mpm_xdos.specs.Creating.{descriptor_count, child_of, child_at, children_of, has_console, may_create, all_admitted, created}
 
@@ -17,6 +17,7 @@ use Rattle.mpm_xdos.specs.Creating.{descriptor_count, child_of, child_at, childr
 pub record Made (old new : Kernel) : Type 0 where
   pub sound : IsSound new
   pub consoles : new.consoles ≡ old.consoles
+  pub completed : new.completed ≡ old.completed
   pub homes : SameHomes old new
   pub lives : (q : ℕ) → Lives old.procs q → Lives new.procs q
   pub call : (q : ℕ) → Lives old.procs q → call_of new.procs q ≡ call_of old.procs q
@@ -26,6 +27,7 @@ made_none : (kernel : Kernel) → IsSound kernel → Made kernel kernel
 made_none kernel s = record {
   sound = s;
   consoles = refl;
+  completed = refl;
   homes = homes_stay kernel kernel refl;
   lives = λ q h. h;
   call = λ q h. refl;
@@ -36,6 +38,7 @@ made_both : (old middle new : Kernel) → Made old middle → Made middle new �
 made_both old middle new a b = record {
   sound = b.sound;
   consoles = b.consoles ∙ a.consoles;
+  completed = b.completed ∙ a.completed;
   homes = homes_both old middle new a.homes b.homes;
   lives = λ q h. b.lives q (a.lives q h);
   call = λ q h. b.call q (a.lives q h) ∙ a.call q h;
@@ -50,6 +53,7 @@ made_one kernel p new s h same console =
     record {
       sound = sound_in_slot kernel new slot s refl console;
       consoles = consoles_in_slot kernel new slot;
+      completed = completed_in_slot kernel new slot;
       homes = homes_in_slot kernel new slot s.slots refl (λ seg e. record { who = p; lives = h; home = sym same ∙ e });
       lives = λ q living. lives_on kernel new slot q refl living;
       call = λ q living. keeps_call kernel new slot q refl living;

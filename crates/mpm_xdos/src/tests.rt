@@ -4,6 +4,7 @@ ghost use Rattle.mpm_kernel.specs.Kernel.{IsSound};
 use super::*;
 use mpm_banks::Banks;
 use mpm_base::{Call, Name8, Pid, Reply, Seg, SegmentSpec};
+use mpm_clock::Moment;
 use mpm_kernel::Kernel;
 use mpm_procs::{NewProcess, Process};
 use std::alloc::{AllocError, Global};
@@ -44,7 +45,13 @@ fn parent() -> NewProcess
 fn kernel(alloc: Global) -> Result<Kernel, AllocError>
     ensures { IfOk result (λ kernel. IsSound kernel) }
 {
-    let mut kernel = Kernel::new(alloc, 2, 1)?;
+    let now = Moment {
+        date: 1,
+        hour: 0,
+        minute: 0,
+        second: 0,
+    };
+    let mut kernel = Kernel::new(alloc, 2, 1, now)?;
     let _p = kernel.admit(parent());
     Ok(kernel)
 }

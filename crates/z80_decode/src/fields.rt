@@ -1,21 +1,7 @@
 ghost use Rattle.std.specs.Prelude.{◌≡◌};
-ghost use Rattle.z80_decode.specs.Fields.{pair_of, operand_of};
+ghost use Rattle.z80_decode.specs.Fields.{operand_of};
 
-use crate::forms::{Operand, Pair};
-
-/// The pair that two bits name.
-#[inline]
-#[tactic(auto, unfolding(crate::specs::Fields::pair_of))]
-pub fn pair_at(p: u8) -> Pair
-    ensures { result ≡ pair_of p }
-{
-    match p {
-        0 => Pair::BC,
-        1 => Pair::DE,
-        2 => Pair::HL,
-        _ => Pair::SP,
-    }
-}
+use crate::forms::Operand;
 
 /// The operand that three bits name.
 #[inline]

@@ -2,18 +2,11 @@ ghost use Rattle.std.specs.Prelude.{◌≡◌, ◌<◌, ◌^◌, Option, None};
 ghost use Rattle.z80_decode.specs.PageOpcodes.{
   shift_of,
   bit_form_of,
-  interrupt_returns,
-  interrupt_modes,
-  loads_and_digits,
-  second_quarter,
-  transfer_of,
-  third_quarter,
   extended_form_of,
   indexed,
   index_form_of,
 };
 
-use crate::fields::{operand_at, pair_at};
 use crate::forms::{Form, Operand, Pair, StackPair};
 use crate::opcodes::main_form;
 use crate::page_forms::{BitChange, BitForm, Direction, ExtendedForm, IndexForm, Shift, Transfer};
@@ -57,104 +50,71 @@ pub fn bit_form(opcode: u8) -> Option<BitForm>
     }
 }
 
-/// RETN and RETI.
-fn interrupt_return(y: u8) -> Option<ExtendedForm>
-    ensures { result ≡ interrupt_returns y }
-{
-    match y {
-        0 => Some(ExtendedForm::ReturnNonmaskable),
-        1 => Some(ExtendedForm::ReturnInterrupt),
-        _ => None,
-    }
-}
-
-/// IM 0, IM 1 and IM 2.
-fn interrupt_mode(y: u8) -> Option<ExtendedForm>
-    ensures { result ≡ interrupt_modes y }
-{
-    match y {
-        0 => Some(ExtendedForm::Mode(0)),
-        2 => Some(ExtendedForm::Mode(1)),
-        3 => Some(ExtendedForm::Mode(2)),
-        _ => None,
-    }
-}
-
-/// The loads of I and R, RRD and RLD.
-fn load_or_digits(y: u8) -> Option<ExtendedForm>
-    ensures { result ≡ loads_and_digits y }
-{
-    match y {
-        0 => Some(ExtendedForm::StoreI),
-        1 => Some(ExtendedForm::StoreR),
-        2 => Some(ExtendedForm::LoadI),
-        3 => Some(ExtendedForm::LoadR),
-        4 => Some(ExtendedForm::RotateRight),
-        5 => Some(ExtendedForm::RotateLeft),
-        _ => None,
-    }
-}
-
-/// The forms behind EDh from 40h to 7Fh.
-#[tactic(auto, unfolding(crate::specs::PageOpcodes::second_quarter))]
-fn single_form(y: u8, z: u8) -> Option<ExtendedForm>
-    ensures { result ≡ second_quarter y z }
-{
-    match z {
-        0 | 1 if y == 6 => None,
-        0 => Some(ExtendedForm::Input(operand_at(y))),
-        1 => Some(ExtendedForm::Output(operand_at(y))),
-        2 if y % 2 == 0 => Some(ExtendedForm::SubtractPair(pair_at(y / 2))),
-        2 => Some(ExtendedForm::AddPair(pair_at(y / 2))),
-        3 if y % 2 == 0 => Some(ExtendedForm::StorePair(pair_at(y / 2))),
-        3 => Some(ExtendedForm::LoadPair(pair_at(y / 2))),
-        4 if y == 0 => Some(ExtendedForm::Negate),
-        4 => None,
-        5 => interrupt_return(y),
-        6 => interrupt_mode(y),
-        _ => load_or_digits(y),
-    }
-}
-
-/// What one step of a block instruction does, by two bits.
-#[tactic(auto, unfolding(crate::specs::PageOpcodes::transfer_of))]
-fn transfer_at(z: u8) -> Transfer
-    ensures { result ≡ transfer_of z }
-{
-    match z {
-        0 => Transfer::Load,
-        1 => Transfer::Compare,
-        2 => Transfer::Input,
-        _ => Transfer::Output,
-    }
-}
-
-/// The forms behind EDh from 80h to BFh.
-#[tactic(auto, unfolding(crate::specs::PageOpcodes::third_quarter))]
-fn block_form(y: u8, z: u8) -> Option<ExtendedForm>
-    ensures { result ≡ third_quarter y z }
-{
-    if y < 4 || z > 3 {
-        return None;
-    }
-    let direction = if y % 2 == 0 {
-        Direction::Up
-    } else {
-        Direction::Down
-    };
-    Some(ExtendedForm::Block(transfer_at(z), direction, y >= 6))
-}
-
-/// The form of an opcode behind EDh, or None where it isn't listed.
-#[tactic(auto, unfolding(crate::specs::PageOpcodes::extended_form_of))]
+/// The form of an opcode behind EDh, or None where it isn't listed: a row for each, so that the `match` becomes one jump or
+/// a table.
+#[tactic(auto, unfolding(crate::specs::PageOpcodes::extended_form_of, crate::specs::PageOpcodes::second_quarter, crate::specs::PageOpcodes::third_quarter, crate::specs::PageOpcodes::transfer_of, crate::specs::Fields::pair_of, crate::specs::Fields::operand_of))]
 pub fn extended_form(opcode: u8) -> Option<ExtendedForm>
     ensures { result ≡ extended_form_of opcode }
 {
-    let y = opcode / 8 % 8;
-    let z = opcode % 8;
-    match opcode / 64 {
-        1 => single_form(y, z),
-        2 => block_form(y, z),
+    match opcode {
+        0x40 => Some(ExtendedForm::Input(Operand::B)),
+        0x41 => Some(ExtendedForm::Output(Operand::B)),
+        0x42 => Some(ExtendedForm::SubtractPair(Pair::BC)),
+        0x43 => Some(ExtendedForm::StorePair(Pair::BC)),
+        0x44 => Some(ExtendedForm::Negate),
+        0x45 => Some(ExtendedForm::ReturnNonmaskable),
+        0x46 => Some(ExtendedForm::Mode(0)),
+        0x47 => Some(ExtendedForm::StoreI),
+        0x48 => Some(ExtendedForm::Input(Operand::C)),
+        0x49 => Some(ExtendedForm::Output(Operand::C)),
+        0x4a => Some(ExtendedForm::AddPair(Pair::BC)),
+        0x4b => Some(ExtendedForm::LoadPair(Pair::BC)),
+        0x4d => Some(ExtendedForm::ReturnInterrupt),
+        0x4f => Some(ExtendedForm::StoreR),
+        0x50 => Some(ExtendedForm::Input(Operand::D)),
+        0x51 => Some(ExtendedForm::Output(Operand::D)),
+        0x52 => Some(ExtendedForm::SubtractPair(Pair::DE)),
+        0x53 => Some(ExtendedForm::StorePair(Pair::DE)),
+        0x56 => Some(ExtendedForm::Mode(1)),
+        0x57 => Some(ExtendedForm::LoadI),
+        0x58 => Some(ExtendedForm::Input(Operand::E)),
+        0x59 => Some(ExtendedForm::Output(Operand::E)),
+        0x5a => Some(ExtendedForm::AddPair(Pair::DE)),
+        0x5b => Some(ExtendedForm::LoadPair(Pair::DE)),
+        0x5e => Some(ExtendedForm::Mode(2)),
+        0x5f => Some(ExtendedForm::LoadR),
+        0x60 => Some(ExtendedForm::Input(Operand::H)),
+        0x61 => Some(ExtendedForm::Output(Operand::H)),
+        0x62 => Some(ExtendedForm::SubtractPair(Pair::HL)),
+        0x63 => Some(ExtendedForm::StorePair(Pair::HL)),
+        0x67 => Some(ExtendedForm::RotateRight),
+        0x68 => Some(ExtendedForm::Input(Operand::L)),
+        0x69 => Some(ExtendedForm::Output(Operand::L)),
+        0x6a => Some(ExtendedForm::AddPair(Pair::HL)),
+        0x6b => Some(ExtendedForm::LoadPair(Pair::HL)),
+        0x6f => Some(ExtendedForm::RotateLeft),
+        0x72 => Some(ExtendedForm::SubtractPair(Pair::SP)),
+        0x73 => Some(ExtendedForm::StorePair(Pair::SP)),
+        0x78 => Some(ExtendedForm::Input(Operand::A)),
+        0x79 => Some(ExtendedForm::Output(Operand::A)),
+        0x7a => Some(ExtendedForm::AddPair(Pair::SP)),
+        0x7b => Some(ExtendedForm::LoadPair(Pair::SP)),
+        0xa0 => Some(ExtendedForm::Block(Transfer::Load, Direction::Up, false)),
+        0xa1 => Some(ExtendedForm::Block(Transfer::Compare, Direction::Up, false)),
+        0xa2 => Some(ExtendedForm::Block(Transfer::Input, Direction::Up, false)),
+        0xa3 => Some(ExtendedForm::Block(Transfer::Output, Direction::Up, false)),
+        0xa8 => Some(ExtendedForm::Block(Transfer::Load, Direction::Down, false)),
+        0xa9 => Some(ExtendedForm::Block(Transfer::Compare, Direction::Down, false)),
+        0xaa => Some(ExtendedForm::Block(Transfer::Input, Direction::Down, false)),
+        0xab => Some(ExtendedForm::Block(Transfer::Output, Direction::Down, false)),
+        0xb0 => Some(ExtendedForm::Block(Transfer::Load, Direction::Up, true)),
+        0xb1 => Some(ExtendedForm::Block(Transfer::Compare, Direction::Up, true)),
+        0xb2 => Some(ExtendedForm::Block(Transfer::Input, Direction::Up, true)),
+        0xb3 => Some(ExtendedForm::Block(Transfer::Output, Direction::Up, true)),
+        0xb8 => Some(ExtendedForm::Block(Transfer::Load, Direction::Down, true)),
+        0xb9 => Some(ExtendedForm::Block(Transfer::Compare, Direction::Down, true)),
+        0xba => Some(ExtendedForm::Block(Transfer::Input, Direction::Down, true)),
+        0xbb => Some(ExtendedForm::Block(Transfer::Output, Direction::Down, true)),
         _ => None,
     }
 }

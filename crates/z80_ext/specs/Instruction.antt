@@ -1,12 +1,13 @@
 -- One step of the processor: the instruction at PC, or R alone where it stands in a HALT. (UM0080, "Z80 Instruction
 -- Description" and "HALT".)
-use Rattle.std.specs.Prelude.{ℕ, List, [], ◌∷◌, Option, None, Some, false, if◌then◌else◌}
+use Rattle.std.specs.Prelude.{◌≡◌, ℕ, IsNone, List, [], ◌∷◌, Option, None, Some, false, if◌then◌else◌}
 use Rattle.z80_regs.specs.Words.{onward, refreshed}
 use Rattle.z80_regs.specs.Outcome.{Action, Outcome}
 use Rattle.z80_regs.specs.declared.regs.Regs.{Regs}
 use Rattle.z80_decode.specs.declared.instr.Instr.{Instr}
 use Rattle.z80_decode.specs.declared.instr.Page.{Page}
 use Rattle.z80_decode.specs.declared.instr.Page.TheVariants.{Main, Cb, Ed, Ix, Iy, IxCb, IyCb}
+use Rattle.z80_decode.specs.Opcodes.{form_of}
 use Rattle.z80_decode.specs.Decoding.{instr_of}
 use Rattle.z80_exec.specs.Operands.{quiet}
 use Rattle.z80_exec.specs.Performing.{main_outcome}
@@ -59,3 +60,9 @@ registers_after (Some outcome) regs = outcome.registers
 abbrev pub actions_of : Option Outcome → List Action
 actions_of None = []
 actions_of (Some outcome) = outcome.actions
+
+-- the processor is about to do an instruction behind this prefix
+pub record IsPrefixAt (prefix : ℕ) (regs : Regs) (memory : ℕ → ℕ) : Type 0 where
+  pub runs : regs.halted ≡ false
+  pub here : prefix ≡ memory regs.pc
+  pub none : IsNone (form_of prefix)

@@ -4,6 +4,7 @@ use mpm_base::{Pid, Seg};
 use mpm_machine_file::read_machine;
 use mpm_port::MemorySink;
 use mpm_render::Render;
+use mpm_script::Script;
 use std::test::Fail;
 
 /// LD C,F0h; CALL 0005h; RST 00h.
@@ -48,7 +49,7 @@ fn addresses_name_bytes_of_a_segment_or_of_common_memory(rt: HostRuntime) -> Res
         assert_eq!(rt; program.byte(Seg(0), address), byte);
     }
     let file = read_machine(rt.alloc(), MACHINE)?;
-    let bare = Machine::boot_bare(rt.alloc(), &file)?;
+    let bare = Machine::boot_bare(rt.alloc(), &file, Script::empty(rt.alloc()))?;
     for (address, byte) in [
         (0x0FFF, 0xFF),
         (0x1000, 0),

@@ -5,6 +5,7 @@ ghost use Rattle.mpm_machine_file.specs.MachineFiles.{IsMachine};
 use crate::Machine;
 use mpm_base::{Name8, Pid, Seg, SegmentSpec};
 use mpm_machine_file::{DriveSpecs, MachineFile, Segments};
+use mpm_script::Script;
 use std::test::Fail;
 
 /// A machine file of one console and eight segments of 16 pages, in banks of their own.
@@ -39,7 +40,7 @@ fn eight_segments(rt: &HostRuntime) -> Result<MachineFile, Fail>
 #[test]
 fn a_second_program_is_placed(rt: HostRuntime) -> Result<(), Fail> {
     let file = eight_segments(&rt)?;
-    let mut machine = Machine::boot_bare(rt.alloc(), &file)?;
+    let mut machine = Machine::boot_bare(rt.alloc(), &file, Script::empty(rt.alloc()))?;
     let first = machine.place(Seg(0), Name8(*b"FIRST   "), 200, 0, b"\x00");
     let second = machine.place(Seg(7), Name8(*b"SECOND  "), 199, 0, b"\x76");
     assert_eq!(rt; (first.0, second.0), (0, 1));

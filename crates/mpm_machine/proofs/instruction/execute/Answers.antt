@@ -1,15 +1,32 @@
-use Rattle.std.proofs.Common.{rules}
-use Rattle.mpm_banks.proofs.ActionLaws.{leaves_acted}
+use Rattle.std.proofs.Common.{ap}
+use Rattle.mpm_machine.specs.Moving.{View}
+use Rattle.mpm_machine.proofs.MovingLaws.{moved_once, listed_once}
 use Rattle.mpm_machine.proofs.instruction.execute.Goals as goal
+
+pub returns-clause-listed : goal.returns-clause-listed
+returns-clause-listed c =
+    let old : View = record { regs = c.args.regs.now; memory = c.args.banks.now; devices = c.args.devices.now } in
+    let ran = c.run_instructions in
+    let new : View = record { regs = ran.new.regs; memory = ran.new.banks; devices = ran.new.devices } in
+    listed_once ran.result c.args.seg old new ran.ensures.moved ran.ensures.count ran.ensures.stopped c.requires.gate
+
+pub returns-clause-registers : goal.returns-clause-registers
+returns-clause-registers c =
+    let old : View = record { regs = c.args.regs.now; memory = c.args.banks.now; devices = c.args.devices.now } in
+    let ran = c.run_instructions in
+    let new : View = record { regs = ran.new.regs; memory = ran.new.banks; devices = ran.new.devices } in
+    ap (λ (view : View). view.regs) (moved_once ran.result c.args.seg old new ran.ensures.moved ran.ensures.count ran.ensures.stopped c.requires.gate)
 
 pub returns-clause-memory : goal.returns-clause-memory
 returns-clause-memory c =
-    let acted = leaves_acted _ _ _ c.step.ensures.bus in
-    let memory = acted.memory in
-    search rules
+    let old : View = record { regs = c.args.regs.now; memory = c.args.banks.now; devices = c.args.devices.now } in
+    let ran = c.run_instructions in
+    let new : View = record { regs = ran.new.regs; memory = ran.new.banks; devices = ran.new.devices } in
+    ap (λ (view : View). view.memory) (moved_once ran.result c.args.seg old new ran.ensures.moved ran.ensures.count ran.ensures.stopped c.requires.gate)
 
 pub returns-clause-devices : goal.returns-clause-devices
 returns-clause-devices c =
-    let acted = leaves_acted _ _ _ c.step.ensures.bus in
-    let devices = acted.devices in
-    search rules
+    let old : View = record { regs = c.args.regs.now; memory = c.args.banks.now; devices = c.args.devices.now } in
+    let ran = c.run_instructions in
+    let new : View = record { regs = ran.new.regs; memory = ran.new.banks; devices = ran.new.devices } in
+    ap (λ (view : View). view.devices) (moved_once ran.result c.args.seg old new ran.ensures.moved ran.ensures.count ran.ensures.stopped c.requires.gate)

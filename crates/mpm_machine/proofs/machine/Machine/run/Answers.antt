@@ -11,6 +11,7 @@ loop-done-init g c = record {
       subst P (sym (after_nothing s)) stands;
   few = omega arith;
   whole = c.requires.whole;
+  handed = c.requires.handed;
   steps = omega arith;
   faults = refl;
   trace = refl;
@@ -24,6 +25,7 @@ loop-done-preserved g c = record {
       (c.in-Ok.ensures.ok (after c.loop-done.done s) first (c.loop-done.invariant.stands s first stands));
   few = omega (arith, c.in-Ok.ensures.few, c.loop-done.invariant.few);
   whole = c.in-Ok.ensures.whole;
+  handed = c.in-Ok.ensures.handed;
   steps = omega (arith, c.in-Ok.ensures.count, c.loop-done.invariant.steps);
   faults = c.in-Ok.ensures.cause.stays ∙ c.loop-done.invariant.faults;
   trace = c.in-Ok.ensures.trace ∙ c.loop-done.invariant.trace;

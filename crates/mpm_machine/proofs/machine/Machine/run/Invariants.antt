@@ -1,4 +1,4 @@
-use Rattle.std.proofs.Common.{◌≡◌, ◌≤◌, ◌+◌, ◌-◌, ℕ, List, Option}
+use Rattle.std.proofs.Common.{◌≡◌, ◌≤◌, ◌+◌, ◌-◌, ℕ, List, [], Option}
 use Rattle.mpm_machine.specs.State.{State, IsWhole, StandsFor}
 use Rattle.mpm_machine.specs.Step.{after}
 use Rattle.mpm_machine.proofs.machine.Machine.run.Given as goal
@@ -9,6 +9,7 @@ invariant-loop-done g l = record {
       → StandsFor l.self l.render (g.S.Sink.written l.sink) (after l.done s) first;
   few : l.done ≤ l.n;
   whole : IsWhole l.self;
+  handed : l.self.kernel.completed ≡ [];
   steps : l.self.steps ≡ l.initial.self.steps + l.done;
   faults : g.S.Sink.faults l.sink ≡ g.S.Sink.faults l.initial.sink;
   trace : l.render.trace ≡ l.initial.render.trace;

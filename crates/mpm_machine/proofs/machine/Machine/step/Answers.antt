@@ -31,7 +31,7 @@ returns-clause-contained g c =
 
 pub returns-clause-instruction : goal.returns-clause-instruction
 returns-clause-instruction g c p seg stands =
-    instructs_only c.args.self.now c.step.new.self p seg stands (c.in_default.ensures.system ∙ ap (λ system. (step_of system).system) c.self.view_is)
+    instructs_only c.args.self.now c.step.new.self p seg stands c.requires.handed (c.in_default.ensures.system ∙ ap (λ system. (step_of system).system) c.self.view_is)
 
 pub returns-clause-calls : goal.returns-clause-calls
 returns-clause-calls g c p seg = served_by_value c.args.self.now p seg

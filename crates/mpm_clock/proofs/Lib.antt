@@ -1,0 +1,2 @@
+pub mod DelayLaws
+pub mod ClockLaws

@@ -1,0 +1,124 @@
+-- The places where a process stands: how a change of the lists, of the flags or of the clock changes their number.
+use Rattle.std.proofs.Common.{◌≡◌, ◌≢◌, ◌∙◌, ℕ, ◌+◌, ◌<◌, ◌≤◌, Bool, true, false, eqb, ◌==◌, ◌||◌, List, [], ◌∷◌, map, length, Option, Some, None, refl, sym, ap, arith}
+use Rattle.std.specs.Prelude.{count_by}
+use Rattle.std.specs.List.{AllByRecursion}
+use Rattle.std.proofs.lemmas.Bool.Decides.{nat_tests}
+use Rattle.std.proofs.lemmas.List.Sums.{sum_by-set}
+use Rattle.std.proofs.lemmas.List.{length-map}
+use Rattle.mpm_base.proofs.CountLaws.{one_if, one_if_true, one_if_false, count_cons}
+use Rattle.mpm_flags.specs.declared.flags.Flag.{Flag}
+use Rattle.mpm_flags.specs.declared.flags.Flag.TheVariants.{Clear, Set, Waits}
+use Rattle.mpm_flags.specs.States.{no_flags, flag_at, with_flag, left_by, left}
+use Rattle.mpm_ready.specs.Order.{Member, in_list}
+use Rattle.mpm_ready.specs.Tables.{list_of, inserted, removed, IsTable}
+use Rattle.mpm_ready.proofs.TableLaws.{table_inserted, table_removed, list_of_inserted, list_of_inserted_other, list_of_removed, list_of_removed_other}
+use Rattle.mpm_kernel.specs.Kernel.{in_lists, is_waiter, flags_of}
+
+-- the lists
+
+pub in_some : (o : Option ℕ) (list : ℕ) → o ≡ Some list → in_lists o ≡ 1
+unfolding in_lists
+in_some None list e = absurd (cc)
+in_some (Some other) list e = refl
+
+pub in_none : (o : Option ℕ) → o ≡ None → in_lists o ≡ 0
+unfolding in_lists
+in_none None e = refl
+in_none (Some list) e = absurd (cc)
+
+pub in_at_most : (o : Option ℕ) → in_lists o ≤ 1
+unfolding in_lists
+in_at_most None = omega arith
+in_at_most (Some list) = omega arith
+
+pub not_equal : (p q : ℕ) → p ≢ q → eqb p q ≡ false
+not_equal p q h = grind (arith, nat_tests)
+
+-- a process is taken out of its list, if it is in one, and put into another
+abbrev pub moved_lists : List (List Member) → ℕ → ℕ → ℕ → List (List Member)
+moved_lists lists list p priority = inserted (removed lists p) list (record { slot = p; priority = priority })
+
+pub table_moved : (lists : List (List Member)) (list p priority : ℕ) → IsTable lists → list < 96 → p < 32 → IsTable (moved_lists lists list p priority)
+table_moved lists list p priority table below slot =
+    table_inserted (removed lists p) list (record { slot = p; priority = priority }) (table_removed lists p table) below slot (list_of_removed lists p)
+
+pub list_moved : (lists : List (List Member)) (list p priority : ℕ) → IsTable lists → list < 96 → p < 32
+    → list_of (moved_lists lists list p priority) p ≡ Some list
+list_moved lists list p priority table below slot =
+    list_of_inserted (removed lists p) list (record { slot = p; priority = priority }) (table_removed lists p table) below slot (list_of_removed lists p)
+
+pub list_moved_other : (lists : List (List Member)) (list p priority q : ℕ) → IsTable lists → list < 96 → p < 32 → q ≢ p
+    → list_of (moved_lists lists list p priority) q ≡ list_of lists q
+list_moved_other lists list p priority q table below slot other =
+    let apart = not_equal p q (λ e. other (sym e)) in
+    list_of_inserted_other (removed lists p) list (record { slot = p; priority = priority }) q (table_removed lists p table) below slot (list_of_removed lists p) apart
+    ∙ list_of_removed_other lists p q table apart
+
+-- the flags
+
+pub flags_with : (flags : List Flag) (flag : ℕ) (state : Flag) (q : ℕ) → flag < length flags
+    → flags_of (with_flag flags flag state) q + one_if (is_waiter q (flag_at flags flag)) ≡ flags_of flags q + one_if (is_waiter q state)
+unfolding flags_of
+flags_with flags flag state q h = sum_by-set (λ f. one_if (is_waiter q f)) flags flag state Clear h
+
+flags_cons : (flag : Flag) (flags : List Flag) (q : ℕ) → flags_of (flag ∷ flags) q ≡ one_if (is_waiter q flag) + flags_of flags q
+unfolding flags_of
+flags_cons flag flags q = count_cons (is_waiter q) flag flags
+
+pub flags_none : (q : ℕ) → flags_of no_flags q ≡ 0
+unfolding flags_of no_flags
+flags_none q = refl
+
+flags_nil : (q : ℕ) → flags_of [] q ≡ 0
+unfolding flags_of
+flags_nil q = refl
+
+left_one_own : (flag : Flag) (p : ℕ) → is_waiter p (left_by p flag) ≡ false
+left_one_own Clear p = refl
+left_one_own Set p = refl
+left_one_own (Waits other) p = grind (arith, nat_tests)
+
+left_one_other : (flag : Flag) (p q : ℕ) → q ≢ p → is_waiter q (left_by p flag) ≡ is_waiter q flag
+left_one_other Clear p q apart = refl
+left_one_other Set p q apart = refl
+left_one_other (Waits other) p q apart = grind (arith, nat_tests, apart)
+
+pub flags_left_own : (flags : List Flag) (p : ℕ) → flags_of (left flags p) p ≡ 0
+unfolding left
+flags_left_own [] p = flags_nil p
+flags_left_own (flag ∷ flags) p =
+    omega (arith, flags_left_own flags p, flags_cons (left_by p flag) (left flags p) p, one_if_false _ (left_one_own flag p))
+
+pub flags_left_other : (flags : List Flag) (p q : ℕ) → q ≢ p → flags_of (left flags p) q ≡ flags_of flags q
+unfolding left
+flags_left_other [] p q apart = refl
+flags_left_other (flag ∷ flags) p q apart =
+    omega (arith, flags_left_other flags p q apart, flags_cons (left_by p flag) (left flags p) q, flags_cons flag flags q, ap (λ b. one_if b) (left_one_other flag p q apart))
+
+pub length_left : (flags : List Flag) (p : ℕ) → length (left flags p) ≡ length flags
+unfolding left
+length_left flags p = length-map flags (left_by p)
+
+-- a process for which a flag waits
+pub waits_at : (state : Flag) (p : ℕ) → state ≡ Waits p → is_waiter p state ≡ true
+waits_at Clear p e = absurd (cc)
+waits_at Set p e = absurd (cc)
+waits_at (Waits other) p e = grind (arith, nat_tests, e)
+
+or_right : (a b : Bool) → b ≡ true → (a || b) ≡ true
+or_right true b h = refl
+or_right false b h = h
+
+-- what is so of each number of a list, by the places where it stands
+pub all_by_counts : (P : ℕ → Type 0) (ps : List ℕ) → ((p : ℕ) → 0 < count_by (λ x. x == p) ps → P p) → AllByRecursion P ps
+all_by_counts P [] h = tt
+all_by_counts P (p ∷ ps) h =
+    let itself : one_if (p == p) ≡ 1 = one_if_true (p == p) (grind (arith, nat_tests)) in
+    (h p (omega (arith, itself, count_cons (λ x. x == p) p ps)), all_by_counts P ps (λ q some. h q (omega (arith, some, count_cons (λ x. x == q) p ps))))
+
+-- and of each member of a list
+pub all_members : (P : ℕ → Type 0) (ms : List Member) → ((p : ℕ) → in_list p ms ≡ true → P p) → AllByRecursion P (map (λ m. m.slot) ms)
+unfolding in_list
+all_members P [] h = tt
+all_members P (m ∷ ms) h =
+    (h m.slot (grind (arith, nat_tests)), all_members P ms (λ p there. h p (or_right (m.slot == p) (in_list p ms) there)))

@@ -1,0 +1,498 @@
+-- What a sound kernel stays through: changes of its parts, one by one.
+use Rattle.std.proofs.Common.{◌≡◌, ◌≢◌, ◌∙◌, ℕ, zero, suc, ◌+◌, ◌<◌, ◌≤◌, Bool, true, false, ◌&&◌, List, [], ◌∷◌, length, Option, Some, None, if◌then◌else◌, inl, inr, refl, sym, ap, subst, arith}
+use Rattle.std.specs.List.{AllByRecursion}
+use Rattle.std.proofs.lemmas.Bool.{cases_eq}
+use Rattle.std.proofs.lemmas.Bool.Decides.{nat_tests}
+use Rattle.std.proofs.lemmas.List.{length-set}
+use Rattle.mpm_base.specs.Calls.{Taken}
+use Rattle.mpm_base.specs.declared.devices.Devices.{Devices}
+use Rattle.mpm_ready.specs.Order.{Member, first_of, in_list}
+use Rattle.mpm_ready.specs.Tables.{no_lists, list_at, list_of, inserted, removed, put_back}
+use Rattle.mpm_ready.proofs.TableLaws.{table_inserted, table_removed, list_of_inserted, list_of_inserted_other, list_of_removed, list_of_removed_other, list_of_known, list_of_none, table_none}
+use Rattle.mpm_flags.specs.declared.flags.Flag.{Flag}
+use Rattle.mpm_flags.specs.States.{no_flags}
+use Rattle.mpm_clock.specs.declared.moment.Moment.{Moment}
+use Rattle.mpm_clock.specs.Delays.{delays_of}
+use Rattle.mpm_clock.specs.Times.{Clock, new_clock, left}
+use Rattle.mpm_clock.proofs.DelayLaws.{delays_none, delays_left_own, delays_left_other}
+use Rattle.mpm_procs.specs.Table.{lives, Lives, process_in, with_process, with_call, lowest_free, added, without}
+use Rattle.mpm_procs.specs.declared.process.Process.{Process}
+use Rattle.mpm_procs.specs.declared.process.NewProcess.{NewProcess}
+use Rattle.mpm_procs.specs.Opening.{opening}
+use Rattle.mpm_procs.proofs.MapLaws.{lives_below, process_changed, process_kept, lives_changed, slots_changed, slots_behind, free_below, free_is_dead, lives_added, lives_added_other, process_added, process_added_other, slots_added, lives_without, lives_without_other, process_without_other, slots_without, slots_none, nobody_lives}
+use Rattle.mpm_kernel.specs.Kernel.{Kernel, ready, in_lists, flags_of, places, IsReady, IsFit, IsSound, with_changed, with_completed}
+use Rattle.mpm_kernel.specs.Columns.{spoke}
+use Rattle.mpm_kernel.specs.Dispatch.{new_kernel, admitted, in_slot, at_rest, discharged, runs_still, picked, stays, is_ready, behind_equals, moved, all_ready, runner_behind}
+use Rattle.mpm_kernel.specs.Events.{handed_out}
+use Rattle.mpm_kernel.proofs.PlaceLaws.{in_some, in_none, in_at_most, not_equal, moved_lists, table_moved, list_moved, list_moved_other, flags_none, flags_left_own, flags_left_other, length_left}
+
+dead_and_alive : (b : Bool) → b ≡ false → b ≡ true → ⊥
+dead_and_alive true e f = absurd (cc)
+dead_and_alive false e f = absurd (cc)
+
+pub none_and_some : (o : Option ℕ) (n : ℕ) → o ≡ None → o ≡ Some n → ⊥
+none_and_some None n e f = absurd (cc)
+none_and_some (Some m) n e f = absurd (cc)
+
+-- where nobody lives, nobody stands anywhere
+nowhere : (p : ℕ) → in_lists (list_of no_lists p) + flags_of no_flags p + delays_of [] p ≡ 0
+nowhere p = omega (arith, in_none _ (list_of_none p), flags_none p, delays_none p)
+
+-- no process lives
+pub sound_new : (consoles printers : ℕ) (now : Moment) → 1 ≤ consoles → consoles ≤ 8 → IsSound (new_kernel consoles printers now)
+unfolding new_kernel new_clock no_flags
+sound_new consoles printers now some few = record {
+  some = some;
+  few = few;
+  columns = refl;
+  slots = slots_none;
+  table = table_none;
+  fit = λ p living. absurd (dead_and_alive _ (nobody_lives p) living);
+  flags = refl;
+  once = λ p. omega (arith, nowhere p);
+  live = λ p some. absurd (omega (arith, nowhere p));
+  runs = λ p e. absurd (none_and_some None p refl e);
+}
+
+-- a process is another one that fits
+pub sound_changed : (kernel : Kernel) (p : ℕ) (process : Process) → IsSound kernel → Lives kernel.procs p → IsFit kernel.consoles process
+    → IsSound (with_changed kernel p process)
+sound_changed kernel p process s h fit = record {
+  some = s.some;
+  few = s.few;
+  columns = s.columns;
+  slots = slots_changed kernel.procs p process s.slots;
+  table = s.table;
+  fit = λ q living. elim (cases_eq q p) [
+    | inl same ↦
+        let P : Process → Type 0 = λ x. IsFit kernel.consoles x in
+        let at : process_in (with_process kernel.procs p process) q ≡ process =
+        ap (process_in (with_process kernel.procs p process)) same
+        ∙ process_changed kernel.procs p process (omega (arith, s.slots.processes, lives_below kernel.procs p s.slots h)) in
+        subst P (sym at) fit
+    | inr other ↦
+        let P : Process → Type 0 = λ x. IsFit kernel.consoles x in
+        subst P (sym (process_kept kernel.procs p q process other)) (s.fit q (sym (lives_changed kernel.procs p q process) ∙ living))
+  ];
+  flags = s.flags;
+  once = s.once;
+  live = λ q some. lives_changed kernel.procs p q process ∙ s.live q some;
+  runs = s.runs;
+}
+
+-- a process keeps another call
+pub sound_call : (kernel : Kernel) (p : ℕ) (call : Taken) → IsSound kernel → IsSound (record kernel { procs = with_call kernel.procs p call })
+unfolding with_call
+sound_call kernel p call s = record {
+  some = s.some;
+  few = s.few;
+  columns = s.columns;
+  slots = slots_behind kernel.procs p call s.slots;
+  table = s.table;
+  fit = s.fit;
+  flags = s.flags;
+  once = s.once;
+  live = s.live;
+  runs = s.runs;
+}
+
+pub sound_devices : (kernel : Kernel) (devices : Devices) → IsSound kernel → IsSound (record kernel { devices = devices })
+sound_devices kernel devices s = record {
+  some = s.some;
+  few = s.few;
+  columns = s.columns;
+  slots = s.slots;
+  table = s.table;
+  fit = s.fit;
+  flags = s.flags;
+  once = s.once;
+  live = s.live;
+  runs = s.runs;
+}
+
+pub sound_spoke : (kernel : Kernel) (console : ℕ) (bytes : List ℕ) → IsSound kernel → IsSound (spoke kernel console bytes)
+unfolding spoke
+sound_spoke kernel console bytes s = record {
+  some = s.some;
+  few = s.few;
+  columns = length-set kernel.columns console _ ∙ s.columns;
+  slots = s.slots;
+  table = s.table;
+  fit = s.fit;
+  flags = s.flags;
+  once = s.once;
+  live = s.live;
+  runs = s.runs;
+}
+
+pub first_is_in : (ms : List Member) (p : ℕ) → first_of ms ≡ Some p → in_list p ms ≡ true
+unfolding first_of in_list
+first_is_in [] p e = absurd (cc)
+first_is_in (m ∷ ms) p e = grind (arith, nat_tests, e)
+
+sound_if : (b : Bool) (x y : Kernel) → IsSound x → IsSound y → IsSound (if b then x else y)
+sound_if true x y s t = s
+sound_if false x y s t = t
+
+unlisted_if_dead : (o : Option ℕ) → ((list : ℕ) → o ≡ Some list → ⊥) → o ≡ None
+unlisted_if_dead None h = refl
+unlisted_if_dead (Some list) h = absurd (h list refl)
+
+pub some_same : (a b : ℕ) → Some a ≡ Some b → a ≡ b
+some_same a b e = grind (e, arith)
+
+runs_other : (p q : ℕ) (running : Option ℕ) → runs_still p running ≡ Some q → (q ≢ p) × (running ≡ Some q)
+runs_other p q None e = absurd (cc)
+runs_other p q (Some other) e = elim (cases_eq other p) [
+  | inl same ↦ absurd (none_and_some (runs_still p (Some other)) q (grind (arith, nat_tests)) e)
+  | inr distinct ↦
+      let stays : runs_still p (Some other) ≡ Some other = grind (arith, nat_tests) in
+      let is : Some other ≡ Some q = sym stays ∙ e in
+      ((λ same. distinct (some_same other q is ∙ same)), is)
+]
+
+fit_opening : (consoles : ℕ) (new : NewProcess) → new.console < consoles → IsFit consoles (opening new)
+unfolding opening
+fit_opening consoles new h = record { console = h; some = omega arith; few = omega arith }
+
+-- the first of the ready list is ready
+pub first_is_ready : (kernel : Kernel) (p : ℕ) → IsSound kernel → first_of (list_at kernel.lists ready) ≡ Some p → IsReady kernel p
+first_is_ready kernel p s e = list_of_known kernel.lists p ready s.table (first_is_in (list_at kernel.lists ready) p e)
+
+-- who is in a list lives
+pub listed : (kernel : Kernel) (p list : ℕ) → IsSound kernel → list_of kernel.lists p ≡ Some list → Lives kernel.procs p
+listed kernel p list s e = s.live p (omega (arith, in_some _ list e))
+
+-- who is in a list waits neither for a flag nor for the clock
+pub listed_once : (kernel : Kernel) (p list : ℕ) → IsSound kernel → list_of kernel.lists p ≡ Some list
+    → flags_of kernel.flags p + delays_of kernel.clock.delays p ≡ 0
+listed_once kernel p list s e = omega (arith, in_some _ list e, s.once p)
+
+-- who is ready waits for no tick
+pub not_delayed : (kernel : Kernel) (p : ℕ) → IsSound kernel → IsReady kernel p → delays_of kernel.clock.delays p ≡ 0
+not_delayed kernel p s is_ready = omega (arith, listed_once kernel p ready s is_ready)
+
+-- who runs lives
+pub runner_lives : (kernel : Kernel) (p : ℕ) → IsSound kernel → kernel.running ≡ Some p → Lives kernel.procs p
+runner_lives kernel p s e = listed kernel p ready s (s.runs p e)
+
+-- who runs is picked
+pub sound_picked : (kernel : Kernel) (instruction : Bool) → IsSound kernel → IsSound (picked instruction kernel)
+unfolding picked
+sound_picked kernel instruction s = sound_if (instruction && stays kernel kernel.running) kernel _ s (record {
+  some = s.some;
+  few = s.few;
+  columns = s.columns;
+  slots = s.slots;
+  table = s.table;
+  fit = s.fit;
+  flags = s.flags;
+  once = s.once;
+  live = s.live;
+  runs = λ p e. first_is_ready kernel p s e;
+})
+
+-- a slot where nobody lives stands in no list
+pub free_is_unlisted : (kernel : Kernel) (p : ℕ) → IsSound kernel → lowest_free kernel.procs ≡ Some p → list_of kernel.lists p ≡ None
+free_is_unlisted kernel p s free =
+    unlisted_if_dead (list_of kernel.lists p) (λ list e. dead_and_alive _ (free_is_dead kernel.procs p free) (listed kernel p list s e))
+
+-- and nowhere else
+none_if_dead : (n : ℕ) → (0 < n → ⊥) → n ≡ 0
+none_if_dead zero h = refl
+none_if_dead (suc n) h = absurd (h (omega arith))
+
+free_is_nowhere : (kernel : Kernel) (p : ℕ) → IsSound kernel → lowest_free kernel.procs ≡ Some p
+    → flags_of kernel.flags p + delays_of kernel.clock.delays p ≡ 0
+free_is_nowhere kernel p s free =
+    let none = none_if_dead (places kernel p) (λ some. dead_and_alive _ (free_is_dead kernel.procs p free) (s.live p some)) in
+    omega (arith, none)
+
+-- who ended stands nowhere, and the others where they stood
+nowhere_behind : (kernel : Kernel) (p : ℕ) → places (discharged kernel p) p ≡ 0
+unfolding discharged left
+nowhere_behind kernel p =
+    omega (arith, in_none _ (list_of_removed kernel.lists p), flags_left_own kernel.flags p, delays_left_own kernel.clock.delays p)
+
+elsewhere_behind : (kernel : Kernel) (p q : ℕ) → IsSound kernel → q ≢ p → places (discharged kernel p) q ≡ places kernel q
+unfolding discharged left
+elsewhere_behind kernel p q s other =
+    let same = list_of_removed_other kernel.lists p q s.table (not_equal p q (λ e. other (sym e))) in
+    omega (arith, ap in_lists same, flags_left_other kernel.flags p q other, delays_left_other kernel.clock.delays p q other)
+
+-- a process ends
+pub sound_discharged : (kernel : Kernel) (p : ℕ) → IsSound kernel → Lives kernel.procs p → IsSound (discharged kernel p)
+unfolding discharged
+sound_discharged kernel p s h =
+    let below : p < 32 = lives_below kernel.procs p s.slots h in
+    record {
+      some = s.some;
+      few = s.few;
+      columns = s.columns;
+      slots = slots_without kernel.procs p s.slots;
+      table = table_removed kernel.lists p s.table;
+      fit = λ q living. elim (cases_eq q p) [
+        | inl same ↦ absurd (dead_and_alive _ (ap (lives (without kernel.procs p)) same ∙ lives_without kernel.procs p (omega (arith, s.slots.alive))) living)
+        | inr other ↦
+            let P : Process → Type 0 = λ x. IsFit kernel.consoles x in
+            subst P (sym (process_without_other kernel.procs p q other)) (s.fit q (sym (lives_without_other kernel.procs p q other) ∙ living))
+      ];
+      flags = length_left kernel.flags p ∙ s.flags;
+      once = λ q. elim (cases_eq q p) [
+        | inl same ↦ omega (arith, ap (places (discharged kernel p)) same, nowhere_behind kernel p)
+        | inr other ↦ omega (arith, s.once q, elsewhere_behind kernel p q s other)
+      ];
+      live = λ q some. elim (cases_eq q p) [
+        | inl same ↦ absurd (omega (arith, ap (places (discharged kernel p)) same, nowhere_behind kernel p))
+        | inr other ↦ lives_without_other kernel.procs p q other ∙ s.live q (omega (arith, some, elsewhere_behind kernel p q s other))
+      ];
+      runs = λ q e.
+          let other : q ≢ p = (runs_other p q kernel.running e).0 in
+          list_of_removed_other kernel.lists p q s.table (not_equal p q (λ e. other (sym e)))
+          ∙ s.runs q (runs_other p q kernel.running e).1;
+    }
+
+-- a process begins
+pub sound_admitted : (kernel : Kernel) (p : ℕ) (new : NewProcess) → IsSound kernel → lowest_free kernel.procs ≡ Some p → new.console < kernel.consoles
+    → IsSound (admitted kernel p new)
+unfolding admitted
+sound_admitted kernel p new s free console =
+    let below : p < 32 = omega (arith, free_below kernel.procs p free, s.slots.alive) in
+    let member : Member = record { slot = p; priority = new.priority } in
+    let none = free_is_unlisted kernel p s free in
+    record {
+      some = s.some;
+      few = s.few;
+      columns = s.columns;
+      slots = slots_added kernel.procs p new s.slots;
+      table = table_inserted kernel.lists ready member s.table (omega arith) below none;
+      fit = λ q living. elim (cases_eq q p) [
+        | inl same ↦
+            let P : Process → Type 0 = λ x. IsFit kernel.consoles x in
+            let at = ap (process_in (added kernel.procs p new)) same ∙ process_added kernel.procs p new (omega (arith, s.slots.processes)) in
+            subst P (sym at) (fit_opening kernel.consoles new console)
+        | inr other ↦
+            let P : Process → Type 0 = λ x. IsFit kernel.consoles x in
+            subst P (sym (process_added_other kernel.procs p q new other)) (s.fit q (sym (lives_added_other kernel.procs p q new other) ∙ living))
+      ];
+      flags = s.flags;
+      once = λ q. elim (cases_eq q p) [
+        | inl same ↦
+            let here = ap (λ x. flags_of kernel.flags x + delays_of kernel.clock.delays x) same in
+            omega (arith, in_at_most (list_of (inserted kernel.lists ready member) q), here, free_is_nowhere kernel p s free)
+        | inr other ↦
+            let there = list_of_inserted_other kernel.lists ready member q s.table (omega arith) below none (not_equal p q (λ e. other (sym e))) in
+            omega (arith, ap in_lists there, s.once q)
+      ];
+      live = λ q some. elim (cases_eq q p) [
+        | inl same ↦ ap (lives (added kernel.procs p new)) same ∙ lives_added kernel.procs p new (omega (arith, s.slots.alive))
+        | inr other ↦
+            let there = list_of_inserted_other kernel.lists ready member q s.table (omega arith) below none (not_equal p q (λ e. other (sym e))) in
+            lives_added_other kernel.procs p q new other ∙ s.live q (omega (arith, ap in_lists there, some))
+      ];
+      runs = λ q e. elim (cases_eq q p) [
+        | inl same ↦ ap (list_of (inserted kernel.lists ready member)) same ∙ list_of_inserted kernel.lists ready member s.table (omega arith) below none
+        | inr other ↦
+            list_of_inserted_other kernel.lists ready member q s.table (omega arith) below none (not_equal p q (λ e. other (sym e)))
+            ∙ s.runs q e
+      ];
+    }
+
+pub sound_in_slot : (kernel : Kernel) (new : NewProcess) (slot : Option ℕ) → IsSound kernel → lowest_free kernel.procs ≡ slot → new.console < kernel.consoles
+    → IsSound (in_slot kernel new slot)
+sound_in_slot kernel new None s free console = s
+sound_in_slot kernel new (Some p) s free console = sound_admitted kernel p new s free console
+
+pub consoles_in_slot : (kernel : Kernel) (new : NewProcess) (slot : Option ℕ) → (in_slot kernel new slot).consoles ≡ kernel.consoles
+unfolding admitted
+consoles_in_slot kernel new None = refl
+consoles_in_slot kernel new (Some p) = refl
+
+pub completed_in_slot : (kernel : Kernel) (new : NewProcess) (slot : Option ℕ) → (in_slot kernel new slot).completed ≡ kernel.completed
+unfolding admitted
+completed_in_slot kernel new None = refl
+completed_in_slot kernel new (Some p) = refl
+
+-- a process is put into a list and is nowhere else
+placed_in : (kernel : Kernel) (list p : ℕ) (running : Option ℕ) → IsSound kernel → Lives kernel.procs p → list < 96
+    → flags_of kernel.flags p + delays_of kernel.clock.delays p ≡ 0
+    → ((q : ℕ) → running ≡ Some q → list_of (moved_lists kernel.lists list p (process_in kernel.procs p).priority) q ≡ Some ready)
+    → IsSound (record kernel { lists = moved_lists kernel.lists list p (process_in kernel.procs p).priority; running = running })
+placed_in kernel list p running s h small nowhere_else runs =
+    let below : p < 32 = lives_below kernel.procs p s.slots h in
+    let priority = (process_in kernel.procs p).priority in
+    record {
+      some = s.some;
+      few = s.few;
+      columns = s.columns;
+      slots = s.slots;
+      table = table_moved kernel.lists list p priority s.table small below;
+      flags = s.flags;
+      fit = s.fit;
+      once = λ q. elim (cases_eq q p) [
+        | inl same ↦
+            let here = ap (λ x. flags_of kernel.flags x + delays_of kernel.clock.delays x) same in
+            omega (arith, in_at_most (list_of (moved_lists kernel.lists list p priority) q), here, nowhere_else)
+        | inr other ↦ omega (arith, ap in_lists (list_moved_other kernel.lists list p priority q s.table small below other), s.once q)
+      ];
+      live = λ q some. elim (cases_eq q p) [
+        | inl same ↦ ap (lives kernel.procs) same ∙ h
+        | inr other ↦ s.live q (omega (arith, ap in_lists (list_moved_other kernel.lists list p priority q s.table small below other), some))
+      ];
+      runs = runs;
+    }
+
+-- a process that waits for nothing else becomes ready
+pub sound_ready : (kernel : Kernel) (p : ℕ) → IsSound kernel → Lives kernel.procs p → flags_of kernel.flags p + delays_of kernel.clock.delays p ≡ 0
+    → IsSound (moved kernel ready p)
+unfolding moved
+sound_ready kernel p s h nowhere_else =
+    let below : p < 32 = lives_below kernel.procs p s.slots h in
+    let priority = (process_in kernel.procs p).priority in
+    placed_in kernel ready p kernel.running s h (omega arith) nowhere_else (λ q e. elim (cases_eq q p) [
+      | inl same ↦ ap (list_of (moved_lists kernel.lists ready p priority)) same ∙ list_moved kernel.lists ready p priority s.table (omega arith) below
+      | inr other ↦ list_moved_other kernel.lists ready p priority q s.table (omega arith) below other ∙ s.runs q e
+    ])
+
+-- a process that runs no more is put into another list
+pub sound_moved : (kernel : Kernel) (list p : ℕ) → IsSound kernel → Lives kernel.procs p → list < 96
+    → flags_of kernel.flags p + delays_of kernel.clock.delays p ≡ 0 → IsSound (at_rest (moved kernel list p) p)
+unfolding moved
+sound_moved kernel list p s h small nowhere_else =
+    let below : p < 32 = lives_below kernel.procs p s.slots h in
+    placed_in kernel list p (runs_still p kernel.running) s h small nowhere_else (λ q e.
+    list_moved_other kernel.lists list p (process_in kernel.procs p).priority q s.table small below (runs_other p q kernel.running e).0
+    ∙ s.runs q (runs_other p q kernel.running e).1)
+
+-- a process that runs no more leaves its list, and waits for a flag or for the clock
+pub sound_unlisted : (kernel : Kernel) (p : ℕ) (flags : List Flag) (clock : Clock) → IsSound kernel → Lives kernel.procs p → length flags ≡ 32
+    → flags_of flags p + delays_of clock.delays p ≤ 1
+    → ((q : ℕ) → q ≢ p → flags_of flags q + delays_of clock.delays q ≡ flags_of kernel.flags q + delays_of kernel.clock.delays q)
+    → IsSound (record kernel { lists = removed kernel.lists p; flags = flags; clock = clock; running = runs_still p kernel.running })
+sound_unlisted kernel p flags clock s h size own others = record {
+  some = s.some;
+  few = s.few;
+  columns = s.columns;
+  slots = s.slots;
+  table = table_removed kernel.lists p s.table;
+  flags = size;
+  fit = s.fit;
+  once = λ q. elim (cases_eq q p) [
+    | inl same ↦
+        let none = in_none _ (ap (list_of (removed kernel.lists p)) same ∙ list_of_removed kernel.lists p) in
+        let here = ap (λ x. flags_of flags x + delays_of clock.delays x) same in
+        omega (arith, none, here, own)
+    | inr other ↦
+        let there = list_of_removed_other kernel.lists p q s.table (not_equal p q (λ e. other (sym e))) in
+        omega (arith, ap in_lists there, others q other, s.once q)
+  ];
+  live = λ q some. elim (cases_eq q p) [
+    | inl same ↦ ap (lives kernel.procs) same ∙ h
+    | inr other ↦
+        let there = list_of_removed_other kernel.lists p q s.table (not_equal p q (λ e. other (sym e))) in
+        s.live q (omega (arith, ap in_lists there, others q other, some))
+  ];
+  runs = λ q e.
+      list_of_removed_other kernel.lists p q s.table (not_equal p q (λ x. (runs_other p q kernel.running e).0 (sym x)))
+      ∙ s.runs q (runs_other p q kernel.running e).1;
+}
+
+-- nobody waits more than before
+pub sound_fewer : (kernel : Kernel) (flags : List Flag) (clock : Clock) → IsSound kernel → length flags ≡ 32
+    → ((q : ℕ) → flags_of flags q ≤ flags_of kernel.flags q) → ((q : ℕ) → delays_of clock.delays q ≤ delays_of kernel.clock.delays q)
+    → IsSound (record kernel { flags = flags; clock = clock })
+sound_fewer kernel flags clock s size fewer_flags fewer_delays = record {
+  some = s.some;
+  few = s.few;
+  columns = s.columns;
+  slots = s.slots;
+  table = s.table;
+  flags = size;
+  fit = s.fit;
+  once = λ q. omega (arith, s.once q, fewer_flags q, fewer_delays q);
+  live = λ q some. s.live q (omega (arith, fewer_flags q, fewer_delays q, some));
+  runs = s.runs;
+}
+
+-- a ready process is put behind its equals
+turned : (kernel : Kernel) (p : ℕ) → IsReady kernel p → behind_equals kernel p ≡ moved kernel ready p
+unfolding behind_equals put_back moved
+turned kernel p is_ready =
+    let priority = (process_in kernel.procs p).priority in
+    let with_lists : List (List Member) → Kernel = λ lists. record kernel { lists = lists } in
+    ap with_lists (ap (put_back kernel.lists p priority) is_ready)
+
+pub sound_behind_equals : (kernel : Kernel) (p : ℕ) → IsSound kernel → Lives kernel.procs p → IsReady kernel p → IsSound (behind_equals kernel p)
+sound_behind_equals kernel p s h is_ready =
+    let P : Kernel → Type 0 = λ k. IsSound k in
+    subst P (sym (turned kernel p is_ready)) (sound_ready kernel p s h (listed_once kernel p ready s is_ready))
+
+pub lives_behind_equals : (kernel : Kernel) (p q : ℕ) → Lives kernel.procs q → Lives (behind_equals kernel p).procs q
+unfolding behind_equals
+lives_behind_equals kernel p q h = h
+
+-- processes that wait for nothing else become ready, one after the other
+
+abbrev pub MayBeReady : Kernel → ℕ → Type 0
+MayBeReady kernel p = Lives kernel.procs p × (flags_of kernel.flags p + delays_of kernel.clock.delays p ≡ 0)
+
+pub sound_all_ready : (ps : List ℕ) (kernel : Kernel) → IsSound kernel → AllByRecursion (MayBeReady kernel) ps → IsSound (all_ready ps kernel)
+unfolding all_ready moved
+sound_all_ready [] kernel s may = s
+sound_all_ready (p ∷ ps) kernel s may = sound_all_ready ps (moved kernel ready p) (sound_ready kernel p s may.0.0 may.0.1) may.1
+
+pub procs_all_ready : (ps : List ℕ) (kernel : Kernel) → (all_ready ps kernel).procs ≡ kernel.procs
+unfolding all_ready moved
+procs_all_ready [] kernel = refl
+procs_all_ready (p ∷ ps) kernel = procs_all_ready ps (moved kernel ready p)
+
+pub running_all_ready : (ps : List ℕ) (kernel : Kernel) → (all_ready ps kernel).running ≡ kernel.running
+unfolding all_ready moved
+running_all_ready [] kernel = refl
+running_all_ready (p ∷ ps) kernel = running_all_ready ps (moved kernel ready p)
+
+-- who runs is put behind its equals
+behind_if : (b : Bool) (kernel : Kernel) (p : ℕ) → IsSound kernel → (b ≡ true → IsReady kernel p) → IsSound (if b then behind_equals kernel p else kernel)
+behind_if true kernel p s h = sound_behind_equals kernel p s (listed kernel p ready s (h refl)) (h refl)
+behind_if false kernel p s h = s
+
+pub is_ready_true : (o : Option ℕ) → is_ready o ≡ true → o ≡ Some ready
+is_ready_true None e = absurd (cc)
+is_ready_true (Some list) e = grind (arith, nat_tests, e)
+
+pub sound_runner_behind : (running : Option ℕ) (kernel : Kernel) → IsSound kernel → IsSound (runner_behind running kernel)
+unfolding runner_behind
+sound_runner_behind None kernel s = s
+sound_runner_behind (Some p) kernel s = behind_if (is_ready (list_of kernel.lists p)) kernel p s (is_ready_true (list_of kernel.lists p))
+
+procs_if : (b : Bool) (x y : Kernel) → x.procs ≡ y.procs → (if b then x else y).procs ≡ y.procs
+procs_if true x y e = e
+procs_if false x y e = refl
+
+pub completed_if : (b : Bool) (x y : Kernel) → x.completed ≡ y.completed → (if b then x else y).completed ≡ y.completed
+completed_if true x y e = e
+completed_if false x y e = refl
+
+pub procs_runner_behind : (running : Option ℕ) (kernel : Kernel) → (runner_behind running kernel).procs ≡ kernel.procs
+unfolding runner_behind behind_equals
+procs_runner_behind None kernel = refl
+procs_runner_behind (Some p) kernel = procs_if (is_ready (list_of kernel.lists p)) (behind_equals kernel p) kernel refl
+
+-- calls are completed, and handed out
+pub sound_with_completed : (kernel : Kernel) (ps : List ℕ) → IsSound kernel → IsSound (with_completed kernel ps)
+sound_with_completed kernel ps s = record {
+  some = s.some;
+  few = s.few;
+  columns = s.columns;
+  slots = s.slots;
+  table = s.table;
+  flags = s.flags;
+  fit = s.fit;
+  once = s.once;
+  live = s.live;
+  runs = s.runs;
+}
+
+pub sound_completed : (kernel : Kernel) → IsSound kernel → IsSound (handed_out kernel)
+unfolding handed_out
+sound_completed kernel s = sound_with_completed kernel _ s

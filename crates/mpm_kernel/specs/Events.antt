@@ -1,0 +1,59 @@
+-- What events do. (MP/M II System Guide, "Polled devices", "Interrupt service routines", "Tick".)
+use Rattle.std.specs.Prelude.{ℕ, ◌<◌, ⊤, true, List, [], ◌∷◌, Option, Some, None, drop, map, slice_set}
+use Rattle.mpm_clock.specs.Delays.{woken_by_tick}
+use Rattle.mpm_clock.specs.Times.{ticked}
+use Rattle.mpm_ready.specs.Tables.{list_at}
+use Rattle.mpm_script.specs.declared.event.Event.{Event}
+use Rattle.mpm_script.specs.declared.event.Event.TheVariants.{Tick, Key, Ready, Int}
+use Rattle.mpm_kernel.specs.Kernel.{Kernel, poll_list, with_completed}
+use Rattle.mpm_kernel.specs.Dispatch.{all_woken, runner_behind}
+use Rattle.mpm_kernel.specs.Waiting.{signalled}
+
+-- an event that may come: its device or its flag is there
+abbrev pub MayCome : Event → Type 0
+MayCome Tick = ⊤
+MayCome (Key console byte) = ⊤
+MayCome (Ready device byte) = device < 16
+MayCome (Int flag) = flag < 32
+
+-- the time goes on by a tick
+abbrev pub with_tick : Kernel → Kernel
+with_tick kernel = record kernel { clock = ticked kernel.clock }
+
+-- a tick of the clock: those whose delays end are woken, and who runs is put behind its equals
+unfoldable pub clock_ticked : Kernel → Kernel
+clock_ticked kernel =
+    runner_behind kernel.running
+    (all_woken (woken_by_tick kernel.clock.delays) (with_tick kernel))
+
+-- those who poll a device, in the order in which they stand
+unfoldable pub pollers : Kernel → ℕ → List ℕ
+pollers kernel device = map (λ m. m.slot) (list_at kernel.lists (poll_list device))
+
+-- a device is ready, with the byte that it sent last
+abbrev pub with_ready : Kernel → ℕ → ℕ → Kernel
+with_ready kernel device byte = record kernel {
+  devices = record { ready = slice_set kernel.devices.ready device true; last = slice_set kernel.devices.last device byte };
+}
+
+-- a device becomes ready: those who poll it are woken
+unfoldable pub device_ready : Kernel → ℕ → ℕ → Kernel
+device_ready kernel device byte = all_woken (pollers kernel device) (with_ready kernel device byte)
+
+-- an event; keys have no meaning yet
+unfoldable pub happens : Event → Kernel → Kernel
+happens Tick kernel = clock_ticked kernel
+happens (Key console byte) kernel = kernel
+happens (Ready device byte) kernel = device_ready kernel device byte
+happens (Int flag) kernel = signalled flag kernel
+
+abbrev pub happened : Event → Kernel → Kernel
+happened event kernel = happens event (with_completed kernel [])
+
+-- whose held call was completed first, and the kernel once it is handed out
+abbrev pub first_completed : List ℕ → Option ℕ
+first_completed [] = None
+first_completed (p ∷ ps) = Some p
+
+unfoldable pub handed_out : Kernel → Kernel
+handed_out kernel = with_completed kernel (drop 1 kernel.completed)

@@ -1,0 +1,85 @@
+-- Waiting for devices, for flags and for the clock. (MP/M II Programmer's Guide, "Function 131: Poll", "Function 132: Flag
+-- Wait", "Function 133: Flag Set", "Function 141: Delay".)
+use Rattle.std.specs.Prelude.{ℕ, Bool, false, [], ◌∷◌, ◌==◌, ◌&&◌, ◌||◌, nat_le, nat_lt, slice_index_or, if◌then◌else◌}
+use Rattle.mpm_base.specs.Calls.{Taken, Answer, answering}
+use Rattle.mpm_flags.specs.States.{flag_at, with_flag, behind_wait, wait_answer, behind_set, set_answer}
+use Rattle.mpm_flags.specs.declared.flags.FlagWait.{FlagWait}
+use Rattle.mpm_flags.specs.declared.flags.FlagWait.TheVariants.{Passed, Waits, Underrun}
+use Rattle.mpm_flags.specs.declared.flags.FlagSet.{FlagSet}
+use Rattle.mpm_flags.specs.declared.flags.FlagSet.TheVariants.{Set, Woke, Overrun}
+use Rattle.mpm_clock.specs.Times.{delayed}
+use Rattle.mpm_procs.specs.Table.{call_of}
+use Rattle.mpm_kernel.specs.Kernel.{Kernel, poll_list}
+use Rattle.mpm_kernel.specs.Dispatch.{unlisted, moved, all_woken, behind_equals}
+use Rattle.mpm_kernel.specs.Called.{Called, valued, done, held, low_parameter, refusal}
+
+-- function 131: a process waits for one of sixteen devices, unless it is ready; a poll keeps it ready
+unfoldable pub polled : Taken → ℕ → Kernel → Called
+polled call p kernel =
+    let device = low_parameter call in
+    if nat_lt 15 device then valued refusal kernel
+    else (if slice_index_or kernel.devices.ready device false then done kernel
+    else (held p (moved kernel (poll_list device) p)))
+
+-- the flags of processes: flags 0 to 3 are the system's
+abbrev pub is_flag : ℕ → Bool
+is_flag flag = nat_le 4 flag && nat_le flag 31
+
+-- a process waits for a flag
+abbrev pub behind_flag_wait : Kernel → ℕ → ℕ → Kernel
+behind_flag_wait kernel p flag =
+    record kernel { flags = with_flag kernel.flags flag (behind_wait p (flag_at kernel.flags flag)) }
+
+-- it passed, waits from now on, or may not wait since another one does
+unfoldable pub waited : FlagWait → ℕ → Kernel → Called
+waited Passed p kernel = done kernel
+waited Waits p kernel = held p (unlisted kernel p)
+waited Underrun p kernel = valued refusal kernel
+
+-- function 132
+unfoldable pub flag_waited : Taken → ℕ → Kernel → Called
+flag_waited call p kernel =
+    let flag = low_parameter call in
+    if is_flag flag then waited (wait_answer p (flag_at kernel.flags flag)) p (behind_flag_wait kernel p flag)
+    else (valued refusal kernel)
+
+-- who waited for a flag that is set is woken
+unfoldable pub with_woken : FlagSet → Kernel → Kernel
+with_woken Set kernel = kernel
+with_woken Overrun kernel = kernel
+with_woken (Woke p) kernel = all_woken (p ∷ []) kernel
+
+-- a flag is set
+unfoldable pub signalled : ℕ → Kernel → Kernel
+signalled flag kernel =
+    with_woken (set_answer (flag_at kernel.flags flag))
+    (record kernel { flags = with_flag kernel.flags flag (behind_set (flag_at kernel.flags flag)) })
+
+abbrev pub set_value : FlagSet → ℕ
+set_value Set = 0
+set_value Overrun = refusal
+set_value (Woke p) = 0
+
+-- function 133
+unfoldable pub flag_set : Taken → Kernel → Called
+flag_set call kernel =
+    let flag = low_parameter call in
+    if is_flag flag then valued (set_value (set_answer (flag_at kernel.flags flag))) (signalled flag kernel)
+    else (valued refusal kernel)
+
+-- function 141: a process waits for ticks; for none, it is put behind its equals, as function 142 does
+unfoldable pub slept : Taken → ℕ → Kernel → Called
+slept call p kernel =
+    if call.word == 0 then done (behind_equals kernel p)
+    else (held p (record (unlisted kernel p) { clock = delayed kernel.clock p call.word }))
+
+-- what a held call answers as it is completed, by its function
+abbrev pub completion_value : ℕ → ℕ
+completion_value function = if function == 131 || function == 132 || function == 141 then 0 else 65535
+
+-- the reply of the held call of a process as it is completed
+unfoldable pub completion_of : Taken → Answer
+completion_of call = answering (completion_value call.function)
+
+abbrev pub completion_reply : Kernel → ℕ → Answer
+completion_reply kernel p = completion_of (call_of kernel.procs p)

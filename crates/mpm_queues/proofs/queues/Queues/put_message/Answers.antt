@@ -1,0 +1,46 @@
+use Rattle.std.proofs.Common.{◌≡◌, ap, ◌∙◌, sym, subst, true, ℕ}
+use Rattle.mpm_base.specs.Calls.{Taken}
+use Rattle.mpm_procs.specs.Table.{Lives}
+use Rattle.mpm_queues.specs.Queue.{is_drained, with_message, message_of}
+use Rattle.mpm_queues.specs.Queues.{Queues, IsMade, waits_at}
+use Rattle.mpm_queues.specs.Handling.{behind_write, procs_behind_write}
+use Rattle.mpm_queues.proofs.QueueLaws.{some_written}
+use Rattle.mpm_queues.proofs.SoundLaws.{IsWritten, reader_waits, sound_write_parts, write_parts}
+use Rattle.mpm_queues.proofs.queues.Queues.put_message.Goals as goal
+
+pub hand_over-other-requires-clause-some : goal.hand_over-other-requires-clause-some
+hand_over-other-requires-clause-some c = ap is_drained c.add.ensures ∙ some_written _ _
+
+pub hand_over-other-requires-clause-lives : goal.hand_over-other-requires-clause-lives
+hand_over-other-requires-clause-lives c =
+    let all = subst (λ (t : Queues). (w : ℕ) → waits_at t c.args.q w ≡ true → Lives c.args.procs.now w) (sym c.self.view_is) c.requires.waiting in
+    λ r first. all r (reader_waits (record { alive = c.self.inside.alive.items; queues = c.self.inside.queues.items; waiters = c.self.inside.waiters }) c.args.q r first)
+
+parts : (c : goal.After-self-2-1) → IsWritten (record { alive = c.self.inside.alive.items; queues = c.self.inside.queues.items; waiters = c.self.inside.waiters }) c.args.p c.args.q c.from.result c.args.procs.now c.hand_over-other.new.procs c.index_mut-store.result.now c.add.new.self c.hand_over-other.new.store c.hand_over-other.result c.hand_over-other.new.waiters
+parts c = record {
+  number = c.from.ensures;
+  value = c.index_mut-store.ensures.value;
+  room = sym c.is_full.ensures ∙ c.if-is_full.false;
+  adding = c.add.ensures ∙ ap (λ (call : Taken). with_message (message_of c.index_mut-store.result.now.width call) c.index_mut-store.result.now) c.call.ensures;
+  first = c.hand_over-other.ensures.first;
+  taking = c.hand_over-other.ensures.queue;
+  telling = c.hand_over-other.ensures.procs;
+  leaving = c.hand_over-other.ensures.waiters;
+}
+
+pub invariant_of-self-2 : goal.invariant_of-self-2
+invariant_of-self-2 c =
+    let is = subst (λ (t : Queues). IsMade t c.args.q) (sym c.self.view_is) c.requires.queue in
+    sound_write_parts _ c.args.p c.args.q _ c.args.procs.now _ _ _ _ _ _ c.self.invariant is (parts c)
+
+pub returns-clause-queues : goal.returns-clause-queues
+returns-clause-queues c =
+    let is = subst (λ (t : Queues). IsMade t c.args.q) (sym c.self.view_is) c.requires.queue in
+    (write_parts _ c.args.p c.args.q _ c.args.procs.now _ _ _ _ _ _ c.self.invariant is (parts c)).0
+    ∙ ap (λ (t : Queues). behind_write t c.args.p c.args.q c.args.procs.now) c.self.view_is
+
+pub returns-clause-procs : goal.returns-clause-procs
+returns-clause-procs c =
+    let is = subst (λ (t : Queues). IsMade t c.args.q) (sym c.self.view_is) c.requires.queue in
+    (write_parts _ c.args.p c.args.q _ c.args.procs.now _ _ _ _ _ _ c.self.invariant is (parts c)).1
+    ∙ ap (λ (t : Queues). procs_behind_write t c.args.p c.args.q c.args.procs.now) c.self.view_is

@@ -1,0 +1,103 @@
+-- Messages read and written. A reader of a queue without messages and a writer to a full one wait, or learn that it can't be
+-- done now. (MP/M II Programmer's Guide, "Function 137: Read Queue", "Function 138: Conditional Read Queue", "Function 139:
+-- Write Queue", "Function 140: Conditional Write Queue", "Mutual Exclusion Queues".)
+use Rattle.std.specs.Prelude.{ℕ, ◌+◌, Bool, List, Option, Some, None, slice_set, if◌then◌else◌}
+use Rattle.mpm_base.specs.Calls.{Answer}
+use Rattle.mpm_ready.specs.Order.{Member, first_of}
+use Rattle.mpm_ready.specs.Tables.{inserted, removed}
+use Rattle.mpm_procs.specs.Table.{Table, call_of, with_call}
+use Rattle.mpm_queues.specs.Queue.{Queue, is_drained, is_full, first_message, held_by, read_by, with_message, message_of, with_given}
+use Rattle.mpm_queues.specs.Queues.{Queues, queue_in, readers_of, writers_of}
+use Rattle.mpm_queues.specs.declared.queues.QueueOutcome.{QueueOutcome}
+use Rattle.mpm_queues.specs.declared.queues.QueueOutcome.TheVariants.{Done, NotNow}
+
+-- the first of those who wait to read from a queue, or to write to it
+abbrev pub first_reader : Queues → ℕ → Option ℕ
+first_reader t q = first_of (readers_of t q)
+
+abbrev pub first_writer : Queues → ℕ → Option ℕ
+first_writer t q = first_of (writers_of t q)
+
+-- the message that a process writes to a queue
+abbrev pub written_by : Queues → ℕ → Table → ℕ → List ℕ
+written_by t q procs p = message_of (queue_in t q).width (call_of procs p)
+
+-- the waiters without the one whose wait is over, if any
+abbrev pub released : Option ℕ → List (List Member) → List (List Member)
+released None waiters = waiters
+released (Some p) waiters = removed waiters p
+
+-- the message of a writer that waited, if any, goes in last
+abbrev pub let_in : Table → Option ℕ → Queue → Queue
+let_in procs None queue = queue
+let_in procs (Some w) queue = with_message (message_of queue.width (call_of procs w)) queue
+
+-- a process reads a message, where there is one, and so makes room for that of the writer that waits first
+unfoldable pub behind_read : Queues → ℕ → ℕ → Table → Queues
+behind_read t p q procs =
+    if is_drained (queue_in t q) then t
+    else (record t {
+      queues = slice_set t.queues q (let_in procs (first_writer t q) (read_by p (queue_in t q)));
+      waiters = released (first_writer t q) t.waiters;
+    })
+
+unfoldable pub read_outcome : Queues → ℕ → QueueOutcome
+read_outcome t q = if is_drained (queue_in t q) then NotNow else (Done (first_writer t q))
+
+-- the message that was read stands in the reply, whose other parts stay
+unfoldable pub read_reply : Queues → ℕ → Answer → Answer
+read_reply t q reply =
+    if is_drained (queue_in t q) then reply else (record reply { bytes = first_message (queue_in t q) })
+
+-- a reader that waited, if any, reads the first message
+abbrev pub taken_out : Option ℕ → Queue → Queue
+taken_out None queue = queue
+taken_out (Some r) queue = read_by r queue
+
+-- a message goes to a reader that waited, if any, or else into the queue
+abbrev pub handed : Option ℕ → List ℕ → Queue → Queue
+handed None message queue = with_message message queue
+handed (Some r) message queue = held_by r queue
+
+-- a process writes a message, where there is room
+unfoldable pub behind_write : Queues → ℕ → ℕ → Table → Queues
+behind_write t p q procs =
+    if is_full (queue_in t q) then t
+    else (record t {
+      queues = slice_set t.queues q (handed (first_reader t q) (written_by t q procs p) (queue_in t q));
+      waiters = released (first_reader t q) t.waiters;
+    })
+
+unfoldable pub write_outcome : Queues → ℕ → QueueOutcome
+write_outcome t q = if is_full (queue_in t q) then NotNow else (Done (first_reader t q))
+
+-- a message that a reader waited for stands in the call that it keeps
+abbrev pub told : Option ℕ → List ℕ → Table → Table
+told None message procs = procs
+told (Some r) message procs = with_call procs r (with_given message (call_of procs r))
+
+unfoldable pub procs_behind_write : Queues → ℕ → ℕ → Table → Table
+procs_behind_write t p q procs =
+    if is_full (queue_in t q) then procs else (told (first_reader t q) (written_by t q procs p) procs)
+
+-- a process waits no more
+unfoldable pub left : Queues → ℕ → Queues
+left t p = record t { waiters = removed t.waiters p }
+
+-- the list in which a process waits to read from a queue, or to write to it
+abbrev pub place_for : ℕ → Bool → ℕ
+place_for q reader = if reader then q else (32 + q)
+
+-- a process waits at a queue, behind all of equal or better priority
+unfoldable pub enlisted : Queues → ℕ → ℕ → ℕ → Bool → Queues
+enlisted t p priority q reader =
+    record t { waiters = inserted t.waiters (place_for q reader) (record { slot = p; priority = priority }) }
+
+-- where a process may wait: as a reader where there is no message, as a writer where there is no room
+abbrev pub may_wait : Queues → ℕ → Bool → Bool
+may_wait t q reader = if reader then is_drained (queue_in t q) else is_full (queue_in t q)
+
+-- the process whose wait was ended, if any
+abbrev pub ended : QueueOutcome → Option ℕ
+ended (Done other) = other
+ended NotNow = None

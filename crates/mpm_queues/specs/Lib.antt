@@ -1,0 +1,5 @@
+pub mod Queue
+pub mod Messages
+pub mod Queues
+pub mod Handling
+pub mod Runs

@@ -1,0 +1,85 @@
+-- Messages that go into a queue and come out of it: none is lost, none is doubled, and they keep their order. (MP/M II
+-- Programmer's Guide, "Queue Management".)
+use Rattle.std.specs.Prelude.{◌≡◌, ℕ, ◌<◌, Bool, true, List, [], ◌∷◌, ◌++◌, Option, Some, None, ⊤, if◌then◌else◌}
+use Rattle.mpm_procs.specs.Table.{Table}
+use Rattle.mpm_queues.specs.Queue.{is_drained, is_full, first_message}
+use Rattle.mpm_queues.specs.Queues.{Queues, WaitsNowhere, queue_in}
+use Rattle.mpm_queues.specs.Handling.{first_reader, first_writer, written_by, behind_read, behind_write, enlisted, left, may_wait}
+
+-- the message that a read takes out, and that of a waiting writer, which it lets in
+unfoldable pub out_by_read : Queues → ℕ → List (List ℕ)
+out_by_read t q = if is_drained (queue_in t q) then [] else (first_message (queue_in t q) ∷ [])
+
+abbrev pub waiting_message : Queues → ℕ → Table → Option ℕ → List (List ℕ)
+waiting_message t q procs None = []
+waiting_message t q procs (Some w) = written_by t q procs w ∷ []
+
+unfoldable pub in_by_read : Queues → ℕ → Table → List (List ℕ)
+in_by_read t q procs =
+    if is_drained (queue_in t q) then [] else (waiting_message t q procs (first_writer t q))
+
+-- the message that a write brings in, and which goes out at once where a reader waits
+unfoldable pub in_by_write : Queues → ℕ → ℕ → Table → List (List ℕ)
+in_by_write t p q procs = if is_full (queue_in t q) then [] else (written_by t q procs p ∷ [])
+
+abbrev pub handed_message : List ℕ → Option ℕ → List (List ℕ)
+handed_message message None = []
+handed_message message (Some r) = message ∷ []
+
+unfoldable pub out_by_write : Queues → ℕ → ℕ → Table → List (List ℕ)
+out_by_write t p q procs =
+    if is_full (queue_in t q) then [] else (handed_message (written_by t q procs p) (first_reader t q))
+
+-- what came out, followed by what is there now, is what was there before, followed by what went in
+abbrev pub Conserves : Queues → Queues → ℕ → List (List ℕ) → List (List ℕ) → Type 0
+Conserves before now q out into = out ++ (queue_in now q).messages ≡ (queue_in before q).messages ++ into
+
+-- what is done at one queue, with the processes as they are then: a process reads, a process writes, a process waits with a
+-- priority to read or to write, a process waits no more
+pub data Deed : Type 0 where
+  Reads : ℕ → Table → Deed
+  Writes : ℕ → Table → Deed
+  Waits : ℕ → ℕ → Bool → Deed
+  Leaves : ℕ → Deed
+
+abbrev pub behind_deed : Queues → ℕ → Deed → Queues
+behind_deed t q (Reads p procs) = behind_read t p q procs
+behind_deed t q (Writes p procs) = behind_write t p q procs
+behind_deed t q (Waits p priority reader) = enlisted t p priority q reader
+behind_deed t q (Leaves p) = left t p
+
+abbrev pub out_by : Queues → ℕ → Deed → List (List ℕ)
+out_by t q (Reads p procs) = out_by_read t q
+out_by t q (Writes p procs) = out_by_write t p q procs
+out_by t q (Waits p priority reader) = []
+out_by t q (Leaves p) = []
+
+abbrev pub in_by : Queues → ℕ → Deed → List (List ℕ)
+in_by t q (Reads p procs) = in_by_read t q procs
+in_by t q (Writes p procs) = in_by_write t p q procs
+in_by t q (Waits p priority reader) = []
+in_by t q (Leaves p) = []
+
+-- who waits may do so
+abbrev pub MayBe : Queues → ℕ → Deed → Type 0
+MayBe t q (Reads p procs) = ⊤
+MayBe t q (Writes p procs) = ⊤
+MayBe t q (Waits p priority reader) = (p < 32) × WaitsNowhere t p × (may_wait t q reader ≡ true)
+MayBe t q (Leaves p) = ⊤
+
+-- the same for deeds in order
+unfoldable pub behind_all : Queues → ℕ → List Deed → Queues
+behind_all t q [] = t
+behind_all t q (deed ∷ deeds) = behind_all (behind_deed t q deed) q deeds
+
+unfoldable pub all_out : Queues → ℕ → List Deed → List (List ℕ)
+all_out t q [] = []
+all_out t q (deed ∷ deeds) = out_by t q deed ++ all_out (behind_deed t q deed) q deeds
+
+unfoldable pub all_in : Queues → ℕ → List Deed → List (List ℕ)
+all_in t q [] = []
+all_in t q (deed ∷ deeds) = in_by t q deed ++ all_in (behind_deed t q deed) q deeds
+
+unfoldable pub AllMayBe : Queues → ℕ → List Deed → Type 0
+AllMayBe t q [] = ⊤
+AllMayBe t q (deed ∷ deeds) = MayBe t q deed × AllMayBe (behind_deed t q deed) q deeds

@@ -1,0 +1,11 @@
+//! Message queues: what was written is read in order, and processes wait where there is no message or no room.
+#![tactic(auto)]
+
+mod queues;
+mod store;
+
+pub use queues::{MakeRefused, QueueOutcome, Queues};
+pub use std::alloc::AllocError as OutOfMemory;
+
+#[cfg(test)]
+mod tests;

@@ -1,0 +1,89 @@
+-- With what a machine file's bytes begin.
+use Rattle.std.proofs.Common.{◌≡◌, ◌∙◌, ℕ, List, [], Option, Some, None, ap, sym, subst, refl, IsSome, IfSome, Result, Ok, Err, IfOk, option_map, option_and_then}
+use Rattle.mpm_script.specs.declared.event.Timed.{Timed}
+use Rattle.mpm_machine_file.specs.declared.machine_file.MachineFile.{MachineFile}
+use Rattle.mpm_machine_file.specs.MachineFiles.{machine_of_text}
+use Rattle.mpm_machine.specs.declared.system.System.{System}
+use Rattle.mpm_machine.specs.Opening.{booted}
+use Rattle.mpm_top.specs.declared.words.Form.{Form}
+use Rattle.mpm_top.specs.declared.words.Form.TheVariants.{Program, Run}
+use Rattle.mpm_top.specs.declared.status.Status.{Status}
+use Rattle.mpm_top.specs.declared.status.Status.TheVariants.{Ran, Usage, MachineFault, ScriptFault, TooLong, ReadFault, WriteFault, OutOfMemory}
+use Rattle.mpm_top.specs.Runs.{Contents, system_of, script_name, input_of, Holds, Scripted, Begins, BeginsOf, Unread, EndsBehind, IsNoMachine}
+
+pub no_system : (bytes : List ℕ) (events : List Timed) → machine_of_text bytes ≡ None → system_of Run bytes events ≡ None
+unfolding system_of
+no_system bytes events none = ap (option_map (λ file. booted file events)) none
+
+pub no_script : (bytes : List ℕ) → machine_of_text bytes ≡ None → script_name Run bytes ≡ None
+unfolding script_name
+no_script bytes none = ap (option_and_then (λ (file : MachineFile). file.script)) none
+
+pub script_of_file : (bytes : List ℕ) (file : MachineFile) → machine_of_text bytes ≡ Some file → script_name Run bytes ≡ file.script
+unfolding script_name
+script_of_file bytes file is = ap (option_and_then (λ (f : MachineFile). f.script)) is
+
+pub system_of_file : (bytes : List ℕ) (events : List Timed) (file : MachineFile) → machine_of_text bytes ≡ Some file
+    → system_of Run bytes events ≡ Some (booted file events)
+unfolding system_of
+system_of_file bytes events file is = ap (option_map (λ f. booted f events)) is
+
+pub no_machine : (bytes : List ℕ) → machine_of_text bytes ≡ None → IsNoMachine Run (λ held. held ≡ bytes)
+no_machine bytes none = record { bytes = bytes; held = refl; none = no_system bytes [] none }
+
+pub names_nothing : (bytes script : List ℕ) → machine_of_text bytes ≡ None → script_name Run bytes ≡ Some script → ⊥
+names_nothing bytes script none named =
+    let e : Some script ≡ None = sym named ∙ no_script bytes none in absurd (cc)
+
+pub begins_of_file : (contents : Contents) (bytes : List ℕ) (file : MachineFile) (events : List Timed) (system : System) → machine_of_text bytes ≡ Some file
+    → Scripted contents file.script events → system ≡ booted file events → BeginsOf contents Run (λ held. held ≡ bytes) system
+begins_of_file contents bytes file events system is scripted was = record {
+  bytes = bytes;
+  events = events;
+  held = refl;
+  scripted = subst (λ (script : Option (List ℕ)). Scripted contents script events) (sym (script_of_file bytes file is)) scripted;
+  is = system_of_file bytes events file is ∙ ap Some (sym was);
+}
+
+-- the script that a machine file names wasn't read
+
+by_status : (contents : Contents) (bytes name : List ℕ) (old new : List (List ℕ)) (status : Status) → script_name Run bytes ≡ Some name
+    → Unread contents name old new status → EndsBehind contents Run (λ held. held ≡ bytes) old new status
+by_status contents bytes name old new Ran is unread = absurd unread
+by_status contents bytes name old new Usage is unread = absurd unread
+by_status contents bytes name old new MachineFault is unread = absurd unread
+by_status contents bytes name old new (ScriptFault line) is unread = record { bytes = bytes; held = refl; script = name; named = is; unread = unread }
+by_status contents bytes name old new (TooLong what) is unread = record { bytes = bytes; held = refl; script = name; named = is; unread = unread }
+by_status contents bytes name old new ReadFault is unread = record { bytes = bytes; held = refl; script = name; named = is; unread = unread }
+by_status contents bytes name old new (WriteFault step) is unread = absurd unread
+by_status contents bytes name old new OutOfMemory is unread = unread
+
+unread_behind : (contents : Contents) (bytes : List ℕ) (script : Option (List ℕ)) (old new : List (List ℕ)) (status : Status) → script_name Run bytes ≡ script
+    → IsSome script → IfSome script (λ name. Unread contents name old new status) → EndsBehind contents Run (λ held. held ≡ bytes) old new status
+unread_behind contents bytes None old new status is some unread = absurd (cc)
+unread_behind contents bytes (Some name) old new status is some unread = by_status contents bytes name old new status is unread
+
+pub ends_unread : (contents : Contents) (bytes : List ℕ) (file : MachineFile) (old new : List (List ℕ)) (status : Status) → machine_of_text bytes ≡ Some file
+    → IsSome file.script → IfSome file.script (λ name. Unread contents name old new status) → EndsBehind contents Run (λ held. held ≡ bytes) old new status
+ends_unread contents bytes file old new status is some unread =
+    unread_behind contents bytes file.script old new status (script_of_file bytes file is) some unread
+
+-- a program's bytes name no script, and its machine is that of the file that holds them
+
+pub program_names_nothing : (form : Form) (bytes script : List ℕ) → form ≡ Program → script_name form bytes ≡ Some script → ⊥
+unfolding script_name
+program_names_nothing Program bytes script is named = absurd (cc)
+program_names_nothing Run bytes script is named = absurd (cc)
+
+pub begins_held : (contents : Contents) (form : Form) (name bytes : List ℕ) (result : Result System Status) → form ≡ Program
+    → Holds contents (input_of form) name bytes → IfOk result (λ machine. BeginsOf contents Program (λ held. held ≡ bytes) machine)
+    → IfOk result (λ machine. Begins contents form name machine)
+begins_held contents Run name bytes result is held begins = absurd (cc)
+begins_held contents Program name bytes (Err status) is held begins = begins
+begins_held contents Program name bytes (Ok machine) is held begins = record {
+  bytes = begins.bytes;
+  events = begins.events;
+  held = subst (Holds contents (input_of Program) name) (sym begins.held) held;
+  scripted = begins.scripted;
+  is = begins.is;
+}

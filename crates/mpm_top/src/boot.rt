@@ -1,0 +1,167 @@
+ghost use Rattle.std.specs.Prelude.{[], ◌≡◌, ◌≤◌, ◌↔◌, ℕ, List, Some, IsSome, IfSome, IfOk, IfErr, MatchResult, length};
+ghost use Rattle.mpm_machine.specs.State.{IsWhole};
+ghost use Rattle.mpm_top.specs.Runs.{input_of as input_said, room_for, script_name, Contents, Holds, HoldsEvents, Begins, BeginsOf, Scripted, Unfetched, Unread, Ends, EndsBehind, IsRefusal, UnlessReadFault, EndsAs};
+
+use crate::status::{Input, Status};
+use crate::words::Form;
+use mpm_machine::{BootError, Machine};
+use mpm_machine_file::{MachineError, MachineFile, Text, read_machine};
+use mpm_port::{FetchError, Fetched, Files};
+use mpm_script::{Script, ScriptError, read_script};
+use std::alloc::Global;
+
+impl Form {
+    /// The input that the file of a command is.
+    fn input(self) -> Input
+        ensures { result ≡ input_said self }
+    {
+        match self {
+            Form::Program => Input::ProgramBytes,
+            Form::Run => Input::MachineText,
+        }
+    }
+}
+
+/// The machine with which a command of a form and a file begins, or how the command ends without one.
+pub(crate) fn boot<F: Files>(
+    alloc: Global,
+    name: &str,
+    form: Form,
+    files: &mut F,
+) -> Result<Machine, Status>
+    ensures begins { IfOk result (λ machine. Begins (F.contents files.old) form name.now machine) }
+    ensures whole { IfOk result (λ machine. IsWhole machine) }
+    ensures handed { IfOk result (λ machine. machine.kernel.completed ≡ []) }
+    ensures start { IfOk result (λ machine. machine.steps ≡ 0) }
+    ensures refusal { IfErr result (λ status. IsRefusal status) }
+    ensures reason { IfErr result (λ status. Ends (F.contents files.old) form name.now (F.failed_names files.old) (F.failed_names files.new) status) }
+    ensures names { MatchResult result (λ _. F.failed_names files.new ≡ F.failed_names files.old)
+        (λ status. UnlessReadFault status (F.failed_names files.new ≡ F.failed_names files.old)) }
+    ensures missing { F.missing files.old name.now → MatchResult result (λ _. ⊥) (λ status. EndsAs Status.ReadFault status) }
+    ensures missing_script { (bytes script : List ℕ) → F.contents files.old name.now ≡ Some bytes → length bytes ≤ room_for (input_said form)
+        → script_name form bytes ≡ Some script → F.missing files.old script → MatchResult result (λ _. ⊥) (λ status. EndsAs Status.ReadFault status) }
+    ensures files { (other : List ℕ) → F.contents files.new other ≡ F.contents files.old other }
+{
+    let bytes = match fetch(alloc, name, form.input(), files) {
+        Ok(bytes) => bytes,
+        Err(status) => return Err(status),
+    };
+    match form {
+        Form::Program => boot_program(alloc, bytes.as_slice()),
+        Form::Run => boot_machine(alloc, bytes.as_slice(), files),
+    }
+}
+
+/// The bytes of a file as an input, or how the command ends without them.
+fn fetch<F: Files>(
+    alloc: Global,
+    name: &str,
+    input: Input,
+    files: &mut F,
+) -> Result<Vec<u8>, Status>
+    ensures held { IfOk result (λ bytes. Holds (F.contents files.old) input name.now bytes.items) }
+    ensures refusal { IfErr result (λ status. IsRefusal status) }
+    ensures reason { IfErr result (λ status. Unfetched (F.contents files.old) input name.now (F.failed_names files.old) (F.failed_names files.new) status) }
+    ensures names { MatchResult result (λ _. F.failed_names files.new ≡ F.failed_names files.old)
+        (λ status. UnlessReadFault status (F.failed_names files.new ≡ F.failed_names files.old)) }
+    ensures missing { F.missing files.old name.now → MatchResult result (λ _. ⊥) (λ status. EndsAs Status.ReadFault status) }
+    ensures stays_missing { (other : List ℕ) → F.missing files.new other ↔ F.missing files.old other }
+    ensures files { (other : List ℕ) → F.contents files.new other ≡ F.contents files.old other }
+{
+    let mut bytes = Vec::new(alloc);
+    match files.fetch(name, input.room(), &mut bytes) {
+        Ok(Fetched::Whole) => Ok(bytes),
+        Ok(Fetched::Longer) => Err(Status::TooLong { what: input }),
+        Err(FetchError::Failed) => Err(Status::ReadFault),
+        Err(FetchError::OutOfMemory) => Err(Status::OutOfMemory),
+    }
+}
+
+/// The machine of a program's bytes.
+#[tactic(auto, unfolding(crate::specs::Runs::system_of, crate::specs::Runs::script_name))]
+fn boot_program(alloc: Global, bytes: &[u8]) -> Result<Machine, Status>
+    requires { length bytes.now ≤ 48512 }
+    ensures begins { (contents : Contents) → IfOk result (λ machine. BeginsOf contents Form.Program (λ held. held ≡ bytes.now) machine) }
+    ensures whole { IfOk result (λ machine. IsWhole machine) }
+    ensures handed { IfOk result (λ machine. machine.kernel.completed ≡ []) }
+    ensures start { IfOk result (λ machine. machine.steps ≡ 0) }
+    ensures memory { IfErr result (λ status. status ≡ Status.OutOfMemory) }
+{
+    match Machine::boot_program(alloc, bytes) {
+        Ok(machine) => Ok(machine),
+        Err(BootError::OutOfMemory) => Err(Status::OutOfMemory),
+    }
+}
+
+/// The machine of a machine file's bytes and of the script that it names, or how the command ends without one.
+fn boot_machine<F: Files>(alloc: Global, bytes: &[u8], files: &mut F) -> Result<Machine, Status>
+    ensures begins { IfOk result (λ machine. BeginsOf (F.contents files.old) Form.Run (λ held. held ≡ bytes.now) machine) }
+    ensures whole { IfOk result (λ machine. IsWhole machine) }
+    ensures handed { IfOk result (λ machine. machine.kernel.completed ≡ []) }
+    ensures start { IfOk result (λ machine. machine.steps ≡ 0) }
+    ensures refusal { IfErr result (λ status. IsRefusal status) }
+    ensures reason { IfErr result (λ status. EndsBehind (F.contents files.old) Form.Run (λ held. held ≡ bytes.now) (F.failed_names files.old) (F.failed_names files.new) status) }
+    ensures names { MatchResult result (λ _. F.failed_names files.new ≡ F.failed_names files.old)
+        (λ status. UnlessReadFault status (F.failed_names files.new ≡ F.failed_names files.old)) }
+    ensures missing { (script : List ℕ) → script_name Form.Run bytes.now ≡ Some script → F.missing files.old script
+        → MatchResult result (λ _. ⊥) (λ status. EndsAs Status.ReadFault status) }
+    ensures files { (other : List ℕ) → F.contents files.new other ≡ F.contents files.old other }
+{
+    let file = match read_machine(alloc, bytes) {
+        Ok(file) => file,
+        Err(MachineError::Fault) => return Err(Status::MachineFault),
+        Err(MachineError::OutOfMemory) => return Err(Status::OutOfMemory),
+    };
+    let script = match read_script_of(alloc, &file, files) {
+        Ok(script) => script,
+        Err(status) => return Err(status),
+    };
+    match Machine::boot(alloc, &file, script) {
+        Ok(machine) => Ok(machine),
+        Err(BootError::OutOfMemory) => Err(Status::OutOfMemory),
+    }
+}
+
+/// The events of the script that a machine file names, or how the command ends without them. Without a script there are
+/// none.
+fn read_script_of<F: Files>(
+    alloc: Global,
+    file: &MachineFile,
+    files: &mut F,
+) -> Result<Script, Status>
+    ensures scripted { IfOk result (λ script. Scripted (F.contents files.old) file.now.script script) }
+    ensures refusal { IfErr result (λ status. IsRefusal status) }
+    ensures reason { IfErr result (λ status. IfSome file.now.script (λ name. Unread (F.contents files.old) name (F.failed_names files.old) (F.failed_names files.new) status)) }
+    ensures named { IfErr result (λ _. IsSome file.now.script) }
+    ensures names { MatchResult result (λ _. F.failed_names files.new ≡ F.failed_names files.old)
+        (λ status. UnlessReadFault status (F.failed_names files.new ≡ F.failed_names files.old)) }
+    ensures missing { (script : List ℕ) → file.now.script ≡ Some script → F.missing files.old script
+        → MatchResult result (λ _. ⊥) (λ status. EndsAs Status.ReadFault status) }
+    ensures files { (other : List ℕ) → F.contents files.new other ≡ F.contents files.old other }
+{
+    match &file.script {
+        Some(name) => read_named(alloc, name.as_str(), files),
+        None => Ok(Script::empty(alloc)),
+    }
+}
+
+/// The events of the script of that name, or how the command ends without them.
+fn read_named<F: Files>(alloc: Global, name: &str, files: &mut F) -> Result<Script, Status>
+    ensures events { IfOk result (λ script. HoldsEvents (F.contents files.old) name.now script) }
+    ensures refusal { IfErr result (λ status. IsRefusal status) }
+    ensures reason { IfErr result (λ status. Unread (F.contents files.old) name.now (F.failed_names files.old) (F.failed_names files.new) status) }
+    ensures names { MatchResult result (λ _. F.failed_names files.new ≡ F.failed_names files.old)
+        (λ status. UnlessReadFault status (F.failed_names files.new ≡ F.failed_names files.old)) }
+    ensures missing { F.missing files.old name.now → MatchResult result (λ _. ⊥) (λ status. EndsAs Status.ReadFault status) }
+    ensures files { (other : List ℕ) → F.contents files.new other ≡ F.contents files.old other }
+{
+    let text = match fetch(alloc, name, Input::ScriptText, files) {
+        Ok(text) => text,
+        Err(status) => return Err(status),
+    };
+    match read_script(alloc, text.as_slice()) {
+        Ok(script) => Ok(script),
+        Err(ScriptError::Fault { line }) => Err(Status::ScriptFault { line }),
+        Err(ScriptError::OutOfMemory) => Err(Status::OutOfMemory),
+    }
+}

@@ -1,0 +1,47 @@
+/// An input that has a greatest length.
+#[derive(Clone, Copy, Debug, PartialEq, Eq)]
+pub enum Input {
+    /// A machine file, of at most 65,536 bytes.
+    MachineText,
+    /// A script, of at most 1,048,576 bytes.
+    ScriptText,
+    /// A program file, of at most 48,512 bytes.
+    ProgramBytes,
+}
+
+/// How the program ended.
+#[derive(Clone, Copy, Debug, PartialEq, Eq)]
+pub enum Status {
+    /// All steps are done, and all output is written.
+    Ran,
+    /// The words have no form that the program knows.
+    Usage,
+    /// The machine file has not the form of one.
+    MachineFault,
+    /// That line of the script, counted from 1, is the first that has none of a script's forms.
+    ScriptFault { line: u32 },
+    /// An input is longer than it may be.
+    TooLong { what: Input },
+    /// A file that the words or the machine file name could not be read.
+    ReadFault,
+    /// The output failed in this step, or behind the last one as the unfinished lines were closed.
+    WriteFault { step: u64 },
+    /// There was no memory to read and boot.
+    OutOfMemory,
+}
+
+impl Input {
+    ghost use Rattle.std.specs.Prelude.{◌≡◌};
+    ghost use Rattle.mpm_top.specs.Runs.{room_for};
+
+    /// The most bytes that it may have.
+    pub(crate) fn room(self) -> usize
+        ensures { result ≡ room_for self }
+    {
+        match self {
+            Input::MachineText => 65_536,
+            Input::ScriptText => 1_048_576,
+            Input::ProgramBytes => 48_512,
+        }
+    }
+}
