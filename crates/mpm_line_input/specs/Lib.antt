@@ -1,0 +1,3 @@
+pub mod Echoes
+pub mod Keys
+pub mod Lines

@@ -1,0 +1,3 @@
+pub mod Lines
+pub mod Terminals
+pub mod Natives

@@ -1,0 +1,89 @@
+-- A terminal message processor: the call that it makes in each row of its table, and where it goes by the answer. (MP/M II
+-- User's Guide, "Terminal Message Processor"; Programmer's Guide, "Function 146: Attach Console", "Function 150: Send CLI
+-- Command", "Function 9: Print String", "Function 10: Read Console Buffer", "Function 14: Select Disk", "Function 32: Set/Get
+-- User Code".)
+use Rattle.std.specs.Prelude.{◌≡◌, ℕ, ◌+◌, ◌*◌, ◌%◌, ◌≤◌, ◌<◌, ◌==◌, if◌then◌else◌, List, [], ◌∷◌, ◌++◌, take, drop, slice_index_or, codes, decimal}
+use Rattle.mpm_base.specs.Lists.{zeros}
+use Rattle.mpm_base.specs.Calls.{Taken, Answer}
+use Rattle.mpm_residents.specs.Lines.{form_of, command_text}
+use Rattle.mpm_residents.specs.declared.line.LineForm.{LineForm}
+use Rattle.mpm_residents.specs.declared.line.LineForm.TheVariants.{Empty, Drive, User, Command}
+use Rattle.mpm_residents.specs.declared.tmp.Row.{Row}
+use Rattle.mpm_residents.specs.declared.tmp.Row.TheVariants.{Attach, Prompt, ReadLine, NewLine, SelectDrive, SetUser, SendCommand, NoDrive}
+
+-- a processor: the console that it was started for, its user and drive, its row, and the line that it read last
+pub record Terminal : Type 0 where
+  pub console : ℕ
+  pub user : ℕ
+  pub drive : ℕ
+  pub row : Row
+  pub line : List ℕ
+
+-- it begins as user 0 on drive A
+unfoldable pub opening : ℕ → Terminal
+opening console = record { console = console; user = 0; drive = 0; row = Attach; line = [] }
+
+-- a call by its function, its parameter, and its bytes
+abbrev pub asking : ℕ → ℕ → List ℕ → Taken
+asking function word bytes = record { function = function; word = word; dma = 0; fcb = zeros 36; bytes = bytes }
+
+-- the user's number, the drive's letter and `>`
+abbrev pub prompt : Terminal → List ℕ
+prompt tmp = decimal tmp.user ++ (65 + tmp.drive) ∷ 62 ∷ []
+
+-- what function 150 is sent: the user and the drive in one byte, the console, and the command
+abbrev pub command_of : Terminal → List ℕ
+command_of tmp = (16 * tmp.user + tmp.drive % 16) ∷ tmp.console ∷ command_text tmp.line
+
+-- the call of each row
+abbrev pub call_at : Row → Terminal → Taken
+call_at Attach tmp = asking 146 0 []
+call_at Prompt tmp = asking 9 0 (prompt tmp)
+call_at ReadLine tmp = asking 10 0 (127 ∷ [])
+call_at NewLine tmp = asking 2 10 []
+call_at (SelectDrive drive) tmp = asking 14 drive []
+call_at (SetUser user) tmp = asking 32 user []
+call_at SendCommand tmp = asking 150 0 (command_of tmp)
+call_at NoDrive tmp = asking 9 0 (codes "No drive" ++ 13 ∷ 10 ∷ [])
+
+unfoldable pub next_call : Terminal → Taken
+next_call tmp = call_at tmp.row tmp
+
+-- the line that function 10 answers: its length, and then its bytes
+abbrev pub line_length : Answer → ℕ
+line_length reply = slice_index_or reply.bytes 0 0
+
+abbrev pub line_in : Answer → List ℕ
+line_in reply = take (line_length reply) (drop 1 reply.bytes)
+
+-- the row behind a line
+abbrev pub row_behind : LineForm → Row
+row_behind Empty = Attach
+row_behind (Drive drive) = SelectDrive drive
+row_behind (User user) = SetUser user
+row_behind Command = SendCommand
+
+-- the processor behind the answer to a row's call
+abbrev pub took_at : Row → Terminal → Answer → Terminal
+took_at Attach tmp reply = record tmp { row = Prompt }
+took_at Prompt tmp reply = record tmp { row = ReadLine }
+took_at ReadLine tmp reply = record tmp { row = NewLine; line = line_in reply }
+took_at NewLine tmp reply = record tmp { row = row_behind (form_of tmp.line) }
+took_at (SelectDrive drive) tmp reply =
+    if reply.hl == 0 then record tmp { row = Attach; drive = drive } else record tmp { row = NoDrive }
+took_at (SetUser user) tmp reply = record tmp { row = Attach; user = user }
+took_at SendCommand tmp reply = record tmp { row = Attach }
+took_at NoDrive tmp reply = record tmp { row = Attach }
+
+unfoldable pub took : Terminal → Answer → Terminal
+took tmp reply = took_at tmp.row tmp reply
+
+-- the line that is answered to function 10 is no longer than was asked for
+abbrev pub MayTake : Taken → Answer → Type 0
+MayTake call reply = call.function ≡ 10 → line_length reply ≤ 127
+
+-- the drives of a row have letters, and its users are 0 to 15
+abbrev pub IsRow : Row → Type 0
+IsRow (SelectDrive drive) = drive < 26
+IsRow (SetUser user) = user < 16
+IsRow _ = Unit {0}

@@ -1,0 +1,194 @@
+ghost use Rattle.std.specs.Prelude.{◌≡◌};
+
+use crate::line::{LineForm, command_text, form_of};
+use itoa::Buffer;
+use mpm_base::{Call, Reply};
+use std::marker::Model;
+
+/// The functions of the kernel that it calls.
+const CONSOLE_OUTPUT: u8 = 2;
+
+const PRINT_STRING: u8 = 9;
+
+const READ_CONSOLE_BUFFER: u8 = 10;
+
+const SELECT_DISK: u8 = 14;
+
+const SET_USER: u8 = 32;
+
+const ATTACH_CONSOLE: u8 = 146;
+
+const SEND_COMMAND: u8 = 150;
+
+/// The most bytes that a line of a terminal may have.
+const MOST: u8 = 127;
+
+/// Which call a terminal message processor makes next.
+#[derive(Clone, Copy)]
+pub(crate) enum Row {
+    /// It attaches its console.
+    Attach,
+    /// It writes its prompt.
+    Prompt,
+    /// It reads a line.
+    ReadLine,
+    /// It goes to a new line behind it.
+    NewLine,
+    /// It makes a drive its current one.
+    SelectDrive { drive: u8 },
+    /// It becomes another user.
+    SetUser { user: u8 },
+    /// It sends the line to the command line interpreter.
+    SendCommand,
+    /// It tells that there is no such drive.
+    NoDrive,
+}
+
+/// A terminal message processor: it reads the lines of a console, follows those that name a drive or a user, and sends all
+/// others to the command line interpreter. (MP/M II User's Guide, "Terminal Message Processor"; Programmer's Guide,
+/// "Function 150: Send CLI Command".)
+#[derive(Drop)]
+pub struct Tmp {
+    /// The console that it was started for.
+    console: u8,
+    /// Its user, 0 to 15.
+    user: u8,
+    /// Its drive, 0 for A.
+    drive: u8,
+    row: Row,
+    /// The line that it read last: the first `length` of these bytes.
+    line: [u8; 127],
+    length: u8,
+}
+
+impl Model for Tmp {
+    ghost use Rattle.std.specs.Prelude.{◌≤◌, ◌<◌, take};
+    ghost use Rattle.mpm_residents.specs.Terminals.{Terminal, IsRow};
+
+    ghost Value = { Terminal };
+
+    ghost view = { λ t. record { console = t.console; user = t.user; drive = t.drive; row = t.row; line = take t.length t.line } };
+
+    ghost invariant = { λ t. (t.length ≤ 127) × (t.user < 16) × (t.drive < 26) × IsRow t.row };
+}
+
+impl Tmp {
+    ghost use Rattle.std.specs.Prelude.{◌≡◌, ◌≤◌};
+    ghost use Rattle.mpm_residents.specs.Lines.{form_of};
+    ghost use Rattle.mpm_residents.specs.Terminals.{opening, asking, prompt, command_of, next_call, took as behind, MayTake, line_length, line_in, row_behind as row_of, IsRow};
+
+    /// The processor of a console: user 0 on drive A, and no console attached yet.
+    #[tactic(auto, unfolding(crate::specs::Terminals::opening))]
+    pub fn new(console: u8) -> Tmp
+        ensures { result ≡ opening console }
+    {
+        Tmp {
+            console,
+            user: 0,
+            drive: 0,
+            row: Row::Attach,
+            line: [0; 127],
+            length: 0,
+        }
+    }
+
+    /// Fills in the call that it makes next. It stays the same until its answer is taken.
+    #[tactic(auto, unfolding(crate::specs::Terminals::next_call))]
+    pub fn next(&mut self, call: &mut Call)
+        ensures tmp { self.new ≡ self.old }
+        ensures call { call.new ≡ next_call self.old }
+    {
+        match self.row {
+            Row::Attach => call.begin(ATTACH_CONSOLE, 0, 0),
+            Row::Prompt => self.fill_prompt(call),
+            Row::ReadLine => {
+                call.begin(READ_CONSOLE_BUFFER, 0, 0);
+                call.push(MOST);
+            }
+            Row::NewLine => call.begin(CONSOLE_OUTPUT, u16::from(b'\n'), 0),
+            Row::SelectDrive { drive } => call.begin(SELECT_DISK, u16::from(drive), 0),
+            Row::SetUser { user } => call.begin(SET_USER, u16::from(user), 0),
+            Row::SendCommand => self.fill_command(call),
+            Row::NoDrive => {
+                call.begin(PRINT_STRING, 0, 0);
+                call.append(b"No drive\r\n");
+            }
+        }
+    }
+
+    /// Takes the answer to that call. The line that function 10 answers has at most 127 bytes.
+    #[tactic(auto, unfolding(crate::specs::Terminals::took, crate::specs::Terminals::next_call))]
+    pub fn took(&mut self, reply: &Reply)
+        requires { MayTake (next_call self.old) reply.now }
+        ensures { self.new ≡ behind self.old reply.now }
+    {
+        self.row = match self.row {
+            Row::Attach => Row::Prompt,
+            Row::Prompt => Row::ReadLine,
+            Row::ReadLine => {
+                self.keep(reply);
+                Row::NewLine
+            }
+            Row::NewLine => self.row_behind_line(),
+            Row::SelectDrive { drive } if reply.hl == 0 => {
+                self.drive = drive;
+                Row::Attach
+            }
+            Row::SelectDrive { .. } => Row::NoDrive,
+            Row::SetUser { user } => {
+                self.user = user;
+                Row::Attach
+            }
+            Row::SendCommand | Row::NoDrive => Row::Attach,
+        };
+    }
+
+    /// The call that writes its prompt: the user's number, the drive's letter and `>`.
+    fn fill_prompt(&self, call: &mut Call)
+        ensures { call.new ≡ asking 9 0 (prompt self.now) }
+    {
+        call.begin(PRINT_STRING, 0, 0);
+        let mut user = Buffer::new();
+        call.append(user.format(self.user).as_bytes());
+        call.push(b'A' + self.drive);
+        call.push(b'>');
+    }
+
+    /// The call that sends its line: the user and the drive in one byte, the console, and the command.
+    fn fill_command(&self, call: &mut Call)
+        ensures { call.new ≡ asking 150 0 (command_of self.now) }
+    {
+        call.begin(SEND_COMMAND, 0, 0);
+        call.push(16 * self.user + self.drive % 16);
+        call.push(self.console);
+        call.append(command_text(&self.line[..usize::from(self.length)]));
+    }
+
+    /// It keeps the line that was answered: its length comes first, and then its bytes.
+    fn keep(&mut self, reply: &Reply)
+        requires { line_length reply.now ≤ 127 }
+        ensures { self.new ≡ record self.old { line = line_in reply.now } }
+    {
+        let placed = reply.placed();
+        let (length, bytes) = match placed {
+            [length, bytes @ ..] => (*length, bytes),
+            [] => (0, placed),
+        };
+        let size = usize::from(length).min(bytes.len());
+        self.line[..size].copy_from_slice(&bytes[..size]);
+        self.length = size as u8;
+    }
+
+    /// Where it goes by its line.
+    fn row_behind_line(&self) -> Row
+        ensures row { result ≡ row_of (form_of self.now.line) }
+        ensures bound { IsRow result }
+    {
+        match form_of(&self.line[..usize::from(self.length)]) {
+            LineForm::Empty => Row::Attach,
+            LineForm::Drive { drive } => Row::SelectDrive { drive },
+            LineForm::User { user } => Row::SetUser { user },
+            LineForm::Command => Row::SendCommand,
+        }
+    }
+}
