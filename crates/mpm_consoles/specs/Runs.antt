@@ -1,0 +1,96 @@
+-- Keys that come to a console and are taken from it: those that are stored come out in the order in which they were typed, and
+-- each other one is a control character or is counted as lost.
+use Rattle.std.specs.Prelude.{◌≡◌, ℕ, ◌+◌, ◌-◌, ◌^◌, Bool, true, false, List, [], ◌∷◌, ◌++◌, Option, Some, None, ◌==◌, min, if◌then◌else◌}
+use Rattle.mpm_consoles.specs.Console.{Console, has_room, first_key}
+use Rattle.mpm_consoles.specs.Consoles.{Consoles, console_at}
+use Rattle.mpm_consoles.specs.Keys.{control_of}
+use Rattle.mpm_consoles.specs.Handling.{behind_attach, behind_detach, behind_assign, behind_key, behind_take, behind_raw, behind_wait, behind_output, left}
+use Rattle.mpm_consoles.specs.declared.keys.Control.{Control}
+use Rattle.mpm_consoles.specs.declared.unit.Unit.{Unit}
+
+-- the keys that a key event stores, and how many it loses
+abbrev pub stored : Option Control → Bool → ℕ → List ℕ
+stored None true byte = byte ∷ []
+stored None false byte = []
+stored (Some control) room byte = []
+
+abbrev pub missed : Option Control → Bool → ℕ
+missed None true = 0
+missed None false = 1
+missed (Some control) room = 0
+
+-- the key that is taken, if any
+abbrev pub as_list : Option ℕ → List ℕ
+as_list None = []
+as_list (Some key) = key ∷ []
+
+-- each call: a key comes to a console, one is taken, or what changes no keys
+pub data Change : Type 0 where
+  Attaches : ℕ → ℕ → Unit → Bool → Change
+  Detaches : ℕ → Unit → Change
+  Assigns : ℕ → ℕ → Change
+  MakesRaw : ℕ → Bool → Change
+  Waits : ℕ → Bool → Change
+  Writes : Unit → ℕ → Bool → Change
+  Leaves : ℕ → Change
+
+pub data Deed : Type 0 where
+  Types : ℕ → ℕ → Bool → Deed
+  Takes : ℕ → Deed
+  Makes : Change → Deed
+
+abbrev pub behind_change : Consoles → Change → Consoles
+behind_change t (Attaches p priority unit wait) = behind_attach t p priority unit wait
+behind_change t (Detaches p unit) = behind_detach t p unit
+behind_change t (Assigns n to) = behind_assign t n to
+behind_change t (MakesRaw n raw) = behind_raw t n raw
+behind_change t (Waits n key) = behind_wait t n key
+behind_change t (Writes unit byte tabs) = behind_output t unit byte tabs
+behind_change t (Leaves p) = left t p
+
+abbrev pub behind_deed : Consoles → Deed → Consoles
+behind_deed t (Types n byte resident) = behind_key t n byte resident
+behind_deed t (Takes n) = behind_take t n
+behind_deed t (Makes change) = behind_change t change
+
+-- what a call does to the keys of one console: those that it takes out, those that it stores, how many it loses
+pub record Passage : Type 0 where
+  pub out : List ℕ
+  pub into : List ℕ
+  pub misses : ℕ
+
+abbrev pub no_passage : Passage
+no_passage = record { out = []; into = []; misses = 0 }
+
+abbrev pub type_in : Console → ℕ → Passage
+type_in console byte = record {
+  out = [];
+  into = stored (control_of console.raw byte) (has_room console) byte;
+  misses = missed (control_of console.raw byte) (has_room console);
+}
+
+abbrev pub take_out : Console → Passage
+take_out console = record { out = as_list (first_key console); into = []; misses = 0 }
+
+unfoldable pub passage : Consoles → ℕ → Deed → Passage
+passage t n (Types m byte resident) = if n == m then type_in (console_at t n) byte else no_passage
+passage t n (Takes m) = if n == m then take_out (console_at t n) else no_passage
+passage t n (Makes change) = no_passage
+
+-- the keys that came out, followed by those that are there now, are those that were there before, followed by those that were
+-- stored; and so many were lost, as far as the count goes
+pub record Conserves (before now : Console) (by : Passage) : Type 0 where
+  pub keys : by.out ++ now.keys ≡ before.keys ++ by.into
+  pub lost : now.lost ≡ min (before.lost + by.misses) (2 ^ 64 - 1)
+
+-- the same for calls in order
+unfoldable pub behind_all : Consoles → List Deed → Consoles
+behind_all t [] = t
+behind_all t (deed ∷ deeds) = behind_all (behind_deed t deed) deeds
+
+unfoldable pub passages : Consoles → ℕ → List Deed → Passage
+passages t n [] = no_passage
+passages t n (deed ∷ deeds) =
+    let first = passage t n deed in
+    let rest = passages (behind_deed t deed) n deeds in
+    record { out = first.out ++ rest.out; into = first.into ++ rest.into; misses = first.misses + rest.misses }

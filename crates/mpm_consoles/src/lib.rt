@@ -1,0 +1,16 @@
+//! Consoles and printers: who owns each, who waits for it, the keys that were typed, and the column of a console.
+#![tactic(auto)]
+
+mod columns;
+mod console;
+mod consoles;
+mod keys;
+mod unit;
+
+pub use consoles::Consoles;
+pub use keys::KeyDone;
+pub use std::alloc::AllocError as OutOfMemory;
+pub use unit::Unit;
+
+#[cfg(test)]
+mod tests;
