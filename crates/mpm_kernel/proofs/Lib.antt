@@ -1,6 +1,11 @@
 pub mod ColumnLaws
 pub mod PlaceLaws
 pub mod Soundness
+pub mod Staying
+pub mod QueueingLaws
+pub mod QueueCalls
+pub mod SystemQueues
+pub mod AnswerLaws
 pub mod SoundLaws
 pub mod PollLaws
 pub mod SpokeLaws

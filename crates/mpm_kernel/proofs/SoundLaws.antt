@@ -22,7 +22,7 @@ use Rattle.mpm_clock.proofs.DelayLaws.{delays_ticked, delays_more_own, delays_mo
 use Rattle.mpm_procs.specs.Table.{Table, lives, Lives, process_in, call_of}
 use Rattle.mpm_procs.specs.declared.process.Process.{Process}
 use Rattle.mpm_procs.proofs.MapLaws.{lives_changed}
-use Rattle.mpm_kernel.specs.Kernel.{Kernel, ready, poll_list, is_waiter, flags_of, IsReady, IsFit, IsSound, CompletedLive, with_changed, with_completed}
+use Rattle.mpm_kernel.specs.Kernel.{Kernel, ready, poll_list, is_waiter, flags_of, waits_of, IsReady, IsFit, IsSound, CompletedLive, with_changed, with_completed}
 use Rattle.mpm_kernel.specs.Dispatch.{at_rest, stays, is_ready, behind_equals, with_priority, unlisted, moved, all_ready, all_woken, runner_behind}
 use Rattle.mpm_kernel.specs.Calls.{is_count, with_user, with_multi, call_done, called}
 use Rattle.mpm_kernel.specs.Called.{Called, valued, low_parameter, refusal}
@@ -33,39 +33,11 @@ use Rattle.mpm_script.specs.Events.{IsEvent}
 use Rattle.mpm_script.specs.declared.event.Event.{Event}
 use Rattle.mpm_script.specs.declared.event.Event.TheVariants.{Tick, Key, Ready, Int}
 use Rattle.mpm_kernel.proofs.PlaceLaws.{flags_with, all_by_counts, all_members}
-pub use Rattle.mpm_kernel.proofs.Soundness.{none_and_some, sound_new, sound_changed, sound_call, sound_devices, sound_spoke, first_is_in, some_same, first_is_ready, listed, listed_once, not_delayed, runner_lives, sound_picked, free_is_unlisted, sound_discharged, sound_admitted, sound_in_slot, consoles_in_slot, completed_in_slot, sound_ready, sound_moved, sound_unlisted, sound_fewer, sound_behind_equals, lives_behind_equals, sound_all_ready, procs_all_ready, running_all_ready, is_ready_true, sound_runner_behind, completed_if, procs_runner_behind, sound_with_completed, sound_completed, MayBeReady}
+use Rattle.mpm_kernel.proofs.Staying.{StaysSound, Calls, nobody, called_if, kernel_if, same}
+use Rattle.mpm_kernel.proofs.QueueCalls.{stays_queue_made, stays_queue_opened, stays_queue_deleted, stays_queue_read, stays_queue_written}
+pub use Rattle.mpm_kernel.proofs.Soundness.{none_and_some, sound_new, sound_changed, sound_call, sound_devices, sound_spoke, first_is_in, some_same, first_is_ready, listed, listed_once, not_delayed, runner_lives, sound_picked, free_is_unlisted, sound_discharged, sound_admitted, sound_in_slot, consoles_in_slot, completed_in_slot, sound_ready, sound_moved, sound_unlisted, sound_fewer, own_queues, sound_behind_equals, lives_behind_equals, sound_all_ready, procs_all_ready, running_all_ready, is_ready_true, sound_runner_behind, completed_if, procs_runner_behind, sound_with_completed, sound_completed, MayBeReady}
 
 -- the calls of the kernel
-
--- what a call leaves is sound, its process lives, and so does each whose held call it completed
-record StaysSound (p : ℕ) (called : Called) : Type 0 where
-  pub sound : IsSound called.kernel
-  pub lives : Lives called.kernel.procs p
-  pub completed : CompletedLive called.kernel
-
-nobody : (kernel : Kernel) → kernel.completed ≡ [] → CompletedLive kernel
-nobody kernel none =
-    let P : List ℕ → Type 0 = λ ps. AllByRecursion (λ p. Lives kernel.procs p) ps in
-    subst P (sym none) tt
-
-called_if : (p : ℕ) (b : Bool) (x y : Called) → (b ≡ true → StaysSound p x) → (b ≡ false → StaysSound p y) → StaysSound p (if b then x else y)
-called_if p true x y s t = s refl
-called_if p false x y s t = t refl
-
-kernel_if : (p : ℕ) (b : Bool) (x y : Kernel) (value : ℕ) → (b ≡ true → StaysSound p (valued value x)) → (b ≡ false → StaysSound p (valued value y))
-    → StaysSound p (valued value (if b then x else y))
-kernel_if p true x y value s t = s refl
-kernel_if p false x y value s t = t refl
-
--- a process that is ready and lives, in a sound kernel that has completed no call yet
-record Calls (p : ℕ) (kernel : Kernel) : Type 0 where
-  pub sound : IsSound kernel
-  pub lives : Lives kernel.procs p
-  pub ready : IsReady kernel p
-  pub none : kernel.completed ≡ []
-
-same : (p value : ℕ) (kernel : Kernel) → Calls p kernel → StaysSound p (valued value kernel)
-same p value kernel c = record { sound = c.sound; lives = c.lives; completed = nobody kernel c.none }
 
 -- the process with a field changed
 stays_changed : (p value : ℕ) (kernel : Kernel) (process : Process) → Calls p kernel → IsFit kernel.consoles process
@@ -144,8 +116,8 @@ flags_from kernel flag old new q s below is =
 sound_flag : (kernel : Kernel) (flag : ℕ) (old new : Flag) → IsSound kernel → flag < 32 → flag_at kernel.flags flag ≡ old
     → ((q : ℕ) → one_if (is_waiter q new) ≤ one_if (is_waiter q old)) → IsSound (record kernel { flags = with_flag kernel.flags flag new })
 sound_flag kernel flag old new s below is no_more =
-    sound_fewer kernel (with_flag kernel.flags flag new) kernel.clock s (length-set kernel.flags flag new ∙ s.flags)
-    (λ q. omega (arith, flags_from kernel flag old new q s below is, no_more q)) (λ q. omega arith)
+    sound_fewer kernel (with_flag kernel.flags flag new) kernel.clock kernel.queues s (length-set kernel.flags flag new ∙ s.flags) (own_queues kernel s)
+    (λ q. omega (arith, flags_from kernel flag old new q s below is, no_more q))
 
 -- a process that is ready waits for no flag
 waits_not : (kernel : Kernel) (flag other p : ℕ) → Calls p kernel → flag < 32 → flag_at kernel.flags flag ≡ Waits other → other ≡ p → ⊥
@@ -164,7 +136,8 @@ unfolding waited unlisted
 stays_waited Clear p flag kernel c below is =
     let behind = with_flag kernel.flags flag (Waits p) in
     record {
-      sound = sound_unlisted kernel p behind kernel.clock c.sound c.lives (length-set kernel.flags flag (Waits p) ∙ c.sound.flags)
+      sound = sound_unlisted kernel p behind kernel.clock kernel.queues c.sound c.lives (length-set kernel.flags flag (Waits p) ∙ c.sound.flags)
+          (own_queues kernel c.sound)
           (omega (arith, listed_once kernel p ready c.sound c.ready, flags_from kernel flag Clear (Waits p) p c.sound below is, waiter_own p p refl))
           (λ q other. omega (arith, flags_from kernel flag Clear (Waits p) q c.sound below is, waiter_other p q other));
       lives = c.lives;
@@ -210,7 +183,7 @@ woke_by Set flag kernel s live below is = record { sound = sound_flag kernel fla
 woke_by (Waits p) flag kernel s live below is =
     let behind = record kernel { flags = with_flag kernel.flags flag Clear } in
     let lives = waiter_lives kernel flag p s below is in
-    let nowhere_else : flags_of behind.flags p + delays_of kernel.clock.delays p ≡ 0 =
+    let nowhere_else : waits_of behind p ≡ 0 =
     omega (arith, s.once p, flags_from kernel flag (Waits p) Clear p s below is, waiter_own p p refl) in
     record {
       sound = sound_with_completed _ (p ∷ []) (sound_ready behind p (sound_flag kernel flag (Waits p) Clear s below is (λ q. omega arith)) lives nowhere_else);
@@ -254,7 +227,7 @@ unfolding slept unlisted
 stays_slept call p kernel c =
     let clock = delayed kernel.clock p call.word in
     called_if p (call.word == 0) _ _ (λ _. stays_behind p 0 kernel c) (λ _. record {
-      sound = sound_unlisted kernel p kernel.flags clock c.sound c.lives c.sound.flags
+      sound = sound_unlisted kernel p kernel.flags clock kernel.queues c.sound c.lives c.sound.flags (own_queues kernel c.sound)
           (omega (arith, listed_once kernel p ready c.sound c.ready, delays_delayed_own kernel p call.word))
           (λ q other. omega (arith, delays_delayed kernel p call.word q other));
       lives = c.lives;
@@ -264,7 +237,8 @@ stays_slept call p kernel c =
 -- the date and the time
 sound_set : (kernel : Kernel) (moment : Moment) → IsSound kernel → IsSound (record kernel { clock = set_to kernel.clock moment })
 unfolding set_to
-sound_set kernel moment s = sound_fewer kernel kernel.flags (set_to kernel.clock moment) s s.flags (λ q. omega arith) (λ q. omega arith)
+sound_set kernel moment s =
+    sound_fewer kernel kernel.flags (set_to kernel.clock moment) kernel.queues s s.flags (own_queues kernel s) (λ q. omega arith)
 
 stays_date_set : (call : Taken) (p : ℕ) (kernel : Kernel) → Calls p kernel → StaysSound p (date_set call kernel)
 unfolding date_set
@@ -311,11 +285,18 @@ stays_call_done call p kernel c =
     (λ _. called_if p (f == 131) _ _ (λ _. stays_polled call p kernel c)
     (λ _. called_if p (f == 132) _ _ (λ _. stays_flag_waited call p kernel c)
     (λ _. called_if p (f == 133) _ _ (λ _. stays_flag_set call p kernel c)
+    (λ _. called_if p (f == 134) _ _ (λ _. stays_queue_made call p kernel c)
+    (λ _. called_if p (f == 135) _ _ (λ _. stays_queue_opened call p kernel c)
+    (λ _. called_if p (f == 136) _ _ (λ _. stays_queue_deleted call p kernel c)
+    (λ _. called_if p (f == 137) _ _ (λ _. stays_queue_read true call p kernel c)
+    (λ _. called_if p (f == 138) _ _ (λ _. stays_queue_read false call p kernel c)
+    (λ _. called_if p (f == 139) _ _ (λ _. stays_queue_written true call p kernel c)
+    (λ _. called_if p (f == 140) _ _ (λ _. stays_queue_written false call p kernel c)
     (λ _. called_if p (f == 141) _ _ (λ _. stays_slept call p kernel c)
     (λ _. called_if p (f == 142) _ _ (λ _. stays_behind p 0 kernel c)
     (λ _. called_if p (f == 145) _ _ (λ _. stays_priority p 0 (low_parameter call) kernel c)
     (λ _. called_if p (f == 155) _ _ (λ _. stays_told p kernel _ (kernel_time_told call kernel) c)
-    (λ _. same p _ kernel c))))))))))))))))))
+    (λ _. same p _ kernel c)))))))))))))))))))))))))
 
 -- a process that is ready may call
 begun : (p : ℕ) (kernel : Kernel) → IsSound kernel → Lives kernel.procs p → IsReady kernel p → Calls p (with_completed kernel [])
@@ -336,7 +317,7 @@ live_called p kernel s h is_ready = (stays_call_done (call_of kernel.procs p) p 
 sound_ticked : (kernel : Kernel) → IsSound kernel → IsSound (with_tick kernel)
 unfolding ticked
 sound_ticked kernel s =
-    sound_fewer kernel kernel.flags (ticked kernel.clock) s s.flags (λ q. omega arith) (λ q. omega (arith, delays_ticked kernel.clock.delays q))
+    sound_fewer kernel kernel.flags (ticked kernel.clock) kernel.queues s s.flags (own_queues kernel s) (λ q. omega (arith, delays_ticked kernel.clock.delays q))
 
 may_by_tick : (kernel : Kernel) → IsSound kernel
     → AllByRecursion (MayBeReady (with_tick kernel)) (woken_by_tick kernel.clock.delays)

@@ -20,7 +20,11 @@ use Rattle.mpm_procs.specs.declared.process.Process.{Process}
 use Rattle.mpm_procs.specs.declared.process.NewProcess.{NewProcess}
 use Rattle.mpm_procs.specs.Opening.{opening}
 use Rattle.mpm_procs.proofs.MapLaws.{lives_below, process_changed, process_kept, lives_changed, slots_changed, slots_behind, free_below, free_is_dead, lives_added, lives_added_other, process_added, process_added_other, slots_added, lives_without, lives_without_other, process_without_other, slots_without, slots_none, nobody_lives}
-use Rattle.mpm_kernel.specs.Kernel.{Kernel, ready, in_lists, flags_of, places, IsReady, IsFit, IsSound, with_changed, with_completed}
+use Rattle.mpm_queues.specs.Queues.{Queues, no_queues, IsMade, waits, IsSound as AreSound}
+use Rattle.mpm_queues.specs.Handling.{left as unqueued}
+use Rattle.mpm_queues.proofs.SoundLaws.{sound_none, sound_left}
+use Rattle.mpm_queues.proofs.WaitLaws.{waits_nowhere, waits_left, waits_left_other}
+use Rattle.mpm_kernel.specs.Kernel.{Kernel, ready, in_lists, flags_of, waits_in, waits_of, places, IsReady, IsFit, IsSound, with_changed, with_completed}
 use Rattle.mpm_kernel.specs.Columns.{spoke}
 use Rattle.mpm_kernel.specs.Dispatch.{new_kernel, admitted, in_slot, at_rest, discharged, runs_still, picked, stays, is_ready, behind_equals, moved, all_ready, runner_behind}
 use Rattle.mpm_kernel.specs.Events.{handed_out}
@@ -35,8 +39,12 @@ none_and_some None n e f = absurd (cc)
 none_and_some (Some m) n e f = absurd (cc)
 
 -- where nobody lives, nobody stands anywhere
-nowhere : (p : ℕ) → in_lists (list_of no_lists p) + flags_of no_flags p + delays_of [] p ≡ 0
-nowhere p = omega (arith, in_none _ (list_of_none p), flags_none p, delays_none p)
+no_waits : (p : ℕ) → waits no_queues p ≡ 0
+unfolding no_queues
+no_waits p = waits_nowhere no_queues p (list_of_none p)
+
+nowhere : (p : ℕ) → in_lists (list_of no_lists p) + (flags_of no_flags p + delays_of [] p + waits no_queues p) ≡ 0
+nowhere p = omega (arith, in_none _ (list_of_none p), flags_none p, delays_none p, no_waits p)
 
 -- no process lives
 pub sound_new : (consoles printers : ℕ) (now : Moment) → 1 ≤ consoles → consoles ≤ 8 → IsSound (new_kernel consoles printers now)
@@ -49,6 +57,8 @@ sound_new consoles printers now some few = record {
   table = table_none;
   fit = λ p living. absurd (dead_and_alive _ (nobody_lives p) living);
   flags = refl;
+  queues = sound_none;
+  system = λ q below. absurd (omega (arith, below));
   once = λ p. omega (arith, nowhere p);
   live = λ p some. absurd (omega (arith, nowhere p));
   runs = λ p e. absurd (none_and_some None p refl e);
@@ -75,6 +85,8 @@ sound_changed kernel p process s h fit = record {
         subst P (sym (process_kept kernel.procs p q process other)) (s.fit q (sym (lives_changed kernel.procs p q process) ∙ living))
   ];
   flags = s.flags;
+  queues = s.queues;
+  system = s.system;
   once = s.once;
   live = λ q some. lives_changed kernel.procs p q process ∙ s.live q some;
   runs = s.runs;
@@ -91,6 +103,8 @@ sound_call kernel p call s = record {
   table = s.table;
   fit = s.fit;
   flags = s.flags;
+  queues = s.queues;
+  system = s.system;
   once = s.once;
   live = s.live;
   runs = s.runs;
@@ -105,6 +119,8 @@ sound_devices kernel devices s = record {
   table = s.table;
   fit = s.fit;
   flags = s.flags;
+  queues = s.queues;
+  system = s.system;
   once = s.once;
   live = s.live;
   runs = s.runs;
@@ -120,6 +136,8 @@ sound_spoke kernel console bytes s = record {
   table = s.table;
   fit = s.fit;
   flags = s.flags;
+  queues = s.queues;
+  system = s.system;
   once = s.once;
   live = s.live;
   runs = s.runs;
@@ -163,9 +181,9 @@ first_is_ready kernel p s e = list_of_known kernel.lists p ready s.table (first_
 pub listed : (kernel : Kernel) (p list : ℕ) → IsSound kernel → list_of kernel.lists p ≡ Some list → Lives kernel.procs p
 listed kernel p list s e = s.live p (omega (arith, in_some _ list e))
 
--- who is in a list waits neither for a flag nor for the clock
+-- who is in a list waits neither for a flag nor for the clock nor at a queue
 pub listed_once : (kernel : Kernel) (p list : ℕ) → IsSound kernel → list_of kernel.lists p ≡ Some list
-    → flags_of kernel.flags p + delays_of kernel.clock.delays p ≡ 0
+    → waits_of kernel p ≡ 0
 listed_once kernel p list s e = omega (arith, in_some _ list e, s.once p)
 
 -- who is ready waits for no tick
@@ -187,6 +205,8 @@ sound_picked kernel instruction s = sound_if (instruction && stays kernel kernel
   table = s.table;
   fit = s.fit;
   flags = s.flags;
+  queues = s.queues;
+  system = s.system;
   once = s.once;
   live = s.live;
   runs = λ p e. first_is_ready kernel p s e;
@@ -203,7 +223,7 @@ none_if_dead zero h = refl
 none_if_dead (suc n) h = absurd (h (omega arith))
 
 free_is_nowhere : (kernel : Kernel) (p : ℕ) → IsSound kernel → lowest_free kernel.procs ≡ Some p
-    → flags_of kernel.flags p + delays_of kernel.clock.delays p ≡ 0
+    → waits_of kernel p ≡ 0
 free_is_nowhere kernel p s free =
     let none = none_if_dead (places kernel p) (λ some. dead_and_alive _ (free_is_dead kernel.procs p free) (s.live p some)) in
     omega (arith, none)
@@ -212,13 +232,17 @@ free_is_nowhere kernel p s free =
 nowhere_behind : (kernel : Kernel) (p : ℕ) → places (discharged kernel p) p ≡ 0
 unfolding discharged left
 nowhere_behind kernel p =
-    omega (arith, in_none _ (list_of_removed kernel.lists p), flags_left_own kernel.flags p, delays_left_own kernel.clock.delays p)
+    omega (arith, in_none _ (list_of_removed kernel.lists p), flags_left_own kernel.flags p, delays_left_own kernel.clock.delays p, waits_left kernel.queues p)
 
 elsewhere_behind : (kernel : Kernel) (p q : ℕ) → IsSound kernel → q ≢ p → places (discharged kernel p) q ≡ places kernel q
 unfolding discharged left
 elsewhere_behind kernel p q s other =
     let same = list_of_removed_other kernel.lists p q s.table (not_equal p q (λ e. other (sym e))) in
-    omega (arith, ap in_lists same, flags_left_other kernel.flags p q other, delays_left_other kernel.clock.delays p q other)
+    omega (arith, ap in_lists same, flags_left_other kernel.flags p q other, delays_left_other kernel.clock.delays p q other, waits_left_other kernel.queues p q s.queues other)
+
+made_left : (t : Queues) (p q : ℕ) → IsMade t q → IsMade (unqueued t p) q
+unfolding unqueued
+made_left t p q is = is
 
 -- a process ends
 pub sound_discharged : (kernel : Kernel) (p : ℕ) → IsSound kernel → Lives kernel.procs p → IsSound (discharged kernel p)
@@ -238,6 +262,8 @@ sound_discharged kernel p s h =
             subst P (sym (process_without_other kernel.procs p q other)) (s.fit q (sym (lives_without_other kernel.procs p q other) ∙ living))
       ];
       flags = length_left kernel.flags p ∙ s.flags;
+      queues = sound_left kernel.queues p s.queues;
+      system = λ q below. made_left kernel.queues p q (s.system q below);
       once = λ q. elim (cases_eq q p) [
         | inl same ↦ omega (arith, ap (places (discharged kernel p)) same, nowhere_behind kernel p)
         | inr other ↦ omega (arith, s.once q, elsewhere_behind kernel p q s other)
@@ -276,9 +302,11 @@ sound_admitted kernel p new s free console =
             subst P (sym (process_added_other kernel.procs p q new other)) (s.fit q (sym (lives_added_other kernel.procs p q new other) ∙ living))
       ];
       flags = s.flags;
+      queues = s.queues;
+      system = s.system;
       once = λ q. elim (cases_eq q p) [
         | inl same ↦
-            let here = ap (λ x. flags_of kernel.flags x + delays_of kernel.clock.delays x) same in
+            let here = ap (λ x. waits_of kernel x) same in
             omega (arith, in_at_most (list_of (inserted kernel.lists ready member) q), here, free_is_nowhere kernel p s free)
         | inr other ↦
             let there = list_of_inserted_other kernel.lists ready member q s.table (omega arith) below none (not_equal p q (λ e. other (sym e))) in
@@ -315,7 +343,7 @@ completed_in_slot kernel new (Some p) = refl
 
 -- a process is put into a list and is nowhere else
 placed_in : (kernel : Kernel) (list p : ℕ) (running : Option ℕ) → IsSound kernel → Lives kernel.procs p → list < 96
-    → flags_of kernel.flags p + delays_of kernel.clock.delays p ≡ 0
+    → waits_of kernel p ≡ 0
     → ((q : ℕ) → running ≡ Some q → list_of (moved_lists kernel.lists list p (process_in kernel.procs p).priority) q ≡ Some ready)
     → IsSound (record kernel { lists = moved_lists kernel.lists list p (process_in kernel.procs p).priority; running = running })
 placed_in kernel list p running s h small nowhere_else runs =
@@ -328,10 +356,12 @@ placed_in kernel list p running s h small nowhere_else runs =
       slots = s.slots;
       table = table_moved kernel.lists list p priority s.table small below;
       flags = s.flags;
+      queues = s.queues;
+      system = s.system;
       fit = s.fit;
       once = λ q. elim (cases_eq q p) [
         | inl same ↦
-            let here = ap (λ x. flags_of kernel.flags x + delays_of kernel.clock.delays x) same in
+            let here = ap (λ x. waits_of kernel x) same in
             omega (arith, in_at_most (list_of (moved_lists kernel.lists list p priority) q), here, nowhere_else)
         | inr other ↦ omega (arith, ap in_lists (list_moved_other kernel.lists list p priority q s.table small below other), s.once q)
       ];
@@ -343,7 +373,7 @@ placed_in kernel list p running s h small nowhere_else runs =
     }
 
 -- a process that waits for nothing else becomes ready
-pub sound_ready : (kernel : Kernel) (p : ℕ) → IsSound kernel → Lives kernel.procs p → flags_of kernel.flags p + delays_of kernel.clock.delays p ≡ 0
+pub sound_ready : (kernel : Kernel) (p : ℕ) → IsSound kernel → Lives kernel.procs p → waits_of kernel p ≡ 0
     → IsSound (moved kernel ready p)
 unfolding moved
 sound_ready kernel p s h nowhere_else =
@@ -356,7 +386,7 @@ sound_ready kernel p s h nowhere_else =
 
 -- a process that runs no more is put into another list
 pub sound_moved : (kernel : Kernel) (list p : ℕ) → IsSound kernel → Lives kernel.procs p → list < 96
-    → flags_of kernel.flags p + delays_of kernel.clock.delays p ≡ 0 → IsSound (at_rest (moved kernel list p) p)
+    → waits_of kernel p ≡ 0 → IsSound (at_rest (moved kernel list p) p)
 unfolding moved
 sound_moved kernel list p s h small nowhere_else =
     let below : p < 32 = lives_below kernel.procs p s.slots h in
@@ -364,23 +394,34 @@ sound_moved kernel list p s h small nowhere_else =
     list_moved_other kernel.lists list p (process_in kernel.procs p).priority q s.table small below (runs_other p q kernel.running e).0
     ∙ s.runs q (runs_other p q kernel.running e).1)
 
--- a process that runs no more leaves its list, and waits for a flag or for the clock
-pub sound_unlisted : (kernel : Kernel) (p : ℕ) (flags : List Flag) (clock : Clock) → IsSound kernel → Lives kernel.procs p → length flags ≡ 32
-    → flags_of flags p + delays_of clock.delays p ≤ 1
-    → ((q : ℕ) → q ≢ p → flags_of flags q + delays_of clock.delays q ≡ flags_of kernel.flags q + delays_of kernel.clock.delays q)
-    → IsSound (record kernel { lists = removed kernel.lists p; flags = flags; clock = clock; running = runs_still p kernel.running })
-sound_unlisted kernel p flags clock s h size own others = record {
+-- queues that are sound, and those of the system among them
+pub record AreQueues (kernel : Kernel) (queues : Queues) : Type 0 where
+  pub sound : AreSound queues
+  pub system : (q : ℕ) → q < kernel.system_queues → IsMade queues q
+
+pub own_queues : (kernel : Kernel) → IsSound kernel → AreQueues kernel kernel.queues
+own_queues kernel s = record { sound = s.queues; system = s.system }
+
+-- a process that runs no more leaves its list, and waits for a flag, for the clock or at a queue
+pub sound_unlisted : (kernel : Kernel) (p : ℕ) (flags : List Flag) (clock : Clock) (queues : Queues) → IsSound kernel → Lives kernel.procs p
+    → length flags ≡ 32 → AreQueues kernel queues
+    → waits_in flags clock queues p ≤ 1
+    → ((q : ℕ) → q ≢ p → waits_in flags clock queues q ≡ waits_of kernel q)
+    → IsSound (record kernel { lists = removed kernel.lists p; flags = flags; clock = clock; queues = queues; running = runs_still p kernel.running })
+sound_unlisted kernel p flags clock queues s h size are own others = record {
   some = s.some;
   few = s.few;
   columns = s.columns;
   slots = s.slots;
   table = table_removed kernel.lists p s.table;
   flags = size;
+  queues = are.sound;
+  system = are.system;
   fit = s.fit;
   once = λ q. elim (cases_eq q p) [
     | inl same ↦
         let none = in_none _ (ap (list_of (removed kernel.lists p)) same ∙ list_of_removed kernel.lists p) in
-        let here = ap (λ x. flags_of flags x + delays_of clock.delays x) same in
+        let here = ap (λ x. waits_in flags clock queues x) same in
         omega (arith, none, here, own)
     | inr other ↦
         let there = list_of_removed_other kernel.lists p q s.table (not_equal p q (λ e. other (sym e))) in
@@ -398,19 +439,21 @@ sound_unlisted kernel p flags clock s h size own others = record {
 }
 
 -- nobody waits more than before
-pub sound_fewer : (kernel : Kernel) (flags : List Flag) (clock : Clock) → IsSound kernel → length flags ≡ 32
-    → ((q : ℕ) → flags_of flags q ≤ flags_of kernel.flags q) → ((q : ℕ) → delays_of clock.delays q ≤ delays_of kernel.clock.delays q)
-    → IsSound (record kernel { flags = flags; clock = clock })
-sound_fewer kernel flags clock s size fewer_flags fewer_delays = record {
+pub sound_fewer : (kernel : Kernel) (flags : List Flag) (clock : Clock) (queues : Queues) → IsSound kernel → length flags ≡ 32 → AreQueues kernel queues
+    → ((q : ℕ) → waits_in flags clock queues q ≤ waits_of kernel q)
+    → IsSound (record kernel { flags = flags; clock = clock; queues = queues })
+sound_fewer kernel flags clock queues s size are fewer = record {
   some = s.some;
   few = s.few;
   columns = s.columns;
   slots = s.slots;
   table = s.table;
   flags = size;
+  queues = are.sound;
+  system = are.system;
   fit = s.fit;
-  once = λ q. omega (arith, s.once q, fewer_flags q, fewer_delays q);
-  live = λ q some. s.live q (omega (arith, fewer_flags q, fewer_delays q, some));
+  once = λ q. omega (arith, s.once q, fewer q);
+  live = λ q some. s.live q (omega (arith, fewer q, some));
   runs = s.runs;
 }
 
@@ -434,7 +477,7 @@ lives_behind_equals kernel p q h = h
 -- processes that wait for nothing else become ready, one after the other
 
 abbrev pub MayBeReady : Kernel → ℕ → Type 0
-MayBeReady kernel p = Lives kernel.procs p × (flags_of kernel.flags p + delays_of kernel.clock.delays p ≡ 0)
+MayBeReady kernel p = Lives kernel.procs p × (waits_of kernel p ≡ 0)
 
 pub sound_all_ready : (ps : List ℕ) (kernel : Kernel) → IsSound kernel → AllByRecursion (MayBeReady kernel) ps → IsSound (all_ready ps kernel)
 unfolding all_ready moved
@@ -487,6 +530,8 @@ sound_with_completed kernel ps s = record {
   slots = s.slots;
   table = s.table;
   flags = s.flags;
+  queues = s.queues;
+  system = s.system;
   fit = s.fit;
   once = s.once;
   live = s.live;

@@ -1,6 +1,6 @@
 -- What the kernel's calls do and answer, by the call that the process keeps. (MP/M II Programmer's Guide, the functions
 -- named.)
-use Rattle.std.specs.Prelude.{ℕ, ◌%◌, Bool, List, [], ◌++◌, ◌&&◌, ◌||◌, ◌==◌, nat_le, min, length, take, drop, replicate, if◌then◌else◌}
+use Rattle.std.specs.Prelude.{ℕ, ◌%◌, Bool, true, false, [], ◌&&◌, ◌||◌, ◌==◌, nat_le, if◌then◌else◌}
 use Rattle.mpm_base.specs.Calls.{Taken, answering}
 use Rattle.mpm_base.specs.declared.call.Outcome.TheVariants.{Ended}
 use Rattle.mpm_procs.specs.Table.{process_in, call_of}
@@ -9,7 +9,8 @@ use Rattle.mpm_kernel.specs.Kernel.{Kernel, with_changed, with_completed}
 use Rattle.mpm_kernel.specs.Dispatch.{behind_equals, with_priority}
 use Rattle.mpm_kernel.specs.Waiting.{polled, flag_waited, flag_set, slept}
 use Rattle.mpm_kernel.specs.Dates.{date_set, date_told, time_told}
-pub use Rattle.mpm_kernel.specs.Called.{Called, valued, done, low_parameter, refusal}
+use Rattle.mpm_kernel.specs.Queueing.{queue_made, queue_opened, queue_deleted, queue_read, queue_written}
+pub use Rattle.mpm_kernel.specs.Called.{Called, valued, done, low_parameter, refusal, eight_of}
 
 -- the version: MP/M II, whose file system is that of CP/M 3
 abbrev pub version : ℕ
@@ -35,10 +36,6 @@ unfoldable pub with_multi : Taken → ℕ → Process → Kernel → Kernel
 with_multi call p process kernel =
     if is_count (low_parameter call) then with_changed kernel p (record process { multi = low_parameter call }) else kernel
 
--- the first eight bytes that a call read, those that lack as zeros
-unfoldable pub eight_of : List ℕ → List ℕ
-eight_of bytes = take (min (length bytes) 8) bytes ++ drop (min (length bytes) 8) (replicate 8 0)
-
 -- the call of a process, which it keeps
 unfoldable pub call_done : Taken → ℕ → Process → Kernel → Called
 call_done call p process kernel =
@@ -57,11 +54,18 @@ call_done call p process kernel =
     else (if function == 131 then polled call p kernel
     else (if function == 132 then flag_waited call p kernel
     else (if function == 133 then flag_set call kernel
+    else (if function == 134 then queue_made call kernel
+    else (if function == 135 then queue_opened call kernel
+    else (if function == 136 then queue_deleted call kernel
+    else (if function == 137 then queue_read true call p kernel
+    else (if function == 138 then queue_read false call p kernel
+    else (if function == 139 then queue_written true call p kernel
+    else (if function == 140 then queue_written false call p kernel
     else (if function == 141 then slept call p kernel
     else (if function == 142 then done (behind_equals kernel p)
     else (if function == 145 then done (with_priority kernel p (low_parameter call))
     else (if function == 155 then time_told call kernel
-    else (valued 65535 kernel))))))))))))))))))
+    else (valued 65535 kernel)))))))))))))))))))))))))
 
 -- the call that a process keeps is done
 abbrev pub called : ℕ → Kernel → Called

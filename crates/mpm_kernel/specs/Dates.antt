@@ -1,14 +1,14 @@
 -- The calls that set and tell the date and the time, whose numbers are packed decimal: two digits in a byte. (MP/M II
 -- Programmer's Guide, "Function 104: Set Date and Time", "Function 105: Get Date and Time", "Function 155: Get Date and
 -- Time".)
-use Rattle.std.specs.Prelude.{ℕ, ◌+◌, ◌*◌, ◌/◌, ◌%◌, Bool, List, [], ◌∷◌, ◌++◌, ◌&&◌, nat_lt, slice_index_or, if◌then◌else◌}
+use Rattle.std.specs.Prelude.{ℕ, ◌+◌, ◌*◌, ◌/◌, ◌%◌, Bool, List, [], ◌∷◌, ◌++◌, ◌&&◌, nat_lt, if◌then◌else◌}
 use Rattle.mpm_base.specs.Calls.{Taken, answering}
 use Rattle.mpm_base.specs.declared.call.Outcome.TheVariants.{Done}
 use Rattle.mpm_clock.specs.declared.moment.Moment.{Moment}
 use Rattle.mpm_clock.specs.Times.{moment_of, set_to}
 use Rattle.z80_regs.specs.Words.{low, high, word_of}
 use Rattle.mpm_kernel.specs.Kernel.{Kernel}
-use Rattle.mpm_kernel.specs.Called.{Called, valued, done, refusal}
+use Rattle.mpm_kernel.specs.Called.{Called, valued, done, refusal, byte_in}
 
 -- a number below 100 in packed decimal
 abbrev pub packed : ℕ → ℕ
@@ -20,10 +20,6 @@ is_packed byte = nat_lt (byte / 16) 10 && nat_lt (byte % 16) 10
 
 abbrev pub unpacked : ℕ → ℕ
 unpacked byte = 10 * (byte / 16) + byte % 16
-
--- one of the bytes that a call read, 0 where it lacks
-abbrev pub byte_in : Taken → ℕ → ℕ
-byte_in call place = slice_index_or call.bytes place 0
 
 -- the moment that a call names by date, hour and minute
 unfoldable pub named_moment : Taken → Moment

@@ -7,6 +7,8 @@ use Rattle.mpm_ready.specs.Tables.{no_lists, list_at, list_of, inserted, removed
 use Rattle.mpm_flags.specs.States.{no_flags, left as without_waiter}
 use Rattle.mpm_clock.specs.declared.moment.Moment.{Moment}
 use Rattle.mpm_clock.specs.Times.{new_clock, left as without_delay}
+use Rattle.mpm_queues.specs.Queues.{no_queues}
+use Rattle.mpm_queues.specs.Handling.{left as unqueued}
 use Rattle.mpm_procs.specs.Table.{no_processes, process_in, added, without}
 use Rattle.mpm_procs.specs.declared.process.NewProcess.{NewProcess}
 use Rattle.mpm_kernel.specs.Kernel.{Kernel, ready, with_changed, with_completed}
@@ -23,6 +25,8 @@ new_kernel consoles printers now = record {
   consoles = consoles;
   printers = printers;
   columns = replicate 8 0;
+  queues = no_queues;
+  system_queues = 0;
   completed = [];
 }
 
@@ -47,7 +51,8 @@ runs_still p (Some other) = if other == p then None else Some other
 abbrev pub at_rest : Kernel → ℕ → Kernel
 at_rest kernel p = record kernel { running = runs_still p kernel.running }
 
--- a process ends: it stands in no list, and waits neither for a flag nor for the clock; nobody's call was completed by that
+-- a process ends: it stands in no list, and waits neither for a flag nor for the clock nor at a queue; nobody's call was
+-- completed by that
 unfoldable pub discharged : Kernel → ℕ → Kernel
 discharged kernel p = record kernel {
   procs = without kernel.procs p;
@@ -55,6 +60,7 @@ discharged kernel p = record kernel {
   running = runs_still p kernel.running;
   flags = without_waiter kernel.flags p;
   clock = without_delay kernel.clock p;
+  queues = unqueued kernel.queues p;
   completed = [];
 }
 

@@ -1,5 +1,5 @@
 -- The kernel as the record of its parts, each the value of the crate that keeps it.
-use Rattle.std.specs.Prelude.{◌≡◌, ℕ, ◌+◌, ◌<◌, ◌≤◌, Bool, false, List, Option, Some, None, ◌==◌, count_by, length}
+use Rattle.std.specs.Prelude.{◌≡◌, ℕ, ◌+◌, ◌<◌, ◌≤◌, Bool, false, List, Option, Some, None, ◌==◌, ◌&&◌, count_by, length}
 use Rattle.std.specs.List.{AllByRecursion}
 use Rattle.mpm_base.specs.declared.devices.Devices.{Devices}
 use Rattle.mpm_ready.specs.Order.{Member}
@@ -8,12 +8,14 @@ use Rattle.mpm_flags.specs.declared.flags.Flag.{Flag}
 use Rattle.mpm_flags.specs.declared.flags.Flag.TheVariants.{Clear, Set, Waits}
 use Rattle.mpm_clock.specs.Delays.{delays_of}
 use Rattle.mpm_clock.specs.Times.{Clock}
-use Rattle.mpm_procs.specs.Table.{Table, HasSlots, Lives, process_in, with_process}
+use Rattle.mpm_queues.specs.Queues.{Queues, IsMade, waits, IsSound as AreSound}
+use Rattle.mpm_procs.specs.Table.{Table, HasSlots, lives, Lives, process_in, with_process}
 use Rattle.mpm_procs.specs.declared.process.Process.{Process}
 
 -- the processes, the lists in which they stand, the process that runs, the flags, the clock, the polled devices, how many
--- consoles and printers there are, the column of each console, and the processes whose held calls the last call or event
--- completed, in order, which were not handed out yet
+-- consoles and printers there are, the column of each console, the queues, how many of them are the system's, which have the
+-- lowest numbers, and the processes whose held calls the last call or event completed, in order, which were not handed out
+-- yet
 pub record Kernel : Type 0 where
   pub procs : Table
   pub lists : List (List Member)
@@ -24,6 +26,8 @@ pub record Kernel : Type 0 where
   pub consoles : ℕ
   pub printers : ℕ
   pub columns : List ℕ
+  pub queues : Queues
+  pub system_queues : ℕ
   pub completed : List ℕ
 
 -- the number of the ready list
@@ -46,7 +50,11 @@ with_changed kernel p process = record kernel { procs = with_process kernel.proc
 abbrev pub with_completed : Kernel → List ℕ → Kernel
 with_completed kernel ps = record kernel { completed = ps }
 
--- the places where a process stands: it is in a list, it waits for flags, delays are its
+-- a process lives, and its end by an abort is put off
+abbrev pub is_aborted : Table → ℕ → Bool
+is_aborted procs p = lives procs p && (process_in procs p).abort_due
+
+-- the places where a process stands: it is in a list, it waits for flags, delays are its, it waits at queues
 
 unfoldable pub in_lists : Option ℕ → ℕ
 in_lists None = 0
@@ -60,8 +68,15 @@ is_waiter p (Waits other) = other == p
 unfoldable pub flags_of : List Flag → ℕ → ℕ
 flags_of flags p = count_by (is_waiter p) flags
 
+-- those outside the kernel's lists
+abbrev pub waits_in : List Flag → Clock → Queues → ℕ → ℕ
+waits_in flags clock queues p = flags_of flags p + delays_of clock.delays p + waits queues p
+
+abbrev pub waits_of : Kernel → ℕ → ℕ
+waits_of kernel p = waits_in kernel.flags kernel.clock kernel.queues p
+
 abbrev pub places : Kernel → ℕ → ℕ
-places kernel p = in_lists (list_of kernel.lists p) + flags_of kernel.flags p + delays_of kernel.clock.delays p
+places kernel p = in_lists (list_of kernel.lists p) + waits_of kernel p
 
 -- each process whose held call was completed lives
 abbrev pub CompletedLive : Kernel → Type 0
@@ -77,7 +92,8 @@ pub record IsFit (consoles : ℕ) (process : Process) : Type 0 where
 abbrev pub HasColumns : Kernel → Type 0
 HasColumns kernel = length kernel.columns ≡ 8
 
--- what is so of the kernel behind each step: a process is in at most one place, and only living ones are
+-- what is so of the kernel behind each step: a process is in at most one place, and only living ones are; the system's
+-- queues are there
 pub record IsSound (kernel : Kernel) : Type 0 where
   pub some : 1 ≤ kernel.consoles
   pub few : kernel.consoles ≤ 8
@@ -85,6 +101,8 @@ pub record IsSound (kernel : Kernel) : Type 0 where
   pub slots : HasSlots kernel.procs
   pub table : IsTable kernel.lists
   pub flags : length kernel.flags ≡ 32
+  pub queues : AreSound kernel.queues
+  pub system : (q : ℕ) → q < kernel.system_queues → IsMade kernel.queues q
   pub fit : (p : ℕ) → Lives kernel.procs p → IsFit kernel.consoles (process_in kernel.procs p)
   pub once : (p : ℕ) → places kernel p ≤ 1
   pub live : (p : ℕ) → 0 < places kernel p → Lives kernel.procs p

@@ -4,6 +4,7 @@ pub mod Columns
 pub mod Called
 pub mod Waiting
 pub mod Dates
+pub mod Queueing
 pub mod Calls
 pub mod Events
 pub mod Lending

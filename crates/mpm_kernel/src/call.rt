@@ -1,5 +1,5 @@
 ghost use Rattle.std.specs.Prelude.{◌≡◌};
-ghost use Rattle.mpm_kernel.specs.Calls.{eight_of};
+ghost use Rattle.mpm_kernel.specs.Called.{eight_of};
 
 use crate::Kernel;
 use crate::waiting::REFUSED;
@@ -48,6 +48,13 @@ impl Kernel {
             131 => return self.poll(p, byte, reply),
             132 => return self.wait_flag(p, byte, reply),
             133 => return self.set_flag(p, byte, reply),
+            134 => return self.make_queue(p, reply),
+            135 => return self.open_queue(p, reply),
+            136 => return self.delete_queue(p, reply),
+            137 => return self.read_queue(p, true, reply),
+            138 => return self.read_queue(p, false, reply),
+            139 => return self.write_queue(p, true, reply),
+            140 => return self.write_queue(p, false, reply),
             141 => return self.sleep(p, word, reply),
             142 => self.rotate(p),
             145 => self.set_priority(p, byte),
@@ -131,8 +138,8 @@ impl Kernel {
 }
 
 /// The first eight bytes, those that lack as zeros.
-#[tactic(auto, unfolding(crate::specs::Calls::eight_of))]
-fn first_eight(bytes: &[u8]) -> [u8; 8]
+#[tactic(auto, unfolding(crate::specs::Called::eight_of))]
+pub(crate) fn first_eight(bytes: &[u8]) -> [u8; 8]
     ensures { result ≡ eight_of bytes.now }
 {
     let mut eight = [0; 8];

@@ -3,13 +3,15 @@ ghost use Rattle.std.specs.Borrow.{sem};
 ghost use Rattle.mpm_kernel.specs.Columns.{column_after as column_of};
 ghost use Rattle.mpm_kernel.specs.Dispatch.{is_held_off};
 ghost use Rattle.mpm_clock.specs.Times.{IsTime};
-ghost use Rattle.mpm_kernel.specs.Waiting.{completion_value as value_of_completion};
+ghost use Rattle.mpm_kernel.specs.Waiting.{completion_of, completion_value as value_of_completion};
 
 use crate::completed::Completed;
+use crate::queueing::{given_message, word_at};
 use mpm_base::{Call, Devices, Pid, Reply, Seg};
 use mpm_clock::{Clock, Moment};
 use mpm_flags::Flags;
 use mpm_procs::{NewProcess, NoSlot, Process, Procs};
+use mpm_queues::Queues;
 use mpm_ready::Lists;
 use std::alloc::{AllocError, Global};
 use std::marker::Model;
@@ -30,6 +32,8 @@ pub struct Kernel {
     consoles: u8,
     printers: u8,
     columns: [u16; 8],
+    pub(crate) queues: Queues,
+    pub(crate) system_queues: u8,
     pub(crate) completed: Completed,
 }
 
@@ -38,13 +42,15 @@ impl Model for Kernel {
 
     ghost Value = { Kernel };
 
-    ghost view = { λ k. record { procs = k.procs; lists = k.lists; running = k.running; flags = k.flags; clock = k.clock; devices = k.devices; consoles = k.consoles; printers = k.printers; columns = k.columns; completed = k.completed } };
+    ghost view = { λ k. record { procs = k.procs; lists = k.lists; running = k.running; flags = k.flags; clock = k.clock; devices = k.devices; consoles = k.consoles; printers = k.printers; columns = k.columns; queues = k.queues; system_queues = k.system_queues; completed = k.completed } };
 }
 
 impl Kernel {
     ghost use Rattle.mpm_procs.specs.Table.{Lives, lives, process_at, process_in, call_of, lowest_free, free_slots};
     ghost use Rattle.mpm_ready.specs.Order.{first_of};
+    ghost use Rattle.std.specs.Prelude.{is_some};
     ghost use Rattle.mpm_ready.specs.Tables.{list_at};
+    ghost use Rattle.mpm_queues.specs.Queues.{held as held_queue};
     ghost use Rattle.mpm_kernel.specs.Kernel.{ready, IsReady, IsSound, CompletedLive};
     ghost use Rattle.mpm_kernel.specs.Dispatch.{new_kernel, in_slot, at_rest, discharged, stays, picked, behind_equals};
     ghost use Rattle.mpm_kernel.specs.Columns.{wrote, spaces_for};
@@ -75,6 +81,8 @@ impl Kernel {
             consoles,
             printers,
             columns: [0; 8],
+            queues: Queues::new(alloc)?,
+            system_queues: 0,
             completed: Completed::new(),
         })
     }
@@ -91,6 +99,14 @@ impl Kernel {
         ensures { result ≡ self.now.running }
     {
         self.running
+    }
+
+    /// Whether a process holds the message of a mutual exclusion queue. (MP/M II Programmer's Guide, "Mutual Exclusion
+    /// Queues".)
+    pub fn holds(&self, p: Pid) -> bool
+        ensures { result ≡ is_some (held_queue self.now.queues p) }
+    {
+        self.queues.held(p).is_some()
     }
 
     /// The first process of the ready list.
@@ -213,7 +229,7 @@ impl Kernel {
         Ok(p)
     }
 
-    /// A process ends: it stands in no list, and its slot is free.
+    /// A process ends: it stands in no list, waits for nothing, and its slot is free.
     #[tactic(auto, unfolding(crate::specs::Dispatch::discharged))]
     pub fn discharge(&mut self, p: Pid)
         requires { Lives self.old.procs p }
@@ -223,6 +239,7 @@ impl Kernel {
         let _list = self.lists.remove(p);
         self.flags.leave(p);
         self.clock.leave(p);
+        self.queues.leave(p);
         self.rest(p);
         self.completed.clear();
     }
@@ -245,7 +262,7 @@ impl Kernel {
     }
 
     /// Hands out the process whose held call was completed first by the last call or event, with that call's reply.
-    #[tactic(auto, using(crate::proofs::SoundLaws::completed_lives), unfolding(crate::specs::Events::handed_out, crate::specs::Waiting::completion_of))]
+    #[tactic(auto, using(crate::proofs::SoundLaws::completed_lives), unfolding(crate::specs::Events::handed_out))]
     pub fn completed(&mut self, reply: &mut Reply) -> Option<Pid>
         requires { CompletedLive self.old }
         ensures process { result ≡ first_completed self.old.completed }
@@ -253,7 +270,7 @@ impl Kernel {
         ensures reply { MatchOption result (reply.new ≡ reply.old) (λ p. reply.new ≡ completion_reply self.old p) }
     {
         let p = self.completed.take()?;
-        reply.answer(completion_value(self.procs.call(p).function));
+        complete(self.procs.call(p), reply);
         Some(p)
     }
 
@@ -333,12 +350,24 @@ fn holds_off(regs: &Regs) -> bool
     !regs.iff1 || regs.shadow
 }
 
+/// Answers a held call as it is completed: a read with the message that was put behind its user queue control block.
+#[tactic(auto, unfolding(crate::specs::Waiting::completion_of))]
+fn complete(call: &Call, reply: &mut Reply)
+    ensures { reply.new ≡ completion_of call.now }
+{
+    if call.function == 137 {
+        reply.answer_with(0, word_at(call, 2), given_message(call));
+    } else {
+        reply.answer(completion_value(call.function));
+    }
+}
+
 /// What a held call answers as it is completed, by its function.
 fn completion_value(function: u8) -> u16
     ensures { result ≡ value_of_completion function }
 {
     match function {
-        131 | 132 | 141 => 0,
+        131 | 132 | 139 | 141 => 0,
         _ => 0xFFFF,
     }
 }

@@ -7,6 +7,7 @@ mod completed;
 mod dates;
 mod events;
 mod kernel;
+mod queueing;
 mod waiting;
 
 pub use kernel::Kernel;

@@ -1,4 +1,4 @@
-ghost use Rattle.std.specs.Prelude.{◌≡◌, ◌≤◌, length, IfOk};
+ghost use Rattle.std.specs.Prelude.{◌≡◌, ◌≤◌, length, IfOk, IfSome};
 ghost use Rattle.mpm_kernel.specs.Kernel.{IsSound, CompletedLive};
 ghost use Rattle.mpm_kernel.specs.Events.{MayCome};
 
@@ -9,6 +9,8 @@ use mpm_procs::{NewProcess, Process};
 use mpm_script::Event;
 use std::alloc::Global;
 use std::test::Fail;
+
+mod queues;
 
 /// A process begins, of that priority, in the lowest free slot.
 #[tactic(auto, using(crate::proofs::SoundLaws::sound_in_slot))]
@@ -65,8 +67,9 @@ fn serve(
     reply: &mut Reply,
 ) -> Option<Outcome>
     requires sound { IsSound kernel.old }
-    requires few { length bytes.now ≤ 8 }
-    ensures { IsSound kernel.new }
+    requires few { length bytes.now ≤ 16 }
+    ensures sound { IsSound kernel.new }
+    ensures live { IfSome result (λ outcome. CompletedLive kernel.new) }
 {
     let p = match kernel.running() {
         Some(p) => p,
@@ -81,7 +84,7 @@ fn serve(
 /// The process that runs asks for a function, which reads some bytes: the outcome and the value.
 fn ask_with(kernel: &mut Kernel, function: u8, word: u16, bytes: &[u8]) -> Option<(Outcome, u16)>
     requires sound { IsSound kernel.old }
-    requires few { length bytes.now ≤ 8 }
+    requires few { length bytes.now ≤ 16 }
     ensures { IsSound kernel.new }
 {
     let mut reply = Reply::new();
@@ -164,6 +167,16 @@ fn hand_out(kernel: &mut Kernel) -> Option<(Pid, u16)>
         Some(p) => Some((p, reply.hl)),
         None => None,
     }
+}
+
+/// Hands out a process whose held call was completed, with its reply.
+#[tactic(auto, using(crate::proofs::SoundLaws::sound_completed))]
+fn hand_out_to(kernel: &mut Kernel, reply: &mut Reply) -> Option<Pid>
+    requires sound { IsSound kernel.old }
+    requires live { CompletedLive kernel.old }
+    ensures { IsSound kernel.new }
+{
+    kernel.completed(reply)
 }
 
 /// An event comes: the first two whose held calls it completes, with their values.

@@ -125,7 +125,7 @@ impl Kernel {
     }
 
     /// The held call of a process is completed.
-    fn wake_one(&mut self, p: Pid)
+    pub(crate) fn wake_one(&mut self, p: Pid)
         requires { Lives self.old.procs p }
         ensures { self.new ≡ all_woken (p ∷ []) self.old }
     {
@@ -174,14 +174,14 @@ impl Kernel {
 
     /// A process stands in no list any more.
     #[tactic(auto, unfolding(crate::specs::Dispatch::unlisted))]
-    fn unlist(&mut self, p: Pid)
+    pub(crate) fn unlist(&mut self, p: Pid)
         ensures { self.new ≡ unlisted self.old p }
     {
         let _list = self.lists.remove(p);
     }
 
     /// The call of a process is held: the process doesn't run any more.
-    fn hold(&mut self, p: Pid, reply: &mut Reply) -> Outcome
+    pub(crate) fn hold(&mut self, p: Pid, reply: &mut Reply) -> Outcome
         ensures kernel { self.new ≡ at_rest self.old p }
         ensures outcome { result ≡ IsHeld }
         ensures reply { reply.new ≡ answering 0 }

@@ -1,7 +1,7 @@
 -- What a step leaves of memory: each byte of a segment that is written neither by the instruction of a process that lives there
 -- nor by the reply to a call of one, and each byte of common memory that no instruction and no reply writes.
-use Rattle.std.proofs.Common.{◌≡◌, ◌≢◌, ◌∙◌, ℕ, zero, suc, ◌<◌, ◌≤◌, Bool, true, false, ◌||◌, List, [], ◌∷◌, Option, Some, None, ◌==◌, if◌then◌else◌, get_or, set, inl, inr, refl, sym, ap, subst, arith}
-use Rattle.std.specs.List.{list_any, AllByRecursion}
+use Rattle.std.proofs.Common.{◌≡◌, ◌≢◌, ◌∙◌, ℕ, zero, suc, ◌<◌, ◌≤◌, Bool, true, false, not, ◌&&◌, ◌||◌, List, [], ◌∷◌, Option, Some, None, ◌==◌, if◌then◌else◌, get_or, set, inl, inr, refl, sym, ap, subst, arith}
+use Rattle.std.specs.List.{list_any, range_with_len, AllByRecursion}
 use Rattle.std.proofs.lemmas.Bool.{cases_eq, eq-eqb, or_right}
 use Rattle.std.proofs.lemmas.Bool.Decides.{nat_tests}
 use Rattle.z80_regs.specs.Outcome.{Outcome}
@@ -22,21 +22,24 @@ use Rattle.mpm_procs.specs.Table.{Table, Lives, process_in, call_of, with_proces
 use Rattle.mpm_procs.specs.Opening.{blank}
 use Rattle.mpm_procs.specs.declared.process.Process.{Process}
 use Rattle.mpm_script.specs.declared.event.Event.{Event}
+use Rattle.mpm_kernel.specs.Kernel.{CompletedLive}
 use Rattle.mpm_kernel.specs.Events.{handed_out}
 use Rattle.mpm_kernel.specs.Waiting.{completion_of, completion_reply}
 use Rattle.mpm_kernel.proofs.SoundLaws.{runner_lives}
 use Rattle.mpm_xdos.specs.Ending.{is_home, left_by, memory_without}
+use Rattle.mpm_xdos.specs.Aborting.{waits_to_end, target, memory_behind_abort}
 use Rattle.mpm_machine.specs.declared.system.System.{System}
 use Rattle.mpm_machine.specs.declared.gate.Gate.{Gate}
 use Rattle.mpm_machine.specs.declared.gate.Gate.TheVariants.{End, Call}
-use Rattle.mpm_machine.specs.State.{IsWhole, speaking}
+use Rattle.mpm_machine.specs.State.{Change, IsWhole, speaking}
 use Rattle.mpm_machine.specs.Ending.{ended}
-use Rattle.mpm_machine.specs.Serving.{asked, keeping, Served, served, reserving, releasing, creating, said_by, popped, replied, answering_call, completing, outcome_of, gate_step}
+use Rattle.mpm_machine.specs.Serving.{asked, keeping, Served, served, reserving, releasing, creating, aborted, aborting_this, aborting, said_by, popped, replied, answering_call, completing, outcome_of, gate_step}
 use Rattle.mpm_machine.specs.Finishing.{finished, handed, finishing, all_finished}
-use Rattle.mpm_machine.specs.Step.{ran, illegal, instructed, instruction_at, acted_at, gate_before, acted_by, acted, running_segment, coming, interrupted, begun_by, with_finished, counted, step_of}
-use Rattle.mpm_machine.specs.Contained.{PlacesAt, WritesAt, IsWritten, behind_begun, IsAnswered, IsContained, ServedAlike}
+use Rattle.mpm_machine.specs.Due.{is_due, ended_if_due, due_ended, with_ends, settled}
+use Rattle.mpm_machine.specs.Step.{ran, illegal, instructed, instruction_at, acted_at, gate_before, acted_by, acted, running_segment, coming, interrupted, begun_by, with_settled, counted, step_of}
+use Rattle.mpm_machine.specs.Contained.{PlacesAt, WritesAt, IsWritten, behind_begun, Answers, AnswersAtEnd, AnswersAtEnds, IsAnswered, IsContained, ServedAlike}
 use Rattle.mpm_machine.proofs.ServedLaws.{serves_alike}
-use Rattle.mpm_machine.proofs.WholeLaws.{whole_counted, live_begun}
+use Rattle.mpm_machine.proofs.WholeLaws.{whole_counted, whole_behind_begun, whole_answered, whole_if_due, live_ended}
 
 -- an end, and a call before its reply, change no byte
 
@@ -54,15 +57,25 @@ alike_if : (memory : Memory) (b : Bool) (one other : Served) → SameBytes memor
 alike_if memory true one other is was = is
 alike_if memory false one other is was = was
 
+aborted_alike : (p : ℕ) (system : System) → SameBytes system.memory (aborted p system).memory
+unfolding aborted memory_behind_abort ended
+aborted_alike p system = same_bytes_if system.memory (waits_to_end system.kernel p false) _ _ (same_bytes_itself system.memory) (ended_alike p system)
+
+aborting_alike : (named : Option ℕ) (p : ℕ) (system : System) → SameBytes system.memory (aborting_this named p system).system.memory
+aborting_alike None p system = same_bytes_itself system.memory
+aborting_alike (Some other) p system =
+    alike_if system.memory (other == p && not (waits_to_end system.kernel p false)) _ _ (same_bytes_itself system.memory) (aborted_alike other system)
+
 served_alike : (call : Taken) (p : ℕ) (system : System) → SameBytes system.memory (served call p system).system.memory
-unfolding served reserving releasing creating
+unfolding served reserving releasing creating aborting
 served_alike call p system =
     let f = call.function in
     let memory = system.memory in
     alike_if memory (f == 128) _ _ (same_bytes_reserved memory p _)
     (alike_if memory (f == 129) _ _ (same_bytes_reserved memory p _)
     (alike_if memory (f == 130) _ _ (same_bytes_released memory p _)
-    (alike_if memory (f == 144) _ _ (same_bytes_itself memory) (same_bytes_itself memory))))
+    (alike_if memory (f == 144) _ _ (same_bytes_itself memory)
+    (alike_if memory (f == 157) _ _ (aborting_alike (target system.kernel.procs p) p system) (same_bytes_itself memory)))))
 
 illegal_alike : (p : ℕ) (system : System) → SameBytes system.memory (illegal p system).system.memory
 unfolding illegal speaking
@@ -269,46 +282,107 @@ of_each P (p ∷ ps) who all among = elim (cases_eq p who) [
 
 -- whose held call is completed lives, so no reply is placed but where one of those calls is answered
 
-begun_lives : (system : System) (who : ℕ) → IsWhole system → list_any (λ p. p == who) (behind_begun system).kernel.completed ≡ true
-    → Lives (behind_begun system).kernel.procs who
-begun_lives system who w among =
-    let live = live_begun (counted system) (behind_begun system) (whole_counted system w) refl in
-    of_each (λ p. Lives (behind_begun system).kernel.procs p) (behind_begun system).kernel.completed who live among
+answered_there : (system : System) (who home at : ℕ) → CompletedLive system.kernel → list_any (λ p. p == who) system.kernel.completed ≡ true
+    → (process_in system.kernel.procs who).seg ≡ Some home → (Answers system home at → ⊥)
+    → IsPlacedAt (completion_reply system.kernel who) (call_of system.kernel.procs who).word at → ⊥
+answered_there system who home at live among there none places =
+    none (record { who = who; among = among; lives = of_each (λ p. Lives system.kernel.procs p) system.kernel.completed who live among; home = there; places = places })
 
-answered_there : (system : System) (who home at : ℕ) → IsWhole system → list_any (λ p. p == who) (behind_begun system).kernel.completed ≡ true
-    → (process_in (behind_begun system).kernel.procs who).seg ≡ Some home → (IsAnswered system home at → ⊥)
-    → IsPlacedAt (completion_reply (behind_begun system).kernel who) (call_of (behind_begun system).kernel.procs who).word at → ⊥
-answered_there system who home at w among there none places =
-    none (record { who = who; among = among; lives = begun_lives system who w among; home = there; places = places })
-
-unplaced_segments : (system : System) (seg at who : ℕ) → IsWhole system → at < 49152 → (IsAnswered system seg at → ⊥)
-    → list_any (λ p. p == who) (behind_begun system).kernel.completed ≡ true → Unplaced (behind_begun system) who seg at
+unplaced_segments : (system : System) (seg at who : ℕ) → CompletedLive system.kernel → at < 49152 → (Answers system seg at → ⊥)
+    → list_any (λ p. p == who) system.kernel.completed ≡ true → Unplaced system who seg at
 unfolding Unplaced
-unplaced_segments system seg at who w below none among = λ home there memory. elim (cases_eq seg home) [
+unplaced_segments system seg at who live below none among = λ home there memory. elim (cases_eq seg home) [
   | inl same ↦
-      let behind = placed (completion_reply (behind_begun system).kernel who) (call_of (behind_begun system).kernel.procs who).word home memory in
-      let unanswered : IsAnswered system home at → ⊥ = subst (λ s. IsAnswered system s at → ⊥) same none in
-      subst (λ s. byte_at behind s at ≡ byte_at memory s at) (sym same) (others_keep _ _ home memory at (answered_there system who home at w among there unanswered))
+      let behind = placed (completion_reply system.kernel who) (call_of system.kernel.procs who).word home memory in
+      let unanswered : Answers system home at → ⊥ = subst (λ s. Answers system s at → ⊥) same none in
+      subst (λ s. byte_at behind s at ≡ byte_at memory s at) (sym same) (others_keep _ _ home memory at (answered_there system who home at live among there unanswered))
   | inr other ↦ segments_keep _ _ home memory seg at other below
 ]
 
-unplaced_common : (system : System) (seg at who : ℕ) → IsWhole system → 49152 ≤ at → ((home : ℕ) → IsAnswered system home at → ⊥)
-    → list_any (λ p. p == who) (behind_begun system).kernel.completed ≡ true → Unplaced (behind_begun system) who seg at
+unplaced_common : (system : System) (seg at who : ℕ) → CompletedLive system.kernel → 49152 ≤ at → ((home : ℕ) → Answers system home at → ⊥)
+    → list_any (λ p. p == who) system.kernel.completed ≡ true → Unplaced system who seg at
 unfolding Unplaced
-unplaced_common system seg at who w above none among =
-    λ home there memory. common_keeps _ _ home memory seg at above (answered_there system who home at w among there (none home))
+unplaced_common system seg at who live above none among =
+    λ home there memory. common_keeps _ _ home memory seg at above (answered_there system who home at live among there (none home))
+
+answers_segments : (system : System) (seg at : ℕ) → CompletedLive system.kernel → at < 49152 → (Answers system seg at → ⊥)
+    → byte_at (all_finished system).system.memory seg at ≡ byte_at system.memory seg at
+answers_segments system seg at live below none = all_leave system seg at (λ who among. unplaced_segments system seg at who live below none among)
+
+answers_common : (system : System) (seg at : ℕ) → CompletedLive system.kernel → 49152 ≤ at → ((home : ℕ) → Answers system home at → ⊥)
+    → byte_at (all_finished system).system.memory seg at ≡ byte_at system.memory seg at
+answers_common system seg at live above none = all_leave system seg at (λ who among. unplaced_common system seg at who live above none among)
+
+-- so do the ends that are due, each with the calls that it completes
+
+leaves_if : (b : Bool) (one other : Change) (memory : Memory) (seg at : ℕ) → (b ≡ true → byte_at one.system.memory seg at ≡ byte_at memory seg at)
+    → byte_at other.system.memory seg at ≡ byte_at memory seg at → byte_at (if b then one else other).system.memory seg at ≡ byte_at memory seg at
+leaves_if true one other memory seg at is was = is refl
+leaves_if false one other memory seg at is was = was
+
+live_at_end : (p : ℕ) (system : System) → IsWhole system → is_due system.kernel p ≡ true → CompletedLive (ended p system).kernel
+live_at_end p system w due = live_ended system (ended p system) p w due refl
+
+end_segments : (p : ℕ) (system : System) (seg at : ℕ) → IsWhole system → at < 49152 → (AnswersAtEnd p system seg at → ⊥)
+    → byte_at (ended_if_due p system).system.memory seg at ≡ byte_at system.memory seg at
+unfolding ended_if_due
+end_segments p system seg at w below none =
+    leaves_if (is_due system.kernel p) _ _ system.memory seg at (λ due.
+    answers_segments (ended p system) seg at (live_at_end p system w due) below (λ answers. none (due, answers))
+    ∙ reads_alike system.memory _ (ended_alike p system) seg at) refl
+
+end_common : (p : ℕ) (system : System) (seg at : ℕ) → IsWhole system → 49152 ≤ at → ((home : ℕ) → AnswersAtEnd p system home at → ⊥)
+    → byte_at (ended_if_due p system).system.memory seg at ≡ byte_at system.memory seg at
+unfolding ended_if_due
+end_common p system seg at w above none =
+    leaves_if (is_due system.kernel p) _ _ system.memory seg at (λ due.
+    answers_common (ended p system) seg at (live_at_end p system w due) above (λ home answers. none home (due, answers))
+    ∙ reads_alike system.memory _ (ended_alike p system) seg at) refl
+
+ends_segments : (ps : List ℕ) (system : System) (seg at : ℕ) → IsWhole system → at < 49152 → (AnswersAtEnds ps system seg at → ⊥)
+    → byte_at (due_ended ps system).system.memory seg at ≡ byte_at system.memory seg at
+unfolding due_ended AnswersAtEnds
+ends_segments [] system seg at w below none = refl
+ends_segments (p ∷ ps) system seg at w below none =
+    ends_segments ps (ended_if_due p system).system seg at (whole_if_due p system w) below (λ later. none (inr later))
+    ∙ end_segments p system seg at w below (λ here. none (inl here))
+
+ends_common : (ps : List ℕ) (system : System) (seg at : ℕ) → IsWhole system → 49152 ≤ at → ((home : ℕ) → AnswersAtEnds ps system home at → ⊥)
+    → byte_at (due_ended ps system).system.memory seg at ≡ byte_at system.memory seg at
+unfolding due_ended AnswersAtEnds
+ends_common [] system seg at w above none = refl
+ends_common (p ∷ ps) system seg at w above none =
+    ends_common ps (ended_if_due p system).system seg at (whole_if_due p system w) above (λ home later. none home (inr later))
+    ∙ end_common p system seg at w above (λ home here. none home (inl here))
 
 -- so each byte that changes is written by the process that runs, or is of the reply to a held call
-pub step_is_contained : (system : System) → IsWhole system → IsContained system (step_of system).system
-unfolding step_of with_finished
-step_is_contained system w =
+
+settled_segments : (system : System) (seg at : ℕ) → IsWhole system → at < 49152 → (IsAnswered system seg at → ⊥) → IsWhole (behind_begun system)
+    → byte_at (settled (behind_begun system)).system.memory seg at ≡ byte_at (behind_begun system).memory seg at
+unfolding settled with_ends IsAnswered
+settled_segments system seg at w below none behind =
     let begun = behind_begun system in
+    ends_segments (range_with_len 0 32) (all_finished begun).system seg at (whole_answered begun _ behind refl) below (λ later. none (inr later))
+    ∙ answers_segments begun seg at behind.live below (λ here. none (inl here))
+
+settled_common : (system : System) (seg at : ℕ) → IsWhole system → 49152 ≤ at → ((home : ℕ) → IsAnswered system home at → ⊥) → IsWhole (behind_begun system)
+    → byte_at (settled (behind_begun system)).system.memory seg at ≡ byte_at (behind_begun system).memory seg at
+unfolding settled with_ends IsAnswered
+settled_common system seg at w above none behind =
+    let begun = behind_begun system in
+    ends_common (range_with_len 0 32) (all_finished begun).system seg at (whole_answered begun _ behind refl) above (λ home later. none home (inr later))
+    ∙ answers_common begun seg at behind.live above (λ home here. none home (inl here))
+
+pub step_is_contained : (system : System) → IsWhole system → IsContained system (step_of system).system
+unfolding step_of with_settled
+step_is_contained system w =
+    let behind = whole_behind_begun (counted system) (behind_begun system) (whole_counted system w) refl in
     record {
       segments = λ seg at below unwritten unanswered.
-          all_leave begun seg at (λ who among. unplaced_segments system seg at who w below unanswered among)
+          settled_segments system seg at w below unanswered behind
           ∙ segments_begun (coming (counted system)) system seg at w refl below unwritten;
       common = λ seg at above unwritten unanswered.
-          all_leave begun seg at (λ who among. unplaced_common system seg at who w above unanswered among)
+          settled_common system seg at w above unanswered behind
           ∙ common_begun (coming (counted system)) system seg at w refl above unwritten;
     }
 

@@ -7,10 +7,10 @@ use Rattle.mpm_banks.specs.Ports.{port_read}
 use Rattle.mpm_banks.specs.Actions.{memory_after, devices_after}
 use Rattle.mpm_banks.proofs.ActionLaws.{same_segments_after, last_bytes_stay}
 use Rattle.mpm_procs.specs.Table.{process_in}
-use Rattle.mpm_kernel.specs.Dispatch.{picked}
 use Rattle.mpm_machine.specs.declared.system.System.{System}
 use Rattle.mpm_machine.specs.declared.gate.Gate.{Gate}
 use Rattle.mpm_machine.specs.State.{Change, silent}
+use Rattle.mpm_machine.specs.Due.{with_ends}
 use Rattle.mpm_machine.specs.Serving.{with_regs}
 use Rattle.mpm_machine.specs.Step.{ran, instructed, instruction_at, acted_at, acted_by, acted, running_segment, is_no_gate, instruction_by, at_instruction, counted, dispatched, step_of}
 use Rattle.mpm_machine.specs.Contained.{Instructs, OnlyInstructed}
@@ -86,11 +86,11 @@ step_instructs system p seg i handed =
       clears = λ device h. clears_all actions system.kernel.devices device h;
       bytes = same_segments_after actions seg system.memory;
       is = ap (λ (change : Change). change.system) (step_quiet system behind i.quiet (acts system p seg i) handed)
-          ∙ ap (λ b. (dispatched b (silent behind)).system) (by_instruction system p seg i)
-          ∙ ap (λ (d : Devices). record begun {
-            kernel = picked true (with_regs (record system.kernel { devices = d }) p regs);
+          ∙ ap (λ b. (dispatched b (with_ends behind)).system) (by_instruction system p seg i)
+          ∙ ap (λ (d : Devices). (dispatched true (with_ends (record begun {
+            kernel = with_regs (record system.kernel { devices = d }) p regs;
             memory = memory_after actions seg system.memory;
-          }) (only_ready actions system.kernel.devices);
+          }))).system) (only_ready actions system.kernel.devices);
     }
 
 pub instructs_only : (old new : System) (p seg : ℕ) → Instructs old p seg → old.kernel.completed ≡ [] → new ≡ (step_of old).system

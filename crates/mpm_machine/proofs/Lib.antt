@@ -3,6 +3,7 @@ pub mod WritingLaws
 pub mod StringLaws
 pub mod HomeLaws
 pub mod FinishLaws
+pub mod DueLaws
 pub mod WholeLaws
 pub mod TakenLaws
 pub mod CallLaws

@@ -6,16 +6,17 @@ use Rattle.z80_regs.specs.Outcome.{Outcome, Action}
 use Rattle.z80_ext.specs.Instruction.{instruction, registers_after, actions_of}
 use Rattle.z80_ext.specs.declared.stepped.Stepped.{Stepped}
 use Rattle.z80_ext.specs.declared.stepped.Stepped.TheVariants.{Ran, Illegal}
+use Rattle.mpm_base.specs.declared.devices.Devices.{Devices}
 use Rattle.mpm_ready.specs.Order.{first_of}
 use Rattle.mpm_ready.specs.Tables.{list_at}
 use Rattle.mpm_banks.specs.Memory.{Memory, segment_of, byte_at}
 use Rattle.mpm_banks.specs.Ports.{port_byte}
 use Rattle.mpm_banks.specs.Actions.{memory_after, devices_after}
 use Rattle.mpm_banks.proofs.ActionLaws.{same_segments_after}
-use Rattle.mpm_procs.specs.Table.{Lives, process_in, with_process}
+use Rattle.mpm_procs.specs.Table.{lives, Lives, process_in, with_process}
 use Rattle.mpm_procs.specs.Opening.{blank}
 use Rattle.mpm_procs.specs.declared.process.Process.{Process}
-use Rattle.mpm_procs.proofs.MapLaws.{lives_below, process_changed}
+use Rattle.mpm_procs.proofs.MapLaws.{lives_below, lives_changed, process_changed, process_kept}
 use Rattle.mpm_kernel.specs.Kernel.{Kernel, ready}
 use Rattle.mpm_kernel.specs.Dispatch.{picked, stays}
 use Rattle.mpm_kernel.proofs.SoundLaws.{sound_devices, runner_lives}
@@ -24,7 +25,7 @@ use Rattle.mpm_render.specs.Shown.{Kept}
 use Rattle.mpm_machine.specs.declared.system.System.{System}
 use Rattle.mpm_machine.specs.declared.gate.Gate.{Gate}
 use Rattle.mpm_machine.specs.Gates.{last_page, gate_of}
-use Rattle.mpm_machine.specs.State.{State, Change, StandsFor, IsWhole, silent}
+use Rattle.mpm_machine.specs.State.{State, Change, StandsFor, IsWhole, NobodyAborted, silent}
 use Rattle.mpm_machine.specs.Serving.{with_regs}
 use Rattle.mpm_machine.specs.Step.{ran, instructed, instruction_at, acted_at, gate_before, acted_by, acted, running_segment, at_instruction, lets_in, coming, counted, step_of, next, after}
 use Rattle.mpm_machine.specs.Interrupts.{due}
@@ -33,7 +34,7 @@ use Rattle.mpm_machine.specs.Moving.{View, instruction_in, moved, moves, CanMove
 use Rattle.mpm_machine.proofs.HomeLaws.{KeepsHomes, keeps_itself, keeps_both, keeps_acted}
 use Rattle.mpm_machine.proofs.WholeLaws.{same_regs, whole_kernel, whole_memory, whole_regs, whole_steps}
 use Rattle.mpm_machine.proofs.StepLaws.{after_nothing}
-use Rattle.mpm_machine.proofs.QuietLaws.{step_quiet}
+use Rattle.mpm_machine.proofs.QuietLaws.{step_still}
 
 pub view_is : (a b : View) → a.regs ≡ b.regs → a.memory ≡ b.memory → a.devices ≡ b.devices → a ≡ b
 view_is a b regs memory devices =
@@ -228,6 +229,21 @@ quiet_view system p n view quiet =
     let begun = counted (with_view system p view n) in
     comes_not (lets_in begun.kernel.running begun.kernel) (due (system.steps + n + 1) system.interrupts) quiet
 
+-- and nobody is aborted in them
+
+nobody_view : (kernel : Kernel) (devices : Devices) (p : ℕ) (regs : Regs) → p < length kernel.procs.processes → NobodyAborted kernel
+    → NobodyAborted (with_regs (record kernel { devices = devices }) p regs)
+nobody_view kernel devices p regs below none = λ q.
+    let process = record (process_in kernel.procs p) { regs = regs } in
+    let procs = with_process kernel.procs p process in
+    let same : (process_in procs q).abort_due ≡ (process_in kernel.procs q).abort_due = elim (cases_eq q p) [
+      | inl equal ↦
+          ap (λ (x : Process). x.abort_due) (ap (process_in procs) equal ∙ process_changed kernel.procs p process below)
+          ∙ ap (λ n. (process_in kernel.procs n).abort_due) (sym equal)
+      | inr other ↦ ap (λ (x : Process). x.abort_due) (process_kept kernel.procs p q process other)
+    ] in
+    ap (λ b. b && (process_in procs q).abort_due) (lives_changed kernel.procs p q process) ∙ ap (λ b. lives kernel.procs q && b) same ∙ none q
+
 step_view : (system : System) (p seg n : ℕ) (view : View) → p < length system.kernel.procs.processes → RunsOn system p seg → CanMove seg view
     → due (system.steps + n + 1) system.interrupts ≡ None
     → step_of (with_view system p view n) ≡ silent (with_view system p (moved seg view) (n + 1))
@@ -235,7 +251,8 @@ unfolding with_view
 step_view system p seg n view below on can quiet =
     let begun = counted (with_view system p view n) in
     let later = with_view system p (moved seg view) (n + 1) in
-    step_quiet (with_view system p view n) later (quiet_view system p n view quiet) (acted_view system p seg n view below on can) on.handed
+    step_still (with_view system p view n) later (quiet_view system p n view quiet) (acted_view system p seg n view below on can) on.handed
+    (nobody_view system.kernel (moved seg view).devices p (moved seg view).regs below on.settled) on.put_off
     ∙ ap (λ (kernel : Kernel). silent (record later { kernel = kernel })) (picked_same (at_instruction begun) later.kernel p on.running on.first)
 
 -- so n of them are n steps, which say nothing
@@ -261,9 +278,10 @@ after_moves (suc n) s p seg below on each quiet =
     ∙ next_view s p seg n view below on (each n (omega arith)) (quiet n (omega arith))
     ∙ ap (λ count. record s { system = with_view s.system p (moved seg view) count }) (add-one n)
 
-pub runs_on : (system : System) (p seg : ℕ) → system.kernel.running ≡ Some p → first_of (list_at system.kernel.lists ready) ≡ Some p
-    → (process_in system.kernel.procs p).seg ≡ Some seg → system.kernel.completed ≡ [] → RunsOn system p seg
-runs_on system p seg running first home handed = record { running = running; first = first; home = home; handed = handed }
+pub runs_on : (system : System) (p seg : ℕ) → IsWhole system → system.kernel.running ≡ Some p → first_of (list_at system.kernel.lists ready) ≡ Some p
+    → (process_in system.kernel.procs p).seg ≡ Some seg → system.kernel.completed ≡ [] → system.put_off ≡ false → RunsOn system p seg
+runs_on system p seg w running first home handed off =
+    record { running = running; first = first; home = home; handed = handed; put_off = off; settled = w.settled off }
 
 -- so many steps in which nothing is due
 pub quiet_steps : (n quiet : ℕ) (system : System) → n ≤ quiet

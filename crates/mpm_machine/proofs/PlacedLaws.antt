@@ -20,10 +20,10 @@ use Rattle.mpm_procs.specs.declared.process.NewProcess.{NewProcess}
 use Rattle.mpm_procs.proofs.CountLaws.{living_added, full_from_none}
 use Rattle.mpm_procs.proofs.MapLaws.{nobody_lives, free_below, free_is_dead, lives_added_other, process_added, process_added_other}
 use Rattle.std.specs.List.{AllByRecursion}
-use Rattle.mpm_kernel.specs.Kernel.{Kernel, CompletedLive}
+use Rattle.mpm_kernel.specs.Kernel.{Kernel, CompletedLive, is_aborted}
 use Rattle.mpm_kernel.specs.Dispatch.{new_kernel, admitted, stays, picked}
 use Rattle.mpm_kernel.proofs.SoundLaws.{sound_new, sound_admitted, sound_picked}
-use Rattle.mpm_kernel.proofs.HomeLaws.{opening_home, procs_picked}
+use Rattle.mpm_kernel.proofs.HomeLaws.{aborts_admitted, opening_home, procs_picked}
 use Rattle.mpm_script.specs.declared.event.Timed.{Timed}
 use Rattle.mpm_script.specs.Events.{IsTimed}
 use Rattle.mpm_machine_file.specs.MachineFiles.{IsSegment}
@@ -33,7 +33,7 @@ use Rattle.mpm_machine.specs.declared.system.System.{System}
 use Rattle.mpm_machine.specs.declared.interrupts.Interrupts.{Interrupts}
 use Rattle.mpm_machine.specs.State.{IsHome, IsOccupied, IsWhole}
 use Rattle.mpm_machine.specs.Opening.{base_page, laid_out, placed_process, moment_of, booted, program_file, is_lived_in, is_occupied, IsBare, MayPlace, with_placed, opening_system}
-use Rattle.mpm_machine.proofs.WholeLaws.{same_picked}
+use Rattle.mpm_machine.proofs.WholeLaws.{nobody_more, same_picked}
 use Rattle.mpm_machine.proofs.HomeLaws.{KeepsHomes, keeps_same, keeps_both, keeps_occupied}
 
 -- a program that is laid out changes bytes alone
@@ -97,6 +97,8 @@ whole_placed system p seg name priority console program may free =
       sound = sound_picked kernel false (sound_admitted system.kernel p new w.sound free may.has_console);
       live = nobody_completed (picked false kernel) (same_picked false kernel ∙ may.bare.handed);
       script = w.script;
+      settled = λ off. nobody_more system.kernel (picked false kernel)
+          (λ q due. aborts_admitted system.kernel p new w.sound.slots free q (ap (λ procs. is_aborted procs q) (sym same) ∙ due)) (w.settled off);
       homes = λ q other living there. homes q other (alive q living) (ap (λ procs. (process_in procs q).seg) (sym same) ∙ there);
       lived = λ q other living there. lived q other (alive q living) (ap (λ procs. (process_in procs q).seg) (sym same) ∙ there);
     }
@@ -106,6 +108,7 @@ unfolding booted new_kernel
 whole_booted file events some few script = record {
   live = tt;
   script = script;
+  settled = λ off p. ap (λ b. b && (process_in no_processes p).abort_due) (nobody_lives p);
   sound = sound_new file.consoles file.printers (moment_of file) some few;
   homes = λ p seg living there. absurd (false≢true (sym (nobody_lives p) ∙ living));
   lived = λ p seg living there. absurd (false≢true (sym (nobody_lives p) ∙ living));
@@ -274,17 +277,18 @@ pub booted_parts : (file : MachineFile) (events : List Timed) (interrupts : Inte
     → 1 ≤ file.consoles → file.consoles ≤ 8 → length file.segments ≤ 16 → All IsTimed events
     → interrupts ≡ record { tick_every = file.tick_every; ticks = 0; script = events }
     → kernel ≡ new_kernel file.consoles file.printers (moment_of file) → memory ≡ new_memory file.segments
-    → IsBare (record { steps = 0; interrupts = interrupts; kernel = kernel; memory = memory })
+    → IsBare (record { steps = 0; interrupts = interrupts; kernel = kernel; memory = memory; put_off = false })
 unfolding booted
 booted_parts file events interrupts kernel memory some few count script is was there =
-    let whole : record { steps = 0; interrupts = interrupts; kernel = kernel; memory = memory } ≡ booted file events =
-    ap (λ (i : Interrupts). record { steps = 0; interrupts = i; kernel = kernel; memory = memory }) is
-    ∙ ap (λ (k : Kernel). record { steps = 0; interrupts = record { tick_every = file.tick_every; ticks = 0; script = events }; kernel = k; memory = memory }) was
+    let whole : record { steps = 0; interrupts = interrupts; kernel = kernel; memory = memory; put_off = false } ≡ booted file events =
+    ap (λ (i : Interrupts). record { steps = 0; interrupts = i; kernel = kernel; memory = memory; put_off = false }) is
+    ∙ ap (λ (k : Kernel). record { steps = 0; interrupts = record { tick_every = file.tick_every; ticks = 0; script = events }; kernel = k; memory = memory; put_off = false }) was
     ∙ ap (λ (m : Memory). record {
       steps = 0;
       interrupts = record { tick_every = file.tick_every; ticks = 0; script = events };
       kernel = new_kernel file.consoles file.printers (moment_of file);
       memory = m;
+      put_off = false;
     }) there in
     subst IsBare (sym whole) (booted_is_bare file events some few count script)
 

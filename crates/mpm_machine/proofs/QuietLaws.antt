@@ -1,22 +1,41 @@
 -- A step in which no event comes, and in which nobody's held call is completed.
-use Rattle.std.proofs.Common.{◌≡◌, ◌∙◌, [], ◌++◌, None, ap}
+use Rattle.std.proofs.Common.{◌≡◌, ◌∙◌, false, [], ◌++◌, None, ap}
+use Rattle.std.proofs.lemmas.List.{append-nil}
 use Rattle.mpm_machine.specs.declared.system.System.{System}
-use Rattle.mpm_machine.specs.State.{silent}
-use Rattle.mpm_machine.specs.Finishing.{finishing}
-use Rattle.mpm_machine.specs.Step.{acted, at_instruction, coming, begun_by, instruction_unless, with_finished, counted, dispatched, step_of}
+use Rattle.mpm_machine.specs.State.{Change, silent, NobodyAborted}
+use Rattle.mpm_machine.specs.Finishing.{finishing, all_finished}
+use Rattle.mpm_machine.specs.Due.{with_ends, settled}
+use Rattle.mpm_machine.specs.Step.{acted, at_instruction, coming, begun_by, instruction_unless, with_settled, counted, dispatched, step_of}
+use Rattle.mpm_machine.proofs.DueLaws.{no_ends}
 
 -- nothing is to be finished where nobody was completed
-pub finished_silent : (system : System) → system.kernel.completed ≡ [] → with_finished (silent system) ≡ silent system
-unfolding with_finished finishing
-finished_silent system e =
-    ap (λ ps. record { system = (finishing ps system).system; news = (finishing ps system).news ++ [] }) e
+finished_silent : (system : System) → system.kernel.completed ≡ [] → all_finished system ≡ silent system
+unfolding finishing
+finished_silent system e = ap (λ ps. finishing ps system) e
 
--- where no event comes, and what the running process does says nothing and completes nobody, the step is that
+settled_silent : (system : System) → system.kernel.completed ≡ [] → with_settled (silent system) ≡ with_ends system
+unfolding with_settled settled
+settled_silent system e =
+    ap (λ (answered : Change). record {
+      system = (with_ends answered.system).system;
+      news = ((with_ends answered.system).news ++ answered.news) ++ [];
+    }) (finished_silent system e)
+    ∙ ap (λ news. record { system = (with_ends system).system; news = news ++ [] }) (append-nil (with_ends system).news)
+    ∙ ap (λ news. record { system = (with_ends system).system; news = news }) (append-nil (with_ends system).news)
+
+-- where no event comes, and what the running process does says nothing and completes nobody, the step is that, and the ends
+-- that are due
 pub step_quiet : (system behind : System) → coming (counted system) ≡ None → acted (counted system) ≡ silent behind → behind.kernel.completed ≡ []
-    → step_of system ≡ dispatched (at_instruction (counted system)) (silent behind)
+    → step_of system ≡ dispatched (at_instruction (counted system)) (with_ends behind)
 unfolding step_of
 step_quiet system behind quiet acts handed =
     let begun = counted system in
-    ap (λ event. dispatched (instruction_unless event begun) (with_finished (begun_by event begun))) quiet
-    ∙ ap (λ change. dispatched (at_instruction begun) (with_finished change)) acts
-    ∙ ap (dispatched (at_instruction begun)) (finished_silent behind handed)
+    ap (λ event. dispatched (instruction_unless event begun) (with_settled (begun_by event begun))) quiet
+    ∙ ap (λ change. dispatched (at_instruction begun) (with_settled change)) acts
+    ∙ ap (dispatched (at_instruction begun)) (settled_silent behind handed)
+
+-- where besides nobody is aborted, the step is that alone
+pub step_still : (system behind : System) → coming (counted system) ≡ None → acted (counted system) ≡ silent behind → behind.kernel.completed ≡ []
+    → NobodyAborted behind.kernel → behind.put_off ≡ false → step_of system ≡ dispatched (at_instruction (counted system)) (silent behind)
+step_still system behind quiet acts handed none off =
+    step_quiet system behind quiet acts handed ∙ ap (dispatched (at_instruction (counted system))) (no_ends behind none off)

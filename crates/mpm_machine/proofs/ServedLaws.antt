@@ -2,21 +2,23 @@
 use Rattle.std.proofs.Common.{◌≡◌, ◌∙◌, ℕ, suc, cond, not, ◌+◌, Bool, true, false, List, [], ◌∷◌, Option, Some, None, ◌&&◌, ◌==◌, nat_le, nat_lt, length, get_or, if◌then◌else◌, inl, inr, refl, sym, ap, subst, arith}
 use Rattle.std.specs.List.{position_or_len}
 use Rattle.std.proofs.lemmas.Bool.{cases_eq, cases_lt}
-use Rattle.std.proofs.Math.ListN.{get_or-eq_default}
+use Rattle.std.proofs.Math.ListN.{get_or-eq_default, get_or-map as map_at}
 use Rattle.mpm_base.specs.Calls.{Taken}
 use Rattle.mpm_banks.specs.Memory.{Memory, no_segment, SameSegments, segment_of}
 use Rattle.mpm_banks.specs.MemoryLaws.{field_stays}
 use Rattle.mpm_banks.specs.declared.segment.Segment.{Segment}
 use Rattle.mpm_banks.specs.declared.segment.Allocation.{Allocation}
 use Rattle.mpm_banks.specs.declared.segment.Allocation.TheVariants.{Free, Reserved}
-use Rattle.mpm_banks.specs.Allocations.{is_free, is_owners, has_base, fits, lowest_free, allocated, reserved, released, is_reserved}
-use Rattle.mpm_banks.proofs.SegmentLaws.{count_allocated, allocation_of_allocated, segment_of_allocated}
-use Rattle.mpm_procs.specs.Table.{process_in}
+use Rattle.mpm_banks.specs.Allocations.{is_free, is_owners, has_base, fits, lowest_free, allocated, reserved, released, is_reserved, all_released, freed}
+use Rattle.mpm_banks.proofs.SegmentLaws.{count_allocated, count_all_released, allocation_of_allocated, segment_of_allocated}
+use Rattle.mpm_procs.specs.Table.{Table, process_in}
 use Rattle.mpm_kernel.specs.Kernel.{Kernel}
 use Rattle.mpm_kernel.specs.Calls.{called}
 use Rattle.mpm_xdos.specs.Creating.{home_base, created, create_answer}
+use Rattle.mpm_xdos.specs.Ending.{is_home, left_by, memory_without}
+use Rattle.mpm_xdos.specs.Aborting.{waits_to_end, target, memory_behind_abort}
 use Rattle.mpm_machine.specs.declared.system.System.{System}
-use Rattle.mpm_machine.specs.Serving.{asked, keeping, byte_of, Served, reserve_reply, descriptor_of, base_asked, reserving, releasing, creating, calling, served}
+use Rattle.mpm_machine.specs.Serving.{asked, keeping, byte_of, Served, reserve_reply, descriptor_of, base_asked, reserving, releasing, creating, aborted, aborting_this, aborting, calling, served}
 use Rattle.mpm_machine.specs.Contained.{DiffersInBytes, ServedAlike, IsServedByValue}
 
 -- the same segment is the lowest that is free
@@ -153,6 +155,84 @@ creating_alike p one other d =
           (ap (create_answer other.kernel p) base ∙ ap (λ kernel. create_answer kernel p (home_base one.memory (process_in one.kernel.procs p).seg)) d.kernel);
     }
 
+alike_if : (b : Bool) (one one' other other' : Served) → ServedAlike one other → ServedAlike one' other'
+    → ServedAlike (if b then one else one') (if b then other else other')
+alike_if true one one' other other' is was = is
+alike_if false one one' other other' is was = was
+
+-- an end gives the same segments back
+
+segment_freed : (memory : Memory) (owner seg : ℕ) → segment_of (all_released memory owner) seg ≡ freed owner (segment_of memory seg)
+unfolding all_released
+segment_freed memory owner seg = map_at (freed owner) memory.segments seg no_segment
+
+-- in whose hands it is then
+abbrev hands_freed : ℕ → Allocation → Allocation
+hands_freed owner allocation = if is_owners owner allocation then Free else allocation
+
+freed_base : (b : Bool) (segment : Segment) → (if b then record segment { allocation = Free } else segment).base ≡ segment.base
+freed_base true segment = refl
+freed_base false segment = refl
+
+freed_pages : (b : Bool) (segment : Segment) → (if b then record segment { allocation = Free } else segment).pages ≡ segment.pages
+freed_pages true segment = refl
+freed_pages false segment = refl
+
+freed_hands : (b : Bool) (segment : Segment) → (if b then record segment { allocation = Free } else segment).allocation ≡ (if b then Free else segment.allocation)
+freed_hands true segment = refl
+freed_hands false segment = refl
+
+base_freed : (memory : Memory) (owner seg : ℕ) → (segment_of (all_released memory owner) seg).base ≡ (segment_of memory seg).base
+base_freed memory owner seg =
+    ap (λ (s : Segment). s.base) (segment_freed memory owner seg) ∙ freed_base (is_owners owner (segment_of memory seg).allocation) (segment_of memory seg)
+
+pages_freed : (memory : Memory) (owner seg : ℕ) → (segment_of (all_released memory owner) seg).pages ≡ (segment_of memory seg).pages
+pages_freed memory owner seg =
+    ap (λ (s : Segment). s.pages) (segment_freed memory owner seg) ∙ freed_pages (is_owners owner (segment_of memory seg).allocation) (segment_of memory seg)
+
+hands_after : (memory : Memory) (owner seg : ℕ) → (segment_of (all_released memory owner) seg).allocation ≡ hands_freed owner (segment_of memory seg).allocation
+hands_after memory owner seg =
+    ap (λ (s : Segment). s.allocation) (segment_freed memory owner seg) ∙ freed_hands (is_owners owner (segment_of memory seg).allocation) (segment_of memory seg)
+
+count_freed : (memory : Memory) (owner : ℕ) → length (all_released memory owner).segments ≡ length memory.segments
+count_freed memory owner = count_all_released memory owner
+
+all_released_alike : (one other : Memory) (owner : ℕ) → SameSegments one other → SameSegments (all_released one owner) (all_released other owner)
+all_released_alike one other owner same = record {
+  count = count_freed other owner ∙ same.count ∙ sym (count_freed one owner);
+  base = λ k. base_freed other owner k ∙ same.base k ∙ sym (base_freed one owner k);
+  pages = λ k. pages_freed other owner k ∙ same.pages k ∙ sym (pages_freed one owner k);
+  allocation = λ k. hands_after other owner k ∙ ap (hands_freed owner) (same.allocation k) ∙ sym (hands_after one owner k);
+}
+
+left_alike : (one other : Memory) (procs : Table) (seg : Option ℕ) → SameSegments one other → SameSegments (left_by one procs seg) (left_by other procs seg)
+unfolding left_by
+left_alike one other procs None same = same
+left_alike one other procs (Some seg) same = same_if (is_home procs seg) _ _ _ _ same (allocated_alike one other seg Free same)
+
+without_alike : (one other : Memory) (kernel : Kernel) (p : ℕ) → SameSegments one other → SameSegments (memory_without one kernel p) (memory_without other kernel p)
+unfolding memory_without
+without_alike one other kernel p same = left_alike _ _ _ _ (all_released_alike one other p same)
+
+aborted_alike : (one other : Memory) (kernel : Kernel) (p : ℕ) → SameSegments one other
+    → SameSegments (memory_behind_abort one kernel p false) (memory_behind_abort other kernel p false)
+unfolding memory_behind_abort
+aborted_alike one other kernel p same = same_if (waits_to_end kernel p false) _ _ _ _ same (without_alike one other kernel p same)
+
+aborting_with : (named : Option ℕ) (p : ℕ) (one other : System) → SameSegments one.memory other.memory
+    → ServedAlike (aborting_this named p one) (aborting_this named p (record other { kernel = one.kernel }))
+unfolding aborted
+aborting_with None p one other same = record { kernel = refl; segments = same; outcome = refl; reply = refl }
+aborting_with (Some q) p one other same =
+    alike_if (q == p && not (waits_to_end one.kernel p false)) _ _ _ _ (record { kernel = refl; segments = same; outcome = refl; reply = refl })
+    (record { kernel = refl; segments = aborted_alike one.memory other.memory one.kernel q same; outcome = refl; reply = refl })
+
+aborting_alike : (p : ℕ) (one other : System) → DiffersInBytes one other → ServedAlike (aborting p one) (aborting p other)
+unfolding aborting
+aborting_alike p one other d =
+    let P : Kernel → Type 0 = λ kernel. ServedAlike (aborting p one) (aborting p (record other { kernel = kernel })) in
+    subst P (sym d.kernel) (aborting_with (target one.kernel.procs p) p one other d.segments)
+
 calling_alike : (p : ℕ) (one other : System) → DiffersInBytes one other → ServedAlike (calling p one) (calling p other)
 calling_alike p one other d = record {
   kernel = ap (λ kernel. (called p kernel).kernel) d.kernel;
@@ -160,11 +240,6 @@ calling_alike p one other d = record {
   outcome = ap (λ kernel. (called p kernel).outcome) d.kernel;
   reply = ap (λ kernel. (called p kernel).reply) d.kernel;
 }
-
-alike_if : (b : Bool) (one one' other other' : Served) → ServedAlike one other → ServedAlike one' other'
-    → ServedAlike (if b then one else one') (if b then other else other')
-alike_if true one one' other other' is was = is
-alike_if false one one' other other' is was = was
 
 -- whatever bytes stand in memory, a call does the same, and answers the same
 pub serves_alike : (call : Taken) (p : ℕ) (one other : System) → DiffersInBytes one other → ServedAlike (served call p one) (served call p other)
@@ -175,7 +250,8 @@ serves_alike call p one other d =
     (alike_if (f == 129) _ _ _ _ (reserving_alike (base_asked false call) call p one other d)
     (alike_if (f == 130) _ _ _ _ (releasing_alike call p one other d)
     (alike_if (f == 144) _ _ _ _ (creating_alike p one other d)
-    (calling_alike p one other d))))
+    (alike_if (f == 157) _ _ _ _ (aborting_alike p one other d)
+    (calling_alike p one other d)))))
 
 pub served_by_value : (system : System) (p seg : ℕ) → IsServedByValue system p seg
 served_by_value system p seg = λ other d. let call = asked p seg system in serves_alike call p (keeping p call system) other d

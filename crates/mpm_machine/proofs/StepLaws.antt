@@ -1,5 +1,5 @@
 -- Laws of a step and of n steps.
-use Rattle.std.proofs.Common.{◌≡◌, ◌∙◌, ℕ, zero, suc, ◌+◌, ◌-◌, ◌<◌, ◌≤◌, Bool, true, false, ◌==◌, List, [], ◌∷◌, ◌++◌, Option, Some, None, if◌then◌else◌, refl, ap, sym, subst, arith, add-one}
+use Rattle.std.proofs.Common.{◌≡◌, ◌∙◌, ℕ, zero, suc, ◌+◌, ◌-◌, ◌<◌, ◌≤◌, Bool, true, false, not, ◌&&◌, ◌==◌, List, [], ◌∷◌, ◌++◌, Option, Some, None, if◌then◌else◌, refl, ap, sym, subst, arith, add-one}
 use Rattle.z80_regs.specs.Outcome.{Outcome}
 use Rattle.mpm_base.specs.Calls.{Taken, Answer}
 use Rattle.mpm_base.specs.declared.call.Outcome.{Outcome as CallOutcome}
@@ -7,18 +7,21 @@ use Rattle.mpm_base.specs.declared.call.Outcome.TheVariants.{Done, Held, Retry, 
 use Rattle.mpm_render.specs.Outputs.{rendered}
 use Rattle.mpm_render.specs.Shown.{Kept, Shows, EndsBetween}
 use Rattle.mpm_script.specs.declared.event.Event.{Event}
+use Rattle.std.specs.List.{range_with_len}
 use Rattle.mpm_procs.specs.Table.{process_in}
+use Rattle.mpm_xdos.specs.Aborting.{waits_to_end, target}
 use Rattle.mpm_machine.specs.declared.system.System.{System}
 use Rattle.mpm_machine.proofs.FinishLaws.{first_finished}
 use Rattle.mpm_machine.specs.declared.gate.Gate.{Gate}
 use Rattle.mpm_machine.specs.declared.gate.Gate.TheVariants.{End, Call}
 use Rattle.mpm_machine.specs.Writing.{Showed, Stopped}
-use Rattle.mpm_machine.specs.State.{State, speaking, StandsFor}
+use Rattle.mpm_machine.specs.State.{State, Change, speaking, StandsFor}
 use Rattle.mpm_machine.specs.Ending.{ended}
-use Rattle.mpm_machine.specs.Serving.{asked, keeping, Served, reserving, releasing, creating, served, said_by, popped, replied, answering_call, completing, outcome_of, gate_step}
+use Rattle.mpm_machine.specs.Serving.{asked, keeping, Served, reserving, releasing, creating, aborted, aborting_this, aborting, served, said_by, popped, replied, answering_call, completing, outcome_of, gate_step}
 use Rattle.mpm_machine.specs.Finishing.{finished, handed, finishing, all_finished}
+use Rattle.mpm_machine.specs.Due.{is_due, ended_if_due, due_ended, with_ends, settled}
 use Rattle.mpm_machine.proofs.WritingLaws.{stopped_before, stopped_behind}
-use Rattle.mpm_machine.specs.Step.{ran, illegal, instructed, instruction_at, acted_at, gate_before, acted_by, acted, coming, interrupted, begun_by, with_finished, counted, step_of, next, after, EndsInStep}
+use Rattle.mpm_machine.specs.Step.{ran, illegal, instructed, instruction_at, acted_at, gate_before, acted_by, acted, coming, interrupted, begun_by, with_settled, counted, step_of, next, after, EndsInStep}
 
 -- a step that a machine does is the state's next
 
@@ -47,15 +50,21 @@ served_if : (b : Bool) (one other : Served) (n : ℕ) → one.system.steps ≡ n
 served_if true one other n is was = is
 served_if false one other n is was = was
 
+aborted_steps : (named : Option ℕ) (p : ℕ) (system : System) → (aborting_this named p system).system.steps ≡ system.steps
+unfolding aborted
+aborted_steps None p system = refl
+aborted_steps (Some other) p system = served_if (other == p && not (waits_to_end system.kernel p false)) _ _ system.steps refl refl
+
 served_steps : (call : Taken) (p : ℕ) (system : System) → (served call p system).system.steps ≡ system.steps
-unfolding served reserving releasing creating
+unfolding served reserving releasing creating aborting
 served_steps call p system =
     let f = call.function in
     let n = system.steps in
     served_if (f == 128) _ _ n refl
     (served_if (f == 129) _ _ n refl
     (served_if (f == 130) _ _ n refl
-    (served_if (f == 144) _ _ n refl refl)))
+    (served_if (f == 144) _ _ n refl
+    (served_if (f == 157) _ _ n (aborted_steps (target system.kernel.procs p) p system) refl))))
 
 outcome_steps : (outcome : CallOutcome) (reply : Answer) (call : Taken) (p seg : ℕ) (system : System)
     → (outcome_of outcome reply call p seg system).system.steps ≡ system.steps
@@ -103,26 +112,43 @@ finishing_steps [] system = refl
 finishing_steps (p ∷ ps) system =
     finishing_steps ps (first_finished p system) ∙ finished_steps (process_in system.kernel.procs p).seg p (handed system)
 
+change_steps : (b : Bool) (one other : Change) (n : ℕ) → one.system.steps ≡ n → other.system.steps ≡ n → (if b then one else other).system.steps ≡ n
+change_steps true one other n is was = is
+change_steps false one other n is was = was
+
+due_steps : (p : ℕ) (system : System) → (ended_if_due p system).system.steps ≡ system.steps
+unfolding ended_if_due ended
+due_steps p system = change_steps (is_due system.kernel p) _ _ system.steps (finishing_steps _ (ended p system)) refl
+
+ended_steps : (ps : List ℕ) (system : System) → (due_ended ps system).system.steps ≡ system.steps
+unfolding due_ended
+ended_steps [] system = refl
+ended_steps (p ∷ ps) system = ended_steps ps (ended_if_due p system).system ∙ due_steps p system
+
+settled_steps : (system : System) → (settled system).system.steps ≡ system.steps
+unfolding settled with_ends
+settled_steps system = ended_steps (range_with_len 0 32) (all_finished system).system ∙ finishing_steps system.kernel.completed system
+
 pub step_steps : (system : System) → (step_of system).system.steps ≡ system.steps + 1
-unfolding step_of with_finished
+unfolding step_of with_settled
 step_steps system =
     let begun = counted system in
-    finishing_steps _ (begun_by (coming begun) begun).system ∙ begun_steps (coming begun) begun
+    settled_steps (begun_by (coming begun) begun).system ∙ begun_steps (coming begun) begun
 
--- writing that stops at the beginning of a step, or at an answer behind it, stops within the step
+-- writing that stops at the beginning of a step, or at an answer or an end behind it, stops within the step
 
 pub stopped_begun : (system : System) (kept : Kept) (told told' : Option (List ℕ))
     → Stopped kept told told' (begun_by (coming (counted system)) (counted system)).news → Stopped kept told told' (step_of system).news
-unfolding step_of with_finished
+unfolding step_of with_settled
 stopped_begun system kept told told' stopped = stopped_before kept told told' _ _ stopped
 
-pub stopped_finished : (system begun : System) (k0 : Kept) (t0 : Option (List ℕ)) (k1 : Kept) (t1 t2 : Option (List ℕ)) → k1.trace ≡ k0.trace
+pub stopped_settled : (system begun : System) (k0 : Kept) (t0 : Option (List ℕ)) (k1 : Kept) (t1 t2 : Option (List ℕ)) → k1.trace ≡ k0.trace
     → begun ≡ (begun_by (coming (counted system)) (counted system)).system
-    → Showed k0 t0 k1 t1 (begun_by (coming (counted system)) (counted system)).news → Stopped k1 t1 t2 (all_finished begun).news
+    → Showed k0 t0 k1 t1 (begun_by (coming (counted system)) (counted system)).news → Stopped k1 t1 t2 (settled begun).news
     → Stopped k0 t0 t2 (step_of system).news
-unfolding step_of with_finished
-stopped_finished system begun k0 t0 k1 t1 t2 same is shown stopped =
-    let P : System → Type 0 = λ s. Stopped k1 t1 t2 (all_finished s).news in
+unfolding step_of with_settled
+stopped_settled system begun k0 t0 k1 t1 t2 same is shown stopped =
+    let P : System → Type 0 = λ s. Stopped k1 t1 t2 (settled s).news in
     stopped_behind k0 t0 k1 t1 t2 _ _ same shown (subst P is stopped)
 
 -- n steps

@@ -1,6 +1,9 @@
 -- A whole system stays whole through each part of a step.
-use Rattle.std.proofs.Common.{◌≡◌, ◌≢◌, ◌∙◌, ℕ, ◌+◌, ◌&&◌, Bool, true, false, List, [], ◌∷◌, Option, Some, None, ◌==◌, if◌then◌else◌, refl, sym, ap, subst, IsNone, IfSome, All, arith}
+use Rattle.std.proofs.Common.{◌≡◌, ◌≢◌, ◌∙◌, ℕ, ◌+◌, ◌&&◌, ◌||◌, Bool, true, false, not, List, [], ◌∷◌, Option, Some, None, ◌==◌, if◌then◌else◌, inl, inr, refl, sym, ap, subst, IsNone, IfSome, All, arith}
+use Rattle.std.proofs.lemmas.Bool.{and_parts, false≢true, or_right, eq-eqb}
 use Rattle.std.proofs.lemmas.Bool.Decides.{nat_tests}
+use Rattle.std.specs.List.{range_with_len}
+use Rattle.std.specs.Prelude.{is_some, nat_lt, ◌⊎◌}
 use Rattle.std.proofs.lemmas.List.{set-get_or}
 use Rattle.z80_regs.specs.Outcome.{Outcome}
 use Rattle.z80_regs.specs.declared.regs.Regs.{Regs}
@@ -15,30 +18,36 @@ use Rattle.mpm_gate.specs.Replies.{answered, returned}
 use Rattle.mpm_procs.specs.Table.{Table, lives, Lives, process_in, call_of, with_process, with_call}
 use Rattle.mpm_procs.specs.Opening.{blank}
 use Rattle.mpm_procs.proofs.MapLaws.{lives_below, lives_changed, process_changed, process_behind, call_behind, call_changed, lives_behind}
-use Rattle.mpm_kernel.specs.Kernel.{Kernel, IsSound, IsReady, CompletedLive, with_changed}
+use Rattle.mpm_queues.specs.Queues.{lowest}
+use Rattle.mpm_queues.proofs.Finding.{lowest_none}
+use Rattle.mpm_kernel.specs.Kernel.{Kernel, IsSound, IsReady, CompletedLive, is_aborted, with_changed}
 use Rattle.mpm_kernel.specs.Columns.{spoke}
 use Rattle.mpm_script.specs.declared.event.Event.{Event}
 use Rattle.mpm_script.specs.Events.{IsTimed}
 use Rattle.mpm_kernel.specs.Dispatch.{discharged, stays, picked}
 use Rattle.mpm_kernel.specs.Events.{MayCome, first_completed, happened}
 use Rattle.mpm_kernel.proofs.SoundLaws.{sound_changed, sound_call, sound_devices, sound_spoke, sound_picked, sound_discharged, sound_called, lives_called, live_called, sound_happened, live_happened, sound_completed, live_handed_out, completed_lives, live_kept, runner_lives}
-use Rattle.mpm_kernel.proofs.HomeLaws.{SameHomes, homes_stay, homes_changed, homes_call, homes_discharged, homes_called, homes_happened, call_called, procs_picked, procs_spoke, procs_handed_out}
+use Rattle.mpm_kernel.proofs.HomeLaws.{SameHomes, homes_stay, lived_in_changed, homes_changed, homes_call, homes_discharged, lives_discharged, call_discharged, homes_called, homes_happened, call_called, procs_picked, procs_spoke, procs_handed_out}
 use Rattle.mpm_xdos.specs.Creating.{home_base, created}
-use Rattle.mpm_xdos.specs.Ending.{is_segment, lives_in}
+use Rattle.mpm_xdos.specs.Ending.{is_segment, lives_in, memory_without}
+use Rattle.mpm_xdos.specs.Aborting.{waits_to_end, with_abort_due, target, behind_abort, memory_behind_abort}
+use Rattle.mpm_xdos.proofs.TargetLaws.{target_lives}
 use Rattle.mpm_xdos.proofs.Homes.{home_here}
 use Rattle.mpm_xdos.proofs.CreatedLaws.{made_created}
 use Rattle.mpm_machine.specs.declared.system.System.{System}
 use Rattle.mpm_machine.specs.declared.gate.Gate.{Gate}
 use Rattle.mpm_machine.specs.declared.gate.Gate.TheVariants.{End, Call}
-use Rattle.mpm_machine.specs.State.{IsHome, IsWhole, speaking}
+use Rattle.mpm_machine.specs.State.{Change, IsHome, IsWhole, NobodyAborted, speaking}
 use Rattle.mpm_machine.specs.Ending.{ended}
-use Rattle.mpm_machine.specs.Serving.{with_regs, asked, keeping, Served, reserving, releasing, creating, calling, served, said_by, popped, replied, completion, answering_call, completing, outcome_of, gate_step}
+use Rattle.mpm_machine.specs.Serving.{with_regs, asked, keeping, Served, reserving, releasing, creating, aborted, aborting_this, aborting, calling, served, said_by, popped, replied, completion, answering_call, completing, outcome_of, gate_step}
 use Rattle.mpm_machine.specs.Interrupts.{due, behind_due}
 use Rattle.mpm_machine.specs.declared.interrupts.Interrupts.{Interrupts}
 use Rattle.mpm_machine.specs.Finishing.{finished, handed, finishing, all_finished}
-use Rattle.mpm_machine.specs.Step.{counted, illegal, illegal_text, instructed, ran, instruction_at, acted_at, gate_before, acted_by, acted, lets_in, coming, roused, interrupted, begun_by, instruction_unless, with_finished, step_of}
+use Rattle.mpm_machine.specs.Due.{is_due, ended_if_due, due_ended, is_any_aborted, noted, with_ends, settled}
+use Rattle.mpm_machine.specs.Step.{counted, illegal, illegal_text, instructed, ran, instruction_at, acted_at, gate_before, acted_by, acted, lets_in, coming, roused, interrupted, begun_by, instruction_unless, with_settled, step_of}
 use Rattle.mpm_machine.proofs.InterruptLaws.{due_may, script_behind_due}
-use Rattle.mpm_machine.proofs.FinishLaws.{first_finished, left_completed, handed_finished}
+use Rattle.mpm_machine.proofs.FinishLaws.{first_finished, left_completed}
+use Rattle.mpm_machine.proofs.DueLaws.{handed_settled}
 use Rattle.mpm_machine.proofs.HomeLaws.{KeepsHomes, keeps_placed, keeps_acted, keeps_reserved, keeps_released, leaves_without, free_or_lived, found_is_free}
 
 -- the segment of a process is a home
@@ -57,6 +66,15 @@ free_is_empty system base pages p seg w found h = λ home.
     free_or_lived (segment_of system.memory seg).allocation
     (found_is_free system.memory base pages seg found) (w.lived p seg h home)
 
+-- nobody is aborted where nobody was, and nobody more is now
+
+not_now : (b was : Bool) → (b ≡ true → was ≡ true) → was ≡ false → b ≡ false
+not_now true was so none = absurd (false≢true (sym none ∙ so refl))
+not_now false was so none = refl
+
+pub nobody_more : (old new : Kernel) → ((p : ℕ) → is_aborted new.procs p ≡ true → is_aborted old.procs p ≡ true) → NobodyAborted old → NobodyAborted new
+nobody_more old new so none = λ p. not_now (is_aborted new.procs p) (is_aborted old.procs p) (so p) (none p)
+
 -- another kernel, whose processes live where some lived before
 pub whole_kernel : (system : System) (kernel : Kernel) → IsWhole system → IsSound kernel → CompletedLive kernel → SameHomes system.kernel kernel
     → IsWhole (record system { kernel = kernel })
@@ -64,6 +82,7 @@ whole_kernel system kernel w s live homes = record {
   sound = s;
   live = live;
   script = w.script;
+  settled = λ off. nobody_more system.kernel kernel homes.aborts (w.settled off);
   homes = λ p seg h home. let there = homes.all p seg h home in w.homes there.who seg there.lives there.home;
   lived = λ p seg h home. let there = homes.all p seg h home in w.lived there.who seg there.lives there.home;
 }
@@ -75,13 +94,14 @@ whole_memory system memory w keeps = record {
   sound = w.sound;
   live = w.live;
   script = w.script;
+  settled = w.settled;
   homes = λ p seg h home. keeps.all seg (w.homes p seg h home);
   lived = λ p seg h home. keeps.lived seg (w.homes p seg h home) (w.lived p seg h home);
 }
 
 -- more steps are counted
 pub whole_steps : (system : System) (steps : ℕ) → IsWhole system → IsWhole (record system { steps = steps })
-whole_steps system steps w = record { sound = w.sound; live = w.live; homes = w.homes; lived = w.lived; script = w.script }
+whole_steps system steps w = record { sound = w.sound; live = w.live; homes = w.homes; lived = w.lived; script = w.script; settled = w.settled }
 
 -- a system is whole behind a part of the step of a process, which lives and keeps its call
 pub record StaysWhole (p : ℕ) (old new : System) : Type 0 where
@@ -99,7 +119,7 @@ whole_regs p regs system w h =
       whole = whole_kernel system _ w
           (sound_changed system.kernel p process w.sound h (record { console = fit.console; some = fit.some; few = fit.few }))
           (live_kept system.kernel (with_changed system.kernel p process) refl (λ q living. lives_changed system.kernel.procs p q process ∙ living) w.live)
-          (homes_changed system.kernel p process w.sound.slots h refl);
+          (homes_changed system.kernel p process w.sound.slots h refl refl);
       lives = lives_changed system.kernel.procs p p process ∙ h;
       call = call_behind system.kernel.procs p p process;
     }
@@ -155,6 +175,7 @@ whole_ended p system w h =
       sound = whole.sound;
       live = whole.live;
       script = w.script;
+      settled = whole.settled;
       homes = λ q seg living there. leaves.all seg (whole.homes q seg living there);
       lived = λ q seg living there.
           leaves.lived seg (whole.homes q seg living there)
@@ -258,13 +279,102 @@ whole_creating p system w h =
       call = made.call p h;
     }
 
+-- a process is aborted, by itself or by another
+
+or_on : (b : Bool) → (b || true) ≡ true
+or_on b = or_right b true refl
+
+or_off : (b : Bool) → (b || false) ≡ b
+or_off true = refl
+or_off false = refl
+
+-- its end is put off, or it ends
+abbrev aborted_by : Bool → ℕ → System → System
+aborted_by waits p system = record system {
+  kernel = if waits then with_abort_due system.kernel p else (discharged system.kernel p);
+  memory = if waits then system.memory else (memory_without system.memory system.kernel p);
+  put_off = system.put_off || waits;
+}
+
+aborted_is : (waits : Bool) (p : ℕ) (system : System) → waits_to_end system.kernel p false ≡ waits → aborted p system ≡ aborted_by waits p system
+unfolding aborted behind_abort memory_behind_abort
+aborted_is waits p system e = ap (λ b. aborted_by b p system) e
+
+ends_at_once : (p : ℕ) (system : System) → aborted_by false p system ≡ ended p system
+unfolding ended
+ends_at_once p system = ap (λ b. record (ended p system) { put_off = b }) (or_off system.put_off)
+
+put_off_is : (p : ℕ) (system : System) → aborted_by true p system ≡ record system { kernel = with_abort_due system.kernel p; put_off = true }
+put_off_is p system = ap (λ b. record system { kernel = with_abort_due system.kernel p; put_off = b }) (or_on system.put_off)
+
+whole_put_off : (p : ℕ) (system : System) → IsWhole system → Lives system.kernel.procs p
+    → IsWhole (record system { kernel = with_abort_due system.kernel p; put_off = true })
+whole_put_off p system w h =
+    let process = record (process_in system.kernel.procs p) { abort_due = true } in
+    let fit = w.sound.fit p h in
+    let kernel = with_changed system.kernel p process in
+    let there = lived_in_changed system.kernel p process w.sound.slots h refl in
+    record {
+      sound = sound_changed system.kernel p process w.sound h (record { console = fit.console; some = fit.some; few = fit.few });
+      live = live_kept system.kernel kernel refl (λ q living. lives_changed system.kernel.procs p q process ∙ living) w.live;
+      script = w.script;
+      settled = λ off. absurd (false≢true (sym off));
+      homes = λ q seg living home. let lived = there q seg living home in w.homes lived.who seg lived.lives lived.home;
+      lived = λ q seg living home. let lived = there q seg living home in w.lived lived.who seg lived.lives lived.home;
+    }
+
+stays_aborted : (waits : Bool) (other p : ℕ) (system : System) → IsWhole system → Lives system.kernel.procs p → Lives system.kernel.procs other
+    → (waits ≡ false → p ≢ other) → StaysWhole p system (aborted_by waits other system)
+stays_aborted true other p system w h living apart =
+    let process = record (process_in system.kernel.procs other) { abort_due = true } in
+    record {
+      whole = subst IsWhole (sym (put_off_is other system)) (whole_put_off other system w living);
+      lives = lives_changed system.kernel.procs other p process ∙ h;
+      call = call_behind system.kernel.procs other p process;
+    }
+stays_aborted false other p system w h living apart = record {
+  whole = subst IsWhole (sym (ends_at_once other system)) (whole_ended other system w living);
+  lives = lives_discharged system.kernel other p (apart refl) ∙ h;
+  call = call_discharged system.kernel other p (apart refl);
+}
+
+-- unless it ends itself, the one that asks is another where the end isn't put off
+another : (waits : Bool) (other p : ℕ) → (other == p && not waits) ≡ false → waits ≡ false → p ≢ other
+another true other p e off = absurd (false≢true (sym off))
+another false other p e off = λ same. false≢true (sym e ∙ ap (λ b. b && true) (eq-eqb other p (sym same)))
+
+served_unless : (p : ℕ) (old : System) (b : Bool) (one other : Served) → StaysWhole p old one.system → (b ≡ false → StaysWhole p old other.system)
+    → StaysWhole p old (if b then one else other).system
+served_unless p old true one other is was = is
+served_unless p old false one other is was = was refl
+
+whole_aborting_this : (named : Option ℕ) (p : ℕ) (system : System) → IsWhole system → Lives system.kernel.procs p
+    → ((q : ℕ) → named ≡ Some q → Lives system.kernel.procs q) → StaysWhole p system (aborting_this named p system).system
+whole_aborting_this None p system w h living = record { whole = w; lives = h; call = refl }
+whole_aborting_this (Some other) p system w h living =
+    let waits = waits_to_end system.kernel other false in
+    served_unless p system (other == p && not (waits_to_end system.kernel p false)) _ _ (record { whole = w; lives = h; call = refl }) (λ e.
+    subst (StaysWhole p system) (sym (aborted_is waits other system refl))
+    (stays_aborted waits other p system w h (living other refl) (apart other p system e)))
+  where
+    apart : (other p : ℕ) (system : System) → (other == p && not (waits_to_end system.kernel p false)) ≡ false
+        → waits_to_end system.kernel other false ≡ false → p ≢ other
+    apart other p system e off = λ same.
+        let there : waits_to_end system.kernel p false ≡ false = ap (λ n. waits_to_end system.kernel n false) same ∙ off in
+        another (waits_to_end system.kernel p false) other p e there same
+
+whole_aborting : (p : ℕ) (system : System) → IsWhole system → Lives system.kernel.procs p → StaysWhole p system (aborting p system).system
+unfolding aborting
+whole_aborting p system w h =
+    whole_aborting_this (target system.kernel.procs p) p system w h (λ q named. target_lives system.kernel.procs p q named)
+
 whole_calling : (p : ℕ) (system : System) → IsWhole system → Lives system.kernel.procs p → IsReady system.kernel p
     → StaysWhole p system (calling p system).system
 whole_calling p system w h ready = record {
   whole = whole_kernel system _ w (sound_called p system.kernel w.sound h ready) (live_called p system.kernel w.sound h ready)
       (homes_called p system.kernel w.sound h);
   lives = lives_called p system.kernel w.sound h ready;
-  call = call_called p system.kernel w.sound h;
+  call = call_called p system.kernel w.sound h ready;
 }
 
 pub whole_served : (call : Taken) (p : ℕ) (system : System) → IsWhole system → Lives system.kernel.procs p → IsReady system.kernel p
@@ -276,7 +386,8 @@ whole_served call p system w h ready =
     (whole_if p system (f == 129) _ _ (whole_banks p _ system w h (keeps_reserved system.memory p _ _))
     (whole_if p system (f == 130) _ _ (whole_banks p _ system w h (keeps_released system.memory p _))
     (whole_if p system (f == 144) _ _ (whole_creating p system w h)
-    (whole_calling p system w h ready))))
+    (whole_if p system (f == 157) _ _ (whole_aborting p system w h)
+    (whole_calling p system w h ready)))))
 
 -- a call is taken: the process keeps it, is ready as before, and has its segment
 pub record Keeps (p : ℕ) (taken : Taken) (old new : System) : Type 0 where
@@ -349,7 +460,7 @@ whole_roused (Some p) system w e =
 
 whole_interrupts : (system : System) (interrupts : Interrupts) → IsWhole system → All IsTimed interrupts.script
     → IsWhole (record system { interrupts = interrupts })
-whole_interrupts system interrupts w script = record { sound = w.sound; live = w.live; homes = w.homes; lived = w.lived; script = script }
+whole_interrupts system interrupts w script = record { sound = w.sound; live = w.live; homes = w.homes; lived = w.lived; script = script; settled = w.settled }
 
 pub whole_due : (system : System) (interrupts : Interrupts) → IsWhole system → interrupts ≡ behind_due system.steps system.interrupts
     → IsWhole (record system { interrupts = interrupts })
@@ -396,14 +507,90 @@ whole_finishing (p ∷ ps) system w e =
     let first = whole_finished (process_in system.kernel.procs p).seg p (handed system) (whole_handed system w) same in
     whole_finishing ps (first_finished p system) first (left_completed p ps system e)
 
+-- where they all were
+pub whole_answered : (system behind : System) → IsWhole system → behind ≡ (all_finished system).system → IsWhole behind
+whole_answered system behind w is = subst IsWhole (sym is) (whole_finishing system.kernel.completed system w refl)
+
+-- the ends that are due come
+
+whole_change : (b : Bool) (one other : Change) → (b ≡ true → IsWhole one.system) → IsWhole other.system → IsWhole (if b then one else other).system
+whole_change true one other is was = is refl
+whole_change false one other is was = was
+
+pub whole_if_due : (p : ℕ) (system : System) → IsWhole system → IsWhole (ended_if_due p system).system
+unfolding ended_if_due
+whole_if_due p system w =
+    whole_change (is_due system.kernel p) _ _ (λ due.
+    let aborted = (and_parts (is_aborted system.kernel.procs p) _ due).0 in
+    whole_finishing _ (ended p system) (whole_ended p system w (and_parts (lives system.kernel.procs p) _ aborted).0) refl) w
+
+whole_due_ended : (ps : List ℕ) (system : System) → IsWhole system → IsWhole (due_ended ps system).system
+unfolding due_ended
+whole_due_ended [] system w = w
+whole_due_ended (p ∷ ps) system w = whole_due_ended ps (ended_if_due p system).system (whole_if_due p system w)
+
+-- a process whose end is due lives, and the held calls that its end completes are of processes that live
+pub due_lives : (kernel : Kernel) (p : ℕ) → is_due kernel p ≡ true → Lives kernel.procs p
+due_lives kernel p due = (and_parts (lives kernel.procs p) _ (and_parts (is_aborted kernel.procs p) _ due).0).0
+
+pub live_ended : (system behind : System) (p : ℕ) → IsWhole system → is_due system.kernel p ≡ true → behind ≡ ended p system → CompletedLive behind.kernel
+live_ended system behind p w due is =
+    let P : System → Type 0 = λ s. CompletedLive s.kernel in
+    subst P (sym is) (whole_ended p system w (due_lives system.kernel p due)).live
+
+-- nobody is aborted where none of the slots has one who is
+
+none_found : (found : Option ℕ) → is_some found ≡ false → found ≡ None
+none_found None e = refl
+none_found (Some p) e = absurd (false≢true (sym e))
+
+no_slot : (b below : Bool) → (b ≡ true → below ≡ true) → (below ≡ true → b ≡ false) → b ≡ false
+no_slot true below there none = none (there refl)
+no_slot false below there none = refl
+
+none_aborted : (system : System) → IsWhole system → is_any_aborted system.kernel.procs ≡ false → NobodyAborted system.kernel
+none_aborted system w none = λ p.
+    let each = lowest_none (is_aborted system.kernel.procs) (none_found (lowest (is_aborted system.kernel.procs)) none) in
+    no_slot (is_aborted system.kernel.procs p) (nat_lt p 32)
+    (λ due. below p system w (and_parts (lives system.kernel.procs p) _ due).0)
+    (λ less. each p (grind (arith, nat_tests, less)))
+  where
+    below : (p : ℕ) (system : System) → IsWhole system → Lives system.kernel.procs p → nat_lt p 32 ≡ true
+    below p system w living = grind (arith, nat_tests, lives_below system.kernel.procs p w.sound.slots living)
+
+either_off : (a b : Bool) → (a && b) ≡ false → (a ≡ false) ⊎ (b ≡ false)
+either_off true b e = inr e
+either_off false b e = inl refl
+
+whole_noted : (system : System) → IsWhole system → IsWhole (noted system)
+whole_noted system w = record {
+  sound = w.sound;
+  live = w.live;
+  homes = w.homes;
+  lived = w.lived;
+  script = w.script;
+  settled = λ off. elim (either_off system.put_off _ off) [
+    | inl was ↦ w.settled was
+    | inr none ↦ none_aborted system w none
+  ];
+}
+
+whole_with_ends : (system : System) → IsWhole system → IsWhole (with_ends system).system
+unfolding with_ends
+whole_with_ends system w = whole_noted _ (whole_due_ended (range_with_len 0 32) system w)
+
+whole_settled : (system : System) → IsWhole system → IsWhole (settled system).system
+unfolding settled
+whole_settled system w = whole_with_ends _ (whole_finishing system.kernel.completed system w refl)
+
 -- a step
 pub whole_counted : (system : System) → IsWhole system → IsWhole (counted system)
 whole_counted system w = whole_steps system (system.steps + 1) w
 
-whole_finished_all : (event : Option Event) (system : System) → IfSome event MayCome → IsWhole system
-    → IsWhole (with_finished (begun_by event system)).system
-unfolding with_finished
-whole_finished_all event system may w = whole_finishing _ (begun_by event system).system (whole_begun event system may w) refl
+whole_settled_all : (event : Option Event) (system : System) → IfSome event MayCome → IsWhole system
+    → IsWhole (with_settled (begun_by event system)).system
+unfolding with_settled
+whole_settled_all event system may w = whole_settled (begun_by event system).system (whole_begun event system may w)
 
 -- the event that comes may come
 
@@ -427,17 +614,19 @@ live_picked instruction kernel live = live_if (instruction && stays kernel kerne
 
 -- behind the beginning of a step, and behind its answers
 
+pub whole_behind_begun : (system behind : System) → IsWhole system → behind ≡ (begun_by (coming system) system).system → IsWhole behind
+whole_behind_begun system behind w is = subst IsWhole (sym is) (whole_begun (coming system) system (coming_may system w) w)
+
 pub live_begun : (system behind : System) → IsWhole system → behind ≡ (begun_by (coming system) system).system → CompletedLive behind.kernel
 live_begun system behind w is =
     let P : System → Type 0 = λ s. CompletedLive s.kernel in
     subst P (sym is) (whole_begun (coming system) system (coming_may system w) w).live
 
-pub sound_finished : (system begun behind : System) → IsWhole system → begun ≡ (begun_by (coming system) system).system
-    → behind ≡ (all_finished begun).system → IsSound behind.kernel
-unfolding with_finished
-sound_finished system begun behind w is was =
+pub sound_settled : (system begun behind : System) → IsWhole system → begun ≡ (begun_by (coming system) system).system
+    → behind ≡ (settled begun).system → IsSound behind.kernel
+sound_settled system begun behind w is was =
     let P : System → Type 0 = λ s. IsSound s.kernel in
-    subst P (sym (was ∙ ap (λ s. (all_finished s).system) is)) (whole_finished_all (coming system) system (coming_may system w) w).sound
+    subst P (sym was) (whole_settled begun (whole_behind_begun system begun w is)).sound
 
 -- nobody is left to be handed out behind a step
 
@@ -449,11 +638,11 @@ pub same_picked : (instruction : Bool) (kernel : Kernel) → (picked instruction
 unfolding picked
 same_picked instruction kernel = same_if (instruction && stays kernel kernel.running) kernel _ refl
 
-pub handed_step : (begun behind : System) (kernel : Kernel) (instruction : Bool) → behind ≡ (all_finished begun).system
+pub handed_step : (begun behind : System) (kernel : Kernel) (instruction : Bool) → behind ≡ (settled begun).system
     → kernel ≡ picked instruction behind.kernel → kernel.completed ≡ []
 handed_step begun behind kernel instruction is was =
     ap (λ (k : Kernel). k.completed) was ∙ same_picked instruction behind.kernel ∙ ap (λ (s : System). s.kernel.completed) is
-    ∙ handed_finished begun.kernel.completed begun refl
+    ∙ handed_settled begun
 
 pub whole_step : (system : System) → IsWhole system → IsWhole (step_of system).system
 unfolding step_of
@@ -462,5 +651,5 @@ whole_step system w =
     let event = coming begun in
     let counts = whole_counted system w in
     let instruction = instruction_unless event begun in
-    let behind = whole_finished_all event begun (coming_may begun counts) counts in
+    let behind = whole_settled_all event begun (coming_may begun counts) counts in
     whole_kernel _ _ behind (sound_picked _ instruction behind.sound) (live_picked instruction _ behind.live) (homes_stay _ _ (procs_picked instruction _))

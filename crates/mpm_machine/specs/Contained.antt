@@ -1,6 +1,6 @@
 -- What a step may write of memory, what a listed instruction changes, and what a call takes from memory.
-use Rattle.std.specs.Prelude.{◌≡◌, ℕ, ◌+◌, ◌<◌, ◌≤◌, true, false, List, Bool, Option, Some, None, IsSome, ◌==◌, slice_index_or}
-use Rattle.std.specs.List.{list_any}
+use Rattle.std.specs.Prelude.{◌≡◌, ℕ, ◌+◌, ◌<◌, ◌≤◌, ◌⊎◌, true, false, List, [], ◌∷◌, Bool, Option, Some, None, IsSome, ◌==◌, slice_index_or}
+use Rattle.std.specs.List.{list_any, range_with_len}
 use Rattle.z80_regs.specs.declared.regs.Regs.{Regs}
 use Rattle.z80_ext.specs.Instruction.{actions_of}
 use Rattle.mpm_base.specs.Calls.{Answer}
@@ -10,13 +10,15 @@ use Rattle.mpm_banks.specs.Memory.{Memory, byte_at, SameSegments}
 use Rattle.mpm_banks.specs.Actions.{writes_to}
 use Rattle.mpm_gate.specs.Replies.{IsPlacedAt}
 use Rattle.mpm_procs.specs.Table.{Lives, process_in, call_of}
-use Rattle.mpm_kernel.specs.Dispatch.{picked}
 use Rattle.mpm_kernel.specs.Waiting.{completion_reply}
 use Rattle.mpm_machine.specs.declared.system.System.{System}
 use Rattle.mpm_machine.specs.declared.gate.Gate.{Gate}
 use Rattle.mpm_machine.specs.declared.gate.Gate.TheVariants.{End, Call}
 use Rattle.mpm_machine.specs.Serving.{with_regs, asked, keeping, Served, served}
-use Rattle.mpm_machine.specs.Step.{instruction_at, gate_before, coming, begun_by, counted}
+use Rattle.mpm_machine.specs.Ending.{ended}
+use Rattle.mpm_machine.specs.Finishing.{all_finished}
+use Rattle.mpm_machine.specs.Due.{is_due, ended_if_due, with_ends}
+use Rattle.mpm_machine.specs.Step.{instruction_at, gate_before, coming, begun_by, counted, dispatched}
 
 -- a call that is done places its reply's bytes; another places none
 abbrev pub PlacesAt : Outcome → Answer → ℕ → ℕ → Type 0
@@ -48,13 +50,27 @@ pub record IsWritten (system : System) (seg at : ℕ) : Type 0 where
 abbrev pub behind_begun : System → System
 behind_begun system = let begun = counted system in (begun_by (coming begun) begun).system
 
--- the held call of a process that lives in that segment is completed in this step, and its reply is placed at the address
-pub record IsAnswered (system : System) (seg at : ℕ) : Type 0 where
+-- the held call of a process that lives in that segment was completed, and its reply is placed at the address
+pub record Answers (system : System) (seg at : ℕ) : Type 0 where
   pub who : ℕ
-  pub among : list_any (λ p. p == who) (behind_begun system).kernel.completed ≡ true
-  pub lives : Lives (behind_begun system).kernel.procs who
-  pub home : (process_in (behind_begun system).kernel.procs who).seg ≡ Some seg
-  pub places : IsPlacedAt (completion_reply (behind_begun system).kernel who) (call_of (behind_begun system).kernel.procs who).word at
+  pub among : list_any (λ p. p == who) system.kernel.completed ≡ true
+  pub lives : Lives system.kernel.procs who
+  pub home : (process_in system.kernel.procs who).seg ≡ Some seg
+  pub places : IsPlacedAt (completion_reply system.kernel who) (call_of system.kernel.procs who).word at
+
+-- a process ends, as that is due, whose end completes such a call
+abbrev pub AnswersAtEnd : ℕ → System → ℕ → ℕ → Type 0
+AnswersAtEnd p system seg at = (is_due system.kernel p ≡ true) × Answers (ended p system) seg at
+
+-- so does one of several, as their ends come
+unfoldable pub AnswersAtEnds : List ℕ → System → ℕ → ℕ → Type 0
+AnswersAtEnds [] system seg at = ⊥
+AnswersAtEnds (p ∷ ps) system seg at = AnswersAtEnd p system seg at ⊎ AnswersAtEnds ps (ended_if_due p system).system seg at
+
+-- in this step such a call is completed, by what the step begins with or by an end that is due
+unfoldable pub IsAnswered : System → ℕ → ℕ → Type 0
+IsAnswered system seg at =
+    Answers (behind_begun system) seg at ⊎ AnswersAtEnds (range_with_len 0 32) (all_finished (behind_begun system)).system seg at
 
 -- a byte of a segment stays unless a process that lives there writes it or has its call's reply placed there, and a byte of
 -- common memory, whoever reads it, unless some process does
@@ -74,18 +90,18 @@ pub record Instructs (system : System) (p seg : ℕ) : Type 0 where
   pub listed : IsSome (instruction_at p seg system)
 
 -- one step was counted, and nothing else changed but a process's registers, bytes of memory, and that devices are no longer
--- ready; then it was picked who runs
+-- ready; then the ends came that were due, and it was picked who runs
 pub record OnlyInstructed (p : ℕ) (old new : System) : Type 0 where
   pub regs : Regs
   pub ready : List Bool
   pub memory : Memory
   pub clears : (device : ℕ) → slice_index_or ready device false ≡ true → slice_index_or old.kernel.devices.ready device false ≡ true
   pub bytes : SameSegments old.memory memory
-  pub is : new ≡ record old {
+  pub is : new ≡ (dispatched true (with_ends (record old {
     steps = old.steps + 1;
-    kernel = picked true (with_regs (record old.kernel { devices = record old.kernel.devices { ready = ready } }) p regs);
+    kernel = with_regs (record old.kernel { devices = record old.kernel.devices { ready = ready } }) p regs;
     memory = memory;
-  }
+  }))).system
 
 -- two systems have the same kernel, and the same segments in the same hands: their memories differ in bytes alone
 pub record DiffersInBytes (one other : System) : Type 0 where

@@ -6,6 +6,7 @@ pub mod Opening
 pub mod Ending
 pub mod Serving
 pub mod Finishing
+pub mod Due
 pub mod Step
 pub mod Moving
 pub mod Contained

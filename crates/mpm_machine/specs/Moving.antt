@@ -1,5 +1,5 @@
 -- Instructions of one process, one behind another, as long as nothing else may come between them.
-use Rattle.std.specs.Prelude.{◌≡◌, ℕ, zero, suc, ◌+◌, ◌<◌, [], Option, Some, None, IsSome}
+use Rattle.std.specs.Prelude.{◌≡◌, ℕ, zero, suc, ◌+◌, ◌<◌, false, [], Option, Some, None, IsSome}
 use Rattle.z80_regs.specs.declared.regs.Regs.{Regs}
 use Rattle.z80_regs.specs.Outcome.{Outcome}
 use Rattle.z80_ext.specs.Instruction.{instruction, registers_after, actions_of}
@@ -12,6 +12,7 @@ use Rattle.mpm_banks.specs.Actions.{memory_after, devices_after}
 use Rattle.mpm_procs.specs.Table.{process_in}
 use Rattle.mpm_kernel.specs.Kernel.{ready}
 use Rattle.mpm_machine.specs.declared.system.System.{System}
+use Rattle.mpm_machine.specs.State.{NobodyAborted}
 use Rattle.mpm_machine.specs.Gates.{gate_of}
 use Rattle.mpm_machine.specs.Interrupts.{due}
 use Rattle.mpm_machine.specs.Serving.{with_regs}
@@ -68,13 +69,15 @@ with_view system p view n = record system {
 abbrev pub Quiet : ℕ → System → Type 0
 Quiet n system = (k : ℕ) → k < n → due (system.steps + k + 1) system.interrupts ≡ None
 
--- the running process, of that segment, is the first of the ready list, so that it runs on behind each instruction, and
--- nobody's call was completed
+-- the running process, of that segment, is the first of the ready list, so that it runs on behind each instruction, nobody's
+-- call was completed, and no end by an abort is put off
 pub record RunsOn (system : System) (p seg : ℕ) : Type 0 where
   pub running : system.kernel.running ≡ Some p
   pub first : first_of (list_at system.kernel.lists ready) ≡ Some p
   pub home : (process_in system.kernel.procs p).seg ≡ Some seg
   pub handed : system.kernel.completed ≡ []
+  pub put_off : system.put_off ≡ false
+  pub settled : NobodyAborted system.kernel
 
 -- a system ran n instructions of a process
 pub record Moved (n p seg : ℕ) (old new : System) : Type 0 where

@@ -64,6 +64,7 @@ booted file events = record {
   interrupts = record { tick_every = file.tick_every; ticks = 0; script = events };
   kernel = new_kernel file.consoles file.printers (moment_of file);
   memory = new_memory file.segments;
+  put_off = false;
 }
 
 -- a process lives in the segment

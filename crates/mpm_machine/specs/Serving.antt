@@ -1,6 +1,6 @@
 -- The gate step of a kernel call: what it reads is taken, it is done, and its reply is placed. (MP/M II Programmer's Guide,
--- "BDOS Calling Conventions"; functions 128 to 130, memory segments; 144, create process.)
-use Rattle.std.specs.Prelude.{ℕ, ◌%◌, ◌≤◌, length, Bool, true, false, List, [], ◌∷◌, ◌++◌, Option, Some, None, ◌==◌, slice_index, slice_index_or, if◌then◌else◌}
+-- "BDOS Calling Conventions"; functions 128 to 130, memory segments; 144, create process; 157, abort specified process.)
+use Rattle.std.specs.Prelude.{ℕ, ◌%◌, ◌≤◌, length, Bool, true, false, not, List, [], ◌∷◌, ◌++◌, Option, Some, None, ◌==◌, ◌&&◌, ◌||◌, slice_index, slice_index_or, if◌then◌else◌}
 use Rattle.z80_regs.specs.declared.regs.Regs.{Regs}
 use Rattle.z80_regs.specs.Words.{word_of}
 use Rattle.mpm_base.specs.Calls.{Taken, Answer, answering}
@@ -18,6 +18,7 @@ use Rattle.mpm_kernel.specs.Kernel.{Kernel, with_changed}
 use Rattle.mpm_kernel.specs.Calls.{called, refusal}
 use Rattle.mpm_kernel.specs.Columns.{expanded, tab_text}
 use Rattle.mpm_xdos.specs.Creating.{home_base, created, create_answer}
+use Rattle.mpm_xdos.specs.Aborting.{waits_to_end, target, behind_abort, memory_behind_abort}
 use Rattle.mpm_render.specs.Outputs.{Output, Completed}
 use Rattle.mpm_machine.specs.declared.system.System.{System}
 use Rattle.mpm_machine.specs.State.{Change, silent, speaking}
@@ -93,6 +94,24 @@ creating p system =
       reply = answering (create_answer system.kernel p base);
     }
 
+-- a process is aborted: it ends, or its end is put off
+unfoldable pub aborted : ℕ → System → System
+aborted p system = record system {
+  kernel = behind_abort system.kernel p false;
+  memory = memory_behind_abort system.memory system.kernel p false;
+  put_off = system.put_off || waits_to_end system.kernel p false;
+}
+
+-- the process that a call names is aborted; one that aborts itself ends as by function 143, unless its end is put off
+abbrev pub aborting_this : Option ℕ → ℕ → System → Served
+aborting_this None p system = record { system = system; outcome = Done; reply = answering refusal }
+aborting_this (Some other) p system =
+    if other == p && not (waits_to_end system.kernel p false) then record { system = system; outcome = Ended; reply = answering 0 }
+    else (record { system = aborted other system; outcome = Done; reply = answering 0 })
+
+unfoldable pub aborting : ℕ → System → Served
+aborting p system = aborting_this (target system.kernel.procs p) p system
+
 -- a call that concerns the kernel alone
 abbrev pub calling : ℕ → System → Served
 calling p system =
@@ -110,7 +129,8 @@ served call p system =
     else (if call.function == 129 then reserving (base_asked false call) call p system
     else (if call.function == 130 then releasing call p system
     else (if call.function == 144 then creating p system
-    else (calling p system))))
+    else (if call.function == 157 then aborting p system
+    else (calling p system)))))
 
 -- what a call writes to its process's console: function 2 the byte in E, function 9 the string at DE
 unfoldable pub call_text : Taken → ℕ → (ℕ → ℕ) → List ℕ

@@ -1,10 +1,10 @@
 -- The machine as a kernel model: its state, and when a machine stands for a state.
-use Rattle.std.specs.Prelude.{◌≡◌, ℕ, ◌+◌, ◌≤◌, List, [], All, Option, Some}
+use Rattle.std.specs.Prelude.{◌≡◌, ℕ, ◌+◌, ◌≤◌, false, List, [], All, Option, Some}
 use Rattle.mpm_banks.specs.Memory.{Memory, HasSegment, segment_of}
 use Rattle.mpm_banks.specs.declared.segment.Allocation.TheVariants.{Occupied}
 use Rattle.mpm_procs.specs.Table.{Lives, process_in}
 use Rattle.mpm_script.specs.Events.{IsTimed}
-use Rattle.mpm_kernel.specs.Kernel.{IsSound, CompletedLive}
+use Rattle.mpm_kernel.specs.Kernel.{Kernel, IsSound, CompletedLive, is_aborted}
 use Rattle.mpm_kernel.specs.Columns.{spoke}
 use Rattle.mpm_render.specs.Outputs.{Output}
 use Rattle.mpm_render.specs.Shown.{Kept, Shows}
@@ -45,11 +45,17 @@ pub record IsHome (memory : Memory) (seg : ℕ) : Type 0 where
 abbrev pub IsOccupied : Memory → ℕ → Type 0
 IsOccupied memory seg = (segment_of memory seg).allocation ≡ Occupied
 
+-- no end by an abort is put off
+abbrev pub NobodyAborted : Kernel → Type 0
+NobodyAborted kernel = (p : ℕ) → is_aborted kernel.procs p ≡ false
+
 -- what is so of the system within a step and behind it: the kernel is sound, whose held calls were completed lives, each
--- process's segment exists and is nobody's to reserve, and the script has events that there may be
+-- process's segment exists and is nobody's to reserve, the script has events that there may be, and it is known where no end
+-- by an abort is put off
 pub record IsWhole (system : System) : Type 0 where
   pub sound : IsSound system.kernel
   pub live : CompletedLive system.kernel
   pub homes : (p seg : ℕ) → Lives system.kernel.procs p → (process_in system.kernel.procs p).seg ≡ Some seg → IsHome system.memory seg
   pub lived : (p seg : ℕ) → Lives system.kernel.procs p → (process_in system.kernel.procs p).seg ≡ Some seg → IsOccupied system.memory seg
   pub script : All IsTimed system.interrupts.script
+  pub settled : system.put_off ≡ false → NobodyAborted system.kernel

@@ -20,7 +20,7 @@ use Rattle.mpm_machine.specs.declared.system.System.{System}
 use Rattle.mpm_machine.specs.State.{State, Change, silent, speaking}
 use Rattle.mpm_machine.specs.Ending.{ended}
 use Rattle.mpm_machine.specs.Serving.{with_regs, gate_step}
-use Rattle.mpm_machine.specs.Finishing.{all_finished}
+use Rattle.mpm_machine.specs.Due.{settled}
 use Rattle.mpm_machine.specs.Interrupts.{due, behind_due}
 
 -- what the kernel writes where a process comes to an unlisted opcode
@@ -128,11 +128,11 @@ abbrev pub instruction_unless : Option Event → System → Bool
 instruction_unless None system = at_instruction system
 instruction_unless (Some event) system = false
 
--- then the held calls that it completed are answered
-unfoldable pub with_finished : Change → Change
-with_finished change =
-    let finished = all_finished change.system in
-    record { system = finished.system; news = finished.news ++ change.news }
+-- then the held calls that it completed are answered, and the ends that are due come
+unfoldable pub with_settled : Change → Change
+with_settled change =
+    let behind = settled change.system in
+    record { system = behind.system; news = behind.news ++ change.news }
 
 -- one more step counted
 abbrev pub counted : System → System
@@ -147,7 +147,7 @@ dispatched instruction change =
 unfoldable pub step_of : System → Change
 step_of system =
     let begun = counted system in
-    dispatched (instruction_unless (coming begun) begun) (with_finished (begun_by (coming begun) begun))
+    dispatched (instruction_unless (coming begun) begun) (with_settled (begun_by (coming begun) begun))
 
 -- one step
 unfoldable pub next : State → State

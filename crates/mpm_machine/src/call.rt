@@ -13,7 +13,7 @@ use mpm_port::{Failed, Sink};
 use mpm_render::Render;
 
 /// The answer of a call that is refused.
-const REFUSED: u16 = 0x00FF;
+pub(crate) const REFUSED: u16 = 0x00FF;
 
 /// The attributes of a memory segment's descriptor: it is allocated.
 const ALLOCATED: u8 = 0x80;
@@ -112,6 +112,7 @@ impl System {
             128 | 129 => self.reserve(p, function == 128, reply),
             130 => self.release(p, reply),
             144 => self.create(p, reply),
+            157 => self.abort(p, reply),
             _ => self.kernel.call(p, reply),
         }
     }

@@ -1,14 +1,18 @@
 //! The machine: processes on a Z80 with banked memory, their consoles, and the kernel behind the gates.
 #![tactic(auto)]
 
+mod abort;
 mod call;
 mod console;
+mod due;
 mod finish;
 mod gate;
 mod instruction;
 mod interrupts;
 mod machine;
 mod opening;
+#[cfg(test)]
+mod scenes;
 mod system;
 
 pub use machine::{BootError, Machine, RunFault, StepFault};

@@ -103,6 +103,7 @@ impl Machine {
                 interrupts: Interrupts::new(file.tick_every, script),
                 kernel,
                 memory,
+                put_off: false,
             },
             reply: Reply::new(),
         })

@@ -23,6 +23,8 @@ pub(crate) struct System {
     pub interrupts: Interrupts,
     pub kernel: Kernel,
     pub memory: Banks,
+    /// Whether an end by an abort may be put off: where this is false, none is.
+    pub put_off: bool,
 }
 
 impl System {
@@ -48,6 +50,9 @@ impl System {
         ensures handed { self.new.kernel.completed ≡ [] }
         ensures steps { self.new.steps ≡ self.old.steps + result }
     {
+        if self.put_off {
+            return 0;
+        }
         let Some(p) = self.runner() else {
             return 0;
         };
@@ -94,8 +99,9 @@ impl System {
         done
     }
 
-    /// One step: an event or what the running process does, the held calls that this completed, and then the dispatcher.
-    #[tactic(auto, using(crate::proofs::WholeLaws::whole_counted, crate::proofs::WholeLaws::whole_step, crate::proofs::StepLaws::step_steps), unfolding(crate::specs::Step::step_of, crate::specs::Step::with_finished))]
+    /// One step: an event or what the running process does, the held calls that this completed, the ends that are due, and
+    /// then the dispatcher.
+    #[tactic(auto, using(crate::proofs::WholeLaws::whole_counted, crate::proofs::WholeLaws::whole_step, crate::proofs::StepLaws::step_steps), unfolding(crate::specs::Step::step_of, crate::specs::Step::with_settled))]
     pub fn step<S: Sink>(
         &mut self,
         reply: &mut Reply,
@@ -116,7 +122,7 @@ impl System {
     {
         self.steps += 1;
         let instruction = self.begin(reply, render, sink)?;
-        self.finish_all(reply, render, sink)?;
+        self.settle(reply, render, sink)?;
         self.kernel.pick(instruction);
         Ok(())
     }

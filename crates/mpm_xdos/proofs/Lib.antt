@@ -2,3 +2,4 @@ pub mod Children
 pub mod Homes
 pub mod CreatedLaws
 pub mod Beginning
+pub mod TargetLaws

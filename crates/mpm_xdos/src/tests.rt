@@ -163,3 +163,117 @@ fn a_segment_is_free_once_nobody_lives_there(rt: HostRuntime) -> Result<(), Fail
     assert_eq!(rt; banks.reserve(Pid(2), Some(0x40), 16), Some(Seg(0)));
     Ok(())
 }
+
+/// A call 157 that gives the address of a process descriptor, a name, and a console.
+fn name_to_abort(call: &mut Call, address: u16, name: &[u8; 8], console: u8) {
+    call.begin(157, 0x4130, 0x4080);
+    call.append(&address.to_le_bytes());
+    call.append(&[0, 0]);
+    call.append(name);
+    call.append(&[console]);
+}
+
+/// The process that the first process is to abort, where it gives the address of a process descriptor, a name, and a console.
+#[tactic(auto, using(mpm_procs::proofs::MapLaws::lives_behind))]
+fn aborted_by_first(kernel: &mut Kernel, address: u16, name: &[u8; 8], console: u8) -> Option<Pid> {
+    if kernel.lives(Pid(0)) {
+        name_to_abort(kernel.call_mut(Pid(0)), address, name, console);
+        return target(kernel, Pid(0));
+    }
+    None
+}
+
+/// A process of that name and console, in the first segment or in none.
+fn named(name: &[u8; 8], console: u8, seg: Option<Seg>) -> NewProcess {
+    NewProcess {
+        name: Name8(*name),
+        console,
+        seg,
+        ..parent()
+    }
+}
+
+/// One more process begins, where its console is there.
+#[tactic(auto, using(mpm_kernel::proofs::SoundLaws::sound_in_slot))]
+fn begin(kernel: &mut Kernel, new: NewProcess)
+    requires { IsSound kernel.old }
+    ensures { IsSound kernel.new }
+{
+    if new.console < kernel.consoles() {
+        let _p = kernel.admit(new);
+    }
+}
+
+/// A kernel of two consoles in which there are, from slot 0 on, the parent, a program on each console, a resident and a program
+/// of its name and console.
+fn five_processes(alloc: Global) -> Result<Kernel, AllocError> {
+    let mut kernel = kernel(alloc)?;
+    begin(&mut kernel, named(b"PROGRAM ", 0, Some(Seg(0))));
+    begin(&mut kernel, named(b"PROGRAM ", 1, Some(Seg(0))));
+    begin(&mut kernel, named(b"Tmp0    ", 0, None));
+    begin(&mut kernel, named(b"Tmp0    ", 0, Some(Seg(0))));
+    Ok(kernel)
+}
+
+#[test]
+fn the_lowest_process_of_a_name_and_console_is_aborted(rt: HostRuntime) -> Result<(), Fail> {
+    let mut kernel = five_processes(rt.alloc())?;
+    assert_eq!(rt;
+        aborted_by_first(&mut kernel, 0, b"PROGRAM ", 0),
+        Some(Pid(1))
+    );
+    assert_eq!(rt;
+        aborted_by_first(&mut kernel, 0, b"PROGRAM ", 1),
+        Some(Pid(2))
+    );
+    assert_eq!(rt; aborted_by_first(&mut kernel, 0, b"PROGRAM ", 2), None);
+    assert_eq!(rt; aborted_by_first(&mut kernel, 0, b"PROGRAMS", 0), None);
+    assert_eq!(rt;
+        aborted_by_first(&mut kernel, 0, b"PARENT  ", 0),
+        Some(Pid(0))
+    );
+    Ok(())
+}
+
+#[test]
+fn a_descriptor_is_found_by_its_address(rt: HostRuntime) -> Result<(), Fail> {
+    let mut kernel = five_processes(rt.alloc())?;
+    assert_eq!(rt;
+        aborted_by_first(&mut kernel, 0xF834, b"Tmp0    ", 7),
+        Some(Pid(1))
+    );
+    assert_eq!(rt;
+        aborted_by_first(&mut kernel, 0xF8D0, b"        ", 0),
+        Some(Pid(4))
+    );
+    assert_eq!(rt; aborted_by_first(&mut kernel, 0xF835, b"PROGRAM ", 0), None);
+    assert_eq!(rt; aborted_by_first(&mut kernel, 0xF904, b"PROGRAM ", 0), None);
+    Ok(())
+}
+
+#[test]
+fn a_resident_is_not_aborted(rt: HostRuntime) -> Result<(), Fail> {
+    let mut kernel = five_processes(rt.alloc())?;
+    assert_eq!(rt; aborted_by_first(&mut kernel, 0xF89C, b"PROGRAM ", 0), None);
+    assert_eq!(rt; aborted_by_first(&mut kernel, 0, b"Tmp0    ", 0), None);
+    Ok(())
+}
+
+/// Aborts the process of a number, which lives in the first segment; answers whether it lives on.
+fn lives_behind_abort(kernel: &mut Kernel, banks: &mut Banks, p: Pid, in_service: bool) -> bool {
+    if 1 <= banks.segments() && kernel.lives(p) && kernel.segment(p) == Some(Seg(0)) {
+        abort(kernel, banks, p, in_service);
+    }
+    kernel.lives(p)
+}
+
+#[test]
+fn an_abort_waits_for_a_call_in_service(rt: HostRuntime) -> Result<(), Fail> {
+    let mut banks = memory(rt.alloc())?;
+    let mut kernel = five_processes(rt.alloc())?;
+    assert!(rt; lives_behind_abort(&mut kernel, &mut banks, Pid(1), true));
+    assert!(rt; process(&kernel, Pid(1))?.abort_due);
+    assert!(rt; !lives_behind_abort(&mut kernel, &mut banks, Pid(2), false));
+    assert!(rt; !lives_behind_abort(&mut kernel, &mut banks, Pid(1), false));
+    Ok(())
+}

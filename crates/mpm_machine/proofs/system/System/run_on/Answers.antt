@@ -9,7 +9,7 @@ segment-requires c = runner_lives c.args.self.now.kernel c.in-Some.p c.requires.
 
 pub run_process-requires : goal.run_process-requires
 run_process-requires c =
-    let on = runs_on c.args.self.now c.in-Some.p c.in-Some-segment.seg c.in-Some.ensures.running c.in-Some.ensures.first (sym c.segment.ensures ∙ c.in-Some-segment.is) c.requires.handed in
+    let on = runs_on c.args.self.now c.in-Some.p c.in-Some-segment.seg c.requires.whole c.in-Some.ensures.running c.in-Some.ensures.first (sym c.segment.ensures ∙ c.in-Some-segment.is) c.requires.handed c.if-self.false in
     let lives = runner_lives c.args.self.now.kernel c.in-Some.p c.requires.whole.sound on.running in
     record {
       lives = lives;
@@ -19,14 +19,14 @@ run_process-requires c =
 
 pub returns-clause-stands : goal.returns-clause-stands
 returns-clause-stands c s kept told first stands =
-    let on = runs_on c.args.self.now c.in-Some.p c.in-Some-segment.seg c.in-Some.ensures.running c.in-Some.ensures.first (sym c.segment.ensures ∙ c.in-Some-segment.is) c.requires.handed in
+    let on = runs_on c.args.self.now c.in-Some.p c.in-Some-segment.seg c.requires.whole c.in-Some.ensures.running c.in-Some.ensures.first (sym c.segment.ensures ∙ c.in-Some-segment.is) c.requires.handed c.if-self.false in
     moved_stands c.run_process.result c.in-Some.p c.in-Some-segment.seg c.args.self.now c.run_process.new.self kept told s first c.requires.whole on
     c.run_process.ensures.moved
     (quiet_steps c.run_process.result c.quiet.result c.args.self.now (omega (arith, c.run_process.ensures.count, c.min.ensures)) c.quiet.ensures) stands
 
 pub returns-clause-whole : goal.returns-clause-whole
 returns-clause-whole c =
-    let on = runs_on c.args.self.now c.in-Some.p c.in-Some-segment.seg c.in-Some.ensures.running c.in-Some.ensures.first (sym c.segment.ensures ∙ c.in-Some-segment.is) c.requires.handed in
+    let on = runs_on c.args.self.now c.in-Some.p c.in-Some-segment.seg c.requires.whole c.in-Some.ensures.running c.in-Some.ensures.first (sym c.segment.ensures ∙ c.in-Some-segment.is) c.requires.handed c.if-self.false in
     let lives = runner_lives c.args.self.now.kernel c.in-Some.p c.requires.whole.sound on.running in
     whole_behind c.run_process.result c.in-Some.p c.in-Some-segment.seg c.args.self.now c.run_process.new.self c.requires.whole lives c.run_process.ensures.moved
 
@@ -43,3 +43,6 @@ returns-in_default-segment-clause-stands c s kept told first stands = stands_sti
 pub returns-clause-handed : goal.returns-clause-handed
 returns-clause-handed c =
     handed_behind c.run_process.result c.in-Some.p c.in-Some-segment.seg c.args.self.now c.run_process.new.self c.run_process.ensures.moved c.requires.handed
+
+pub returns-then-self-clause-stands : goal.returns-then-self-clause-stands
+returns-then-self-clause-stands c s kept told first stands = stands_still c.args.self.now kept told s first stands

@@ -1,18 +1,18 @@
 use Rattle.std.proofs.Common.{rules}
 use Rattle.mpm_machine.specs.Step.{counted}
-use Rattle.mpm_machine.proofs.StepLaws.{stopped_begun, stopped_finished}
-use Rattle.mpm_machine.proofs.WholeLaws.{whole_counted, live_begun, sound_finished, handed_step}
+use Rattle.mpm_machine.proofs.StepLaws.{stopped_begun, stopped_settled}
+use Rattle.mpm_machine.proofs.WholeLaws.{whole_counted, whole_behind_begun, sound_settled, handed_step}
 use Rattle.mpm_machine.proofs.system.System.step.Goals as goal
 
-pub finish_all-requires : goal.finish_all-requires
-finish_all-requires g c = record {
-  live = live_begun (counted c.args.self.now) c.begin.new.self (whole_counted c.args.self.now c.requires.whole) c.in_ok-instruction.ensures.system;
+pub settle-requires : goal.settle-requires
+settle-requires g c = record {
+  whole = whole_behind_begun (counted c.args.self.now) c.begin.new.self (whole_counted c.args.self.now c.requires.whole) c.in_ok-instruction.ensures.system;
 }
 
 pub pick-requires : goal.pick-requires
 pick-requires g c =
-    sound_finished (counted c.args.self.now) c.begin.new.self c.finish_all.new.self (whole_counted c.args.self.now c.requires.whole)
-    c.in_ok-instruction.ensures.system c.in_ok-finish_all.ensures.system
+    sound_settled (counted c.args.self.now) c.begin.new.self c.settle.new.self (whole_counted c.args.self.now c.requires.whole)
+    c.in_ok-instruction.ensures.system c.in_ok-settle.ensures.system
 
 pub returns-in_err-instruction-clause-err : goal.returns-in_err-instruction-clause-err
 returns-in_err-instruction-clause-err g c =
@@ -20,12 +20,12 @@ returns-in_err-instruction-clause-err g c =
     c.in_err-instruction.ensures.err in
     search rules
 
-pub returns-in_err-finish_all-clause-err : goal.returns-in_err-finish_all-clause-err
-returns-in_err-finish_all-clause-err g c =
-    let stopped = stopped_finished c.args.self.now c.begin.new.self c.args.render.now (g.S.Sink.written c.args.sink.now)
-    c.begin.new.render (g.S.Sink.written c.begin.new.sink) (g.S.Sink.written c.finish_all.new.sink) c.in_ok-instruction.ensures.trace
-    c.in_ok-instruction.ensures.system c.in_ok-instruction.ensures.ok c.in_err-finish_all.ensures.err in
+pub returns-in_err-settle-clause-err : goal.returns-in_err-settle-clause-err
+returns-in_err-settle-clause-err g c =
+    let stopped = stopped_settled c.args.self.now c.begin.new.self c.args.render.now (g.S.Sink.written c.args.sink.now)
+    c.begin.new.render (g.S.Sink.written c.begin.new.sink) (g.S.Sink.written c.settle.new.sink) c.in_ok-instruction.ensures.trace
+    c.in_ok-instruction.ensures.system c.in_ok-instruction.ensures.ok c.in_err-settle.ensures.err in
     search rules
 
 pub returns-clause-handed : goal.returns-clause-handed
-returns-clause-handed g c = handed_step c.begin.new.self c.finish_all.new.self _ _ c.in_ok-finish_all.ensures.system c.pick.ensures
+returns-clause-handed g c = handed_step c.begin.new.self c.settle.new.self _ _ c.in_ok-settle.ensures.system c.pick.ensures

@@ -7,7 +7,7 @@ use Rattle.mpm_machine_file.specs.MachineFiles.{IsMachine}
 use Rattle.mpm_machine.specs.declared.system.System.{System}
 use Rattle.mpm_machine.specs.Opening.{booted, IsBare, MayPlace}
 use Rattle.mpm_machine.proofs.PlacedLaws.{may_place_booted, may_place_again}
-use Rattle.mpm_machine.proofs.interrupts.tests.two_programs.Goals as goal
+use Rattle.mpm_machine.proofs.scenes.two_programs.Goals as goal
 
 -- a program can be placed into each of the two segments
 in_each : (file : MachineFile) (events : List Timed) (seg size : ℕ) → IsMachine file → file.consoles ≡ 1

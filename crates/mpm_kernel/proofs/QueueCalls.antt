@@ -1,0 +1,132 @@
+-- What stays so behind the calls on queues.
+use Rattle.std.proofs.Common.{◌≡◌, ◌∙◌, ℕ, Bool, true, false, ◌&&◌, [], ◌∷◌, Option, Some, None, refl, ap, arith}
+use Rattle.std.specs.Prelude.{is_none, nat_le}
+use Rattle.std.proofs.lemmas.Bool.Decides.{nat_tests}
+use Rattle.mpm_base.specs.Calls.{Taken}
+use Rattle.mpm_procs.specs.Table.{Lives, process_in}
+use Rattle.mpm_procs.proofs.MapLaws.{lives_below}
+use Rattle.mpm_queues.specs.Queues.{IsMade, found, may_end, behind_delete, refusal as make_refusal}
+use Rattle.mpm_queues.specs.declared.queues.QueueOutcome.{QueueOutcome}
+use Rattle.mpm_queues.specs.declared.queues.QueueOutcome.TheVariants.{Done as Passed, NotNow}
+use Rattle.mpm_queues.specs.Handling.{read_outcome, write_outcome, enlisted, may_wait, ended}
+use Rattle.mpm_queues.proofs.WaitLaws.{waits_enlisted, waits_enlisted_other}
+use Rattle.mpm_kernel.specs.Kernel.{Kernel, ready, IsSound}
+use Rattle.mpm_kernel.specs.Dispatch.{at_rest, unlisted, moved, all_ready}
+use Rattle.mpm_kernel.specs.Called.{valued, done, refusal, word_at, name_at}
+use Rattle.mpm_kernel.specs.Queueing.{with_queue, queue_made, opened, queue_opened, may_delete, deleted, queue_deleted, pointed, queued, put_off, with_other, taken_from, was_read, read_at, queue_read, given_to, was_written, write_at, queue_written}
+use Rattle.mpm_kernel.proofs.Soundness.{MayBeReady, listed_once, sound_ready, sound_unlisted, sound_with_completed}
+use Rattle.mpm_kernel.proofs.Staying.{StaysSound, Calls, nobody, called_if, same}
+use Rattle.mpm_kernel.proofs.QueueingLaws.{ready_waits_nowhere, found_made, pointed_made, sound_with_queue, sound_with_deleted, sound_taken, may_by_read, sound_given, may_by_write, lives_written, may_wait_read, may_wait_write, queues_enlisted}
+
+pub stays_queue_made : (call : Taken) (p : ℕ) (kernel : Kernel) → Calls p kernel → StaysSound p (queue_made call kernel)
+unfolding queue_made with_queue
+stays_queue_made call p kernel c =
+    called_if p (is_none (make_refusal kernel.queues (name_at call 2) (word_at call 10) (word_at call 12))) _ _
+    (λ none. record {
+      sound = sound_with_queue kernel (name_at call 2) (word_at call 10) (word_at call 12) c.sound none;
+      lives = c.lives;
+      completed = nobody (with_queue kernel (name_at call 2) (word_at call 10) (word_at call 12)) c.none;
+    })
+    (λ _. same p refusal kernel c)
+
+stays_opened : (slot : Option ℕ) (call : Taken) (p : ℕ) (kernel : Kernel) → Calls p kernel → StaysSound p (opened slot call kernel)
+unfolding opened
+stays_opened None call p kernel c = same p refusal kernel c
+stays_opened (Some q) call p kernel c =
+    let s = same p 0 kernel c in
+    record { sound = s.sound; lives = s.lives; completed = s.completed }
+
+pub stays_queue_opened : (call : Taken) (p : ℕ) (kernel : Kernel) → Calls p kernel → StaysSound p (queue_opened call kernel)
+stays_queue_opened call p kernel c = stays_opened (found kernel.queues (name_at call 4)) call p kernel c
+
+first_of_both : (a b : Bool) → (a && b) ≡ true → a ≡ true
+first_of_both true b h = refl
+first_of_both false b h = absurd (cc)
+
+stays_deleted : (slot : Option ℕ) (p : ℕ) (kernel : Kernel) → Calls p kernel → ((q : ℕ) → slot ≡ Some q → IsMade kernel.queues q)
+    → StaysSound p (deleted slot kernel)
+unfolding deleted
+stays_deleted None p kernel c is = same p refusal kernel c
+stays_deleted (Some q) p kernel c is =
+    called_if p (may_delete kernel q) _ _
+    (λ may. let own = first_of_both (nat_le kernel.system_queues q) (may_end kernel.queues q) may in
+    record {
+      sound = sound_with_deleted kernel q c.sound (is q refl) (grind (arith, nat_tests, own));
+      lives = c.lives;
+      completed = nobody (record kernel { queues = behind_delete kernel.queues q }) c.none;
+    })
+    (λ _. same p refusal kernel c)
+
+pub stays_queue_deleted : (call : Taken) (p : ℕ) (kernel : Kernel) → Calls p kernel → StaysSound p (queue_deleted call kernel)
+stays_queue_deleted call p kernel c =
+    stays_deleted (found kernel.queues (name_at call 2)) p kernel c (λ q is. found_made kernel.queues (name_at call 2) q is)
+
+-- a call that can't be done now
+pub stays_put_off : (waits : Bool) (p q : ℕ) (reader : Bool) (kernel : Kernel) → Calls p kernel → IsMade kernel.queues q
+    → may_wait kernel.queues q reader ≡ true → StaysSound p (put_off waits p q reader kernel)
+unfolding put_off queued unlisted
+stays_put_off waits p q reader kernel c is may =
+    let t = kernel.queues in
+    let priority = (process_in kernel.procs p).priority in
+    let below = lives_below kernel.procs p c.sound.slots c.lives in
+    let nowhere = ready_waits_nowhere kernel p c.sound c.ready in
+    called_if p waits _ _
+    (λ _. record {
+      sound = sound_unlisted kernel p kernel.flags kernel.clock (enlisted t p priority q reader) c.sound c.lives c.sound.flags
+          (queues_enlisted kernel p priority q reader c.sound c.lives c.ready is may)
+          (omega (arith, listed_once kernel p ready c.sound c.ready, waits_enlisted t p priority q reader c.sound.queues is below nowhere))
+          (λ k other. omega (arith, waits_enlisted_other t p priority q reader k c.sound.queues is below nowhere other));
+      lives = c.lives;
+      completed = nobody (at_rest (queued kernel p q reader) p) c.none;
+    })
+    (λ _. same p refusal kernel c)
+
+-- the call of another process is completed
+pub stays_other : (other : Option ℕ) (p value : ℕ) (kernel : Kernel) → IsSound kernel → Lives kernel.procs p → kernel.completed ≡ []
+    → ((w : ℕ) → other ≡ Some w → MayBeReady kernel w) → StaysSound p (valued value (with_other other kernel))
+unfolding with_other all_ready moved
+stays_other None p value kernel s h none may = record { sound = s; lives = h; completed = nobody kernel none }
+stays_other (Some w) p value kernel s h none may = record {
+  sound = sound_with_completed (moved kernel ready w) (w ∷ []) (sound_ready kernel w s (may w refl).0 (may w refl).1);
+  lives = h;
+  completed = ((may w refl).0, tt);
+}
+
+-- a message is read
+stays_was_read : (outcome : QueueOutcome) (waits : Bool) (call : Taken) (p q : ℕ) (kernel : Kernel) → Calls p kernel → IsMade kernel.queues q
+    → read_outcome kernel.queues q ≡ outcome → StaysSound p (was_read outcome waits call p q kernel)
+unfolding was_read
+stays_was_read (Passed other) waits call p q kernel c is done =
+    let s = stays_other other p 0 (taken_from kernel p q) (sound_taken kernel p q c.sound is) c.lives c.none
+    (λ w first. may_by_read kernel p q w c.sound (ap ended done ∙ first)) in
+    record { sound = s.sound; lives = s.lives; completed = s.completed }
+stays_was_read NotNow waits call p q kernel c is not = stays_put_off waits p q true kernel c is (may_wait_read kernel.queues q not)
+
+stays_read_at : (slot : Option ℕ) (waits : Bool) (call : Taken) (p : ℕ) (kernel : Kernel) → Calls p kernel
+    → ((q : ℕ) → slot ≡ Some q → IsMade kernel.queues q) → StaysSound p (read_at slot waits call p kernel)
+unfolding read_at
+stays_read_at None waits call p kernel c is = same p refusal kernel c
+stays_read_at (Some q) waits call p kernel c is = stays_was_read (read_outcome kernel.queues q) waits call p q kernel c (is q refl) refl
+
+pub stays_queue_read : (waits : Bool) (call : Taken) (p : ℕ) (kernel : Kernel) → Calls p kernel → StaysSound p (queue_read waits call p kernel)
+stays_queue_read waits call p kernel c =
+    stays_read_at (pointed kernel.queues (word_at call 0)) waits call p kernel c (λ q is. pointed_made kernel.queues (word_at call 0) q is)
+
+-- a message is written
+stays_was_written : (outcome : QueueOutcome) (waits : Bool) (p q : ℕ) (kernel : Kernel) → Calls p kernel → IsMade kernel.queues q
+    → write_outcome kernel.queues q ≡ outcome → StaysSound p (was_written outcome waits p q kernel)
+unfolding was_written
+stays_was_written (Passed other) waits p q kernel c is done =
+    stays_other other p 0 (given_to kernel p q) (sound_given kernel p q c.sound is) (lives_written kernel.queues p q kernel.procs p ∙ c.lives) c.none
+    (λ r first. may_by_write kernel p q r c.sound (ap ended done ∙ first))
+stays_was_written NotNow waits p q kernel c is not = stays_put_off waits p q false kernel c is (may_wait_write kernel.queues q not)
+
+stays_write_at : (slot : Option ℕ) (waits : Bool) (p : ℕ) (kernel : Kernel) → Calls p kernel
+    → ((q : ℕ) → slot ≡ Some q → IsMade kernel.queues q) → StaysSound p (write_at slot waits p kernel)
+unfolding write_at
+stays_write_at None waits p kernel c is = same p refusal kernel c
+stays_write_at (Some q) waits p kernel c is = stays_was_written (write_outcome kernel.queues q) waits p q kernel c (is q refl) refl
+
+pub stays_queue_written : (waits : Bool) (call : Taken) (p : ℕ) (kernel : Kernel) → Calls p kernel → StaysSound p (queue_written waits call p kernel)
+stays_queue_written waits call p kernel c =
+    stays_write_at (pointed kernel.queues (word_at call 0)) waits p kernel c (λ q is. pointed_made kernel.queues (word_at call 0) q is)

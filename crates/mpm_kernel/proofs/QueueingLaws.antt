@@ -1,0 +1,334 @@
+-- Laws of queues in the kernel: who waits at one lives, those of the system stay, and what a change of the queues leaves
+-- sound.
+use Rattle.std.proofs.Common.{◌≡◌, ◌≢◌, ◌∙◌, ℕ, ◌*◌, ◌<◌, ◌≤◌, Bool, true, false, not, cond, ◌||◌, ◌&&◌, ◌==◌, List, Option, Some, None, if◌then◌else◌, ◌⊎◌, inl, inr, refl, sym, ap, subst, arith, get_or-set_other}
+use Rattle.std.specs.Prelude.{IfSome, nat_lt, is_some, is_none, slice_index_or}
+use Rattle.std.specs.Option.{option_map_or}
+use Rattle.std.proofs.lemmas.Bool.{false≢true, cases_eq, cases_lt}
+use Rattle.std.proofs.lemmas.Bool.Decides.{nat_tests}
+use Rattle.mpm_base.specs.declared.number.Name8.{Name8}
+use Rattle.mpm_ready.specs.Order.{Member}
+use Rattle.mpm_ready.specs.Tables.{list_of}
+use Rattle.mpm_procs.specs.Table.{Table, lives, Lives, call_of}
+use Rattle.mpm_procs.proofs.MapLaws.{lives_below, lives_behind}
+use Rattle.mpm_queues.specs.Queue.{with_given, is_drained, is_full}
+use Rattle.mpm_queues.specs.Queues.{Queues, IsMade, is_made, is_free, is_named, queue_in, found, lowest_free, waits, waits_at, WaitsNowhere, made, may_end, behind_delete, without, IsSound as AreSound, refusal as make_refusal}
+use Rattle.mpm_queues.specs.declared.queues.MakeRefused.{MakeRefused}
+use Rattle.mpm_queues.specs.declared.queues.MakeRefused.TheVariants.{BadCount, Exists, NoQueueRoom}
+use Rattle.mpm_queues.specs.declared.queues.QueueOutcome.{QueueOutcome}
+use Rattle.mpm_queues.specs.declared.queues.QueueOutcome.TheVariants.{Done as Passed, NotNow}
+use Rattle.mpm_queues.specs.Handling.{behind_read, read_outcome, behind_write, write_outcome, procs_behind_write, first_reader, first_writer, written_by, told, enlisted, may_wait, ended}
+use Rattle.mpm_queues.specs.Runs.{Reads, Writes, Waits}
+use Rattle.mpm_queues.proofs.Finding.{lowest_passes}
+use Rattle.mpm_queues.proofs.SoundLaws.{sound_made, sound_delete, sound_read, sound_write, sound_enlisted}
+use Rattle.mpm_queues.proofs.RunLaws.{made_deed}
+use Rattle.mpm_queues.proofs.WaitLaws.{waits_one, nowhere_waits, named_made, waiters_made, waiters_delete, waits_read_ended, waits_read_other, waits_write_ended, waits_write_other, read_ends_waiter, write_ends_waiter}
+use Rattle.mpm_kernel.specs.Kernel.{Kernel, ready, IsReady, IsSound}
+use Rattle.mpm_kernel.specs.Queueing.{OnlySystems, IfNotNow, made_at, pointed, taken_from, given_to}
+use Rattle.mpm_kernel.proofs.Soundness.{AreQueues, own_queues, MayBeReady, none_and_some, some_same, listed_once, sound_fewer, sound_call}
+
+-- who waits at a queue lives
+pub waiters_live : (kernel : Kernel) (q p : ℕ) → IsSound kernel → waits_at kernel.queues q p ≡ true → Lives kernel.procs p
+waiters_live kernel q p s there = s.live p (omega (arith, waits_one kernel.queues q p s.queues there))
+
+-- who is ready waits at none
+pub ready_waits_nowhere : (kernel : Kernel) (p : ℕ) → IsSound kernel → IsReady kernel p → WaitsNowhere kernel.queues p
+ready_waits_nowhere kernel p s is_ready =
+    nowhere_waits kernel.queues p (omega (arith, listed_once kernel p ready s is_ready))
+
+-- where only the system's queues are there, the lowest free number is theirs
+not_true : (b : Bool) → not b ≡ true → b ≡ false
+not_true true h = absurd (cc)
+not_true false h = refl
+
+not_false : (b : Bool) → not b ≡ false → b ≡ true
+not_false true h = refl
+not_false false h = absurd (cc)
+
+pub number_below : (t : Queues) (q : ℕ) → lowest_free t ≡ Some q → q < 32
+number_below t q free = (lowest_passes (is_free t) q free).1
+
+number_free : (t : Queues) (q : ℕ) → lowest_free t ≡ Some q → is_made t q ≡ false
+number_free t q free = not_true (is_made t q) (lowest_passes (is_free t) q free).0
+
+pub system_is_lowest : (kernel : Kernel) (q : ℕ) → IsSound kernel → OnlySystems kernel → lowest_free kernel.queues ≡ Some q → q ≡ kernel.system_queues
+system_is_lowest kernel q s only free =
+    let passes = lowest_passes (is_free kernel.queues) q free in
+    elim (cases_lt q kernel.system_queues) [
+      | inl below ↦ absurd (false≢true (sym (number_free kernel.queues q free) ∙ s.system q below))
+      | inr above ↦ elim (cases_lt kernel.system_queues q) [
+        | inl more ↦ absurd (
+            let below = only.all kernel.system_queues (not_false (is_made kernel.queues kernel.system_queues) (passes.2 kernel.system_queues more)) in
+            omega (arith, below))
+        | inr less ↦ omega (arith, above, less)
+      ]
+    ]
+
+-- a queue that is found is there, and so is one that a pointer names
+pub found_made : (t : Queues) (name : Name8) (q : ℕ) → found t name ≡ Some q → IsMade t q
+found_made t name q is = named_made t name q (lowest_passes (is_named t name) q is).0
+
+both : (a b c : Bool) → (a && (b && c)) ≡ true → c ≡ true
+both true true true h = refl
+both true true false h = absurd (cc)
+both true false c h = absurd (cc)
+both false b c h = absurd (cc)
+
+pointed_if : (b : Bool) (n q : ℕ) → (if b then Some n else None) ≡ Some q → (b ≡ true) × (n ≡ q)
+pointed_if true n q is = (refl, some_same n q is)
+pointed_if false n q is = absurd (none_and_some None q refl is)
+
+pub pointed_made : (t : Queues) (pointer q : ℕ) → pointed t pointer ≡ Some q → IsMade t q
+unfolding pointed
+pointed_made t pointer q is =
+    let named = pointed_if _ _ q is in
+    subst (IsMade t) named.1 (both _ _ _ named.0)
+
+-- queues are others at which nobody waits who didn't before
+pub sound_queues : (kernel : Kernel) (queues : Queues) → IsSound kernel → AreQueues kernel queues → ((q : ℕ) → waits queues q ≤ waits kernel.queues q)
+    → IsSound (record kernel { queues = queues })
+sound_queues kernel queues s are fewer = sound_fewer kernel kernel.flags kernel.clock queues s s.flags are (λ q. omega (arith, fewer q))
+
+waits_same : (t new : Queues) (p : ℕ) → new.waiters ≡ t.waiters → waits new p ≡ waits t p
+unfolding waits
+waits_same t new p same = ap (λ (lists : List (List Member)). option_map_or (λ _. 1) (list_of lists p) 0) same
+
+made_same : (t new : Queues) (q : ℕ) → new.alive ≡ t.alive → IsMade t q → IsMade new q
+made_same t new q same is = ap (λ (alive : List Bool). slice_index_or alive q false) same ∙ is
+
+-- a queue is made
+pub record Accepts (t : Queues) (name : Name8) (width count : ℕ) : Type 0 where
+  pub some : 1 ≤ count
+  pub new : found t name ≡ None
+  pub free : is_none (lowest_free t) ≡ false
+  pub few : width * count ≤ 2048
+
+unless : (b : Bool) (why : MakeRefused) (rest : Option MakeRefused) → is_none (if b then Some why else rest) ≡ true → (b ≡ false) × (is_none rest ≡ true)
+unless true why rest h = absurd (cc)
+unless false why rest h = (refl, h)
+
+neither : (a b : Bool) → (a || b) ≡ false → (a ≡ false) × (b ≡ false)
+neither true b h = absurd (cc)
+neither false b h = (refl, h)
+
+none_there : (o : Option ℕ) → is_some o ≡ false → o ≡ None
+none_there None h = refl
+none_there (Some n) h = absurd (cc)
+
+pub accepts : (t : Queues) (name : Name8) (width count : ℕ) → is_none (make_refusal t name width count) ≡ true → Accepts t name width count
+unfolding make_refusal
+accepts t name width count none =
+    let counted = unless (count == 0) BadCount _ none in
+    let named = unless (is_some (found t name)) Exists _ counted.1 in
+    let room = neither _ _ (unless (is_none (lowest_free t) || nat_lt 2048 (width * count)) NoQueueRoom None named.1).0 in
+    record {
+      some = grind (arith, nat_tests, counted.0);
+      new = none_there (found t name) named.0;
+      free = room.0;
+      few = grind (arith, nat_tests, room.1);
+    }
+
+made_more : (t : Queues) (q k : ℕ) (name : Name8) (width count : ℕ) → IsMade t k → k ≢ q → IsMade (made t q name width count) k
+unfolding made
+made_more t q k name width count is other = get_or-set_other t.alive q k true false other ∙ is
+
+made_queues : (kernel : Kernel) (slot : Option ℕ) (name : Name8) (width count : ℕ) → IsSound kernel → lowest_free kernel.queues ≡ slot
+    → Accepts kernel.queues name width count → AreQueues kernel (made_at slot kernel.queues name width count)
+made_queues kernel None name width count s free a = own_queues kernel s
+made_queues kernel (Some q) name width count s free a = record {
+  sound = sound_made kernel.queues q name width count s.queues free a.new a.some a.few;
+  system = λ k below. made_more kernel.queues q k name width count (s.system k below)
+      (λ same. false≢true (sym (number_free kernel.queues q free) ∙ ap (is_made kernel.queues) (sym same) ∙ s.system k below));
+}
+
+waits_made : (slot : Option ℕ) (t : Queues) (name : Name8) (width count p : ℕ) → waits (made_at slot t name width count) p ≡ waits t p
+waits_made None t name width count p = refl
+waits_made (Some q) t name width count p = waits_same t (made t q name width count) p (waiters_made t q name width count)
+
+pub sound_with_queue : (kernel : Kernel) (name : Name8) (width count : ℕ) → IsSound kernel → is_none (make_refusal kernel.queues name width count) ≡ true
+    → IsSound (record kernel { queues = made_at (lowest_free kernel.queues) kernel.queues name width count })
+sound_with_queue kernel name width count s none =
+    sound_queues kernel _ s (made_queues kernel (lowest_free kernel.queues) name width count s refl (accepts kernel.queues name width count none))
+    (λ p. omega (arith, waits_made (lowest_free kernel.queues) kernel.queues name width count p))
+
+-- a queue is deleted that isn't the system's
+deleted_other : (b : Bool) (t : Queues) (q k : ℕ) → k ≢ q → is_made (cond b (without t q) t) k ≡ is_made t k
+unfolding without
+deleted_other true t q k other = get_or-set_other t.alive q k false false other
+deleted_other false t q k other = refl
+
+pub sound_with_deleted : (kernel : Kernel) (q : ℕ) → IsSound kernel → IsMade kernel.queues q → kernel.system_queues ≤ q
+    → IsSound (record kernel { queues = behind_delete kernel.queues q })
+unfolding behind_delete
+sound_with_deleted kernel q s is own =
+    sound_queues kernel (behind_delete kernel.queues q) s
+    (record {
+      sound = sound_delete kernel.queues q s.queues is;
+      system = λ k below. deleted_other (may_end kernel.queues q) kernel.queues q k (λ same. omega (arith, own, below, same)) ∙ s.system k below;
+    })
+    (λ p. omega (arith, waits_same kernel.queues (behind_delete kernel.queues q) p (waiters_delete kernel.queues q)))
+
+-- a message is read
+ended_or_not : (o : Option ℕ) (p : ℕ) → (o ≡ Some p) ⊎ (o ≢ Some p)
+ended_or_not None p = inr (λ is. none_and_some None p refl is)
+ended_or_not (Some other) p = elim (cases_eq other p) [
+  | inl same ↦ inl (ap (λ (n : ℕ). Some n) same)
+  | inr apart ↦ inr (λ is. apart (some_same other p is))
+]
+
+read_waits : (t : Queues) (p q : ℕ) (procs : Table) (k : ℕ) → AreSound t → waits (behind_read t p q procs) k ≤ waits t k
+read_waits t p q procs k s = elim (ended_or_not (ended (read_outcome t q)) k) [
+  | inl is ↦ omega (arith, waits_read_ended t p q procs k is)
+  | inr apart ↦ omega (arith, waits_read_other t p q procs k s apart)
+]
+
+pub sound_taken : (kernel : Kernel) (p q : ℕ) → IsSound kernel → IsMade kernel.queues q → IsSound (taken_from kernel p q)
+sound_taken kernel p q s is =
+    let t = kernel.queues in
+    sound_queues kernel (behind_read t p q kernel.procs) s
+    (record {
+      sound = sound_read t p q kernel.procs s.queues is;
+      system = λ k below. made_same t (behind_read t p q kernel.procs) k (made_deed t q (Reads p kernel.procs)) (s.system k below);
+    })
+    (λ k. read_waits t p q kernel.procs k s.queues)
+
+-- whose wait at a queue was ended lives, and waits for nothing else
+pub may_by_read : (kernel : Kernel) (p q w : ℕ) → IsSound kernel → ended (read_outcome kernel.queues q) ≡ Some w → MayBeReady (taken_from kernel p q) w
+may_by_read kernel p q w s is =
+    let t = kernel.queues in
+    let one = waits_one t q w s.queues (read_ends_waiter t q w is) in
+    (s.live w (omega (arith, one)), omega (arith, one, s.once w, waits_read_ended t p q kernel.procs w is))
+
+-- a message is written, which may come into the call that another process keeps
+sound_told : (o : Option ℕ) (message : List ℕ) (kernel : Kernel) → IsSound kernel → IsSound (record kernel { procs = told o message kernel.procs })
+sound_told None message kernel s = s
+sound_told (Some r) message kernel s = sound_call kernel r (with_given message (call_of kernel.procs r)) s
+
+sound_told_if : (b : Bool) (o : Option ℕ) (message : List ℕ) (kernel : Kernel) → IsSound kernel
+    → IsSound (record kernel { procs = if b then kernel.procs else (told o message kernel.procs) })
+sound_told_if true o message kernel s = s
+sound_told_if false o message kernel s = sound_told o message kernel s
+
+lives_told : (o : Option ℕ) (message : List ℕ) (procs : Table) (k : ℕ) → lives (told o message procs) k ≡ lives procs k
+lives_told None message procs k = refl
+lives_told (Some r) message procs k = lives_behind procs r k (with_given message (call_of procs r))
+
+lives_if : (b : Bool) (procs other : Table) (k : ℕ) → lives other k ≡ lives procs k → lives (if b then procs else other) k ≡ lives procs k
+lives_if true procs other k same = refl
+lives_if false procs other k same = same
+
+pub lives_written : (t : Queues) (p q : ℕ) (procs : Table) (k : ℕ) → lives (procs_behind_write t p q procs) k ≡ lives procs k
+unfolding procs_behind_write
+lives_written t p q procs k = lives_if (is_full (queue_in t q)) procs _ k (lives_told (first_reader t q) (written_by t q procs p) procs k)
+
+write_waits : (t : Queues) (p q : ℕ) (procs : Table) (k : ℕ) → AreSound t → waits (behind_write t p q procs) k ≤ waits t k
+write_waits t p q procs k s = elim (ended_or_not (ended (write_outcome t q)) k) [
+  | inl is ↦ omega (arith, waits_write_ended t p q procs k is)
+  | inr apart ↦ omega (arith, waits_write_other t p q procs k s apart)
+]
+
+pub sound_given : (kernel : Kernel) (p q : ℕ) → IsSound kernel → IsMade kernel.queues q → IsSound (given_to kernel p q)
+unfolding procs_behind_write
+sound_given kernel p q s is =
+    let t = kernel.queues in
+    sound_told_if (is_full (queue_in t q)) (first_reader t q) (written_by t q kernel.procs p) (record kernel { queues = behind_write t p q kernel.procs })
+    (sound_queues kernel (behind_write t p q kernel.procs) s
+    (record {
+      sound = sound_write t p q kernel.procs s.queues is;
+      system = λ k below. made_same t (behind_write t p q kernel.procs) k (made_deed t q (Writes p kernel.procs)) (s.system k below);
+    })
+    (λ k. write_waits t p q kernel.procs k s.queues))
+
+pub may_by_write : (kernel : Kernel) (p q r : ℕ) → IsSound kernel → ended (write_outcome kernel.queues q) ≡ Some r → MayBeReady (given_to kernel p q) r
+may_by_write kernel p q r s is =
+    let t = kernel.queues in
+    let one = waits_one t q r s.queues (write_ends_waiter t q r is) in
+    (lives_written t p q kernel.procs r ∙ s.live r (omega (arith, one)), omega (arith, one, s.once r, waits_write_ended t p q kernel.procs r is))
+
+-- where nothing can be done, nothing changes
+not_now_if : (b : Bool) (o : Option ℕ) → (if b then NotNow else (Passed o)) ≡ NotNow → b ≡ true
+not_now_if true o is = refl
+not_now_if false o is = absurd (cc)
+
+pub may_wait_read : (t : Queues) (q : ℕ) → read_outcome t q ≡ NotNow → may_wait t q true ≡ true
+unfolding read_outcome
+may_wait_read t q is = not_now_if (is_drained (queue_in t q)) (first_writer t q) is
+
+pub may_wait_write : (t : Queues) (q : ℕ) → write_outcome t q ≡ NotNow → may_wait t q false ≡ true
+unfolding write_outcome
+may_wait_write t q is = not_now_if (is_full (queue_in t q)) (first_reader t q) is
+
+read_if : (b : Bool) (kernel : Kernel) (queues : Queues) → b ≡ true → record kernel { queues = if b then kernel.queues else queues } ≡ kernel
+read_if true kernel queues is = refl
+read_if false kernel queues is = absurd (cc)
+
+pub same_read : (kernel : Kernel) (p q : ℕ) → read_outcome kernel.queues q ≡ NotNow → taken_from kernel p q ≡ kernel
+unfolding behind_read
+same_read kernel p q is = read_if (is_drained (queue_in kernel.queues q)) kernel _ (may_wait_read kernel.queues q is)
+
+written_if : (b : Bool) (kernel : Kernel) (queues : Queues) (procs : Table) → b ≡ true
+    → record kernel { queues = if b then kernel.queues else queues; procs = if b then kernel.procs else procs } ≡ kernel
+written_if true kernel queues procs is = refl
+written_if false kernel queues procs is = absurd (cc)
+
+pub same_written : (kernel : Kernel) (p q : ℕ) → write_outcome kernel.queues q ≡ NotNow → given_to kernel p q ≡ kernel
+unfolding behind_write procs_behind_write
+same_written kernel p q is = written_if (is_full (queue_in kernel.queues q)) kernel _ _ (may_wait_write kernel.queues q is)
+
+-- behind a read and a write: whose wait was ended lives; where nothing could be done nothing changed, and the process may wait
+pub some_lives : (o : Option ℕ) (kernel : Kernel) → ((w : ℕ) → o ≡ Some w → MayBeReady kernel w) → IfSome o (λ w. Lives kernel.procs w)
+some_lives None kernel may = tt
+some_lives (Some w) kernel may = (may w refl).0
+
+pub lives_by_read : (kernel : Kernel) (p q : ℕ) (procs : Table) (outcome : QueueOutcome) → IsSound kernel → outcome ≡ read_outcome kernel.queues q
+    → procs ≡ kernel.procs → IfSome (ended outcome) (λ w. Lives procs w)
+lives_by_read kernel p q procs outcome s is same =
+    let P : Table → Type 0 = λ table. IfSome (ended outcome) (λ w. Lives table w) in
+    subst P (sym same) (some_lives (ended outcome) (taken_from kernel p q) (λ w first. may_by_read kernel p q w s (ap ended (sym is) ∙ first)))
+
+pub lives_by_write : (kernel : Kernel) (p q : ℕ) (outcome : QueueOutcome) → IsSound kernel → outcome ≡ write_outcome kernel.queues q
+    → IfSome (ended outcome) (λ w. Lives (given_to kernel p q).procs w)
+lives_by_write kernel p q outcome s is =
+    some_lives (ended outcome) (given_to kernel p q) (λ w first. may_by_write kernel p q w s (ap ended (sym is) ∙ first))
+
+-- the kernel with other queues and processes, which is the one before where they didn't change
+with_parts : Kernel → Queues → Table → Kernel
+with_parts kernel queues procs = record kernel { queues = queues; procs = procs }
+
+parts_are : (kernel old : Kernel) (queues behind : Queues) (procs now : Table) → queues ≡ behind → procs ≡ now → with_parts kernel behind now ≡ kernel
+    → kernel ≡ old → with_parts kernel queues procs ≡ old
+parts_are kernel old queues behind procs now one other same is =
+    ap (λ x. with_parts kernel x procs) one ∙ ap (λ x. with_parts kernel behind x) other ∙ same ∙ is
+
+may_wait_in : (kernel old : Kernel) (q : ℕ) (reader : Bool) → kernel ≡ old → may_wait kernel.queues q reader ≡ true → may_wait old.queues q reader ≡ true
+may_wait_in kernel old q reader is may = ap (λ (k : Kernel). may_wait k.queues q reader) (sym is) ∙ may
+
+pub waits_by_read : (kernel old : Kernel) (p q : ℕ) (queues : Queues) (procs : Table) (outcome : QueueOutcome) → kernel ≡ old
+    → outcome ≡ read_outcome kernel.queues q → queues ≡ behind_read kernel.queues p q kernel.procs → procs ≡ kernel.procs
+    → IfNotNow outcome ((record kernel { queues = queues; procs = procs } ≡ old) × (may_wait old.queues q true ≡ true))
+unfolding with_parts
+waits_by_read kernel old p q queues procs (Passed other) is outcome behind same = tt
+waits_by_read kernel old p q queues procs NotNow is outcome behind same = (
+  parts_are kernel old queues _ procs kernel.procs behind same (same_read kernel p q (sym outcome)) is,
+  may_wait_in kernel old q true is (may_wait_read kernel.queues q (sym outcome)),
+)
+
+pub waits_by_write : (kernel old : Kernel) (p q : ℕ) (queues : Queues) (procs : Table) (outcome : QueueOutcome) → kernel ≡ old
+    → outcome ≡ write_outcome kernel.queues q → queues ≡ behind_write kernel.queues p q kernel.procs
+    → procs ≡ procs_behind_write kernel.queues p q kernel.procs
+    → IfNotNow outcome ((record kernel { queues = queues; procs = procs } ≡ old) × (may_wait old.queues q false ≡ true))
+unfolding with_parts
+waits_by_write kernel old p q queues procs (Passed other) is outcome behind same = tt
+waits_by_write kernel old p q queues procs NotNow is outcome behind same = (
+  parts_are kernel old queues _ procs _ behind same (same_written kernel p q (sym outcome)) is,
+  may_wait_in kernel old q false is (may_wait_write kernel.queues q (sym outcome)),
+)
+
+-- a process waits at a queue
+pub queues_enlisted : (kernel : Kernel) (p priority q : ℕ) (reader : Bool) → IsSound kernel → Lives kernel.procs p → IsReady kernel p
+    → IsMade kernel.queues q → may_wait kernel.queues q reader ≡ true → AreQueues kernel (enlisted kernel.queues p priority q reader)
+queues_enlisted kernel p priority q reader s h is_ready is may =
+    let t = kernel.queues in
+    record {
+      sound = sound_enlisted t p priority q reader s.queues is (lives_below kernel.procs p s.slots h) (ready_waits_nowhere kernel p s is_ready) may;
+      system = λ k below. made_same t (enlisted t p priority q reader) k (made_deed t q (Waits p priority reader)) (s.system k below);
+    }

@@ -1,0 +1,36 @@
+-- What stays so behind a call: the kernel is sound, the caller lives, and so does each whose held call was completed.
+use Rattle.std.proofs.Common.{◌≡◌, ℕ, Bool, true, false, List, [], if◌then◌else◌, refl, sym, subst}
+use Rattle.std.specs.List.{AllByRecursion}
+use Rattle.mpm_procs.specs.Table.{Lives}
+use Rattle.mpm_kernel.specs.Kernel.{Kernel, IsReady, IsSound, CompletedLive}
+use Rattle.mpm_kernel.specs.Called.{Called, valued}
+
+-- what a call leaves is sound, its process lives, and so does each whose held call it completed
+pub record StaysSound (p : ℕ) (called : Called) : Type 0 where
+  pub sound : IsSound called.kernel
+  pub lives : Lives called.kernel.procs p
+  pub completed : CompletedLive called.kernel
+
+pub nobody : (kernel : Kernel) → kernel.completed ≡ [] → CompletedLive kernel
+nobody kernel none =
+    let P : List ℕ → Type 0 = λ ps. AllByRecursion (λ p. Lives kernel.procs p) ps in
+    subst P (sym none) tt
+
+pub called_if : (p : ℕ) (b : Bool) (x y : Called) → (b ≡ true → StaysSound p x) → (b ≡ false → StaysSound p y) → StaysSound p (if b then x else y)
+called_if p true x y s t = s refl
+called_if p false x y s t = t refl
+
+pub kernel_if : (p : ℕ) (b : Bool) (x y : Kernel) (value : ℕ) → (b ≡ true → StaysSound p (valued value x)) → (b ≡ false → StaysSound p (valued value y))
+    → StaysSound p (valued value (if b then x else y))
+kernel_if p true x y value s t = s refl
+kernel_if p false x y value s t = t refl
+
+-- a process that is ready and lives, in a sound kernel that has completed no call yet
+pub record Calls (p : ℕ) (kernel : Kernel) : Type 0 where
+  pub sound : IsSound kernel
+  pub lives : Lives kernel.procs p
+  pub ready : IsReady kernel p
+  pub none : kernel.completed ≡ []
+
+pub same : (p value : ℕ) (kernel : Kernel) → Calls p kernel → StaysSound p (valued value kernel)
+same p value kernel c = record { sound = c.sound; lives = c.lives; completed = nobody kernel c.none }

@@ -1,0 +1,126 @@
+-- Messages between processes, through queues. (MP/M II Programmer's Guide, "Function 134: Make Queue", "Function 135: Open
+-- Queue", "Function 136: Delete Queue", "Function 137: Read Queue", "Function 138: Conditional Read Queue", "Function 139:
+-- Write Queue", "Function 140: Conditional Write Queue".)
+-- A queue control block has the queue's name at 2, the length of its messages at 10 and their number at 12. A user queue
+-- control block has the queue's pointer, which is its number and 1, the message's address at 2 and the queue's name at 4; the
+-- message that a call writes stands behind its twelve bytes.
+use Rattle.std.specs.Prelude.{ℕ, ◌+◌, ◌-◌, ◌<◌, Bool, true, false, [], ◌∷◌, ⊤, Option, Some, None, ◌&&◌, is_none, nat_le, if◌then◌else◌}
+use Rattle.mpm_base.specs.Calls.{Taken, answering}
+use Rattle.mpm_base.specs.declared.number.Name8.{Name8}
+use Rattle.mpm_base.specs.declared.call.Outcome.TheVariants.{Done}
+use Rattle.mpm_procs.specs.Table.{process_in}
+use Rattle.mpm_queues.specs.Queues.{Queues, IsMade, is_made, found, lowest_free, made, may_end, behind_delete, refusal as make_refusal}
+use Rattle.mpm_queues.specs.Handling.{behind_read, read_outcome, read_reply, behind_write, write_outcome, procs_behind_write, enlisted}
+use Rattle.mpm_queues.specs.declared.queues.QueueOutcome.{QueueOutcome}
+use Rattle.mpm_queues.specs.declared.queues.QueueOutcome.TheVariants.{Done as Passed, NotNow}
+use Rattle.mpm_kernel.specs.Kernel.{Kernel}
+use Rattle.mpm_kernel.specs.Dispatch.{unlisted, all_woken}
+use Rattle.mpm_kernel.specs.Called.{Called, valued, done, held, refusal, word_at, name_at}
+
+-- a queue more, with that number
+abbrev pub made_at : Option ℕ → Queues → Name8 → ℕ → ℕ → Queues
+made_at None t name width count = t
+made_at (Some q) t name width count = made t q name width count
+
+-- with the lowest free number
+unfoldable pub with_queue : Kernel → Name8 → ℕ → ℕ → Kernel
+with_queue kernel name width count =
+    record kernel { queues = made_at (lowest_free kernel.queues) kernel.queues name width count }
+
+-- function 134
+unfoldable pub queue_made : Taken → Kernel → Called
+queue_made call kernel =
+    if is_none (make_refusal kernel.queues (name_at call 2) (word_at call 10) (word_at call 12))
+    then done (with_queue kernel (name_at call 2) (word_at call 10) (word_at call 12))
+    else (valued refusal kernel)
+
+-- a queue more of the system's
+unfoldable pub with_system_queue : Kernel → Name8 → ℕ → ℕ → Kernel
+with_system_queue kernel name width count =
+    record (with_queue kernel name width count) { system_queues = kernel.system_queues + 1 }
+
+-- there are only queues of the system
+pub record OnlySystems (kernel : Kernel) : Type 0 where
+  pub all : (q : ℕ) → IsMade kernel.queues q → q < kernel.system_queues
+
+-- function 135: the queue's pointer is written where the block stands
+unfoldable pub opened : Option ℕ → Taken → Kernel → Called
+opened None call kernel = valued refusal kernel
+opened (Some q) call kernel =
+    record { kernel = kernel; outcome = Done; reply = record (answering 0) { at = call.word; bytes = (q + 1) ∷ 0 ∷ [] } }
+
+abbrev pub queue_opened : Taken → Kernel → Called
+queue_opened call kernel = opened (found kernel.queues (name_at call 4)) call kernel
+
+-- function 136: a queue is deleted that isn't the system's, and at which nobody waits and whose message nobody holds
+abbrev pub may_delete : Kernel → ℕ → Bool
+may_delete kernel q = nat_le kernel.system_queues q && may_end kernel.queues q
+
+unfoldable pub deleted : Option ℕ → Kernel → Called
+deleted None kernel = valued refusal kernel
+deleted (Some q) kernel =
+    if may_delete kernel q then done (record kernel { queues = behind_delete kernel.queues q }) else (valued refusal kernel)
+
+abbrev pub queue_deleted : Taken → Kernel → Called
+queue_deleted call kernel = deleted (found kernel.queues (name_at call 2)) kernel
+
+-- the queue that a pointer names
+unfoldable pub pointed : Queues → ℕ → Option ℕ
+pointed t pointer =
+    if nat_le 1 pointer && (nat_le pointer 32 && is_made t (pointer - 1)) then Some (pointer - 1) else None
+
+-- a process waits at a queue, to read from it or to write to it, and stands in no list
+unfoldable pub queued : Kernel → ℕ → ℕ → Bool → Kernel
+queued kernel p q reader =
+    record (unlisted kernel p) { queues = enlisted kernel.queues p (process_in kernel.procs p).priority q reader }
+
+-- a call that can't be done now is held, if it may wait, or else refused
+unfoldable pub put_off : Bool → ℕ → ℕ → Bool → Kernel → Called
+put_off waits p q reader kernel = if waits then held p (queued kernel p q reader) else (valued refusal kernel)
+
+-- what is so where nothing could be done
+abbrev pub IfNotNow : QueueOutcome → Type 0 → Type 0
+IfNotNow (Passed other) Fact = ⊤
+IfNotNow NotNow Fact = Fact
+
+-- the held call of another process, if any, is completed
+unfoldable pub with_other : Option ℕ → Kernel → Kernel
+with_other None kernel = kernel
+with_other (Some p) kernel = all_woken (p ∷ []) kernel
+
+-- functions 137, which may wait, and 138, which may not: the message comes to its address
+abbrev pub taken_from : Kernel → ℕ → ℕ → Kernel
+taken_from kernel p q = record kernel { queues = behind_read kernel.queues p q kernel.procs }
+
+unfoldable pub was_read : QueueOutcome → Bool → Taken → ℕ → ℕ → Kernel → Called
+was_read (Passed other) waits call p q kernel = record {
+  kernel = with_other other (taken_from kernel p q);
+  outcome = Done;
+  reply = read_reply kernel.queues q (record (answering 0) { at = word_at call 2 });
+}
+was_read NotNow waits call p q kernel = put_off waits p q true kernel
+
+unfoldable pub read_at : Option ℕ → Bool → Taken → ℕ → Kernel → Called
+read_at None waits call p kernel = valued refusal kernel
+read_at (Some q) waits call p kernel = was_read (read_outcome kernel.queues q) waits call p q kernel
+
+abbrev pub queue_read : Bool → Taken → ℕ → Kernel → Called
+queue_read waits call p kernel = read_at (pointed kernel.queues (word_at call 0)) waits call p kernel
+
+-- functions 139, which may wait, and 140, which may not
+abbrev pub given_to : Kernel → ℕ → ℕ → Kernel
+given_to kernel p q = record kernel {
+  queues = behind_write kernel.queues p q kernel.procs;
+  procs = procs_behind_write kernel.queues p q kernel.procs;
+}
+
+unfoldable pub was_written : QueueOutcome → Bool → ℕ → ℕ → Kernel → Called
+was_written (Passed other) waits p q kernel = done (with_other other (given_to kernel p q))
+was_written NotNow waits p q kernel = put_off waits p q false kernel
+
+unfoldable pub write_at : Option ℕ → Bool → ℕ → Kernel → Called
+write_at None waits p kernel = valued refusal kernel
+write_at (Some q) waits p kernel = was_written (write_outcome kernel.queues q) waits p q kernel
+
+abbrev pub queue_written : Bool → Taken → ℕ → Kernel → Called
+queue_written waits call p kernel = write_at (pointed kernel.queues (word_at call 0)) waits p kernel

@@ -1,0 +1,112 @@
+ghost use Rattle.std.specs.Prelude.{◌≡◌, ◌&&◌, ℕ, Some, IfSome};
+ghost use Rattle.mpm_banks.specs.Memory.{HasSegment};
+ghost use Rattle.mpm_procs.specs.Table.{Lives, lives, process_in};
+ghost use Rattle.mpm_xdos.specs.Aborting.{name_in, copy_address as address_of_copy, has_name as has_name_of, is_described as is_described_by, described as described_by, target as target_of, behind_abort, memory_behind_abort};
+
+use crate::ending::end;
+use mpm_banks::Banks;
+use mpm_base::{Call, Name8, Pid};
+use mpm_kernel::Kernel;
+use mpm_procs::Process;
+
+/// The process that the call 157 of a living process is to abort: by the address of its descriptor or, where that is 0, the
+/// lowest of that name and that console. None where no such process lives, and where it is a resident, which has no segment.
+/// (MP/M II Programmer's Guide, "Function 157: Abort Specified Process".)
+#[tactic(auto, unfolding(crate::specs::Aborting::target))]
+pub fn target(kernel: &Kernel, p: Pid) -> Option<Pid>
+    requires { Lives kernel.now.procs p }
+    ensures target { result ≡ target_of kernel.now.procs p }
+    ensures lives { IfSome result (λ q. Lives kernel.now.procs q) }
+{
+    let Some(q) = described(kernel, kernel.kept_call(p)) else {
+        return None;
+    };
+    if kernel.segment(q).is_some() {
+        Some(q)
+    } else {
+        None
+    }
+}
+
+/// Aborts a living process: it ends, as by `end`. While it holds the message of a mutual exclusion queue, and while a call of
+/// it is in service, its end is put off: only `abort_due` becomes true. (MP/M II Programmer's Guide, "Function 157: Abort
+/// Specified Process".)
+#[tactic(auto, unfolding(crate::specs::Aborting::behind_abort, crate::specs::Aborting::memory_behind_abort))]
+pub fn abort(kernel: &mut Kernel, banks: &mut Banks, p: Pid, in_service: bool)
+    requires lives { Lives kernel.old.procs p }
+    requires segment { (seg : ℕ) → (process_in kernel.old.procs p).seg ≡ Some seg → HasSegment banks.old seg }
+    ensures kernel { kernel.new ≡ behind_abort kernel.old p in_service }
+    ensures memory { banks.new ≡ memory_behind_abort banks.old kernel.old p in_service }
+{
+    if in_service || kernel.holds(p) {
+        kernel.process_mut(p).abort_due = true;
+    } else {
+        end(kernel, banks, p);
+    }
+}
+
+/// The living process that a call describes, the lowest of them.
+#[tactic(auto, using(mpm_queues::proofs::Finding::failed_none, mpm_queues::proofs::Finding::failed_more, mpm_queues::proofs::Finding::found_lowest, mpm_queues::proofs::Finding::found_none))]
+fn described(kernel: &Kernel, call: &Call) -> Option<Pid>
+    ensures described { result ≡ described_by call.now kernel.now.procs }
+    ensures lives { IfSome result (λ q. Lives kernel.now.procs q) }
+{
+    for number in 0..32 {
+        if lives_described(kernel, call, Pid(number)) {
+            return Some(Pid(number));
+        }
+    }
+    None
+}
+
+/// Whether the process of that number lives, and is the one that a call describes.
+fn lives_described(kernel: &Kernel, call: &Call, q: Pid) -> bool
+    ensures { result ≡ (lives kernel.now.procs q && is_described_by call.now kernel.now.procs q) }
+{
+    kernel.lives(q) && is_described(kernel, call, q)
+}
+
+/// Whether a living process is the one that a call describes.
+#[tactic(auto, unfolding(crate::specs::Aborting::is_described))]
+fn is_described(kernel: &Kernel, call: &Call, q: Pid) -> bool
+    requires { Lives kernel.now.procs q }
+    ensures { result ≡ is_described_by call.now kernel.now.procs q }
+{
+    let address = u16::from_le_bytes([call.byte(0), call.byte(1)]);
+    if address == 0 {
+        has_name(call, kernel.living(q))
+    } else {
+        copy_address(q) == address
+    }
+}
+
+/// Whether a process has the name and the console that a call gives.
+#[tactic(auto, unfolding(crate::specs::Aborting::has_name))]
+fn has_name(call: &Call, process: &Process) -> bool
+    ensures { result ≡ has_name_of call.now process.now }
+{
+    process.name == name_of(call) && process.console == call.byte(12)
+}
+
+/// The name that a call gives.
+fn name_of(call: &Call) -> Name8
+    ensures { result.0 ≡ name_in call.now }
+{
+    Name8([
+        call.byte(4),
+        call.byte(5),
+        call.byte(6),
+        call.byte(7),
+        call.byte(8),
+        call.byte(9),
+        call.byte(10),
+        call.byte(11),
+    ])
+}
+
+/// The address of the copy of a process's descriptor in common memory.
+fn copy_address(q: Pid) -> u16
+    ensures { result ≡ address_of_copy q }
+{
+    0xF800 + 52 * u16::from(q.0)
+}
