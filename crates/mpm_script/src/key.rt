@@ -1,7 +1,7 @@
 ghost use Rattle.std.specs.Prelude.{◌≡◌, ◌<◌, ◌≤◌, IfSome, length, option_map};
 ghost use Rattle.mpm_script.specs.Keys as spec;
 
-use crate::number::hex_byte;
+use crate::numbers::hex_byte;
 use crate::word::byte_at;
 
 /// The key that a text begins with, and what follows it.

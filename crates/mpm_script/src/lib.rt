@@ -5,13 +5,14 @@ mod error;
 mod event;
 mod key;
 mod line;
-mod number;
+mod numbers;
 mod reading;
 mod script;
 mod word;
 
 pub use error::ScriptError;
 pub use event::{Event, Timed};
+pub use numbers::number;
 pub use reading::read_script;
 pub use script::Script;
 

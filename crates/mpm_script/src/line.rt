@@ -7,7 +7,7 @@ ghost use Rattle.mpm_script.specs.Scripts as script;
 use crate::error::Refusal;
 use crate::event::{Event, Timed};
 use crate::key::key;
-use crate::number::{hex_byte, number};
+use crate::numbers::{hex_byte, number};
 use crate::word::{behind, byte_at, word};
 
 /// The greatest number of a step.

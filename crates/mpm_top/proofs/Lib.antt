@@ -1,4 +1,3 @@
-pub mod DecimalLaws
 pub mod CommandLaws
 pub mod RunLaws
 pub mod Examples

@@ -1,8 +1,7 @@
 -- The words of the command line.
-use Rattle.std.specs.Prelude.{◌≡◌, ◌≤◌, slice_index_or, ℕ, ◌+◌, ◌-◌, ◌*◌, Bool, true, false, not, ◌&&◌, ◌==◌, nat_le, List, [], ◌∷◌, map, length, String, string_bytes, bytes_eq, codes, Option, Some, None, if◌then◌else◌}
-use Rattle.std.specs.List.{list_all}
-use Rattle.std.specs.Char.{is_ascii_digit}
+use Rattle.std.specs.Prelude.{◌≡◌, ◌≤◌, slice_index_or, ℕ, Bool, true, false, List, [], ◌∷◌, map, length, String, string_bytes, bytes_eq, codes, Option, Some, None, if◌then◌else◌}
 use Rattle.std.specs.declared.alloc.Global.{Global}
+use Rattle.mpm_script.specs.Numbers.{number_of}
 use Rattle.mpm_top.specs.declared.words.Form.{Form}
 use Rattle.mpm_top.specs.declared.words.Form.TheVariants.{Program, Run}
 use Rattle.mpm_top.specs.declared.words.Asked.{Asked}
@@ -18,25 +17,9 @@ pub record Command : Type 0 where
 abbrev pub texts : List (String Global) → List (List ℕ)
 texts words = map string_bytes words
 
--- the number that digits stand for, behind the number of those before them
-unfoldable pub value_from : ℕ → List ℕ → ℕ
-value_from before [] = before
-value_from before (digit ∷ rest) = value_from (10 * before + (digit - 48)) rest
-
--- the first digit isn't a needless zero
-unfoldable pub is_plain : List ℕ → Bool
-is_plain [] = false
-is_plain (first ∷ []) = true
-is_plain (first ∷ second ∷ rest) = not (first == 48)
-
--- the number that digits stand for, behind one before them; None where a byte is no digit or it exceeds 4,000,000,000
-unfoldable pub decimal_of : ℕ → List ℕ → Option ℕ
-decimal_of before text =
-    if list_all is_ascii_digit text && nat_le (value_from before text) 4000000000 then Some (value_from before text) else None
-
 -- a number of steps: decimal digits without a leading zero, at most 4,000,000,000
 unfoldable pub steps_of : List ℕ → Option ℕ
-steps_of text = if is_plain text then decimal_of 0 text else None
+steps_of text = number_of 4000000000 text
 
 -- the form of a command by its first word
 unfoldable pub form_of : List ℕ → Option Form

@@ -1,9 +1,9 @@
 ghost use Rattle.std.specs.Prelude.{◌≡◌, ◌∷◌, [], ◌<◌, ◌≤◌, ℕ, List, Option, Some, None, MatchOption, IfSome, string_bytes, slice_index_or, if◌then◌else◌, ◌&&◌, nat_le, length, Bool, true, false};
 ghost use Rattle.std.specs.List.{list_all};
-ghost use Rattle.mpm_top.specs.Words.{texts, steps_of as number_of, form_of as form_said, command_with, command_of, IsAsked, AreAsking, is_plain as is_plain_text, decimal_of};
+ghost use Rattle.mpm_top.specs.Words.{texts, steps_of as number_of, form_of as form_said, command_with, command_of, IsAsked, AreAsking};
 
 /// The greatest number of steps.
-const GREATEST_STEPS: u64 = 4_000_000_000;
+const GREATEST_STEPS: u32 = 4_000_000_000;
 
 /// The forms of commands, by their first word.
 #[derive(Clone, Copy)]
@@ -24,46 +24,14 @@ pub(crate) struct Asked {
     pub trace: bool,
 }
 
-/// Whether a number has digits, and no needless zero before them.
-#[tactic(auto, unfolding(crate::specs::Words::is_plain))]
-fn is_plain(digits: &[u8]) -> bool
-    ensures { result ≡ is_plain_text digits.now }
-{
-    match digits {
-        [] => false,
-        [_] => true,
-        [first, ..] => *first != b'0',
-    }
-}
-
-/// The number that decimal digits stand for, if all are digits and it is no greater than the greatest number of steps.
-fn decimal(digits: &[u8]) -> Option<u64>
-    ensures { result ≡ decimal_of 0 digits.now }
-{
-    let mut value = 0u64;
-    for &byte in digits {
-        if !byte.is_ascii_digit() {
-            return None;
-        }
-        value = 10 * value + u64::from(byte - b'0');
-        if value > GREATEST_STEPS {
-            return None;
-        }
-    }
-    Some(value)
-}
-
 /// The number of steps that a word says.
 #[tactic(auto, unfolding(crate::specs::Words::steps_of))]
 fn steps_of(word: &str) -> Option<u64>
-    ensures { result ≡ number_of word.now }
+    ensures number { result ≡ number_of word.now }
+    ensures limit { IfSome result (λ n. n ≤ 4000000000) }
 {
-    let digits = word.as_bytes();
-    if is_plain(digits) {
-        decimal(digits)
-    } else {
-        None
-    }
+    let steps = mpm_script::number(word.as_bytes(), GREATEST_STEPS)?;
+    Some(u64::from(steps))
 }
 
 /// The form that the first word says.

@@ -1,7 +1,7 @@
 use Rattle.std.proofs.Common.{◌∙◌, ◌+◌, ◌*◌, drop, ap, sym, arith}
 use Rattle.mpm_script.specs.Numbers.{decimal_of}
 use Rattle.mpm_script.proofs.DecimalLaws.{decimal_behind, decimal_no_digit, decimal_digit, decimal_over}
-use Rattle.mpm_script.proofs.number.decimal.Goals as goal
+use Rattle.mpm_script.proofs.numbers.decimal.Goals as goal
 
 pub returns-then-not-is_ascii_digit-clause-number : goal.returns-then-not-is_ascii_digit-clause-number
 returns-then-not-is_ascii_digit-clause-number c =

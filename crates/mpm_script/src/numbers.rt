@@ -1,7 +1,8 @@
 ghost use Rattle.std.specs.Prelude.{◌≡◌, ◌≤◌, IfSome};
 ghost use Rattle.mpm_script.specs.Numbers.{is_plain as is_plain_text, decimal_of, number_of, hex_digit as hex_digit_of, hex_byte as hex_byte_of};
 
-/// The number of decimal digits without a needless zero before them, where it is no greater than the greatest.
+/// The number of decimal digits without sign and without a needless zero before them, where it is no greater than the
+/// greatest; else None.
 #[tactic(auto, unfolding(crate::specs::Numbers::number_of))]
 pub fn number(digits: &[u8], greatest: u32) -> Option<u32>
     ensures number { result ≡ number_of greatest digits.now }

@@ -1,6 +1,6 @@
 use Rattle.std.proofs.Common.{◌≡◌, ◌≤◌, drop}
 use Rattle.mpm_script.specs.Numbers.{decimal_of}
-use Rattle.mpm_script.proofs.number.decimal.Given as goal
+use Rattle.mpm_script.proofs.numbers.decimal.Given as goal
 
 abbrev pub invariant-loop-byte : goal.invariant-loop-byte
 invariant-loop-byte l = record {
