@@ -47,12 +47,25 @@ fn put_answer(hl: u16, regs: &mut Regs)
 }
 
 /// Writes bytes from an address on, at most 65,535.
+#[inline]
 #[tactic(auto, using(crate::proofs::WritingLaws::written_none))]
 pub fn put_bytes(bytes: &[u8], banks: &mut Banks, seg: Seg, address: u16)
     requires { length bytes.now ≤ 65535 }
     ensures { banks.new ≡ with_bytes banks.old seg address bytes.now }
 {
-    if !bytes.is_empty() && !put_as_range(bytes, banks, seg, address) {
+    if !bytes.is_empty() {
+        put_some(bytes, banks, seg, address);
+    }
+}
+
+/// Writes bytes, at least one, from an address on. It is code of its own, since most replies place none.
+#[inline(never)]
+fn put_some(bytes: &[u8], banks: &mut Banks, seg: Seg, address: u16)
+    requires some { 0 < length bytes.now }
+    requires few { length bytes.now ≤ 65535 }
+    ensures { banks.new ≡ with_bytes banks.old seg address bytes.now }
+{
+    if !put_as_range(bytes, banks, seg, address) {
         put_each(bytes, banks, seg, address);
     }
 }

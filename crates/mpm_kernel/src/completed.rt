@@ -39,8 +39,7 @@ impl Completed {
     pub(crate) fn clear(&mut self)
         ensures { self.new ≡ [] }
     {
-        self.woken = Woken::new();
-        self.from = 0;
+        self.from = self.woken.as_slice().len() as u8;
     }
 
     /// These processes, in order.

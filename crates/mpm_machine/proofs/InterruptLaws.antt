@@ -1,5 +1,5 @@
 -- When interrupts are due, and which there may be.
-use Rattle.std.proofs.Common.{◌≡◌, ℕ, ◌+◌, ◌*◌, ◌<◌, ◌≤◌, Bool, true, false, List, [], ◌∷◌, Option, Some, None, All, IfSome, drop, is_some, if◌then◌else◌, arith}
+use Rattle.std.proofs.Common.{◌≡◌, ℕ, ◌+◌, ◌*◌, ◌<◌, ◌≤◌, Bool, true, false, List, [], ◌∷◌, Option, Some, None, All, IfSome, drop, is_some, if◌then◌else◌, refl, subst, arith}
 use Rattle.std.specs.Prelude.{nat_le}
 use Rattle.std.proofs.lemmas.Bool.Decides.{nat_tests}
 use Rattle.std.proofs.lemmas.Nat.{div_below}
@@ -57,3 +57,19 @@ script_behind_due step interrupts are =
     (record interrupts { script = script_behind step interrupts.script }) are
     (rest_if (is_some (script_due step interrupts.script)) (drop 1 interrupts.script) interrupts.script
     (All-drop IsTimed 1 interrupts.script are) are)
+
+-- where nothing is due, all is still to come
+
+tick_not : (b : Bool) (other : Option Event) → (if b then Some Tick else other) ≡ None → b ≡ false
+tick_not true other none = absurd cc
+tick_not false other none = refl
+
+script_stays : (step : ℕ) (script : List Timed) → script_due step script ≡ None → script_behind step script ≡ script
+script_stays step script none = rw none refl
+
+pub behind_none : (step : ℕ) (interrupts : Interrupts) → due step interrupts ≡ None → behind_due step interrupts ≡ interrupts
+unfolding due behind_due
+behind_none step interrupts none =
+    let no_tick = tick_not (is_tick_due step interrupts) (script_due step interrupts.script) none in
+    let no_event : script_due step interrupts.script ≡ None = subst (λ (b : Bool). (if b then Some Tick else script_due step interrupts.script) ≡ None) no_tick none in
+    rw (no_tick, script_stays step interrupts.script no_event) refl

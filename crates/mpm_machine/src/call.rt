@@ -203,6 +203,7 @@ impl System {
     }
 
     /// The reply to the call that a process keeps is placed, and its record is written.
+    #[inline(always)]
     #[tactic(auto, unfolding(crate::specs::Serving::answering_call))]
     pub fn answer<S: Sink>(
         &mut self,
@@ -269,6 +270,7 @@ impl System {
     }
 
     /// The reply is placed in its caller's registers and memory.
+    #[inline(always)]
     #[tactic(auto, unfolding(crate::specs::Serving::replied))]
     fn reply(&mut self, p: Pid, seg: Seg, reply: &Reply)
         requires lives { Lives self.old.kernel.procs p }
@@ -280,6 +282,7 @@ impl System {
     }
 
     /// The record of the call that a process completed.
+    #[inline(always)]
     #[tactic(auto, unfolding(crate::specs::Serving::completion))]
     fn record<S: Sink>(&mut self, p: Pid, render: &mut Render, sink: &mut S) -> Result<(), Failed>
         requires lives { Lives self.old.kernel.procs p }

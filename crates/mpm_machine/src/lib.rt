@@ -13,6 +13,7 @@ mod machine;
 mod opening;
 #[cfg(test)]
 mod scenes;
+mod schedule;
 mod system;
 
 pub use machine::{BootError, Machine, RunFault, StepFault};

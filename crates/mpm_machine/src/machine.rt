@@ -2,8 +2,8 @@ ghost use Rattle.std.specs.Prelude.{◌≡◌, ℕ, ◌+◌, ◌-◌, ◌*◌, �
 ghost use Rattle.mpm_port.specs.Causes.{HasCause};
 ghost use Rattle.mpm_port.specs.Texts.{appended};
 
-use crate::interrupts::Interrupts;
 use crate::opening::{moment_of, program_file};
+use crate::schedule::Schedule;
 use crate::system::System;
 use mpm_banks::Banks;
 use mpm_base::{Name8, Pid, Reply, Seg};
@@ -100,7 +100,7 @@ impl Machine {
         Ok(Machine {
             system: System {
                 steps: 0,
-                interrupts: Interrupts::new(file.tick_every, script),
+                interrupts: Schedule::new(file.tick_every, script),
                 kernel,
                 memory,
                 put_off: false,

@@ -8,7 +8,7 @@ ghost use Rattle.mpm_machine.specs.Writing.{Showed, Stopped};
 use crate::console::write_bytes;
 use crate::gate::{Gate, gate_at, page_of_gates};
 use crate::instruction::{execute, illegal_text, run_instructions};
-use crate::interrupts::Interrupts;
+use crate::schedule::Schedule;
 use mpm_banks::Banks;
 use mpm_base::{Pid, Reply, Seg};
 use mpm_kernel::Kernel;
@@ -20,7 +20,7 @@ use mpm_render::Render;
 pub(crate) struct System {
     /// The steps done.
     pub steps: u64,
-    pub interrupts: Interrupts,
+    pub interrupts: Schedule,
     pub kernel: Kernel,
     pub memory: Banks,
     /// Whether an end by an abort may be put off: where this is false, none is.
@@ -91,10 +91,10 @@ impl System {
         ensures count { result ≤ most }
         ensures moved { Moved result p seg self.old self.new }
     {
-        let mut regs = *self.kernel.regs(p);
-        let devices = self.kernel.devices_mut();
-        let done = run_instructions(&mut regs, &mut self.memory, seg, devices, most);
-        *self.kernel.regs_mut(p) = regs;
+        let mut devices = *self.kernel.devices_mut();
+        let regs = self.kernel.regs_mut(p);
+        let done = run_instructions(regs, &mut self.memory, seg, &mut devices, most);
+        *self.kernel.devices_mut() = devices;
         self.steps += done;
         done
     }

@@ -1,6 +1,7 @@
-ghost use Rattle.std.specs.Prelude.{◌≡◌, ◌≢◌, ℕ, ◌<◌, List, [], ◌∷◌, Option, OnOk, OnErr};
+ghost use Rattle.std.specs.Prelude.{◌≡◌, ◌≢◌, ℕ, ◌<◌, List, [], ◌∷◌, Option, OnOk, OnErr, length};
 ghost use Rattle.mpm_port.specs.Causes.{HasCause};
-ghost use Rattle.mpm_port.specs.Texts.{appended};
+ghost use Rattle.mpm_port.specs.Texts.{appended, AppendsPart};
+ghost use Rattle.mpm_render.specs.Completions.{completion, trace_line};
 
 use crate::Unit2;
 use crate::line::Line;
@@ -91,8 +92,7 @@ impl Render {
         if !self.trace {
             return Ok(());
         }
-        let text = LineText::traced(step, p, function, a, bc, de, hl);
-        sink.put(text.as_slice())
+        write_record(step, p, function, a, bc, de, hl, sink)
     }
 
     /// Writes each line that isn't empty, consoles first, by number, each with one `put`, up to the first that fails.
@@ -113,4 +113,27 @@ impl Render {
         }
         Ok(())
     }
+}
+
+/// Writes the record of a completed call. It is code of its own, so that a call that isn't recorded takes little.
+#[inline(never)]
+fn write_record<S: Sink>(
+    step: u64,
+    p: u8,
+    function: u8,
+    a: u8,
+    bc: u16,
+    de: u16,
+    hl: u16,
+    sink: &mut S,
+) -> Result<(), Failed>
+    ensures some { 0 < length (trace_line (completion step p function a bc de hl)) }
+    ensures took { OnOk result (S.took sink.old (trace_line (completion step p function a bc de hl)) sink.new) }
+    ensures dropped { OnErr result (S.dropped sink.old (trace_line (completion step p function a bc de hl)) sink.new) }
+    ensures cause { HasCause (S.faults sink.old) (S.faults sink.new) result }
+    ensures ok { OnOk result (S.written sink.new ≡ appended (S.written sink.old) (trace_line (completion step p function a bc de hl))) }
+    ensures err { OnErr result (AppendsPart (S.written sink.old) (trace_line (completion step p function a bc de hl)) (S.written sink.new)) }
+{
+    let text = LineText::traced(step, p, function, a, bc, de, hl);
+    sink.put(text.as_slice())
 }

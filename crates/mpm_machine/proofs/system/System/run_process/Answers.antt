@@ -10,6 +10,6 @@ returns-clause-moved c =
     record {
       view = new;
       moves = moves_from c.run_instructions-done.result c.args.seg (view_of c.args.self.now c.args.p) _ new c.run_instructions-done.ensures.moved
-          (view_is _ (view_of c.args.self.now c.args.p) c.regs.ensures refl c.devices_mut-devices.ensures.value);
+          (view_is _ (view_of c.args.self.now c.args.p) c.regs_mut-regs.ensures.value refl c.devices_mut.ensures.value);
       is = refl;
     }

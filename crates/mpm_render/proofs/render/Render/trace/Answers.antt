@@ -4,8 +4,8 @@ use Rattle.mpm_render.proofs.render.Render.trace.Goals as goal
 
 pub returns-clause-ok : goal.returns-clause-ok
 returns-clause-ok g c os first s =
-    ok_completed c.put.result _ _ _ first _ c.as_slice.result.now os (search rules) c.put.ensures.ok s
+    ok_completed c.write_record.result _ _ _ first _ _ os (search rules) c.write_record.ensures.ok s
 
 pub returns-clause-err : goal.returns-clause-err
 returns-clause-err g c os first s =
-    err_completed c.put.result _ _ _ first _ c.as_slice.result.now os (search rules) c.put.ensures.err (search rules) s
+    err_completed c.write_record.result _ _ _ first _ _ os (search rules) c.write_record.ensures.err (search rules) s
