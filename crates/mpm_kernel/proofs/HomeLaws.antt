@@ -1,26 +1,28 @@
 -- In which segments the processes live, which of them are aborted, and which calls they keep, behind a change of the kernel.
-use Rattle.std.proofs.Common.{◌≡◌, ◌≢◌, ◌∙◌, ℕ, Bool, true, false, ◌&&◌, ◌||◌, ◌==◌, List, [], ◌∷◌, Option, Some, None, if◌then◌else◌, inl, inr, refl, sym, ap, arith, get_or-set_other}
-use Rattle.std.proofs.lemmas.Bool.{cases_eq, false≢true, and_parts}
+use Rattle.std.proofs.Common.{◌≡◌, ◌≢◌, ◌∙◌, ℕ, ◌≤◌, Bool, true, false, ◌&&◌, ◌||◌, ◌==◌, List, [], ◌∷◌, length, Option, Some, None, if◌then◌else◌, inl, inr, drop, refl, sym, ap, subst, arith, get_or-set_other}
+use Rattle.std.proofs.lemmas.Bool.{cases_eq, cases_lt, false≢true, and_parts}
+use Rattle.std.proofs.lemmas.List.{set_past}
 use Rattle.mpm_base.specs.Calls.{Taken, no_call}
 use Rattle.mpm_procs.specs.Table.{Table, HasSlots, lives, Lives, process_in, call_of, with_process, with_call, lowest_free, added, without}
 use Rattle.mpm_procs.specs.declared.process.Process.{Process}
 use Rattle.mpm_procs.specs.declared.process.NewProcess.{NewProcess}
 use Rattle.mpm_procs.specs.Opening.{opening}
 use Rattle.mpm_procs.proofs.MapLaws.{lives_below, process_changed, process_kept, lives_changed, call_behind, process_behind, lives_behind, free_below, free_is_dead, lives_added_other, process_added, process_added_other, call_added_other, lives_without, lives_without_other, process_without_other}
-use Rattle.mpm_kernel.specs.Kernel.{Kernel, ready, IsReady, IsSound, is_aborted, with_changed, with_completed}
+use Rattle.mpm_kernel.specs.Kernel.{Kernel, ready, IsReady, IsSound, CompletedLive, is_aborted, with_changed, with_completed}
 use Rattle.mpm_kernel.specs.Columns.{spoke}
 use Rattle.mpm_kernel.specs.Called.{Called, valued, low_parameter, name_at, word_at}
 use Rattle.mpm_kernel.specs.Waiting.{polled, is_flag, behind_flag_wait, waited, flag_waited, flag_set, slept}
 use Rattle.mpm_kernel.specs.Dates.{names_time, date_set, date_told, time_told}
 use Rattle.mpm_kernel.specs.Calls.{is_count, with_user, with_multi, call_done, called}
-use Rattle.mpm_kernel.specs.Events.{happened, handed_out}
+use Rattle.mpm_kernel.specs.Events.{happened, first_completed, inside_of, with_procedure, with_first, handed_out}
+use Rattle.mpm_kernel.specs.Procedures.{procedure_queue, inside, procedure_read, procedure_at, procedure_called}
 use Rattle.mpm_script.specs.declared.event.Event.{Event}
 use Rattle.mpm_flags.specs.States.{flag_at, wait_answer}
 use Rattle.mpm_flags.specs.declared.flags.FlagWait.{FlagWait}
 use Rattle.mpm_flags.specs.declared.flags.FlagWait.TheVariants.{Passed, Waits, Underrun}
-use Rattle.std.specs.Prelude.{nat_lt, is_none, slice_index_or}
-use Rattle.mpm_kernel.proofs.SoundLaws.{sound_with_completed, listed_once, procs_all_ready, procs_signalled, procs_happened}
-use Rattle.mpm_queues.specs.Queue.{with_given, is_full}
+use Rattle.std.specs.Prelude.{nat_lt, is_some, is_none, slice_index_or}
+use Rattle.mpm_kernel.proofs.SoundLaws.{sound_with_completed, listed_once, completed_lives, procs_signalled, procs_happened}
+use Rattle.mpm_queues.specs.Queue.{block_size, with_given, is_full}
 use Rattle.mpm_queues.specs.Queues.{waits, queue_in, refusal as make_refusal}
 use Rattle.mpm_queues.specs.Handling.{first_reader, written_by, told, read_outcome, write_outcome, procs_behind_write}
 use Rattle.mpm_queues.specs.declared.queues.QueueOutcome.{QueueOutcome}
@@ -28,7 +30,8 @@ use Rattle.mpm_queues.specs.declared.queues.QueueOutcome.TheVariants.{Done as Ha
 use Rattle.mpm_queues.proofs.SoundLaws.{reader_waits}
 use Rattle.mpm_queues.proofs.WaitLaws.{waits_one}
 use Rattle.mpm_kernel.specs.Queueing.{with_queue, queue_made, opened, may_delete, deleted, queued, put_off, with_other, taken_from, was_read, read_at, given_to, was_written, write_at}
-use Rattle.mpm_kernel.specs.Dispatch.{admitted, in_slot, discharged, stays, picked, unlisted, moved, behind_equals, with_priority}
+use Rattle.mpm_kernel.specs.Ending.{vacated}
+use Rattle.mpm_kernel.specs.Dispatch.{admitted, in_slot, stays, picked, unlisted, moved, behind_equals, with_priority}
 
 -- a process lives in a segment
 pub record IsLivedIn (kernel : Kernel) (seg : ℕ) : Type 0 where
@@ -107,10 +110,9 @@ homes_call kernel p call = record {
   aborts = λ q. aborts_alike kernel.procs (with_call kernel.procs p call) q (lives_behind kernel.procs p q call) (ap (λ x. x.abort_due) (process_behind kernel.procs p q call));
 }
 
--- a process ends
-pub homes_discharged : (kernel : Kernel) (p : ℕ) → HasSlots kernel.procs → Lives kernel.procs p → SameHomes kernel (discharged kernel p)
-unfolding discharged
-homes_discharged kernel p slots h = record {
+-- the slot of a process is free
+pub homes_vacated : (kernel : Kernel) (p : ℕ) → HasSlots kernel.procs → Lives kernel.procs p → SameHomes kernel (vacated p kernel)
+homes_vacated kernel p slots h = record {
   all = λ q seg living home. elim (cases_eq q p) [
     | inl equal ↦ absurd (false≢true (sym (ap (lives (without kernel.procs p)) equal ∙ lives_without kernel.procs p (omega (arith, slots.alive, lives_below kernel.procs p slots h))) ∙ living))
     | inr other ↦ record {
@@ -128,15 +130,6 @@ homes_discharged kernel p slots h = record {
         (ap (λ x. x.abort_due) (process_without_other kernel.procs p q other)) due
   ];
 }
-
--- who doesn't end keeps its call
-pub lives_discharged : (kernel : Kernel) (p q : ℕ) → q ≢ p → lives (discharged kernel p).procs q ≡ lives kernel.procs q
-unfolding discharged
-lives_discharged kernel p q other = lives_without_other kernel.procs p q other
-
-pub call_discharged : (kernel : Kernel) (p q : ℕ) → q ≢ p → call_of (discharged kernel p).procs q ≡ call_of kernel.procs q
-unfolding discharged without
-call_discharged kernel p q other = get_or-set_other kernel.procs.calls p q no_call no_call other
 
 pub opening_home : (new : NewProcess) → (opening new).seg ≡ new.seg
 unfolding opening
@@ -221,7 +214,7 @@ procs_spoke kernel console bytes = refl
 
 -- the calls of the kernel: who lives, lives where somebody lived, and each process that waits at no queue keeps its call
 
-record KeepsHome (old : Kernel) (called : Called) : Type 0 where
+pub record KeepsHome (old : Kernel) (called : Called) : Type 0 where
   pub homes : SameHomes old called.kernel
   pub call : (q : ℕ) → waits old.queues q ≡ 0 → call_of called.kernel.procs q ≡ call_of old.procs q
 
@@ -319,10 +312,10 @@ kept_put_off : (may_wait : Bool) (p q : ℕ) (reader : Bool) (kernel : Kernel) �
 unfolding put_off queued unlisted
 kept_put_off may_wait p q reader kernel = kept_if kernel may_wait _ _ (kept_same kernel _ refl) (kept_same kernel _ refl)
 
-procs_with_other : (other : Option ℕ) (kernel : Kernel) → (with_other other kernel).procs ≡ kernel.procs
-unfolding with_other
+pub procs_with_other : (other : Option ℕ) (kernel : Kernel) → (with_other other kernel).procs ≡ kernel.procs
+unfolding with_other moved
 procs_with_other None kernel = refl
-procs_with_other (Some p) kernel = procs_all_ready (p ∷ []) kernel
+procs_with_other (Some p) kernel = refl
 
 kept_was_read : (outcome : QueueOutcome) (may_wait : Bool) (call : Taken) (p q : ℕ) (kernel : Kernel) → KeepsHome kernel (was_read outcome may_wait call p q kernel)
 unfolding was_read
@@ -339,7 +332,7 @@ call_else : (procs : Table) (r q : ℕ) (call : Taken) → q ≢ r → call_of (
 unfolding with_call
 call_else procs r q call other = get_or-set_other procs.calls r q call no_call other
 
-kept_told : (b : Bool) (o : Option ℕ) (message : List ℕ) (kernel : Kernel) (called : Called)
+pub kept_told : (b : Bool) (o : Option ℕ) (message : List ℕ) (kernel : Kernel) (called : Called)
     → called.kernel.procs ≡ (if b then kernel.procs else (told o message kernel.procs)) → ((r : ℕ) → o ≡ Some r → waits kernel.queues r ≡ 1)
     → KeepsHome kernel called
 kept_told true o message kernel called e one = kept_same kernel called e
@@ -364,6 +357,37 @@ kept_write_at : (slot : Option ℕ) (may_wait : Bool) (p : ℕ) (kernel : Kernel
 unfolding write_at
 kept_write_at None may_wait p kernel s = kept_same kernel _ refl
 kept_write_at (Some q) may_wait p kernel s = kept_was_written (write_outcome kernel.queues q) may_wait p q kernel s
+
+-- a process is in a resident procedure from now on
+kept_inside : (p q message value : ℕ) (old kernel : Kernel) → IsSound old → Lives old.procs p → kernel.procs ≡ old.procs
+    → KeepsHome old (valued value (inside p q message kernel))
+unfolding inside
+kept_inside p q message value old kernel s h same =
+    let process = record (process_in kernel.procs p) { procedure = Some q; kept = message } in
+    record {
+      homes = homes_both old kernel (with_changed kernel p process) (homes_stay old kernel same)
+          (homes_changed kernel p process (subst HasSlots (sym same) s.slots) (ap (λ procs. lives procs p) same ∙ h) refl refl);
+      call = λ k _. call_behind kernel.procs p k process ∙ ap (λ procs. call_of procs k) same;
+    }
+
+kept_procedure_read : (outcome : QueueOutcome) (p q : ℕ) (kernel : Kernel) → IsSound kernel → Lives kernel.procs p
+    → KeepsHome kernel (procedure_read outcome p q kernel)
+unfolding procedure_read
+kept_procedure_read (Handled other) p q kernel s h =
+    kept_inside p q _ 0 kernel (with_other other (taken_from kernel p q)) s h (procs_with_other other (taken_from kernel p q))
+kept_procedure_read NotNow p q kernel s h = kept_put_off true p q true kernel
+
+kept_procedure_at : (slot : Option ℕ) (p : ℕ) (kernel : Kernel) → IsSound kernel → Lives kernel.procs p → KeepsHome kernel (procedure_at slot p kernel)
+unfolding procedure_at
+kept_procedure_at None p kernel s h = kept_same kernel _ refl
+kept_procedure_at (Some q) p kernel s h = kept_procedure_read (read_outcome kernel.queues q) p q kernel s h
+
+kept_procedure_called : (call : Taken) (p : ℕ) (kernel : Kernel) → IsSound kernel → Lives kernel.procs p
+    → KeepsHome kernel (procedure_called call p kernel)
+unfolding procedure_called
+kept_procedure_called call p kernel s h =
+    kept_if kernel (is_some (process_in kernel.procs p).procedure) _ _ (kept_same kernel _ refl)
+    (kept_procedure_at (procedure_queue kernel.queues call) p kernel s h)
 
 kept_date_set : (call : Taken) (kernel : Kernel) → KeepsHome kernel (date_set call kernel)
 unfolding date_set
@@ -407,8 +431,9 @@ kept_call_done call p kernel s h =
     (kept_if kernel (f == 141) _ _ (kept_slept call p kernel)
     (kept_if kernel (f == 142) _ _ (kept_behind p 0 kernel)
     (kept_if kernel (f == 145) _ _ (kept_priority p 0 (low_parameter call) kernel s h)
+    (kept_if kernel (f == 151) _ _ (kept_procedure_called call p kernel s h)
     (kept_if kernel (f == 155) _ _ (same _ (procs_time_told call kernel))
-    (same _ refl)))))))))))))))))))))))))
+    (same _ refl))))))))))))))))))))))))))
 
 homes_through : (old new : Kernel) → SameHomes (with_completed old []) new → SameHomes old new
 homes_through old new homes = homes_both old (with_completed old []) new (homes_stay old (with_completed old []) refl) homes
@@ -431,6 +456,96 @@ call_called p kernel s h is_ready = calls_called p kernel s h p (omega (arith, l
 pub homes_happened : (event : Event) (kernel : Kernel) → SameHomes kernel (happened event kernel)
 homes_happened event kernel = homes_stay kernel (happened event kernel) (procs_happened event kernel)
 
-pub procs_handed_out : (kernel : Kernel) → (handed_out kernel).procs ≡ kernel.procs
+-- a process is handed out, which may be in a resident procedure now
+
+record HandedFrom (old new : Kernel) : Type 0 where
+  pub lives : (q : ℕ) → lives new.procs q ≡ lives old.procs q
+  pub call : (q : ℕ) → call_of new.procs q ≡ call_of old.procs q
+  pub seg : (q : ℕ) → (process_in new.procs q).seg ≡ (process_in old.procs q).seg
+  pub completed : new.completed ≡ old.completed
+
+handed_same : (kernel : Kernel) → HandedFrom kernel kernel
+handed_same kernel = record { lives = λ q. refl; call = λ q. refl; seg = λ q. refl; completed = refl }
+
+nothing_changed : (procs : Table) (p : ℕ) (process : Process) → length procs.processes ≤ p → with_process procs p process ≡ procs
+unfolding with_process
+nothing_changed procs p process past =
+    ap (λ (processes : List Process). record procs { processes = processes }) (set_past procs.processes p process past)
+
+seg_kept : (procs : Table) (p q : ℕ) (process : Process) → process.seg ≡ (process_in procs p).seg
+    → (process_in (with_process procs p process) q).seg ≡ (process_in procs q).seg
+seg_kept procs p q process same = elim (cases_eq q p) [
+  | inl equal ↦ elim (cases_lt p (length procs.processes)) [
+    | inl below ↦
+        let at : process_in (with_process procs p process) q ≡ process =
+        ap (process_in (with_process procs p process)) equal ∙ process_changed procs p process below in
+        ap (λ x. x.seg) at ∙ same ∙ ap (λ n. (process_in procs n).seg) (sym equal)
+    | inr past ↦ ap (λ (table : Table). (process_in table q).seg) (nothing_changed procs p process past)
+  ]
+  | inr other ↦ ap (λ x. x.seg) (process_kept procs p q process other)
+]
+
+handed_inside : (slot : Option ℕ) (p message : ℕ) (kernel : Kernel) → HandedFrom kernel (inside_of slot p message kernel)
+unfolding inside
+handed_inside None p message kernel = handed_same kernel
+handed_inside (Some k) p message kernel =
+    let process = record (process_in kernel.procs p) { procedure = Some k; kept = message } in
+    record {
+      lives = λ q. lives_changed kernel.procs p q process;
+      call = λ q. call_behind kernel.procs p q process;
+      seg = λ q. seg_kept kernel.procs p q process refl;
+      completed = refl;
+    }
+
+handed_if : (b : Bool) (old new : Kernel) → HandedFrom old new → HandedFrom old (if b then new else old)
+handed_if true old new is = is
+handed_if false old new is = handed_same old
+
+handed_first : (first : Option ℕ) (kernel : Kernel) → HandedFrom kernel (with_first first kernel)
+unfolding with_procedure
+handed_first None kernel = handed_same kernel
+handed_first (Some p) kernel =
+    let call = call_of kernel.procs p in
+    handed_if (call.function == 151) kernel _ (handed_inside (procedure_queue kernel.queues call) p (word_at call block_size) kernel)
+
+handed_from : (kernel : Kernel) → HandedFrom (with_completed kernel (drop 1 kernel.completed)) (handed_out kernel)
 unfolding handed_out
-procs_handed_out kernel = refl
+handed_from kernel = handed_first (first_completed kernel.completed) (with_completed kernel (drop 1 kernel.completed))
+
+pub lives_handed_out : (kernel : Kernel) (q : ℕ) → lives (handed_out kernel).procs q ≡ lives kernel.procs q
+lives_handed_out kernel q = (handed_from kernel).lives q
+
+pub call_handed_out : (kernel : Kernel) (q : ℕ) → call_of (handed_out kernel).procs q ≡ call_of kernel.procs q
+call_handed_out kernel q = (handed_from kernel).call q
+
+pub seg_handed_out : (kernel : Kernel) (q : ℕ) → (process_in (handed_out kernel).procs q).seg ≡ (process_in kernel.procs q).seg
+seg_handed_out kernel q = (handed_from kernel).seg q
+
+pub completed_handed_out : (kernel : Kernel) → (handed_out kernel).completed ≡ drop 1 kernel.completed
+completed_handed_out kernel = (handed_from kernel).completed
+
+-- it lives where it lived
+homes_inside : (slot : Option ℕ) (p message : ℕ) (kernel : Kernel) → HasSlots kernel.procs → Lives kernel.procs p → SameHomes kernel (inside_of slot p message kernel)
+unfolding inside
+homes_inside None p message kernel slots h = homes_stay kernel kernel refl
+homes_inside (Some k) p message kernel slots h =
+    homes_changed kernel p (record (process_in kernel.procs p) { procedure = Some k; kept = message }) slots h refl refl
+
+homes_if : (b : Bool) (old new : Kernel) → SameHomes old new → SameHomes old (if b then new else old)
+homes_if true old new is = is
+homes_if false old new is = homes_stay old old refl
+
+homes_first : (first : Option ℕ) (kernel : Kernel) → HasSlots kernel.procs → ((p : ℕ) → first ≡ Some p → Lives kernel.procs p)
+    → SameHomes kernel (with_first first kernel)
+unfolding with_procedure
+homes_first None kernel slots living = homes_stay kernel kernel refl
+homes_first (Some p) kernel slots living =
+    let call = call_of kernel.procs p in
+    homes_if (call.function == 151) kernel _ (homes_inside (procedure_queue kernel.queues call) p (word_at call block_size) kernel slots (living p refl))
+
+pub homes_handed_out : (kernel : Kernel) → IsSound kernel → CompletedLive kernel → SameHomes kernel (handed_out kernel)
+unfolding handed_out
+homes_handed_out kernel s live =
+    let left = with_completed kernel (drop 1 kernel.completed) in
+    homes_both kernel left _ (homes_stay kernel left refl)
+    (homes_first (first_completed kernel.completed) left s.slots (λ p first. completed_lives kernel p live first))

@@ -1,12 +1,17 @@
+pub mod CompletedLaws
 pub mod ColumnLaws
 pub mod PlaceLaws
 pub mod Soundness
 pub mod Staying
 pub mod QueueingLaws
 pub mod QueueCalls
+pub mod HandingLaws
 pub mod SystemQueues
 pub mod AnswerLaws
 pub mod SoundLaws
 pub mod PollLaws
 pub mod SpokeLaws
 pub mod HomeLaws
+pub mod ProcedureLaws
+pub mod EndingLaws
+pub mod HoldingLaws

@@ -1,22 +1,23 @@
 -- What stays so behind the calls on queues.
-use Rattle.std.proofs.Common.{◌≡◌, ◌∙◌, ℕ, Bool, true, false, ◌&&◌, [], ◌∷◌, Option, Some, None, refl, ap, arith}
-use Rattle.std.specs.Prelude.{is_none, nat_le}
+use Rattle.std.proofs.Common.{◌≡◌, ◌∙◌, ℕ, Bool, true, false, ◌&&◌, [], ◌∷◌, ◌++◌, Option, Some, None, refl, ap, subst, arith}
+use Rattle.std.specs.Prelude.{is_some, is_none, nat_le}
 use Rattle.std.proofs.lemmas.Bool.Decides.{nat_tests}
 use Rattle.mpm_base.specs.Calls.{Taken}
 use Rattle.mpm_procs.specs.Table.{Lives, process_in}
-use Rattle.mpm_procs.proofs.MapLaws.{lives_below}
-use Rattle.mpm_queues.specs.Queues.{IsMade, found, may_end, behind_delete, refusal as make_refusal}
+use Rattle.mpm_procs.proofs.MapLaws.{lives_below, lives_changed}
+use Rattle.mpm_queues.specs.Queues.{Queues, IsMade, found, width_of, may_end, behind_delete, refusal as make_refusal}
 use Rattle.mpm_queues.specs.declared.queues.QueueOutcome.{QueueOutcome}
 use Rattle.mpm_queues.specs.declared.queues.QueueOutcome.TheVariants.{Done as Passed, NotNow}
 use Rattle.mpm_queues.specs.Handling.{read_outcome, write_outcome, enlisted, may_wait, ended}
 use Rattle.mpm_queues.proofs.WaitLaws.{waits_enlisted, waits_enlisted_other}
-use Rattle.mpm_kernel.specs.Kernel.{Kernel, ready, IsSound}
-use Rattle.mpm_kernel.specs.Dispatch.{at_rest, unlisted, moved, all_ready}
+use Rattle.mpm_kernel.specs.Kernel.{Kernel, ready, IsSound, CompletedLive, with_changed}
+use Rattle.mpm_kernel.specs.Dispatch.{at_rest, unlisted, moved}
 use Rattle.mpm_kernel.specs.Called.{valued, done, refusal, word_at, name_at}
 use Rattle.mpm_kernel.specs.Queueing.{with_queue, queue_made, opened, queue_opened, may_delete, deleted, queue_deleted, pointed, queued, put_off, with_other, taken_from, was_read, read_at, queue_read, given_to, was_written, write_at, queue_written}
-use Rattle.mpm_kernel.proofs.Soundness.{MayBeReady, listed_once, sound_ready, sound_unlisted, sound_with_completed}
-use Rattle.mpm_kernel.proofs.Staying.{StaysSound, Calls, nobody, called_if, same}
-use Rattle.mpm_kernel.proofs.QueueingLaws.{ready_waits_nowhere, found_made, pointed_made, sound_with_queue, sound_with_deleted, sound_taken, may_by_read, sound_given, may_by_write, lives_written, may_wait_read, may_wait_write, queues_enlisted}
+use Rattle.mpm_kernel.specs.Procedures.{no_procedure, is_two, of_two_bytes, procedure_queue, inside, procedure_read, procedure_at, procedure_called}
+use Rattle.mpm_kernel.proofs.Soundness.{MayBeReady, none_and_some, listed_once, sound_changed, sound_ready, sound_unlisted, sound_with_completed}
+use Rattle.mpm_kernel.proofs.Staying.{StaysSound, Calls, nobody, all_and_one, live_kept, called_if, same}
+use Rattle.mpm_kernel.proofs.QueueingLaws.{ready_waits_nowhere, found_made, pointed_if, pointed_made, sound_with_queue, sound_with_deleted, sound_taken, may_by_read, sound_given, may_by_write, lives_written, may_wait_read, may_wait_write, queues_enlisted}
 
 pub stays_queue_made : (call : Taken) (p : ℕ) (kernel : Kernel) → Calls p kernel → StaysSound p (queue_made call kernel)
 unfolding queue_made with_queue
@@ -49,7 +50,7 @@ unfolding deleted
 stays_deleted None p kernel c is = same p refusal kernel c
 stays_deleted (Some q) p kernel c is =
     called_if p (may_delete kernel q) _ _
-    (λ may. let own = first_of_both (nat_le kernel.system_queues q) (may_end kernel.queues q) may in
+    (λ may. let own = first_of_both (nat_le kernel.system_queues q) _ may in
     record {
       sound = sound_with_deleted kernel q c.sound (is q refl) (grind (arith, nat_tests, own));
       lives = c.lives;
@@ -82,14 +83,14 @@ stays_put_off waits p q reader kernel c is may =
     (λ _. same p refusal kernel c)
 
 -- the call of another process is completed
-pub stays_other : (other : Option ℕ) (p value : ℕ) (kernel : Kernel) → IsSound kernel → Lives kernel.procs p → kernel.completed ≡ []
+pub stays_other : (other : Option ℕ) (p value : ℕ) (kernel : Kernel) → IsSound kernel → Lives kernel.procs p → CompletedLive kernel
     → ((w : ℕ) → other ≡ Some w → MayBeReady kernel w) → StaysSound p (valued value (with_other other kernel))
-unfolding with_other all_ready moved
-stays_other None p value kernel s h none may = record { sound = s; lives = h; completed = nobody kernel none }
-stays_other (Some w) p value kernel s h none may = record {
-  sound = sound_with_completed (moved kernel ready w) (w ∷ []) (sound_ready kernel w s (may w refl).0 (may w refl).1);
+unfolding with_other moved
+stays_other None p value kernel s h live may = record { sound = s; lives = h; completed = live }
+stays_other (Some w) p value kernel s h live may = record {
+  sound = sound_with_completed (moved kernel ready w) (kernel.completed ++ w ∷ []) (sound_ready kernel w s (may w refl).0 (may w refl).1);
   lives = h;
-  completed = ((may w refl).0, tt);
+  completed = all_and_one (λ q. Lives kernel.procs q) kernel.completed w live (may w refl).0;
 }
 
 -- a message is read
@@ -97,7 +98,7 @@ stays_was_read : (outcome : QueueOutcome) (waits : Bool) (call : Taken) (p q : �
     → read_outcome kernel.queues q ≡ outcome → StaysSound p (was_read outcome waits call p q kernel)
 unfolding was_read
 stays_was_read (Passed other) waits call p q kernel c is done =
-    let s = stays_other other p 0 (taken_from kernel p q) (sound_taken kernel p q c.sound is) c.lives c.none
+    let s = stays_other other p 0 (taken_from kernel p q) (sound_taken kernel p q c.sound is) c.lives (nobody (taken_from kernel p q) c.none)
     (λ w first. may_by_read kernel p q w c.sound (ap ended done ∙ first)) in
     record { sound = s.sound; lives = s.lives; completed = s.completed }
 stays_was_read NotNow waits call p q kernel c is not = stays_put_off waits p q true kernel c is (may_wait_read kernel.queues q not)
@@ -117,7 +118,7 @@ stays_was_written : (outcome : QueueOutcome) (waits : Bool) (p q : ℕ) (kernel 
     → write_outcome kernel.queues q ≡ outcome → StaysSound p (was_written outcome waits p q kernel)
 unfolding was_written
 stays_was_written (Passed other) waits p q kernel c is done =
-    stays_other other p 0 (given_to kernel p q) (sound_given kernel p q c.sound is) (lives_written kernel.queues p q kernel.procs p ∙ c.lives) c.none
+    stays_other other p 0 (given_to kernel p q) (sound_given kernel p q c.sound is) (lives_written kernel.queues p q kernel.procs p ∙ c.lives) (nobody (given_to kernel p q) c.none)
     (λ r first. may_by_write kernel p q r c.sound (ap ended done ∙ first))
 stays_was_written NotNow waits p q kernel c is not = stays_put_off waits p q false kernel c is (may_wait_write kernel.queues q not)
 
@@ -130,3 +131,44 @@ stays_write_at (Some q) waits p kernel c is = stays_was_written (write_outcome k
 pub stays_queue_written : (waits : Bool) (call : Taken) (p : ℕ) (kernel : Kernel) → Calls p kernel → StaysSound p (queue_written waits call p kernel)
 stays_queue_written waits call p kernel c =
     stays_write_at (pointed kernel.queues (word_at call 0)) waits p kernel c (λ q is. pointed_made kernel.queues (word_at call 0) q is)
+
+-- a resident procedure is called
+procedure_there : (slot : Option ℕ) (t : Queues) (k : ℕ) → ((q : ℕ) → slot ≡ Some q → IsMade t q) → of_two_bytes slot t ≡ Some k → IsMade t k
+unfolding of_two_bytes
+procedure_there None t k made is = absurd (none_and_some None k refl is)
+procedure_there (Some q) t k made is = subst (IsMade t) (pointed_if (is_two (width_of t q)) q k is).1 (made q refl)
+
+pub procedure_made : (t : Queues) (call : Taken) (k : ℕ) → procedure_queue t call ≡ Some k → IsMade t k
+procedure_made t call k is = procedure_there (found t (name_at call 4)) t k (λ q named. found_made t (name_at call 4) q named) is
+
+pub stays_inside : (p q message value : ℕ) (kernel : Kernel) → StaysSound p (valued value kernel) → StaysSound p (valued value (inside p q message kernel))
+unfolding inside
+stays_inside p q message value kernel s =
+    let fit = s.sound.fit p s.lives in
+    let process = record (process_in kernel.procs p) { procedure = Some q; kept = message } in
+    record {
+      sound = sound_changed kernel p process s.sound s.lives (record { console = fit.console; some = fit.some; few = fit.few });
+      lives = lives_changed kernel.procs p p process ∙ s.lives;
+      completed = live_kept kernel (with_changed kernel p process) refl (λ k living. lives_changed kernel.procs p k process ∙ living) s.completed;
+    }
+
+stays_procedure_read : (outcome : QueueOutcome) (p q : ℕ) (kernel : Kernel) → Calls p kernel → IsMade kernel.queues q
+    → read_outcome kernel.queues q ≡ outcome → StaysSound p (procedure_read outcome p q kernel)
+unfolding procedure_read
+stays_procedure_read (Passed other) p q kernel c is done =
+    stays_inside p q _ 0 (with_other other (taken_from kernel p q))
+    (stays_other other p 0 (taken_from kernel p q) (sound_taken kernel p q c.sound is) c.lives (nobody (taken_from kernel p q) c.none)
+    (λ w first. may_by_read kernel p q w c.sound (ap ended done ∙ first)))
+stays_procedure_read NotNow p q kernel c is not = stays_put_off true p q true kernel c is (may_wait_read kernel.queues q not)
+
+stays_procedure_at : (slot : Option ℕ) (p : ℕ) (kernel : Kernel) → Calls p kernel → ((q : ℕ) → slot ≡ Some q → IsMade kernel.queues q)
+    → StaysSound p (procedure_at slot p kernel)
+unfolding procedure_at
+stays_procedure_at None p kernel c is = same p no_procedure kernel c
+stays_procedure_at (Some q) p kernel c is = stays_procedure_read (read_outcome kernel.queues q) p q kernel c (is q refl) refl
+
+pub stays_procedure_called : (call : Taken) (p : ℕ) (kernel : Kernel) → Calls p kernel → StaysSound p (procedure_called call p kernel)
+unfolding procedure_called
+stays_procedure_called call p kernel c =
+    called_if p (is_some (process_in kernel.procs p).procedure) _ _ (λ _. same p no_procedure kernel c)
+    (λ _. stays_procedure_at (procedure_queue kernel.queues call) p kernel c (λ q is. procedure_made kernel.queues call q is))

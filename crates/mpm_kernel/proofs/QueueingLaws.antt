@@ -73,7 +73,7 @@ both true true false h = absurd (cc)
 both true false c h = absurd (cc)
 both false b c h = absurd (cc)
 
-pointed_if : (b : Bool) (n q : ℕ) → (if b then Some n else None) ≡ Some q → (b ≡ true) × (n ≡ q)
+pub pointed_if : (b : Bool) (n q : ℕ) → (if b then Some n else None) ≡ Some q → (b ≡ true) × (n ≡ q)
 pointed_if true n q is = (refl, some_same n q is)
 pointed_if false n q is = absurd (none_and_some None q refl is)
 
@@ -220,7 +220,7 @@ pub lives_written : (t : Queues) (p q : ℕ) (procs : Table) (k : ℕ) → lives
 unfolding procs_behind_write
 lives_written t p q procs k = lives_if (is_full (queue_in t q)) procs _ k (lives_told (first_reader t q) (written_by t q procs p) procs k)
 
-write_waits : (t : Queues) (p q : ℕ) (procs : Table) (k : ℕ) → AreSound t → waits (behind_write t p q procs) k ≤ waits t k
+pub write_waits : (t : Queues) (p q : ℕ) (procs : Table) (k : ℕ) → AreSound t → waits (behind_write t p q procs) k ≤ waits t k
 write_waits t p q procs k s = elim (ended_or_not (ended (write_outcome t q)) k) [
   | inl is ↦ omega (arith, waits_write_ended t p q procs k is)
   | inr apart ↦ omega (arith, waits_write_other t p q procs k s apart)

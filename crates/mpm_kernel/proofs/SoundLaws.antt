@@ -33,9 +33,11 @@ use Rattle.mpm_script.specs.Events.{IsEvent}
 use Rattle.mpm_script.specs.declared.event.Event.{Event}
 use Rattle.mpm_script.specs.declared.event.Event.TheVariants.{Tick, Key, Ready, Int}
 use Rattle.mpm_kernel.proofs.PlaceLaws.{flags_with, all_by_counts, all_members}
+pub use Rattle.mpm_kernel.proofs.Staying.{live_kept}
+pub use Rattle.mpm_kernel.proofs.HandingLaws.{sound_completed, live_handed_out, completed_lives}
 use Rattle.mpm_kernel.proofs.Staying.{StaysSound, Calls, nobody, called_if, kernel_if, same}
-use Rattle.mpm_kernel.proofs.QueueCalls.{stays_queue_made, stays_queue_opened, stays_queue_deleted, stays_queue_read, stays_queue_written}
-pub use Rattle.mpm_kernel.proofs.Soundness.{none_and_some, sound_new, sound_changed, sound_call, sound_devices, sound_spoke, first_is_in, some_same, first_is_ready, listed, listed_once, not_delayed, runner_lives, sound_picked, free_is_unlisted, sound_discharged, sound_admitted, sound_in_slot, consoles_in_slot, completed_in_slot, sound_ready, sound_moved, sound_unlisted, sound_fewer, own_queues, sound_behind_equals, lives_behind_equals, sound_all_ready, procs_all_ready, running_all_ready, is_ready_true, sound_runner_behind, completed_if, procs_runner_behind, sound_with_completed, sound_completed, MayBeReady}
+use Rattle.mpm_kernel.proofs.QueueCalls.{stays_queue_made, stays_queue_opened, stays_queue_deleted, stays_queue_read, stays_queue_written, stays_procedure_called}
+pub use Rattle.mpm_kernel.proofs.Soundness.{none_and_some, sound_new, sound_changed, sound_call, sound_devices, sound_spoke, first_is_in, some_same, first_is_ready, listed, listed_once, not_delayed, runner_lives, sound_picked, free_is_unlisted, sound_admitted, sound_in_slot, consoles_in_slot, completed_in_slot, sound_ready, sound_moved, sound_unlisted, sound_fewer, own_queues, sound_behind_equals, lives_behind_equals, sound_all_ready, procs_all_ready, running_all_ready, is_ready_true, sound_runner_behind, completed_if, procs_runner_behind, sound_with_completed, MayBeReady}
 
 -- the calls of the kernel
 
@@ -295,8 +297,9 @@ stays_call_done call p kernel c =
     (λ _. called_if p (f == 141) _ _ (λ _. stays_slept call p kernel c)
     (λ _. called_if p (f == 142) _ _ (λ _. stays_behind p 0 kernel c)
     (λ _. called_if p (f == 145) _ _ (λ _. stays_priority p 0 (low_parameter call) kernel c)
+    (λ _. called_if p (f == 151) _ _ (λ _. stays_procedure_called call p kernel c)
     (λ _. called_if p (f == 155) _ _ (λ _. stays_told p kernel _ (kernel_time_told call kernel) c)
-    (λ _. same p _ kernel c)))))))))))))))))))))))))
+    (λ _. same p _ kernel c))))))))))))))))))))))))))
 
 -- a process that is ready may call
 begun : (p : ℕ) (kernel : Kernel) → IsSound kernel → Lives kernel.procs p → IsReady kernel p → Calls p (with_completed kernel [])
@@ -354,18 +357,6 @@ unfolding runner_behind behind_equals
 completed_runner_behind None kernel = refl
 completed_runner_behind (Some p) kernel = completed_if (is_ready (list_of kernel.lists p)) (behind_equals kernel p) kernel refl
 
-all_kept : (old new : Table) (ps : List ℕ) → ((q : ℕ) → Lives old q → Lives new q) → AllByRecursion (λ q. Lives old q) ps
-    → AllByRecursion (λ q. Lives new q) ps
-all_kept old new [] lives live = tt
-all_kept old new (p ∷ ps) lives live = (lives p live.0, all_kept old new ps lives live.1)
-
--- who is completed lives on where everybody does
-pub live_kept : (old new : Kernel) → new.completed ≡ old.completed → ((q : ℕ) → Lives old.procs q → Lives new.procs q)
-    → CompletedLive old → CompletedLive new
-live_kept old new same lives live =
-    let P : List ℕ → Type 0 = λ ps. AllByRecursion (λ q. Lives new.procs q) ps in
-    subst P (sym same) (all_kept old.procs new.procs old.completed lives live)
-
 live_same : (old new : Kernel) → new.procs ≡ old.procs → new.completed ≡ old.completed → CompletedLive old → CompletedLive new
 live_same old new procs completed live =
     let P : Table → Type 0 = λ t. AllByRecursion (λ p. Lives t p) old.completed in
@@ -422,22 +413,6 @@ procs_happens (Int flag) kernel = procs_signalled flag kernel
 
 pub procs_happened : (event : Event) (kernel : Kernel) → (happened event kernel).procs ≡ kernel.procs
 procs_happened event kernel = procs_happens event (with_completed kernel [])
-
--- those who are left once one was handed out live, and so did that one
-dropped_live : (procs : Table) (ps : List ℕ) → AllByRecursion (λ p. Lives procs p) ps → AllByRecursion (λ p. Lives procs p) (drop 1 ps)
-dropped_live procs [] live = tt
-dropped_live procs (p ∷ ps) live = live.1
-
-pub live_handed_out : (kernel : Kernel) → CompletedLive kernel → CompletedLive (handed_out kernel)
-unfolding handed_out
-live_handed_out kernel live = dropped_live kernel.procs kernel.completed live
-
-first_lives : (procs : Table) (ps : List ℕ) (p : ℕ) → AllByRecursion (λ q. Lives procs q) ps → first_completed ps ≡ Some p → Lives procs p
-first_lives procs [] p live e = absurd (none_and_some None p refl e)
-first_lives procs (q ∷ ps) p live e = ap (lives procs) (sym (some_same q p e)) ∙ live.0
-
-pub completed_lives : (kernel : Kernel) (p : ℕ) → CompletedLive kernel → first_completed kernel.completed ≡ Some p → Lives kernel.procs p
-completed_lives kernel p live e = first_lives kernel.procs kernel.completed p live e
 
 -- what a script may ask for may come
 pub may_come : (event : Event) → IsEvent event → MayCome event

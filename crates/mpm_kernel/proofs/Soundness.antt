@@ -26,11 +26,10 @@ use Rattle.mpm_queues.proofs.SoundLaws.{sound_none, sound_left}
 use Rattle.mpm_queues.proofs.WaitLaws.{waits_nowhere, waits_left, waits_left_other}
 use Rattle.mpm_kernel.specs.Kernel.{Kernel, ready, in_lists, flags_of, waits_in, waits_of, places, IsReady, IsFit, IsSound, with_changed, with_completed}
 use Rattle.mpm_kernel.specs.Columns.{spoke}
-use Rattle.mpm_kernel.specs.Dispatch.{new_kernel, admitted, in_slot, at_rest, discharged, runs_still, picked, stays, is_ready, behind_equals, moved, all_ready, runner_behind}
-use Rattle.mpm_kernel.specs.Events.{handed_out}
+use Rattle.mpm_kernel.specs.Dispatch.{new_kernel, admitted, in_slot, at_rest, runs_still, picked, stays, is_ready, behind_equals, moved, all_ready, runner_behind}
 use Rattle.mpm_kernel.proofs.PlaceLaws.{in_some, in_none, in_at_most, not_equal, moved_lists, table_moved, list_moved, list_moved_other, flags_none, flags_left_own, flags_left_other, length_left}
 
-dead_and_alive : (b : Bool) → b ≡ false → b ≡ true → ⊥
+pub dead_and_alive : (b : Bool) → b ≡ false → b ≡ true → ⊥
 dead_and_alive true e f = absurd (cc)
 dead_and_alive false e f = absurd (cc)
 
@@ -159,7 +158,7 @@ unlisted_if_dead (Some list) h = absurd (h list refl)
 pub some_same : (a b : ℕ) → Some a ≡ Some b → a ≡ b
 some_same a b e = grind (e, arith)
 
-runs_other : (p q : ℕ) (running : Option ℕ) → runs_still p running ≡ Some q → (q ≢ p) × (running ≡ Some q)
+pub runs_other : (p q : ℕ) (running : Option ℕ) → runs_still p running ≡ Some q → (q ≢ p) × (running ≡ Some q)
 runs_other p q None e = absurd (cc)
 runs_other p q (Some other) e = elim (cases_eq other p) [
   | inl same ↦ absurd (none_and_some (runs_still p (Some other)) q (grind (arith, nat_tests)) e)
@@ -227,56 +226,6 @@ free_is_nowhere : (kernel : Kernel) (p : ℕ) → IsSound kernel → lowest_free
 free_is_nowhere kernel p s free =
     let none = none_if_dead (places kernel p) (λ some. dead_and_alive _ (free_is_dead kernel.procs p free) (s.live p some)) in
     omega (arith, none)
-
--- who ended stands nowhere, and the others where they stood
-nowhere_behind : (kernel : Kernel) (p : ℕ) → places (discharged kernel p) p ≡ 0
-unfolding discharged left
-nowhere_behind kernel p =
-    omega (arith, in_none _ (list_of_removed kernel.lists p), flags_left_own kernel.flags p, delays_left_own kernel.clock.delays p, waits_left kernel.queues p)
-
-elsewhere_behind : (kernel : Kernel) (p q : ℕ) → IsSound kernel → q ≢ p → places (discharged kernel p) q ≡ places kernel q
-unfolding discharged left
-elsewhere_behind kernel p q s other =
-    let same = list_of_removed_other kernel.lists p q s.table (not_equal p q (λ e. other (sym e))) in
-    omega (arith, ap in_lists same, flags_left_other kernel.flags p q other, delays_left_other kernel.clock.delays p q other, waits_left_other kernel.queues p q s.queues other)
-
-made_left : (t : Queues) (p q : ℕ) → IsMade t q → IsMade (unqueued t p) q
-unfolding unqueued
-made_left t p q is = is
-
--- a process ends
-pub sound_discharged : (kernel : Kernel) (p : ℕ) → IsSound kernel → Lives kernel.procs p → IsSound (discharged kernel p)
-unfolding discharged
-sound_discharged kernel p s h =
-    let below : p < 32 = lives_below kernel.procs p s.slots h in
-    record {
-      some = s.some;
-      few = s.few;
-      columns = s.columns;
-      slots = slots_without kernel.procs p s.slots;
-      table = table_removed kernel.lists p s.table;
-      fit = λ q living. elim (cases_eq q p) [
-        | inl same ↦ absurd (dead_and_alive _ (ap (lives (without kernel.procs p)) same ∙ lives_without kernel.procs p (omega (arith, s.slots.alive))) living)
-        | inr other ↦
-            let P : Process → Type 0 = λ x. IsFit kernel.consoles x in
-            subst P (sym (process_without_other kernel.procs p q other)) (s.fit q (sym (lives_without_other kernel.procs p q other) ∙ living))
-      ];
-      flags = length_left kernel.flags p ∙ s.flags;
-      queues = sound_left kernel.queues p s.queues;
-      system = λ q below. made_left kernel.queues p q (s.system q below);
-      once = λ q. elim (cases_eq q p) [
-        | inl same ↦ omega (arith, ap (places (discharged kernel p)) same, nowhere_behind kernel p)
-        | inr other ↦ omega (arith, s.once q, elsewhere_behind kernel p q s other)
-      ];
-      live = λ q some. elim (cases_eq q p) [
-        | inl same ↦ absurd (omega (arith, ap (places (discharged kernel p)) same, nowhere_behind kernel p))
-        | inr other ↦ lives_without_other kernel.procs p q other ∙ s.live q (omega (arith, some, elsewhere_behind kernel p q s other))
-      ];
-      runs = λ q e.
-          let other : q ≢ p = (runs_other p q kernel.running e).0 in
-          list_of_removed_other kernel.lists p q s.table (not_equal p q (λ e. other (sym e)))
-          ∙ s.runs q (runs_other p q kernel.running e).1;
-    }
 
 -- a process begins
 pub sound_admitted : (kernel : Kernel) (p : ℕ) (new : NewProcess) → IsSound kernel → lowest_free kernel.procs ≡ Some p → new.console < kernel.consoles
@@ -521,7 +470,7 @@ unfolding runner_behind behind_equals
 procs_runner_behind None kernel = refl
 procs_runner_behind (Some p) kernel = procs_if (is_ready (list_of kernel.lists p)) (behind_equals kernel p) kernel refl
 
--- calls are completed, and handed out
+-- calls are completed
 pub sound_with_completed : (kernel : Kernel) (ps : List ℕ) → IsSound kernel → IsSound (with_completed kernel ps)
 sound_with_completed kernel ps s = record {
   some = s.some;
@@ -537,7 +486,3 @@ sound_with_completed kernel ps s = record {
   live = s.live;
   runs = s.runs;
 }
-
-pub sound_completed : (kernel : Kernel) → IsSound kernel → IsSound (handed_out kernel)
-unfolding handed_out
-sound_completed kernel s = sound_with_completed kernel _ s

@@ -1,7 +1,7 @@
 -- What stays so behind a call: the kernel is sound, the caller lives, and so does each whose held call was completed.
-use Rattle.std.proofs.Common.{◌≡◌, ℕ, Bool, true, false, List, [], if◌then◌else◌, refl, sym, subst}
+use Rattle.std.proofs.Common.{◌≡◌, ℕ, Bool, true, false, List, [], ◌∷◌, ◌++◌, if◌then◌else◌, refl, sym, subst}
 use Rattle.std.specs.List.{AllByRecursion}
-use Rattle.mpm_procs.specs.Table.{Lives}
+use Rattle.mpm_procs.specs.Table.{Table, Lives}
 use Rattle.mpm_kernel.specs.Kernel.{Kernel, IsReady, IsSound, CompletedLive}
 use Rattle.mpm_kernel.specs.Called.{Called, valued}
 
@@ -15,6 +15,23 @@ pub nobody : (kernel : Kernel) → kernel.completed ≡ [] → CompletedLive ker
 nobody kernel none =
     let P : List ℕ → Type 0 = λ ps. AllByRecursion (λ p. Lives kernel.procs p) ps in
     subst P (sym none) tt
+
+-- one more
+pub all_and_one : (P : ℕ → Type 0) (ps : List ℕ) (q : ℕ) → AllByRecursion P ps → P q → AllByRecursion P (ps ++ q ∷ [])
+all_and_one P [] q all one = (one, tt)
+all_and_one P (p ∷ ps) q all one = (all.0, all_and_one P ps q all.1 one)
+
+-- who is completed lives on where everybody does
+all_kept : (old new : Table) (ps : List ℕ) → ((q : ℕ) → Lives old q → Lives new q) → AllByRecursion (λ q. Lives old q) ps
+    → AllByRecursion (λ q. Lives new q) ps
+all_kept old new [] lives live = tt
+all_kept old new (p ∷ ps) lives live = (lives p live.0, all_kept old new ps lives live.1)
+
+pub live_kept : (old new : Kernel) → new.completed ≡ old.completed → ((q : ℕ) → Lives old.procs q → Lives new.procs q)
+    → CompletedLive old → CompletedLive new
+live_kept old new same lives live =
+    let P : List ℕ → Type 0 = λ ps. AllByRecursion (λ q. Lives new.procs q) ps in
+    subst P (sym same) (all_kept old.procs new.procs old.completed lives live)
 
 pub called_if : (p : ℕ) (b : Bool) (x y : Called) → (b ≡ true → StaysSound p x) → (b ≡ false → StaysSound p y) → StaysSound p (if b then x else y)
 called_if p true x y s t = s refl

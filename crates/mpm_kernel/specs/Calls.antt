@@ -10,6 +10,7 @@ use Rattle.mpm_kernel.specs.Dispatch.{behind_equals, with_priority}
 use Rattle.mpm_kernel.specs.Waiting.{polled, flag_waited, flag_set, slept}
 use Rattle.mpm_kernel.specs.Dates.{date_set, date_told, time_told}
 use Rattle.mpm_kernel.specs.Queueing.{queue_made, queue_opened, queue_deleted, queue_read, queue_written}
+use Rattle.mpm_kernel.specs.Procedures.{procedure_called}
 pub use Rattle.mpm_kernel.specs.Called.{Called, valued, done, low_parameter, refusal, eight_of}
 
 -- the version: MP/M II, whose file system is that of CP/M 3
@@ -64,8 +65,9 @@ call_done call p process kernel =
     else (if function == 141 then slept call p kernel
     else (if function == 142 then done (behind_equals kernel p)
     else (if function == 145 then done (with_priority kernel p (low_parameter call))
+    else (if function == 151 then procedure_called call p kernel
     else (if function == 155 then time_told call kernel
-    else (valued 65535 kernel)))))))))))))))))))))))))
+    else (valued 65535 kernel))))))))))))))))))))))))))
 
 -- the call that a process keeps is done
 abbrev pub called : ℕ → Kernel → Called

@@ -4,12 +4,11 @@ use Rattle.std.specs.Prelude.{ℕ, Bool, false, not, Option, Some, None, List, [
 use Rattle.z80_regs.specs.declared.regs.Regs.{Regs}
 use Rattle.mpm_ready.specs.Order.{first_of}
 use Rattle.mpm_ready.specs.Tables.{no_lists, list_at, list_of, inserted, removed, rotated}
-use Rattle.mpm_flags.specs.States.{no_flags, left as without_waiter}
+use Rattle.mpm_flags.specs.States.{no_flags}
 use Rattle.mpm_clock.specs.declared.moment.Moment.{Moment}
-use Rattle.mpm_clock.specs.Times.{new_clock, left as without_delay}
+use Rattle.mpm_clock.specs.Times.{new_clock}
 use Rattle.mpm_queues.specs.Queues.{no_queues}
-use Rattle.mpm_queues.specs.Handling.{left as unqueued}
-use Rattle.mpm_procs.specs.Table.{no_processes, process_in, added, without}
+use Rattle.mpm_procs.specs.Table.{no_processes, process_in, added}
 use Rattle.mpm_procs.specs.declared.process.NewProcess.{NewProcess}
 use Rattle.mpm_kernel.specs.Kernel.{Kernel, ready, with_changed, with_completed}
 
@@ -50,19 +49,6 @@ runs_still p (Some other) = if other == p then None else Some other
 -- a process that doesn't run any more
 abbrev pub at_rest : Kernel → ℕ → Kernel
 at_rest kernel p = record kernel { running = runs_still p kernel.running }
-
--- a process ends: it stands in no list, and waits neither for a flag nor for the clock nor at a queue; nobody's call was
--- completed by that
-unfoldable pub discharged : Kernel → ℕ → Kernel
-discharged kernel p = record kernel {
-  procs = without kernel.procs p;
-  lists = removed kernel.lists p;
-  running = runs_still p kernel.running;
-  flags = without_waiter kernel.flags p;
-  clock = without_delay kernel.clock p;
-  queues = unqueued kernel.queues p;
-  completed = [];
-}
 
 -- a process stands in no list
 unfoldable pub unlisted : Kernel → ℕ → Kernel

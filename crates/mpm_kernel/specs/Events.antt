@@ -1,13 +1,17 @@
 -- What events do. (MP/M II System Guide, "Polled devices", "Interrupt service routines", "Tick".)
-use Rattle.std.specs.Prelude.{ℕ, ◌<◌, ⊤, true, List, [], ◌∷◌, Option, Some, None, drop, map, slice_set}
+use Rattle.std.specs.Prelude.{ℕ, ◌<◌, ⊤, true, List, [], ◌∷◌, Option, Some, None, ◌==◌, drop, map, slice_set, if◌then◌else◌}
 use Rattle.mpm_clock.specs.Delays.{woken_by_tick}
 use Rattle.mpm_clock.specs.Times.{ticked}
 use Rattle.mpm_ready.specs.Tables.{list_at}
+use Rattle.mpm_procs.specs.Table.{call_of}
+use Rattle.mpm_queues.specs.Queue.{block_size}
 use Rattle.mpm_script.specs.declared.event.Event.{Event}
 use Rattle.mpm_script.specs.declared.event.Event.TheVariants.{Tick, Key, Ready, Int}
 use Rattle.mpm_kernel.specs.Kernel.{Kernel, poll_list, with_completed}
 use Rattle.mpm_kernel.specs.Dispatch.{all_woken, runner_behind}
+use Rattle.mpm_kernel.specs.Called.{word_at}
 use Rattle.mpm_kernel.specs.Waiting.{signalled}
+use Rattle.mpm_kernel.specs.Procedures.{inside, procedure_queue}
 
 -- an event that may come: its device or its flag is there
 abbrev pub MayCome : Event → Type 0
@@ -55,5 +59,19 @@ abbrev pub first_completed : List ℕ → Option ℕ
 first_completed [] = None
 first_completed (p ∷ ps) = Some p
 
+-- a call 151 that was held got the message of its queue, which stands behind its block
+abbrev pub inside_of : Option ℕ → ℕ → ℕ → Kernel → Kernel
+inside_of None p message kernel = kernel
+inside_of (Some q) p message kernel = inside p q message kernel
+
+unfoldable pub with_procedure : ℕ → Kernel → Kernel
+with_procedure p kernel =
+    let call = call_of kernel.procs p in
+    if call.function == 151 then inside_of (procedure_queue kernel.queues call) p (word_at call block_size) kernel else kernel
+
+abbrev pub with_first : Option ℕ → Kernel → Kernel
+with_first None kernel = kernel
+with_first (Some p) kernel = with_procedure p kernel
+
 unfoldable pub handed_out : Kernel → Kernel
-handed_out kernel = with_completed kernel (drop 1 kernel.completed)
+handed_out kernel = with_first (first_completed kernel.completed) (with_completed kernel (drop 1 kernel.completed))

@@ -5,6 +5,8 @@ pub mod Called
 pub mod Waiting
 pub mod Dates
 pub mod Queueing
+pub mod Procedures
+pub mod Ending
 pub mod Calls
 pub mod Events
 pub mod Lending

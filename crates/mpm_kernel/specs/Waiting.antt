@@ -77,7 +77,7 @@ slept call p kernel =
 -- what a held call answers as it is completed, by its function
 abbrev pub completion_value : ℕ → ℕ
 completion_value function =
-    if function == 131 || (function == 132 || (function == 139 || function == 141)) then 0 else 65535
+    if function == 131 || (function == 132 || (function == 139 || (function == 141 || function == 151))) then 0 else 65535
 
 -- the reply of the held call of a process as it is completed: a reader's message stands behind the block that it read
 unfoldable pub completion_of : Taken → Answer

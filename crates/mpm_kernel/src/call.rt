@@ -9,7 +9,7 @@ use mpm_base::{Outcome, Pid, Reply};
 const VERSION: u16 = 0x0130;
 
 /// The answer of a function that isn't there.
-const NO_FUNCTION: u16 = 0xFFFF;
+pub(crate) const NO_FUNCTION: u16 = 0xFFFF;
 
 impl Kernel {
     ghost use Rattle.mpm_procs.specs.Table.{Lives, call_of, process_in};
@@ -58,6 +58,7 @@ impl Kernel {
             141 => return self.sleep(p, word, reply),
             142 => self.rotate(p),
             145 => self.set_priority(p, byte),
+            151 => return self.call_procedure(p, reply),
             155 => return self.tell_time(p, reply),
             _ => reply.answer(NO_FUNCTION),
         }

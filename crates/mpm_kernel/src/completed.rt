@@ -1,25 +1,25 @@
-ghost use Rattle.std.specs.Prelude.{◌≡◌, [], drop};
+ghost use Rattle.std.specs.Prelude.{◌≡◌, ◌<◌, [], ◌∷◌, ◌++◌, drop, length};
 
 use mpm_base::Pid;
 use mpm_clock::Woken;
 use std::marker::Model;
 
-/// The processes whose held calls the last call or event completed, in order, which were not handed out yet: those of
-/// `woken` from the place `from` on.
+/// The processes whose held calls the last call or event completed, in order, which were not handed out yet: the first
+/// `count` of `pids`, at most 64.
 #[derive(Drop)]
 pub(crate) struct Completed {
-    woken: Woken,
-    from: u8,
+    count: u8,
+    pids: [Pid; 64],
 }
 
 impl Model for Completed {
-    ghost use Rattle.std.specs.Prelude.{ℕ, ◌≤◌, List, drop, length};
+    ghost use Rattle.std.specs.Prelude.{ℕ, ◌≤◌, List, take};
 
     ghost Value = { List ℕ };
 
-    ghost view = { λ c. drop c.from c.woken };
+    ghost view = { λ c. take c.count c.pids };
 
-    ghost invariant = { λ c. (c.from ≤ length c.woken) };
+    ghost invariant = { λ c. (c.count ≤ 64) };
 }
 
 impl Completed {
@@ -30,8 +30,8 @@ impl Completed {
         ensures { result ≡ [] }
     {
         Completed {
-            woken: Woken::new(),
-            from: 0,
+            count: 0,
+            pids: [Pid(0); 64],
         }
     }
 
@@ -39,29 +39,41 @@ impl Completed {
     pub(crate) fn clear(&mut self)
         ensures { self.new ≡ [] }
     {
-        self.from = self.woken.as_slice().len() as u8;
+        self.count = 0;
     }
 
     /// These processes, in order.
+    #[tactic(auto, using(crate::proofs::CompletedLaws::taken_front))]
     pub(crate) fn set(&mut self, woken: Woken)
         ensures { self.new ≡ woken }
     {
-        self.woken = woken;
-        self.from = 0;
+        let pids = woken.as_slice();
+        let count = pids.len();
+        self.pids[..count].copy_from_slice(pids);
+        self.count = count as u8;
+    }
+
+    /// One more process, behind the others. There is room for 64.
+    pub(crate) fn push(&mut self, p: Pid)
+        requires { length self.old < 64 }
+        ensures { self.new ≡ self.old ++ p ∷ [] }
+    {
+        self.pids[self.count as usize] = p;
+        self.count += 1;
     }
 
     /// Takes the first, None where none is left.
+    #[tactic(auto, using(crate::proofs::CompletedLaws::first_of_some, crate::proofs::CompletedLaws::rest_of_some))]
     pub(crate) fn take(&mut self) -> Option<Pid>
         ensures first { result ≡ first_completed self.old }
         ensures rest { self.new ≡ drop 1 self.old }
     {
-        let woken = self.woken.as_slice();
-        let place = self.from as usize;
-        if place < woken.len() {
-            self.from += 1;
-            Some(woken[place])
-        } else {
-            None
+        if self.count == 0 {
+            return None;
         }
+        let first = self.pids[0];
+        self.pids.rotate_left(1);
+        self.count -= 1;
+        Some(first)
     }
 }

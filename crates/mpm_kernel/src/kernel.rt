@@ -52,7 +52,7 @@ impl Kernel {
     ghost use Rattle.mpm_ready.specs.Tables.{list_at};
     ghost use Rattle.mpm_queues.specs.Queues.{held as held_queue};
     ghost use Rattle.mpm_kernel.specs.Kernel.{ready, IsReady, IsSound, CompletedLive};
-    ghost use Rattle.mpm_kernel.specs.Dispatch.{new_kernel, in_slot, at_rest, discharged, stays, picked, behind_equals};
+    ghost use Rattle.mpm_kernel.specs.Dispatch.{new_kernel, in_slot, at_rest, stays, picked, behind_equals};
     ghost use Rattle.mpm_kernel.specs.Columns.{wrote, spaces_for};
     ghost use Rattle.mpm_kernel.specs.Waiting.{completion_reply};
     ghost use Rattle.mpm_kernel.specs.Events.{first_completed, handed_out};
@@ -229,21 +229,6 @@ impl Kernel {
         Ok(p)
     }
 
-    /// A process ends: it stands in no list, waits for nothing, and its slot is free.
-    #[tactic(auto, unfolding(crate::specs::Dispatch::discharged))]
-    pub fn discharge(&mut self, p: Pid)
-        requires { Lives self.old.procs p }
-        ensures { self.new ≡ discharged self.old p }
-    {
-        self.procs.end(p);
-        let _list = self.lists.remove(p);
-        self.flags.leave(p);
-        self.clock.leave(p);
-        self.queues.leave(p);
-        self.rest(p);
-        self.completed.clear();
-    }
-
     /// A process doesn't run any more.
     pub(crate) fn rest(&mut self, p: Pid)
         ensures { self.new ≡ at_rest self.old p }
@@ -271,6 +256,7 @@ impl Kernel {
     {
         let p = self.completed.take()?;
         complete(self.procs.call(p), reply);
+        self.enter_where_held(p);
         Some(p)
     }
 
@@ -367,7 +353,7 @@ fn completion_value(function: u8) -> u16
     ensures { result ≡ value_of_completion function }
 {
     match function {
-        131 | 132 | 139 | 141 => 0,
+        131 | 132 | 139 | 141 | 151 => 0,
         _ => 0xFFFF,
     }
 }

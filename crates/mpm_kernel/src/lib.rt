@@ -5,8 +5,10 @@
 mod call;
 mod completed;
 mod dates;
+mod ending;
 mod events;
 mod kernel;
+mod procedures;
 mod queueing;
 mod waiting;
 

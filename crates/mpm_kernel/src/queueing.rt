@@ -1,4 +1,4 @@
-ghost use Rattle.std.specs.Prelude.{◌≡◌, ◌≤◌, ℕ, Some, None, true, false, length, IfSome};
+ghost use Rattle.std.specs.Prelude.{◌≡◌, ◌<◌, ◌≤◌, ◌&&◌, ℕ, Some, None, true, false, length, IfSome};
 ghost use Rattle.std.specs.Prelude.{drop};
 ghost use Rattle.mpm_base.specs.declared.call.Outcome.TheVariants.{Held as IsHeld};
 ghost use Rattle.mpm_queues.specs.Queue.{block_size};
@@ -6,12 +6,13 @@ ghost use Rattle.mpm_kernel.specs.Called.{word_at as word_in, name_at as name_in
 
 use crate::Kernel;
 use crate::call::first_eight;
+use crate::kernel::READY;
 use crate::waiting::{REFUSED, done};
 use mpm_base::{Call, Name8, Outcome, Pid, Reply};
 use mpm_queues::QueueOutcome;
 
 /// The length of a user queue control block, in bytes; the message of a call that writes to a queue stands behind it.
-const BLOCK_SIZE: usize = 12;
+pub(crate) const BLOCK_SIZE: usize = 12;
 
 /// The greatest pointer to a queue.
 const LAST_POINTER: u16 = 32;
@@ -21,7 +22,7 @@ impl Kernel {
     ghost use Rattle.mpm_queues.specs.Queues.{IsMade, refusal as make_refusal};
     ghost use Rattle.mpm_queues.specs.Handling.{ended, may_wait, read_outcome, read_reply, write_outcome};
     ghost use Rattle.mpm_kernel.specs.Kernel.{IsReady, IsSound};
-    ghost use Rattle.mpm_kernel.specs.Queueing.{with_system_queue, OnlySystems, IfNotNow, queue_made, queue_opened, queue_deleted, pointed, queued, put_off, with_other, taken_from, queue_read, given_to, queue_written};
+    ghost use Rattle.mpm_kernel.specs.Queueing.{with_system_queue, OnlySystems, IfNotNow, is_inside_of, is_entered, queue_made, queue_opened, queue_deleted, pointed, queued, put_off, with_other, taken_from, queue_read, given_to, queue_written};
 
     /// Makes a queue of the system, which no process deletes, for `count` messages of `message_length` bytes. It is made at
     /// boot, before any other.
@@ -85,11 +86,31 @@ impl Kernel {
         let Some(q) = self.queues.find(name_at(self.procs.call(p), 2)) else {
             return done(reply, REFUSED);
         };
-        if self.system_queues <= q && self.queues.delete(q) {
+        if self.system_queues <= q && !self.is_entered(q) && self.queues.delete(q) {
             done(reply, 0)
         } else {
             done(reply, REFUSED)
         }
+    }
+
+    /// Whether a process is in the resident procedure of a queue.
+    #[tactic(auto, using(mpm_queues::proofs::Finding::failed_none, mpm_queues::proofs::Finding::failed_more, mpm_queues::proofs::Finding::found_lowest, mpm_queues::proofs::Finding::found_none), unfolding(crate::specs::Queueing::is_entered))]
+    fn is_entered(&self, q: u8) -> bool
+        ensures { result ≡ is_entered self.now.procs q }
+    {
+        for number in 0..32 {
+            if self.is_inside_of(Pid(number), q) {
+                return true;
+            }
+        }
+        false
+    }
+
+    /// Whether the process of that number lives, and is in the resident procedure of a queue.
+    fn is_inside_of(&self, p: Pid, q: u8) -> bool
+        ensures { result ≡ is_inside_of self.now.procs q p }
+    {
+        self.procs.lives(p) && self.procs.get(p).procedure == Some(q)
     }
 
     /// A process reads a message, which comes to the address that its block names; where there is none it waits for one, if it
@@ -99,6 +120,7 @@ impl Kernel {
         requires sound { IsSound self.old }
         requires lives { Lives self.old.procs p }
         requires ready { IsReady self.old p }
+        requires room { length self.old.completed < 64 }
         ensures kernel { self.new ≡ (queue_read waits (call_of self.old.procs p) p self.old).kernel }
         ensures outcome { result ≡ (queue_read waits (call_of self.old.procs p) p self.old).outcome }
         ensures reply { reply.new ≡ (queue_read waits (call_of self.old.procs p) p self.old).reply }
@@ -126,6 +148,7 @@ impl Kernel {
         requires sound { IsSound self.old }
         requires lives { Lives self.old.procs p }
         requires ready { IsReady self.old p }
+        requires room { length self.old.completed < 64 }
         ensures kernel { self.new ≡ (queue_written waits (call_of self.old.procs p) p self.old).kernel }
         ensures outcome { result ≡ (queue_written waits (call_of self.old.procs p) p self.old).outcome }
         ensures reply { reply.new ≡ (queue_written waits (call_of self.old.procs p) p self.old).reply }
@@ -161,7 +184,7 @@ impl Kernel {
 
     /// A process reads the first message of a queue into a reply.
     #[tactic(auto, using(crate::proofs::QueueingLaws::waiters_live))]
-    fn take_from(&mut self, p: Pid, q: u8, reply: &mut Reply) -> QueueOutcome
+    pub(crate) fn take_from(&mut self, p: Pid, q: u8, reply: &mut Reply) -> QueueOutcome
         requires sound { IsSound self.old }
         requires queue { IsMade self.old.queues q }
         ensures kernel { self.new ≡ taken_from self.old p q }
@@ -175,7 +198,7 @@ impl Kernel {
 
     /// A process writes the message of its call to a queue.
     #[tactic(auto, using(crate::proofs::QueueingLaws::waiters_live, crate::proofs::QueueingLaws::lives_by_write))]
-    fn give_to(&mut self, p: Pid, q: u8) -> QueueOutcome
+    pub(crate) fn give_to(&mut self, p: Pid, q: u8) -> QueueOutcome
         requires sound { IsSound self.old }
         requires lives { Lives self.old.procs p }
         requires queue { IsMade self.old.queues q }
@@ -187,20 +210,22 @@ impl Kernel {
         self.queues.write(p, q, &mut self.procs)
     }
 
-    /// The held call of another process, if any, is completed.
-    #[tactic(auto, unfolding(crate::specs::Queueing::with_other))]
-    fn wake_other(&mut self, other: Option<Pid>)
-        requires { IfSome other (λ p. Lives self.old.procs p) }
+    /// The held call of another process, if any, is completed, behind those that were.
+    #[tactic(auto, unfolding(crate::specs::Queueing::with_other, crate::specs::Dispatch::moved))]
+    pub(crate) fn wake_other(&mut self, other: Option<Pid>)
+        requires lives { IfSome other (λ p. Lives self.old.procs p) }
+        requires room { length self.old.completed < 64 }
         ensures { self.new ≡ with_other other self.old }
     {
         if let Some(p) = other {
-            self.wake_one(p);
+            self.move_to(p, READY);
+            self.completed.push(p);
         }
     }
 
     /// A call that can't be done now is held, if it may wait, or else refused.
     #[tactic(auto, unfolding(crate::specs::Queueing::put_off))]
-    fn put_off(&mut self, p: Pid, q: u8, reader: bool, waits: bool, reply: &mut Reply) -> Outcome
+    pub(crate) fn put_off(&mut self, p: Pid, q: u8, reader: bool, waits: bool, reply: &mut Reply) -> Outcome
         requires sound { IsSound self.old }
         requires lives { Lives self.old.procs p }
         requires ready { IsReady self.old p }
@@ -243,7 +268,7 @@ pub(crate) fn word_at(call: &Call, place: usize) -> u16
 }
 
 /// The name at a place of the bytes that a call read.
-fn name_at(call: &Call, place: usize) -> Name8
+pub(crate) fn name_at(call: &Call, place: usize) -> Name8
     ensures { result ≡ name_in call.now place }
 {
     let taken = call.taken();

@@ -10,6 +10,7 @@ use mpm_script::Event;
 use std::alloc::Global;
 use std::test::Fail;
 
+mod ending;
 mod queues;
 
 /// A process begins, of that priority, in the lowest free slot.
@@ -143,7 +144,7 @@ fn next_ends(kernel: &mut Kernel) -> Option<Pid>
 }
 
 /// A process ends, if it lives.
-#[tactic(auto, using(crate::proofs::SoundLaws::sound_discharged))]
+#[tactic(auto, using(crate::proofs::EndingLaws::sound_discharged))]
 fn abort(kernel: &mut Kernel, p: Pid)
     requires { IsSound kernel.old }
     ensures { IsSound kernel.new }

@@ -9,7 +9,7 @@ use Rattle.mpm_render.specs.Outputs.{Output}
 use Rattle.mpm_render.specs.Shown.{Kept}
 use Rattle.mpm_machine.specs.declared.system.System.{System}
 use Rattle.mpm_machine.specs.State.{Change, IsWhole}
-use Rattle.mpm_machine.specs.Serving.{asked, keeping, IsTaken, Served, served, said_by, popped, answering_call, completing, outcome_of, gate_step}
+use Rattle.mpm_machine.specs.Serving.{asked, keeping, IsTaken, Served, served, said_by, popped, fulfilling, completing, outcome_of, gate_step}
 use Rattle.mpm_machine.specs.Writing.{Showed, Stopped}
 use Rattle.mpm_machine.proofs.WritingLaws.{showed_behind, stopped_before, stopped_behind}
 use Rattle.mpm_machine.proofs.WholeLaws.{StaysWhole, Keeps, keeps_call, whole_served, whole_said, whole_popped}
@@ -17,6 +17,7 @@ use Rattle.mpm_machine.proofs.TakenLaws.{call_is_taken}
 
 -- the system behind the text and the return address, as it is reached
 pub record Popped (p seg : ℕ) (old behind : System) : Type 0 where
+  pub whole : IsWhole behind
   pub lives : Lives behind.kernel.procs p
   pub call : call_of behind.kernel.procs p ≡ call_of old.kernel.procs p
   pub is : behind ≡ popped p seg (said_by (call_of old.kernel.procs p) p seg old).system
@@ -36,6 +37,7 @@ popped_behind p seg old said behind w h is was =
     let whole : behind ≡ popped p seg spoke = was ∙ ap (popped p seg) is in
     let P : System → Type 0 = λ system. Lives system.kernel.procs p in
     record {
+      whole = subst IsWhole (sym whole) taken.whole;
       lives = subst P (sym whole) taken.lives;
       call = ap (λ (s : System). call_of s.kernel.procs p) whole ∙ taken.call ∙ text.call;
       is = whole;
@@ -43,19 +45,19 @@ popped_behind p seg old said behind w h is was =
 
 -- the reply and the record that follow are those of the call
 answers_call : (reply : Answer) (p seg : ℕ) (old behind : System) → Popped p seg old behind
-    → answering_call reply (call_of behind.kernel.procs p) p seg behind
-    ≡ answering_call reply (call_of old.kernel.procs p) p seg (popped p seg (said_by (call_of old.kernel.procs p) p seg old).system)
+    → fulfilling reply (call_of behind.kernel.procs p) p seg behind
+    ≡ fulfilling reply (call_of old.kernel.procs p) p seg (popped p seg (said_by (call_of old.kernel.procs p) p seg old).system)
 answers_call reply p seg old behind so =
-    ap (λ call. answering_call reply call p seg behind) so.call ∙ ap (answering_call reply (call_of old.kernel.procs p) p seg) so.is
+    ap (λ call. fulfilling reply call p seg behind) so.call ∙ ap (fulfilling reply (call_of old.kernel.procs p) p seg) so.is
 
 pub completed_system : (reply : Answer) (p seg : ℕ) (old behind new : System) → Popped p seg old behind
-    → new ≡ (answering_call reply (call_of behind.kernel.procs p) p seg behind).system
+    → new ≡ (fulfilling reply (call_of behind.kernel.procs p) p seg behind).system
     → new ≡ (completing reply (call_of old.kernel.procs p) p seg old).system
 unfolding completing
 completed_system reply p seg old behind new so is = is ∙ ap (λ (change : Change). change.system) (answers_call reply p seg old behind so)
 
 completed_news : (reply : Answer) (p seg : ℕ) (old behind : System) → Popped p seg old behind
-    → (answering_call reply (call_of behind.kernel.procs p) p seg behind).news ++ (said_by (call_of old.kernel.procs p) p seg old).news
+    → (fulfilling reply (call_of behind.kernel.procs p) p seg behind).news ++ (said_by (call_of old.kernel.procs p) p seg old).news
     ≡ (completing reply (call_of old.kernel.procs p) p seg old).news
 unfolding completing
 completed_news reply p seg old behind so =
@@ -64,7 +66,7 @@ completed_news reply p seg old behind so =
 pub showed_call : (k0 : Kept) (t0 : Option (List ℕ)) (k1 : Kept) (t1 : Option (List ℕ)) (k2 : Kept) (t2 : Option (List ℕ))
     (reply : Answer) (p seg : ℕ) (old behind : System) → Popped p seg old behind
     → Showed k0 t0 k1 t1 (said_by (call_of old.kernel.procs p) p seg old).news
-    → Showed k1 t1 k2 t2 (answering_call reply (call_of behind.kernel.procs p) p seg behind).news
+    → Showed k1 t1 k2 t2 (fulfilling reply (call_of behind.kernel.procs p) p seg behind).news
     → Showed k0 t0 k2 t2 (completing reply (call_of old.kernel.procs p) p seg old).news
 showed_call k0 t0 k1 t1 k2 t2 reply p seg old behind so text last =
     let P : List Output → Type 0 = λ news. Showed k0 t0 k2 t2 news in
@@ -81,7 +83,7 @@ stopped_text kept told told' reply p seg old stopped = stopped_before kept told 
 pub stopped_record : (k0 : Kept) (t0 : Option (List ℕ)) (k1 : Kept) (t1 t2 : Option (List ℕ)) (reply : Answer) (p seg : ℕ) (old behind : System)
     → k1.trace ≡ k0.trace → Popped p seg old behind
     → Showed k0 t0 k1 t1 (said_by (call_of old.kernel.procs p) p seg old).news
-    → Stopped k1 t1 t2 (answering_call reply (call_of behind.kernel.procs p) p seg behind).news
+    → Stopped k1 t1 t2 (fulfilling reply (call_of behind.kernel.procs p) p seg behind).news
     → Stopped k0 t0 t2 (completing reply (call_of old.kernel.procs p) p seg old).news
 stopped_record k0 t0 k1 t1 t2 reply p seg old behind same so text stopped =
     let P : List Output → Type 0 = λ news. Stopped k0 t0 t2 news in

@@ -1,9 +1,8 @@
 -- What a step leaves of memory: each byte of a segment that is written neither by the instruction of a process that lives there
 -- nor by the reply to a call of one, and each byte of common memory that no instruction and no reply writes.
-use Rattle.std.proofs.Common.{◌≡◌, ◌≢◌, ◌∙◌, ℕ, zero, suc, ◌<◌, ◌≤◌, Bool, true, false, not, ◌&&◌, ◌||◌, List, [], ◌∷◌, Option, Some, None, ◌==◌, if◌then◌else◌, get_or, set, inl, inr, refl, sym, ap, subst, arith}
-use Rattle.std.specs.List.{list_any, range_with_len, AllByRecursion}
-use Rattle.std.proofs.lemmas.Bool.{cases_eq, eq-eqb, or_right}
-use Rattle.std.proofs.lemmas.Bool.Decides.{nat_tests}
+use Rattle.std.proofs.Common.{◌≡◌, ◌≢◌, ◌∙◌, ℕ, ◌<◌, ◌≤◌, Bool, true, false, not, ◌&&◌, List, [], ◌∷◌, Option, Some, None, ◌==◌, if◌then◌else◌, inl, inr, refl, sym, ap, subst}
+use Rattle.std.specs.List.{range_with_len}
+use Rattle.std.proofs.lemmas.Bool.{cases_eq}
 use Rattle.z80_regs.specs.Outcome.{Outcome}
 use Rattle.z80_ext.specs.Instruction.{actions_of}
 use Rattle.mpm_base.specs.Calls.{Taken, Answer}
@@ -18,28 +17,25 @@ use Rattle.mpm_banks.proofs.SegmentLaws.{SameBytes, reads_alike, same_bytes_itse
 use Rattle.mpm_banks.proofs.ActionLaws.{memory_after_other_segment, memory_after_unwritten}
 use Rattle.mpm_gate.specs.Replies.{placed, IsPlacedAt}
 use Rattle.mpm_gate.proofs.ReplyLaws.{others_keep, segments_keep, common_keeps}
-use Rattle.mpm_procs.specs.Table.{Table, Lives, process_in, call_of, with_process}
-use Rattle.mpm_procs.specs.Opening.{blank}
-use Rattle.mpm_procs.specs.declared.process.Process.{Process}
+use Rattle.mpm_procs.specs.Table.{Table, Lives, process_in, call_of}
 use Rattle.mpm_script.specs.declared.event.Event.{Event}
-use Rattle.mpm_kernel.specs.Kernel.{CompletedLive}
-use Rattle.mpm_kernel.specs.Events.{handed_out}
-use Rattle.mpm_kernel.specs.Waiting.{completion_of, completion_reply}
-use Rattle.mpm_kernel.proofs.SoundLaws.{runner_lives}
+use Rattle.mpm_kernel.specs.Events.{first_completed}
+use Rattle.mpm_kernel.specs.Waiting.{completion_reply}
+use Rattle.mpm_kernel.proofs.SoundLaws.{runner_lives, completed_lives}
 use Rattle.mpm_xdos.specs.Ending.{is_home, left_by, memory_without}
 use Rattle.mpm_xdos.specs.Aborting.{waits_to_end, target, memory_behind_abort}
 use Rattle.mpm_machine.specs.declared.system.System.{System}
 use Rattle.mpm_machine.specs.declared.gate.Gate.{Gate}
-use Rattle.mpm_machine.specs.declared.gate.Gate.TheVariants.{End, Call}
+use Rattle.mpm_machine.specs.declared.gate.Gate.TheVariants.{End, Call, Return}
 use Rattle.mpm_machine.specs.State.{Change, IsWhole, speaking}
 use Rattle.mpm_machine.specs.Ending.{ended}
-use Rattle.mpm_machine.specs.Serving.{asked, keeping, Served, served, reserving, releasing, creating, aborted, aborting_this, aborting, said_by, popped, replied, answering_call, completing, outcome_of, gate_step}
+use Rattle.mpm_machine.specs.Serving.{asked, keeping, Served, served, reserving, releasing, creating, aborted, aborting_this, aborting, said_by, popped, replied, with_entry, reply_at_entry, fulfilling, answering_call, completing, returning, outcome_of, gate_step}
 use Rattle.mpm_machine.specs.Finishing.{finished, handed, finishing, all_finished}
 use Rattle.mpm_machine.specs.Due.{is_due, ended_if_due, due_ended, with_ends, settled}
 use Rattle.mpm_machine.specs.Step.{ran, illegal, instructed, instruction_at, acted_at, gate_before, acted_by, acted, running_segment, coming, interrupted, begun_by, with_settled, counted, step_of}
-use Rattle.mpm_machine.specs.Contained.{PlacesAt, WritesAt, IsWritten, behind_begun, Answers, AnswersAtEnd, AnswersAtEnds, IsAnswered, IsContained, ServedAlike}
-use Rattle.mpm_machine.proofs.ServedLaws.{serves_alike}
-use Rattle.mpm_machine.proofs.WholeLaws.{whole_counted, whole_behind_begun, whole_answered, whole_if_due, live_ended}
+use Rattle.mpm_machine.specs.Contained.{placed_reply, PlacesAt, WritesAt, IsWritten, behind_begun, Answers, AnswersAmong, AnswersOne, AnswersAtEnd, AnswersAtEnds, IsAnswered, IsContained}
+use Rattle.mpm_machine.proofs.FinishLaws.{first_finished, left_completed, handed_lives, home_handed}
+use Rattle.mpm_machine.proofs.WholeLaws.{whole_counted, whole_behind_begun, whole_answered, whole_first, whole_if_due, whole_due_end}
 
 -- an end, and a call before its reply, change no byte
 
@@ -84,9 +80,9 @@ illegal_alike p system = ended_alike p _
 -- so a call leaves a byte where its reply does, if one is placed
 
 outcome_leaves : (outcome : CallOutcome) (reply : Answer) (call : Taken) (p seg : ℕ) (system : System) (other at : ℕ)
-    → (outcome ≡ Done → byte_at (placed reply call.word seg system.memory) other at ≡ byte_at system.memory other at)
+    → (outcome ≡ Done → byte_at (placed (placed_reply reply call p seg system) call.word seg system.memory) other at ≡ byte_at system.memory other at)
     → byte_at (outcome_of outcome reply call p seg system).system.memory other at ≡ byte_at system.memory other at
-unfolding completing popped answering_call replied said_by speaking
+unfolding completing popped with_entry fulfilling answering_call replied said_by speaking
 outcome_leaves Done reply call p seg system other at leaves = leaves refl
 outcome_leaves Ended reply call p seg system other at leaves = reads_alike system.memory _ (ended_alike p system) other at
 outcome_leaves Held reply call p seg system other at leaves = refl
@@ -94,7 +90,9 @@ outcome_leaves Retry reply call p seg system other at leaves = refl
 
 call_leaves : (p seg : ℕ) (system : System) (other at : ℕ)
     → (let done = served (asked p seg system) p (keeping p (asked p seg system) system) in
-    done.outcome ≡ Done → byte_at (placed done.reply (asked p seg system).word seg done.system.memory) other at ≡ byte_at done.system.memory other at)
+    done.outcome ≡ Done
+    → byte_at (placed (placed_reply done.reply (asked p seg system) p seg done.system) (asked p seg system).word seg done.system.memory) other at
+    ≡ byte_at done.system.memory other at)
     → byte_at (gate_step p seg system).system.memory other at ≡ byte_at system.memory other at
 unfolding gate_step keeping
 call_leaves p seg system other at leaves =
@@ -114,9 +112,11 @@ instruction_leaves (Some outcome) p seg system other at leaves = leaves
 
 elsewhere_at : (gate : Option Gate) (p seg : ℕ) (system : System) (other at : ℕ) → other ≢ seg → at < 49152
     → byte_at (acted_at gate p seg system).system.memory other at ≡ byte_at system.memory other at
+unfolding returning
 elsewhere_at (Some End) p seg system other at apart below = reads_alike system.memory _ (ended_alike p system) other at
 elsewhere_at (Some Call) p seg system other at apart below =
     call_leaves p seg system other at (λ done. segments_keep _ _ seg _ other at apart below)
+elsewhere_at (Some Return) p seg system other at apart below = refl
 elsewhere_at None p seg system other at apart below =
     instruction_leaves (instruction_at p seg system) p seg system other at (memory_after_other_segment _ seg other at system.memory apart below)
 
@@ -126,38 +126,19 @@ not_any : (b : Bool) → (b ≡ true → ⊥) → b ≡ false
 not_any true none = absurd (none refl)
 not_any false none = refl
 
-placed_at : (outcome : CallOutcome) (reply : Answer) (word at : ℕ) → outcome ≡ Done → IsPlacedAt reply word at → PlacesAt outcome reply word at
-placed_at outcome reply word at is placed = subst (λ (o : CallOutcome). PlacesAt o reply word at) (sym is) placed
+placed_at : (outcome : CallOutcome) (reply : Answer) (call : Taken) (p seg : ℕ) (system : System) (at : ℕ) → outcome ≡ Done
+    → IsPlacedAt (placed_reply reply call p seg system) call.word at → PlacesAt outcome reply call p seg system at
+placed_at outcome reply call p seg system at is placed = subst (λ (o : CallOutcome). PlacesAt o reply call p seg system at) (sym is) placed
 
 unwritten_at : (gate : Option Gate) (p seg : ℕ) (system : System) (at : ℕ) → (WritesAt gate p seg system at → ⊥)
     → byte_at (acted_at gate p seg system).system.memory seg at ≡ byte_at system.memory seg at
+unfolding returning
 unwritten_at (Some End) p seg system at none = reads_alike system.memory _ (ended_alike p system) seg at
 unwritten_at (Some Call) p seg system at none =
-    call_leaves p seg system seg at (λ done. others_keep _ _ seg _ at (λ placed. none (placed_at _ _ _ at done placed)))
+    call_leaves p seg system seg at (λ done. others_keep _ _ seg _ at (λ placed. none (placed_at _ _ _ p seg _ at done placed)))
+unwritten_at (Some Return) p seg system at none = refl
 unwritten_at None p seg system at none =
     instruction_leaves (instruction_at p seg system) p seg system seg at (memory_after_unwritten _ seg at system.memory (not_any _ none))
-
--- that a step is counted changes nothing of what it writes
-
-counted_alike : (p seg : ℕ) (system : System)
-    → ServedAlike (served (asked p seg system) p (keeping p (asked p seg system) system))
-    (served (asked p seg (counted system)) p (keeping p (asked p seg (counted system)) (counted system)))
-unfolding asked keeping
-counted_alike p seg system =
-    let call = asked p seg system in
-    serves_alike call p (keeping p call system) (keeping p call (counted system))
-    (record { kernel = refl; segments = record { count = refl; base = λ k. refl; pages = λ k. refl; allocation = λ k. refl } })
-
-writes_begun : (gate : Option Gate) (p seg : ℕ) (system : System) (at : ℕ) → WritesAt gate p seg (counted system) at → WritesAt gate p seg system at
-unfolding asked
-writes_begun (Some End) p seg system at writes = writes
-writes_begun (Some Call) p seg system at writes =
-    let alike = counted_alike p seg system in
-    let word = (asked p seg system).word in
-    let P : CallOutcome → Type 0 = λ outcome. PlacesAt outcome (served (asked p seg system) p (keeping p (asked p seg system) system)).reply word at in
-    let Q : Answer → Type 0 = λ reply. PlacesAt (served (asked p seg (counted system)) p (keeping p (asked p seg (counted system)) (counted system))).outcome reply word at in
-    subst P alike.outcome (subst Q alike.reply writes)
-writes_begun None p seg system at writes = writes
 
 -- what the process that runs leaves
 
@@ -166,7 +147,7 @@ own : (p home : ℕ) (system : System) (seg at : ℕ) → coming (counted system
     → byte_at (acted_at (gate_before p home system) p home (counted system)).system.memory home at ≡ byte_at system.memory home at
 own p home system seg at quiet runs living there none =
     unwritten_at (gate_before p home system) p home (counted system) at
-    (λ writes. none (record { quiet = quiet; who = p; runs = runs; lives = living; home = there; writes = writes_begun (gate_before p home system) p home system at writes }))
+    (λ writes. none (record { quiet = quiet; who = p; runs = runs; lives = living; home = there; writes = writes }))
 
 segments_by : (running home : Option ℕ) (system : System) (seg at : ℕ) → coming (counted system) ≡ None
     → system.kernel.running ≡ running → running_segment running system ≡ home
@@ -215,103 +196,69 @@ common_begun None system seg at w quiet above none =
     common_by running _ system seg at quiet refl (sym (segment_of_begun running system)) (λ p runs. runner_lives system.kernel p w.sound runs) above none
 common_begun (Some event) system seg at w comes above none = refl
 
--- each process has the home and the call that it had, while the replies to held calls are placed
+-- the reply to a held call that is completed leaves a byte where it isn't placed
 
-record SameReplies (first now : System) : Type 0 where
-  homes : (q : ℕ) → (process_in now.kernel.procs q).seg ≡ (process_in first.kernel.procs q).seg
-  calls : (q : ℕ) → call_of now.kernel.procs q ≡ call_of first.kernel.procs q
+finished_memory : (seg p : ℕ) (system : System) → (finished (Some seg) p system).system.memory
+    ≡ placed (reply_at_entry (completion_reply system.kernel p) (call_of system.kernel.procs p) p system) (call_of system.kernel.procs p).word seg system.memory
+unfolding with_entry fulfilling answering_call replied
+finished_memory seg p system = refl
 
-home_kept : (processes : List Process) (p q : ℕ) (new : Process) → new.seg ≡ (get_or processes p blank).seg
-    → (get_or (set processes p new) q blank).seg ≡ (get_or processes q blank).seg
-home_kept [] p q new same = refl
-home_kept (x ∷ processes) zero zero new same = same
-home_kept (x ∷ processes) zero (suc q) new same = refl
-home_kept (x ∷ processes) (suc p) zero new same = refl
-home_kept (x ∷ processes) (suc p) (suc q) new same = home_kept processes p q new same
+unanswered : (p home : ℕ) (system : System) (at : ℕ) → Lives system.kernel.procs p → (process_in system.kernel.procs p).seg ≡ Some home
+    → (Answers p system home at → ⊥)
+    → IsPlacedAt (reply_at_entry (completion_reply system.kernel p) (call_of system.kernel.procs p) p system) (call_of system.kernel.procs p).word at → ⊥
+unanswered p home system at living there none places = none (record { lives = living; home = there; places = places })
 
-finished_keeps : (seg : Option ℕ) (p : ℕ) (first system : System) → SameReplies first system → SameReplies first (finished seg p (handed system)).system
-unfolding answering_call replied handed_out with_process
-finished_keeps None p first system same = record { homes = same.homes; calls = same.calls }
-finished_keeps (Some seg) p first system same = record {
-  homes = λ q. home_kept system.kernel.procs.processes p q _ refl ∙ same.homes q;
-  calls = same.calls;
-}
+finished_segments : (home : Option ℕ) (p : ℕ) (system : System) (seg at : ℕ) → Lives system.kernel.procs p → (process_in system.kernel.procs p).seg ≡ home
+    → at < 49152 → (Answers p system seg at → ⊥) → byte_at (finished home p system).system.memory seg at ≡ byte_at system.memory seg at
+finished_segments None p system seg at living there below none = refl
+finished_segments (Some home) p system seg at living there below none =
+    ap (λ memory. byte_at memory seg at) (finished_memory home p system)
+    ∙ elim (cases_eq seg home) [
+      | inl same ↦
+          let behind = placed (reply_at_entry (completion_reply system.kernel p) (call_of system.kernel.procs p) p system) (call_of system.kernel.procs p).word home system.memory in
+          let never : Answers p system home at → ⊥ = subst (λ s. Answers p system s at → ⊥) same none in
+          subst (λ s. byte_at behind s at ≡ byte_at system.memory s at) (sym same)
+          (others_keep _ _ home system.memory at (unanswered p home system at living there never))
+      | inr other ↦ segments_keep _ _ home system.memory seg at other below
+    ]
 
--- a byte is left where no reply to those calls comes to stand
+finished_common : (home : Option ℕ) (p : ℕ) (system : System) (seg at : ℕ) → Lives system.kernel.procs p → (process_in system.kernel.procs p).seg ≡ home
+    → 49152 ≤ at → ((s : ℕ) → Answers p system s at → ⊥) → byte_at (finished home p system).system.memory seg at ≡ byte_at system.memory seg at
+finished_common None p system seg at living there above none = refl
+finished_common (Some home) p system seg at living there above none =
+    ap (λ memory. byte_at memory seg at) (finished_memory home p system)
+    ∙ common_keeps _ _ home system.memory seg at above (unanswered p home system at living there (none home))
 
-Unplaced : System → ℕ → ℕ → ℕ → Type 0
-Unplaced first who seg at = (home : ℕ) → (process_in first.kernel.procs who).seg ≡ Some home → (memory : Memory)
-    → byte_at (placed (completion_reply first.kernel who) (call_of first.kernel.procs who).word home memory) seg at ≡ byte_at memory seg at
+-- so do the replies to several, one behind another
 
-finished_leaves : (home : Option ℕ) (p : ℕ) (first system : System) (seg at : ℕ) → SameReplies first system
-    → (process_in system.kernel.procs p).seg ≡ home → Unplaced first p seg at
-    → byte_at (finished home p (handed system)).system.memory seg at ≡ byte_at system.memory seg at
-unfolding answering_call replied handed_out Unplaced
-finished_leaves None p first system seg at same there unplaced = refl
-finished_leaves (Some home) p first system seg at same there unplaced =
-    ap (λ call. byte_at (placed (completion_of call) call.word home system.memory) seg at) (same.calls p)
-    ∙ unplaced home (sym (same.homes p) ∙ there) system.memory
+lives_handed : (p : ℕ) (system : System) → IsWhole system → first_completed system.kernel.completed ≡ Some p → Lives (handed system).kernel.procs p
+lives_handed p system w first = handed_lives system.kernel p (completed_lives system.kernel p w.live first)
 
-finishing_leaves : (ps : List ℕ) (first system : System) (seg at : ℕ) → SameReplies first system
-    → ((who : ℕ) → list_any (λ p. p == who) ps ≡ true → Unplaced first who seg at)
-    → byte_at (finishing ps system).system.memory seg at ≡ byte_at system.memory seg at
-unfolding finishing
-finishing_leaves [] first system seg at same unplaced = refl
-finishing_leaves (p ∷ ps) first system seg at same unplaced =
-    let home = (process_in system.kernel.procs p).seg in
-    finishing_leaves ps first (finished home p (handed system)).system seg at (finished_keeps home p first system same)
-    (λ who among. unplaced who (or_right (p == who) _ among))
-    ∙ finished_leaves home p first system seg at same refl (unplaced p (ap (λ b. b || list_any (λ q. q == p) ps) (eq-eqb p p refl)))
+among_segments : (ps : List ℕ) (system : System) (seg at : ℕ) → IsWhole system → system.kernel.completed ≡ ps → at < 49152
+    → (AnswersAmong ps system seg at → ⊥) → byte_at (finishing ps system).system.memory seg at ≡ byte_at system.memory seg at
+unfolding finishing AnswersAmong
+among_segments [] system seg at w e below none = refl
+among_segments (p ∷ ps) system seg at w e below none =
+    let first = ap first_completed e in
+    among_segments ps (first_finished p system) seg at (whole_first p system w first) (left_completed p ps system e) below (λ later. none (inr later))
+    ∙ finished_segments (process_in system.kernel.procs p).seg p (handed system) seg at (lives_handed p system w first) (home_handed system p) below (λ here. none (inl here))
 
-itself : (system : System) → SameReplies system system
-itself system = record { homes = λ q. refl; calls = λ q. refl }
+among_common : (ps : List ℕ) (system : System) (seg at : ℕ) → IsWhole system → system.kernel.completed ≡ ps → 49152 ≤ at
+    → ((home : ℕ) → AnswersAmong ps system home at → ⊥) → byte_at (finishing ps system).system.memory seg at ≡ byte_at system.memory seg at
+unfolding finishing AnswersAmong
+among_common [] system seg at w e above none = refl
+among_common (p ∷ ps) system seg at w e above none =
+    let first = ap first_completed e in
+    among_common ps (first_finished p system) seg at (whole_first p system w first) (left_completed p ps system e) above (λ home later. none home (inr later))
+    ∙ finished_common (process_in system.kernel.procs p).seg p (handed system) seg at (lives_handed p system w first) (home_handed system p) above (λ home here. none home (inl here))
 
-all_leave : (system : System) (seg at : ℕ)
-    → ((who : ℕ) → list_any (λ p. p == who) system.kernel.completed ≡ true → Unplaced system who seg at)
+answers_segments : (system : System) (seg at : ℕ) → IsWhole system → at < 49152 → (AnswersOne system seg at → ⊥)
     → byte_at (all_finished system).system.memory seg at ≡ byte_at system.memory seg at
-all_leave system seg at unplaced = finishing_leaves system.kernel.completed system system seg at (itself system) unplaced
+answers_segments system seg at w below none = among_segments system.kernel.completed system seg at w refl below none
 
--- what is so of each of them
-
-of_each : (P : ℕ → Type 0) (ps : List ℕ) (who : ℕ) → AllByRecursion P ps → list_any (λ p. p == who) ps ≡ true → P who
-of_each P [] who all among = absurd (cc)
-of_each P (p ∷ ps) who all among = elim (cases_eq p who) [
-  | inl same ↦ subst P same all.0
-  | inr other ↦ of_each P ps who all.1 (grind (arith, nat_tests, among, other))
-]
-
--- whose held call is completed lives, so no reply is placed but where one of those calls is answered
-
-answered_there : (system : System) (who home at : ℕ) → CompletedLive system.kernel → list_any (λ p. p == who) system.kernel.completed ≡ true
-    → (process_in system.kernel.procs who).seg ≡ Some home → (Answers system home at → ⊥)
-    → IsPlacedAt (completion_reply system.kernel who) (call_of system.kernel.procs who).word at → ⊥
-answered_there system who home at live among there none places =
-    none (record { who = who; among = among; lives = of_each (λ p. Lives system.kernel.procs p) system.kernel.completed who live among; home = there; places = places })
-
-unplaced_segments : (system : System) (seg at who : ℕ) → CompletedLive system.kernel → at < 49152 → (Answers system seg at → ⊥)
-    → list_any (λ p. p == who) system.kernel.completed ≡ true → Unplaced system who seg at
-unfolding Unplaced
-unplaced_segments system seg at who live below none among = λ home there memory. elim (cases_eq seg home) [
-  | inl same ↦
-      let behind = placed (completion_reply system.kernel who) (call_of system.kernel.procs who).word home memory in
-      let unanswered : Answers system home at → ⊥ = subst (λ s. Answers system s at → ⊥) same none in
-      subst (λ s. byte_at behind s at ≡ byte_at memory s at) (sym same) (others_keep _ _ home memory at (answered_there system who home at live among there unanswered))
-  | inr other ↦ segments_keep _ _ home memory seg at other below
-]
-
-unplaced_common : (system : System) (seg at who : ℕ) → CompletedLive system.kernel → 49152 ≤ at → ((home : ℕ) → Answers system home at → ⊥)
-    → list_any (λ p. p == who) system.kernel.completed ≡ true → Unplaced system who seg at
-unfolding Unplaced
-unplaced_common system seg at who live above none among =
-    λ home there memory. common_keeps _ _ home memory seg at above (answered_there system who home at live among there (none home))
-
-answers_segments : (system : System) (seg at : ℕ) → CompletedLive system.kernel → at < 49152 → (Answers system seg at → ⊥)
+answers_common : (system : System) (seg at : ℕ) → IsWhole system → 49152 ≤ at → ((home : ℕ) → AnswersOne system home at → ⊥)
     → byte_at (all_finished system).system.memory seg at ≡ byte_at system.memory seg at
-answers_segments system seg at live below none = all_leave system seg at (λ who among. unplaced_segments system seg at who live below none among)
-
-answers_common : (system : System) (seg at : ℕ) → CompletedLive system.kernel → 49152 ≤ at → ((home : ℕ) → Answers system home at → ⊥)
-    → byte_at (all_finished system).system.memory seg at ≡ byte_at system.memory seg at
-answers_common system seg at live above none = all_leave system seg at (λ who among. unplaced_common system seg at who live above none among)
+answers_common system seg at w above none = among_common system.kernel.completed system seg at w refl above none
 
 -- so do the ends that are due, each with the calls that it completes
 
@@ -320,15 +267,15 @@ leaves_if : (b : Bool) (one other : Change) (memory : Memory) (seg at : ℕ) →
 leaves_if true one other memory seg at is was = is refl
 leaves_if false one other memory seg at is was = was
 
-live_at_end : (p : ℕ) (system : System) → IsWhole system → is_due system.kernel p ≡ true → CompletedLive (ended p system).kernel
-live_at_end p system w due = live_ended system (ended p system) p w due refl
+whole_at_end : (p : ℕ) (system : System) → IsWhole system → is_due system.kernel p ≡ true → IsWhole (ended p system)
+whole_at_end p system w due = whole_due_end system (ended p system) p w due refl
 
 end_segments : (p : ℕ) (system : System) (seg at : ℕ) → IsWhole system → at < 49152 → (AnswersAtEnd p system seg at → ⊥)
     → byte_at (ended_if_due p system).system.memory seg at ≡ byte_at system.memory seg at
 unfolding ended_if_due
 end_segments p system seg at w below none =
     leaves_if (is_due system.kernel p) _ _ system.memory seg at (λ due.
-    answers_segments (ended p system) seg at (live_at_end p system w due) below (λ answers. none (due, answers))
+    answers_segments (ended p system) seg at (whole_at_end p system w due) below (λ answers. none (due, answers))
     ∙ reads_alike system.memory _ (ended_alike p system) seg at) refl
 
 end_common : (p : ℕ) (system : System) (seg at : ℕ) → IsWhole system → 49152 ≤ at → ((home : ℕ) → AnswersAtEnd p system home at → ⊥)
@@ -336,7 +283,7 @@ end_common : (p : ℕ) (system : System) (seg at : ℕ) → IsWhole system → 4
 unfolding ended_if_due
 end_common p system seg at w above none =
     leaves_if (is_due system.kernel p) _ _ system.memory seg at (λ due.
-    answers_common (ended p system) seg at (live_at_end p system w due) above (λ home answers. none home (due, answers))
+    answers_common (ended p system) seg at (whole_at_end p system w due) above (λ home answers. none home (due, answers))
     ∙ reads_alike system.memory _ (ended_alike p system) seg at) refl
 
 ends_segments : (ps : List ℕ) (system : System) (seg at : ℕ) → IsWhole system → at < 49152 → (AnswersAtEnds ps system seg at → ⊥)
@@ -363,7 +310,7 @@ unfolding settled with_ends IsAnswered
 settled_segments system seg at w below none behind =
     let begun = behind_begun system in
     ends_segments (range_with_len 0 32) (all_finished begun).system seg at (whole_answered begun _ behind refl) below (λ later. none (inr later))
-    ∙ answers_segments begun seg at behind.live below (λ here. none (inl here))
+    ∙ answers_segments begun seg at behind below (λ here. none (inl here))
 
 settled_common : (system : System) (seg at : ℕ) → IsWhole system → 49152 ≤ at → ((home : ℕ) → IsAnswered system home at → ⊥) → IsWhole (behind_begun system)
     → byte_at (settled (behind_begun system)).system.memory seg at ≡ byte_at (behind_begun system).memory seg at
@@ -371,7 +318,7 @@ unfolding settled with_ends IsAnswered
 settled_common system seg at w above none behind =
     let begun = behind_begun system in
     ends_common (range_with_len 0 32) (all_finished begun).system seg at (whole_answered begun _ behind refl) above (λ home later. none home (inr later))
-    ∙ answers_common begun seg at behind.live above (λ home here. none home (inl here))
+    ∙ answers_common begun seg at behind above (λ home here. none home (inl here))
 
 pub step_is_contained : (system : System) → IsWhole system → IsContained system (step_of system).system
 unfolding step_of with_settled

@@ -1,19 +1,20 @@
 -- Held calls that are completed, answered one behind another.
 use Rattle.std.proofs.Common.{◌≡◌, ◌∙◌, ℕ, suc, ◌≤◌, List, [], ◌∷◌, ◌++◌, length, Option, Some, None, drop, arith, refl, sym, ap, subst, append_assoc}
 use Rattle.std.proofs.lemmas.List.{append-nil}
-use Rattle.mpm_procs.specs.Table.{Lives, process_in}
-use Rattle.mpm_procs.proofs.MapLaws.{lives_changed}
-use Rattle.mpm_kernel.specs.Kernel.{Kernel, CompletedLive}
-use Rattle.mpm_kernel.specs.Waiting.{completion_reply}
-use Rattle.mpm_kernel.proofs.SoundLaws.{live_kept, live_handed_out}
+use Rattle.mpm_procs.specs.Table.{Lives, process_in, call_of}
+use Rattle.mpm_kernel.specs.Kernel.{Kernel, with_completed}
+use Rattle.mpm_kernel.specs.Waiting.{completion_of, completion_reply}
+use Rattle.mpm_kernel.proofs.SoundLaws.{completed_if}
 use Rattle.mpm_machine.specs.State.{Change}
 use Rattle.mpm_render.specs.Outputs.{Output}
 use Rattle.mpm_render.specs.Shown.{Kept}
-use Rattle.mpm_kernel.specs.Events.{first_completed, handed_out}
+use Rattle.mpm_kernel.specs.Events.{first_completed, with_first, handed_out}
+use Rattle.mpm_kernel.proofs.HomeLaws.{lives_handed_out, call_handed_out, seg_handed_out, completed_handed_out}
 use Rattle.mpm_machine.specs.declared.system.System.{System}
-use Rattle.mpm_machine.specs.Serving.{answering_call, replied}
+use Rattle.mpm_machine.specs.Serving.{is_entry, with_entry, fulfilling, answering_call, replied}
 use Rattle.mpm_machine.specs.Finishing.{finished, handed, finishing, all_finished}
 use Rattle.mpm_machine.specs.Writing.{Showed, Stopped}
+use Rattle.mpm_machine.proofs.EntryLaws.{completed_entered}
 use Rattle.mpm_machine.proofs.WritingLaws.{showed_nothing, showed_behind, stopped_within}
 
 -- who is completed first, and the others
@@ -27,9 +28,10 @@ completed_none (q ∷ ps) e = absurd (cc)
 
 -- a reply completes nobody
 pub same_completed : (seg : Option ℕ) (p : ℕ) (system : System) → (finished seg p system).system.kernel.completed ≡ system.kernel.completed
-unfolding answering_call replied
+unfolding with_entry fulfilling answering_call replied
 same_completed None p system = refl
-same_completed (Some seg) p system = refl
+same_completed (Some seg) p system =
+    completed_if (is_entry (call_of system.kernel.procs p) (completion_reply system.kernel p)) _ system.kernel (completed_entered p system.kernel)
 
 -- the first of them is answered, and the others remain
 abbrev pub first_finished : ℕ → System → System
@@ -45,8 +47,8 @@ unfolding finishing
 all_one_news ps p system = refl
 
 pub left_completed : (p : ℕ) (ps : List ℕ) (system : System) → system.kernel.completed ≡ p ∷ ps → (first_finished p system).kernel.completed ≡ ps
-unfolding handed_out
-left_completed p ps system e = same_completed (process_in system.kernel.procs p).seg p (handed system) ∙ ap (drop 1) e
+left_completed p ps system e =
+    same_completed (process_in system.kernel.procs p).seg p (handed system) ∙ completed_handed_out system.kernel ∙ ap (drop 1) e
 
 -- some were answered: what is left of all that were completed at the start, and what came out so far
 pub record FinishedSo (start now : System) (kept : Kept) (told : Option (List ℕ)) (kept' : Kept) (told' : Option (List ℕ)) : Type 0 where
@@ -132,19 +134,18 @@ pub handed_nobody : (system : System) → first_completed system.kernel.complete
 unfolding handed_out
 handed_nobody system none =
     let e = completed_none system.kernel.completed none in
-    ap (λ ps. record system { kernel = record system.kernel { completed = ps } }) (ap (drop 1) e ∙ sym e)
+    let left = with_completed system.kernel (drop 1 system.kernel.completed) in
+    ap (λ (first : Option ℕ). record system { kernel = with_first first left }) none
+    ∙ ap (λ ps. record system { kernel = record system.kernel { completed = ps } }) (ap (drop 1) e ∙ sym e)
 
 pub handed_lives : (kernel : Kernel) (p : ℕ) → Lives kernel.procs p → Lives (handed_out kernel).procs p
-unfolding handed_out
-handed_lives kernel p h = h
+handed_lives kernel p h = lives_handed_out kernel p ∙ h
 
 pub handed_reply : (kernel : Kernel) (p : ℕ) → completion_reply (handed_out kernel) p ≡ completion_reply kernel p
-unfolding handed_out
-handed_reply kernel p = refl
+handed_reply kernel p = ap completion_of (call_handed_out kernel p)
 
-home_handed : (system : System) (p : ℕ) → (process_in (handed system).kernel.procs p).seg ≡ (process_in system.kernel.procs p).seg
-unfolding handed_out
-home_handed system p = refl
+pub home_handed : (system : System) (p : ℕ) → (process_in (handed system).kernel.procs p).seg ≡ (process_in system.kernel.procs p).seg
+home_handed system p = seg_handed_out system.kernel p
 
 -- the system and the outputs behind its answer
 
@@ -174,16 +175,3 @@ fewer_left now new p first is =
     let left : new.kernel.completed ≡ ps =
     ap (λ (s : System). s.kernel.completed) is ∙ left_completed p ps now (completed_first now.kernel.completed p first) in
     omega (arith, more_than_rest now.kernel.completed p first, ap length left)
-
--- and they live
-
-live_finished : (seg : Option ℕ) (p : ℕ) (system : System) → CompletedLive system.kernel → CompletedLive (finished seg p system).system.kernel
-unfolding answering_call replied
-live_finished None p system live = live
-live_finished (Some seg) p system live =
-    live_kept system.kernel (finished (Some seg) p system).system.kernel refl (λ q h. lives_changed system.kernel.procs p q _ ∙ h) live
-
-pub live_left : (now new : System) (p : ℕ) → CompletedLive now.kernel → new ≡ first_finished p now → CompletedLive new.kernel
-live_left now new p live is =
-    let P : System → Type 0 = λ s. CompletedLive s.kernel in
-    subst P (sym is) (live_finished (process_in now.kernel.procs p).seg p (handed now) (live_handed_out now.kernel live))

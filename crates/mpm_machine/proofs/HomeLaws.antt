@@ -18,7 +18,7 @@ use Rattle.mpm_gate.specs.Replies.{placed}
 use Rattle.mpm_gate.proofs.ReplyLaws.{placed_segments}
 use Rattle.mpm_procs.specs.Table.{Table, process_in}
 use Rattle.mpm_kernel.specs.Kernel.{Kernel}
-use Rattle.mpm_kernel.specs.Dispatch.{discharged}
+use Rattle.mpm_kernel.specs.Ending.{discharged}
 use Rattle.mpm_xdos.specs.Ending.{is_home, left_by, memory_without}
 use Rattle.mpm_machine.specs.State.{IsHome, IsOccupied}
 

@@ -2,6 +2,8 @@ pub mod InterruptLaws
 pub mod WritingLaws
 pub mod StringLaws
 pub mod HomeLaws
+pub mod GateLaws
+pub mod EntryLaws
 pub mod FinishLaws
 pub mod DueLaws
 pub mod WholeLaws

@@ -24,7 +24,7 @@ use Rattle.mpm_kernel.proofs.HomeLaws.{homes_stay}
 use Rattle.mpm_render.specs.Shown.{Kept}
 use Rattle.mpm_machine.specs.declared.system.System.{System}
 use Rattle.mpm_machine.specs.declared.gate.Gate.{Gate}
-use Rattle.mpm_machine.specs.Gates.{last_page, gate_of}
+use Rattle.mpm_machine.specs.Gates.{last_page, is_inside, gate_of}
 use Rattle.mpm_machine.specs.State.{State, Change, StandsFor, IsWhole, NobodyAborted, silent}
 use Rattle.mpm_machine.specs.Serving.{with_regs}
 use Rattle.mpm_machine.specs.Step.{ran, instructed, instruction_at, acted_at, gate_before, acted_by, acted, running_segment, at_instruction, lets_in, coming, counted, step_of, next, after}
@@ -42,19 +42,20 @@ view_is a b regs memory devices =
 
 -- none, and one more
 
-pub moves_none : (seg : ℕ) (view : View) → Moves 0 seg view view
+pub moves_none : (inside : Bool) (seg : ℕ) (view : View) → Moves inside 0 seg view view
 unfolding moves
-moves_none seg view = record { is = refl; each = λ k below. absurd (omega arith) }
+moves_none inside seg view = record { is = refl; each = λ k below. absurd (omega arith) }
 
-pub moves_more : (n seg : ℕ) (old now new : View) → Moves n seg old now → CanMove seg now → new ≡ moved seg now → Moves (n + 1) seg old new
+pub moves_more : (inside : Bool) (n seg : ℕ) (old now new : View) → Moves inside n seg old now → CanMove inside seg now → new ≡ moved seg now
+    → Moves inside (n + 1) seg old new
 unfolding moves
-moves_more n seg old now new m can is =
+moves_more inside n seg old now new m can is =
     let more : moves (n + 1) seg old ≡ moved seg (moves n seg old) = ap (λ k. moves k seg old) (add-one n) in
     record {
       is = is ∙ ap (moved seg) m.is ∙ sym more;
       each = λ k below. elim (cases_eq k n) [
         | inl same ↦
-            let P : View → Type 0 = λ view. CanMove seg view in
+            let P : View → Type 0 = λ view. CanMove inside seg view in
             subst P (m.is ∙ ap (λ j. moves j seg old) (sym same)) can
         | inr other ↦ m.each k (omega (arith, other))
       ];
@@ -77,8 +78,8 @@ none_and_some None none some = absurd (cc)
 none_and_some (Some outcome) none some = absurd (cc)
 
 -- and it can't move on
-pub no_move : (seg : ℕ) (view new : View) → IsNone (instruction_in seg view) → new ≡ view → CanMove seg new → ⊥
-no_move seg view new none same can =
+pub no_move : (inside : Bool) (seg : ℕ) (view new : View) → IsNone (instruction_in seg view) → new ≡ view → CanMove inside seg new → ⊥
+no_move inside seg view new none same can =
     let some : IsSome (instruction_in seg view) = subst (λ v. IsSome (instruction_in seg v)) same can.listed in
     none_and_some (instruction_in seg view) none some
 
@@ -88,32 +89,35 @@ none_unless : (outcome : Option Outcome) → (IsSome outcome → ⊥) → IsNone
 none_unless None some = refl
 none_unless (Some outcome) some = absurd (some refl)
 
-nothing_listed : (seg : ℕ) (old new : View) → Moves 0 seg old new → (CanMove seg new → ⊥) → gate_of old.memory seg old.regs.pc ≡ None
+nothing_listed : (inside : Bool) (seg : ℕ) (old new : View) → Moves inside 0 seg old new → (CanMove inside seg new → ⊥)
+    → gate_of inside old.memory seg old.regs.pc ≡ None
     → IsNone (instruction_in seg old)
 unfolding moves
-nothing_listed seg old new m stopped gate =
-    none_unless (instruction_in seg old) (λ listed. stopped (subst (CanMove seg) (sym m.is) (record { no_gate = gate; listed = listed })))
+nothing_listed inside seg old new m stopped gate =
+    none_unless (instruction_in seg old) (λ listed. stopped (subst (CanMove inside seg) (sym m.is) (record { no_gate = gate; listed = listed })))
 
-pub moved_once : (n seg : ℕ) (old new : View) → Moves n seg old new → n ≤ 1 → (n < 1 → CanMove seg new → ⊥) → gate_of old.memory seg old.regs.pc ≡ None
+pub moved_once : (inside : Bool) (n seg : ℕ) (old new : View) → Moves inside n seg old new → n ≤ 1 → (n < 1 → CanMove inside seg new → ⊥)
+    → gate_of inside old.memory seg old.regs.pc ≡ None
     → new ≡ moved seg old
 unfolding moves
-moved_once zero seg old new m most stopped gate = m.is ∙ sym (unmoved seg old (nothing_listed seg old new m (stopped (omega arith)) gate))
-moved_once (suc zero) seg old new m most stopped gate = m.is
-moved_once (suc (suc n)) seg old new m most stopped gate = absurd (omega (arith, most))
+moved_once inside zero seg old new m most stopped gate = m.is ∙ sym (unmoved seg old (nothing_listed inside seg old new m (stopped (omega arith)) gate))
+moved_once inside (suc zero) seg old new m most stopped gate = m.is
+moved_once inside (suc (suc n)) seg old new m most stopped gate = absurd (omega (arith, most))
 
-pub listed_once : (n seg : ℕ) (old new : View) → Moves n seg old new → n ≤ 1 → (n < 1 → CanMove seg new → ⊥) → gate_of old.memory seg old.regs.pc ≡ None
+pub listed_once : (inside : Bool) (n seg : ℕ) (old new : View) → Moves inside n seg old new → n ≤ 1 → (n < 1 → CanMove inside seg new → ⊥)
+    → gate_of inside old.memory seg old.regs.pc ≡ None
     → (n == 1) ≡ is_some (instruction_in seg old)
 unfolding moves
-listed_once zero seg old new m most stopped gate = sym (nothing_listed seg old new m (stopped (omega arith)) gate)
-listed_once (suc zero) seg old new m most stopped gate = sym (m.each 0 (omega arith)).listed
-listed_once (suc (suc n)) seg old new m most stopped gate = absurd (omega (arith, most))
+listed_once inside zero seg old new m most stopped gate = sym (nothing_listed inside seg old new m (stopped (omega arith)) gate)
+listed_once inside (suc zero) seg old new m most stopped gate = sym (m.each 0 (omega arith)).listed
+listed_once inside (suc (suc n)) seg old new m most stopped gate = absurd (omega (arith, most))
 
-pub moves_to : (n seg : ℕ) (old now new : View) → Moves n seg old now → new ≡ now → Moves n seg old new
-moves_to n seg old now new m is = record { is = is ∙ m.is; each = m.each }
+pub moves_to : (inside : Bool) (n seg : ℕ) (old now new : View) → Moves inside n seg old now → new ≡ now → Moves inside n seg old new
+moves_to inside n seg old now new m is = record { is = is ∙ m.is; each = m.each }
 
-pub moves_from : (n seg : ℕ) (old first new : View) → Moves n seg first new → first ≡ old → Moves n seg old new
-moves_from n seg old first new m is =
-    let P : View → Type 0 = λ view. Moves n seg view new in
+pub moves_from : (inside : Bool) (n seg : ℕ) (old first new : View) → Moves inside n seg first new → first ≡ old → Moves inside n seg old new
+moves_from inside n seg old first new m is =
+    let P : View → Type 0 = λ view. Moves inside n seg view new in
     subst P is m
 
 -- gates stay where they are, and one that isn't there is none
@@ -198,7 +202,8 @@ instructed_some (Some outcome) p seg system some = refl
 
 -- the step is that instruction
 
-acted_view : (system : System) (p seg n : ℕ) (view : View) → p < length system.kernel.procs.processes → RunsOn system p seg → CanMove seg view
+acted_view : (system : System) (p seg n : ℕ) (view : View) → p < length system.kernel.procs.processes → RunsOn system p seg
+    → CanMove (is_inside system.kernel.procs p) seg view
     → acted (counted (with_view system p view n)) ≡ silent (with_view system p (moved seg view) (n + 1))
 unfolding acted with_view
 acted_view system p seg n view below on can =
@@ -206,7 +211,10 @@ acted_view system p seg n view below on can =
     let at = regs_of_view system p n view below in
     let regs : (process_in begun.kernel.procs p).regs ≡ view.regs = ap (λ (process : Process). process.regs) at in
     let home : (process_in begun.kernel.procs p).seg ≡ Some seg = ap (λ (process : Process). process.seg) at ∙ on.home in
-    let gate : gate_before p seg begun ≡ None = ap (λ (r : Regs). gate_of view.memory seg r.pc) regs ∙ can.no_gate in
+    let inside : is_inside begun.kernel.procs p ≡ is_inside system.kernel.procs p = ap (λ (process : Process). is_some process.procedure) at in
+    let gate : gate_before p seg begun ≡ None =
+    ap (λ b. gate_of b view.memory seg (process_in begun.kernel.procs p).regs.pc) inside
+    ∙ ap (λ (r : Regs). gate_of (is_inside system.kernel.procs p) view.memory seg r.pc) regs ∙ can.no_gate in
     let there : instruction_at p seg begun ≡ instruction_in seg view =
     ap (λ r. instruction r (byte_at view.memory seg) (port_byte view.devices)) regs in
     ap (λ running. acted_by running (running_segment running begun) begun) on.running
@@ -244,7 +252,8 @@ nobody_view kernel devices p regs below none = λ q.
     ] in
     ap (λ b. b && (process_in procs q).abort_due) (lives_changed kernel.procs p q process) ∙ ap (λ b. lives kernel.procs q && b) same ∙ none q
 
-step_view : (system : System) (p seg n : ℕ) (view : View) → p < length system.kernel.procs.processes → RunsOn system p seg → CanMove seg view
+step_view : (system : System) (p seg n : ℕ) (view : View) → p < length system.kernel.procs.processes → RunsOn system p seg
+    → CanMove (is_inside system.kernel.procs p) seg view
     → due (system.steps + n + 1) system.interrupts ≡ None
     → step_of (with_view system p view n) ≡ silent (with_view system p (moved seg view) (n + 1))
 unfolding with_view
@@ -260,7 +269,8 @@ step_view system p seg n view below on can quiet =
 with_system : State → System → State
 with_system s system = record s { system = system }
 
-next_view : (s : State) (p seg n : ℕ) (view : View) → p < length s.system.kernel.procs.processes → RunsOn s.system p seg → CanMove seg view
+next_view : (s : State) (p seg n : ℕ) (view : View) → p < length s.system.kernel.procs.processes → RunsOn s.system p seg
+    → CanMove (is_inside s.system.kernel.procs p) seg view
     → due (s.system.steps + n + 1) s.system.interrupts ≡ None
     → next (with_system s (with_view s.system p view n)) ≡ with_system s (with_view s.system p (moved seg view) (n + 1))
 unfolding next with_system
@@ -268,7 +278,7 @@ next_view s p seg n view below on can quiet =
     ap (λ (change : Change). record { system = change.system; outputs = change.news ++ s.outputs }) (step_view s.system p seg n view below on can quiet)
 
 after_moves : (n : ℕ) (s : State) (p seg : ℕ) → p < length s.system.kernel.procs.processes → RunsOn s.system p seg
-    → ((k : ℕ) → k < n → CanMove seg (moves k seg (view_of s.system p))) → Quiet n s.system
+    → ((k : ℕ) → k < n → CanMove (is_inside s.system.kernel.procs p) seg (moves k seg (view_of s.system p))) → Quiet n s.system
     → after n s ≡ with_system s (with_view s.system p (moves n seg (view_of s.system p)) n)
 unfolding moves after with_system
 after_moves zero s p seg below on each quiet = ap (λ system. record s { system = system }) (sym (view_itself s.system p))
@@ -297,7 +307,7 @@ moved_stands n p seg old new kept told s first w on moved quiet stands =
     let below : p < length old.kernel.procs.processes =
     omega (arith, w.sound.slots.processes, lives_below old.kernel.procs p w.sound.slots (runner_lives old.kernel p w.sound on.running)) in
     let P : System → Type 0 = λ system. (p < length system.kernel.procs.processes) × RunsOn system p seg
-    × ((k : ℕ) → k < n → CanMove seg (moves k seg (view_of system p))) × Quiet n system in
+    × ((k : ℕ) → k < n → CanMove (is_inside system.kernel.procs p) seg (moves k seg (view_of system p))) × Quiet n system in
     let facts : P s.system = subst P stands.parts (below, on, moved.moves.each, quiet) in
     let behind = after_moves n s p seg facts.0 facts.1 facts.2 facts.3 in
     let whole : new ≡ with_view s.system p (moves n seg (view_of s.system p)) n =

@@ -13,11 +13,11 @@ use Rattle.mpm_xdos.specs.Aborting.{waits_to_end, target}
 use Rattle.mpm_machine.specs.declared.system.System.{System}
 use Rattle.mpm_machine.proofs.FinishLaws.{first_finished}
 use Rattle.mpm_machine.specs.declared.gate.Gate.{Gate}
-use Rattle.mpm_machine.specs.declared.gate.Gate.TheVariants.{End, Call}
+use Rattle.mpm_machine.specs.declared.gate.Gate.TheVariants.{End, Call, Return}
 use Rattle.mpm_machine.specs.Writing.{Showed, Stopped}
 use Rattle.mpm_machine.specs.State.{State, Change, speaking, StandsFor}
 use Rattle.mpm_machine.specs.Ending.{ended}
-use Rattle.mpm_machine.specs.Serving.{asked, keeping, Served, reserving, releasing, creating, aborted, aborting_this, aborting, served, said_by, popped, replied, answering_call, completing, outcome_of, gate_step}
+use Rattle.mpm_machine.specs.Serving.{asked, keeping, Served, reserving, releasing, creating, aborted, aborting_this, aborting, served, said_by, popped, replied, answering_call, with_entry, fulfilling, completing, returning, outcome_of, gate_step}
 use Rattle.mpm_machine.specs.Finishing.{finished, handed, finishing, all_finished}
 use Rattle.mpm_machine.specs.Due.{is_due, ended_if_due, due_ended, with_ends, settled}
 use Rattle.mpm_machine.proofs.WritingLaws.{stopped_before, stopped_behind}
@@ -68,7 +68,7 @@ served_steps call p system =
 
 outcome_steps : (outcome : CallOutcome) (reply : Answer) (call : Taken) (p seg : ℕ) (system : System)
     → (outcome_of outcome reply call p seg system).system.steps ≡ system.steps
-unfolding completing said_by speaking popped answering_call replied ended
+unfolding completing said_by speaking popped with_entry fulfilling answering_call replied ended
 outcome_steps Done reply call p seg system = refl
 outcome_steps Ended reply call p seg system = refl
 outcome_steps Held reply call p seg system = refl
@@ -86,9 +86,10 @@ instructed_steps None p seg system = refl
 instructed_steps (Some outcome) p seg system = refl
 
 acted_at_steps : (gate : Option Gate) (p seg : ℕ) (system : System) → (acted_at gate p seg system).system.steps ≡ system.steps
-unfolding ended
+unfolding ended returning
 acted_at_steps (Some End) p seg system = refl
 acted_at_steps (Some Call) p seg system = gate_step_steps p seg system
+acted_at_steps (Some Return) p seg system = refl
 acted_at_steps None p seg system = instructed_steps (instruction_at p seg system) p seg system
 
 acted_by_steps : (running seg : Option ℕ) (system : System) → (acted_by running seg system).system.steps ≡ system.steps
@@ -102,7 +103,7 @@ begun_steps None system = acted_by_steps system.kernel.running _ system
 begun_steps (Some event) system = refl
 
 finished_steps : (seg : Option ℕ) (p : ℕ) (system : System) → (finished seg p system).system.steps ≡ system.steps
-unfolding answering_call replied
+unfolding with_entry fulfilling answering_call replied
 finished_steps None p system = refl
 finished_steps (Some seg) p system = refl
 

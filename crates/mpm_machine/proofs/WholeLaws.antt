@@ -24,22 +24,28 @@ use Rattle.mpm_kernel.specs.Kernel.{Kernel, IsSound, IsReady, CompletedLive, is_
 use Rattle.mpm_kernel.specs.Columns.{spoke}
 use Rattle.mpm_script.specs.declared.event.Event.{Event}
 use Rattle.mpm_script.specs.Events.{IsTimed}
-use Rattle.mpm_kernel.specs.Dispatch.{discharged, stays, picked}
+use Rattle.mpm_kernel.specs.Dispatch.{stays, picked}
+use Rattle.mpm_kernel.specs.Ending.{discharged}
+use Rattle.mpm_queues.specs.Queues.{waits as waits_at_queues}
 use Rattle.mpm_kernel.specs.Events.{MayCome, first_completed, happened}
-use Rattle.mpm_kernel.proofs.SoundLaws.{sound_changed, sound_call, sound_devices, sound_spoke, sound_picked, sound_discharged, sound_called, lives_called, live_called, sound_happened, live_happened, sound_completed, live_handed_out, completed_lives, live_kept, runner_lives}
-use Rattle.mpm_kernel.proofs.HomeLaws.{SameHomes, homes_stay, lived_in_changed, homes_changed, homes_call, homes_discharged, lives_discharged, call_discharged, homes_called, homes_happened, call_called, procs_picked, procs_spoke, procs_handed_out}
+use Rattle.mpm_kernel.proofs.SoundLaws.{sound_changed, sound_call, sound_devices, sound_spoke, sound_picked, sound_called, lives_called, live_called, sound_happened, live_happened, sound_completed, live_handed_out, completed_lives, live_kept, runner_lives}
+use Rattle.mpm_kernel.proofs.HomeLaws.{SameHomes, homes_stay, lived_in_changed, homes_changed, homes_call, homes_called, homes_happened, call_called, procs_picked, procs_spoke, homes_handed_out, lives_handed_out}
+use Rattle.mpm_kernel.proofs.EndingLaws.{ready_waits_at_none, sound_discharged, live_discharged, homes_discharged, lives_discharged, call_discharged}
+use Rattle.mpm_kernel.specs.Procedures.{given_back}
+use Rattle.mpm_kernel.proofs.ProcedureLaws.{stays_given_back, homes_given_back}
 use Rattle.mpm_xdos.specs.Creating.{home_base, created}
 use Rattle.mpm_xdos.specs.Ending.{is_segment, lives_in, memory_without}
 use Rattle.mpm_xdos.specs.Aborting.{waits_to_end, with_abort_due, target, behind_abort, memory_behind_abort}
+use Rattle.mpm_xdos.specs.Procedures.{entering, entered, leaving, left}
 use Rattle.mpm_xdos.proofs.TargetLaws.{target_lives}
 use Rattle.mpm_xdos.proofs.Homes.{home_here}
 use Rattle.mpm_xdos.proofs.CreatedLaws.{made_created}
 use Rattle.mpm_machine.specs.declared.system.System.{System}
 use Rattle.mpm_machine.specs.declared.gate.Gate.{Gate}
-use Rattle.mpm_machine.specs.declared.gate.Gate.TheVariants.{End, Call}
+use Rattle.mpm_machine.specs.declared.gate.Gate.TheVariants.{End, Call, Return}
 use Rattle.mpm_machine.specs.State.{Change, IsHome, IsWhole, NobodyAborted, speaking}
 use Rattle.mpm_machine.specs.Ending.{ended}
-use Rattle.mpm_machine.specs.Serving.{with_regs, asked, keeping, Served, reserving, releasing, creating, aborted, aborting_this, aborting, calling, served, said_by, popped, replied, completion, answering_call, completing, outcome_of, gate_step}
+use Rattle.mpm_machine.specs.Serving.{with_regs, asked, keeping, Served, reserving, releasing, creating, aborted, aborting_this, aborting, calling, served, said_by, popped, replied, completion, is_entry, with_entry, reply_at_entry, fulfilling, answering_call, completing, returning, outcome_of, gate_step}
 use Rattle.mpm_machine.specs.Interrupts.{due, behind_due}
 use Rattle.mpm_machine.specs.declared.interrupts.Interrupts.{Interrupts}
 use Rattle.mpm_machine.specs.Finishing.{finished, handed, finishing, all_finished}
@@ -160,16 +166,12 @@ same_number n = grind (arith, nat_tests)
 lives_there : (procs : Table) (seg q : ℕ) → Lives procs q → (process_in procs q).seg ≡ Some seg → lives_in procs seg q ≡ true
 lives_there procs seg q living there = ap (λ b. b && is_segment seg (process_in procs q).seg) living ∙ ap (is_segment seg) there ∙ same_number seg
 
-live_discharged : (kernel : Kernel) (p : ℕ) → CompletedLive (discharged kernel p)
-unfolding discharged
-live_discharged kernel p = tt
-
 whole_ended : (p : ℕ) (system : System) → IsWhole system → Lives system.kernel.procs p → IsWhole (ended p system)
 unfolding ended
 whole_ended p system w h =
     let gone = record system { kernel = discharged system.kernel p } in
-    let whole = whole_kernel system _ w (sound_discharged system.kernel p w.sound h) (live_discharged system.kernel p)
-    (homes_discharged system.kernel p w.sound.slots h) in
+    let whole = whole_kernel system _ w (sound_discharged system.kernel p w.sound h) (live_discharged system.kernel p w.sound h)
+    (homes_discharged system.kernel p w.sound h) in
     let leaves = leaves_without system.memory system.kernel p in
     record {
       sound = whole.sound;
@@ -250,13 +252,57 @@ answered_news reply p seg old behind is =
     ap (λ (s : System). completion (call_of s.kernel.procs p) p s ∷ []) is
     ∙ ap (λ call. completion call p (replied reply (call_of old.kernel.procs p) p seg old) ∷ []) (call_behind old.kernel.procs p p _)
 
+-- a process enters a resident procedure
+
+whole_entered : (p : ℕ) (system : System) → IsWhole system → Lives system.kernel.procs p
+    → StaysWhole p system (record system { kernel = entered p system.kernel })
+unfolding entered entering
+whole_entered p system w h =
+    let process = entering (call_of system.kernel.procs p) (process_in system.kernel.procs p) in
+    let fit = w.sound.fit p h in
+    record {
+      whole = whole_kernel system _ w
+          (sound_changed system.kernel p process w.sound h (record { console = fit.console; some = fit.some; few = fit.few }))
+          (live_kept system.kernel (with_changed system.kernel p process) refl (λ q living. lives_changed system.kernel.procs p q process ∙ living) w.live)
+          (homes_changed system.kernel p process w.sound.slots h refl refl);
+      lives = lives_changed system.kernel.procs p p process ∙ h;
+      call = call_behind system.kernel.procs p p process;
+    }
+
+entry_if : (b : Bool) (p : ℕ) (kernel : Kernel) (system : System) → StaysWhole p system (record system { kernel = kernel }) → StaysWhole p system system
+    → StaysWhole p system (record system { kernel = if b then kernel else system.kernel })
+entry_if true p kernel system is was = is
+entry_if false p kernel system is was = was
+
+pub whole_entry : (reply : Answer) (call : Taken) (p : ℕ) (system : System) → IsWhole system → Lives system.kernel.procs p
+    → StaysWhole p system (with_entry reply call p system)
+unfolding with_entry
+whole_entry reply call p system w h =
+    entry_if (is_entry call reply) p (entered p system.kernel) system (whole_entered p system w h) (record { whole = w; lives = h; call = refl })
+
+whole_fulfilling : (reply : Answer) (call : Taken) (p seg : ℕ) (system : System) → IsWhole system → Lives system.kernel.procs p
+    → IsWhole (fulfilling reply call p seg system).system
+unfolding fulfilling
+whole_fulfilling reply call p seg system w h =
+    let inside = whole_entry reply call p system w h in
+    (whole_replied (reply_at_entry reply call p system) call p seg _ inside.whole inside.lives).whole
+
+-- and leaves it
+whole_returning : (p : ℕ) (system : System) → IsWhole system → Lives system.kernel.procs p → IsWhole (returning p system)
+unfolding returning left leaving
+whole_returning p system w h =
+    let stays = stays_given_back p system.kernel w.sound h in
+    let behind = record system { kernel = given_back p system.kernel } in
+    let whole = whole_kernel system _ w stays.sound stays.completed (homes_given_back p system.kernel w.sound h) in
+    (whole_regs p _ behind whole stays.lives).whole
+
 whole_completing : (reply : Answer) (call : Taken) (p seg : ℕ) (system : System) → IsWhole system → Lives system.kernel.procs p
     → IsWhole (completing reply call p seg system).system
 unfolding completing
 whole_completing reply call p seg system w h =
     let said = whole_said call p seg system w h in
     let behind = whole_popped p seg _ said.whole said.lives in
-    (whole_replied reply call p seg _ behind.whole behind.lives).whole
+    whole_fulfilling reply call p seg _ behind.whole behind.lives
 
 -- a call is done
 whole_if : (p : ℕ) (old : System) (b : Bool) (one other : Served) → StaysWhole p old one.system → StaysWhole p old other.system
@@ -324,18 +370,18 @@ whole_put_off p system w h =
     }
 
 stays_aborted : (waits : Bool) (other p : ℕ) (system : System) → IsWhole system → Lives system.kernel.procs p → Lives system.kernel.procs other
-    → (waits ≡ false → p ≢ other) → StaysWhole p system (aborted_by waits other system)
-stays_aborted true other p system w h living apart =
+    → (waits ≡ false → p ≢ other) → waits_at_queues system.kernel.queues p ≡ 0 → StaysWhole p system (aborted_by waits other system)
+stays_aborted true other p system w h living apart none =
     let process = record (process_in system.kernel.procs other) { abort_due = true } in
     record {
       whole = subst IsWhole (sym (put_off_is other system)) (whole_put_off other system w living);
       lives = lives_changed system.kernel.procs other p process ∙ h;
       call = call_behind system.kernel.procs other p process;
     }
-stays_aborted false other p system w h living apart = record {
+stays_aborted false other p system w h living apart none = record {
   whole = subst IsWhole (sym (ends_at_once other system)) (whole_ended other system w living);
-  lives = lives_discharged system.kernel other p (apart refl) ∙ h;
-  call = call_discharged system.kernel other p (apart refl);
+  lives = lives_discharged system.kernel other p w.sound living (apart refl) ∙ h;
+  call = call_discharged system.kernel other p w.sound living (apart refl) none;
 }
 
 -- unless it ends itself, the one that asks is another where the end isn't put off
@@ -349,13 +395,14 @@ served_unless p old true one other is was = is
 served_unless p old false one other is was = was refl
 
 whole_aborting_this : (named : Option ℕ) (p : ℕ) (system : System) → IsWhole system → Lives system.kernel.procs p
-    → ((q : ℕ) → named ≡ Some q → Lives system.kernel.procs q) → StaysWhole p system (aborting_this named p system).system
-whole_aborting_this None p system w h living = record { whole = w; lives = h; call = refl }
-whole_aborting_this (Some other) p system w h living =
+    → ((q : ℕ) → named ≡ Some q → Lives system.kernel.procs q) → waits_at_queues system.kernel.queues p ≡ 0
+    → StaysWhole p system (aborting_this named p system).system
+whole_aborting_this None p system w h living none = record { whole = w; lives = h; call = refl }
+whole_aborting_this (Some other) p system w h living none =
     let waits = waits_to_end system.kernel other false in
     served_unless p system (other == p && not (waits_to_end system.kernel p false)) _ _ (record { whole = w; lives = h; call = refl }) (λ e.
     subst (StaysWhole p system) (sym (aborted_is waits other system refl))
-    (stays_aborted waits other p system w h (living other refl) (apart other p system e)))
+    (stays_aborted waits other p system w h (living other refl) (apart other p system e) none))
   where
     apart : (other p : ℕ) (system : System) → (other == p && not (waits_to_end system.kernel p false)) ≡ false
         → waits_to_end system.kernel other false ≡ false → p ≢ other
@@ -363,10 +410,12 @@ whole_aborting_this (Some other) p system w h living =
         let there : waits_to_end system.kernel p false ≡ false = ap (λ n. waits_to_end system.kernel n false) same ∙ off in
         another (waits_to_end system.kernel p false) other p e there same
 
-whole_aborting : (p : ℕ) (system : System) → IsWhole system → Lives system.kernel.procs p → StaysWhole p system (aborting p system).system
+whole_aborting : (p : ℕ) (system : System) → IsWhole system → Lives system.kernel.procs p → IsReady system.kernel p
+    → StaysWhole p system (aborting p system).system
 unfolding aborting
-whole_aborting p system w h =
+whole_aborting p system w h is_ready =
     whole_aborting_this (target system.kernel.procs p) p system w h (λ q named. target_lives system.kernel.procs p q named)
+    (ready_waits_at_none system.kernel p w.sound is_ready)
 
 whole_calling : (p : ℕ) (system : System) → IsWhole system → Lives system.kernel.procs p → IsReady system.kernel p
     → StaysWhole p system (calling p system).system
@@ -386,7 +435,7 @@ whole_served call p system w h ready =
     (whole_if p system (f == 129) _ _ (whole_banks p _ system w h (keeps_reserved system.memory p _ _))
     (whole_if p system (f == 130) _ _ (whole_banks p _ system w h (keeps_released system.memory p _))
     (whole_if p system (f == 144) _ _ (whole_creating p system w h)
-    (whole_if p system (f == 157) _ _ (whole_aborting p system w h)
+    (whole_if p system (f == 157) _ _ (whole_aborting p system w h ready)
     (whole_calling p system w h ready)))))
 
 -- a call is taken: the process keeps it, is ready as before, and has its segment
@@ -438,6 +487,7 @@ whole_acted_at : (gate : Option Gate) (p seg : ℕ) (system : System) → IsWhol
     → IsWhole (acted_at gate p seg system).system
 whole_acted_at (Some End) p seg system w h ready = whole_ended p system w h
 whole_acted_at (Some Call) p seg system w h ready = whole_gate_step p seg system w h ready
+whole_acted_at (Some Return) p seg system w h ready = whole_returning p system w h
 whole_acted_at None p seg system w h ready = whole_instructed (instruction_at p seg system) p seg system w h
 
 whole_acted_by : (running seg : Option ℕ) (system : System) → IsWhole system → system.kernel.running ≡ running → IsWhole (acted_by running seg system).system
@@ -492,20 +542,27 @@ whole_begun (Some event) system may w = whole_interrupted event system may w
 
 whole_finished : (seg : Option ℕ) (p : ℕ) (system : System) → IsWhole system → Lives system.kernel.procs p → IsWhole (finished seg p system).system
 whole_finished None p system w h = w
-whole_finished (Some seg) p system w h = (whole_replied _ _ p seg system w h).whole
+whole_finished (Some seg) p system w h = whole_fulfilling _ _ p seg system w h
 
-whole_handed : (system : System) → IsWhole system → IsWhole (handed system)
+pub whole_handed : (system : System) → IsWhole system → IsWhole (handed system)
 whole_handed system w =
-    whole_kernel system _ w (sound_completed system.kernel w.sound) (live_handed_out system.kernel w.live) (homes_stay _ _ (procs_handed_out system.kernel))
+    whole_kernel system _ w (sound_completed system.kernel w.sound w.live) (live_handed_out system.kernel w.sound w.live)
+    (homes_handed_out system.kernel w.sound w.live)
+
+-- the first of them is answered
+pub whole_first : (p : ℕ) (system : System) → IsWhole system → first_completed system.kernel.completed ≡ Some p → IsWhole (first_finished p system)
+whole_first p system w first =
+    let same = lives_handed_out system.kernel p ∙ completed_lives system.kernel p w.live first in
+    whole_finished (process_in system.kernel.procs p).seg p (handed system) (whole_handed system w) same
+
+pub whole_left : (now new : System) (p : ℕ) → IsWhole now → first_completed now.kernel.completed ≡ Some p → new ≡ first_finished p now → IsWhole new
+whole_left now new p w first is = subst IsWhole (sym is) (whole_first p now w first)
 
 whole_finishing : (ps : List ℕ) (system : System) → IsWhole system → system.kernel.completed ≡ ps → IsWhole (finishing ps system).system
 unfolding finishing
 whole_finishing [] system w e = w
 whole_finishing (p ∷ ps) system w e =
-    let living = completed_lives system.kernel p w.live (ap first_completed e) in
-    let same = ap (λ procs. lives procs p) (procs_handed_out system.kernel) ∙ living in
-    let first = whole_finished (process_in system.kernel.procs p).seg p (handed system) (whole_handed system w) same in
-    whole_finishing ps (first_finished p system) first (left_completed p ps system e)
+    whole_finishing ps (first_finished p system) (whole_first p system w (ap first_completed e)) (left_completed p ps system e)
 
 -- where they all were
 pub whole_answered : (system behind : System) → IsWhole system → behind ≡ (all_finished system).system → IsWhole behind
@@ -529,14 +586,12 @@ unfolding due_ended
 whole_due_ended [] system w = w
 whole_due_ended (p ∷ ps) system w = whole_due_ended ps (ended_if_due p system).system (whole_if_due p system w)
 
--- a process whose end is due lives, and the held calls that its end completes are of processes that live
+-- a process whose end is due lives, and all is whole behind its end
 pub due_lives : (kernel : Kernel) (p : ℕ) → is_due kernel p ≡ true → Lives kernel.procs p
 due_lives kernel p due = (and_parts (lives kernel.procs p) _ (and_parts (is_aborted kernel.procs p) _ due).0).0
 
-pub live_ended : (system behind : System) (p : ℕ) → IsWhole system → is_due system.kernel p ≡ true → behind ≡ ended p system → CompletedLive behind.kernel
-live_ended system behind p w due is =
-    let P : System → Type 0 = λ s. CompletedLive s.kernel in
-    subst P (sym is) (whole_ended p system w (due_lives system.kernel p due)).live
+pub whole_due_end : (system behind : System) (p : ℕ) → IsWhole system → is_due system.kernel p ≡ true → behind ≡ ended p system → IsWhole behind
+whole_due_end system behind p w due is = subst IsWhole (sym is) (whole_ended p system w (due_lives system.kernel p due))
 
 -- nobody is aborted where none of the slots has one who is
 

@@ -1,9 +1,9 @@
 -- What a step may write of memory, what a listed instruction changes, and what a call takes from memory.
-use Rattle.std.specs.Prelude.{◌≡◌, ℕ, ◌+◌, ◌<◌, ◌≤◌, ◌⊎◌, true, false, List, [], ◌∷◌, Bool, Option, Some, None, IsSome, ◌==◌, slice_index_or}
+use Rattle.std.specs.Prelude.{◌≡◌, ℕ, ◌+◌, ◌<◌, ◌≤◌, ◌⊎◌, true, false, List, [], ◌∷◌, Bool, Option, Some, None, IsSome, slice_index_or}
 use Rattle.std.specs.List.{list_any, range_with_len}
 use Rattle.z80_regs.specs.declared.regs.Regs.{Regs}
 use Rattle.z80_ext.specs.Instruction.{actions_of}
-use Rattle.mpm_base.specs.Calls.{Answer}
+use Rattle.mpm_base.specs.Calls.{Taken, Answer}
 use Rattle.mpm_base.specs.declared.call.Outcome.{Outcome}
 use Rattle.mpm_base.specs.declared.call.Outcome.TheVariants.{Done, Held, Retry, Ended}
 use Rattle.mpm_banks.specs.Memory.{Memory, byte_at, SameSegments}
@@ -13,19 +13,23 @@ use Rattle.mpm_procs.specs.Table.{Lives, process_in, call_of}
 use Rattle.mpm_kernel.specs.Waiting.{completion_reply}
 use Rattle.mpm_machine.specs.declared.system.System.{System}
 use Rattle.mpm_machine.specs.declared.gate.Gate.{Gate}
-use Rattle.mpm_machine.specs.declared.gate.Gate.TheVariants.{End, Call}
-use Rattle.mpm_machine.specs.Serving.{with_regs, asked, keeping, Served, served}
+use Rattle.mpm_machine.specs.declared.gate.Gate.TheVariants.{End, Call, Return}
+use Rattle.mpm_machine.specs.Serving.{with_regs, asked, keeping, Served, served, said_by, popped, reply_at_entry}
 use Rattle.mpm_machine.specs.Ending.{ended}
-use Rattle.mpm_machine.specs.Finishing.{all_finished}
+use Rattle.mpm_machine.specs.Finishing.{finished, handed, all_finished}
 use Rattle.mpm_machine.specs.Due.{is_due, ended_if_due, with_ends}
 use Rattle.mpm_machine.specs.Step.{instruction_at, gate_before, coming, begun_by, counted, dispatched}
 
+-- the reply that is placed where a call is done: for one that enters a resident procedure the gate that it pushes
+abbrev pub placed_reply : Answer → Taken → ℕ → ℕ → System → Answer
+placed_reply reply call p seg system = reply_at_entry reply call p (popped p seg (said_by call p seg system).system)
+
 -- a call that is done places its reply's bytes; another places none
-abbrev pub PlacesAt : Outcome → Answer → ℕ → ℕ → Type 0
-PlacesAt Done reply word at = IsPlacedAt reply word at
-PlacesAt Ended reply word at = ⊥
-PlacesAt Held reply word at = ⊥
-PlacesAt Retry reply word at = ⊥
+abbrev pub PlacesAt : Outcome → Answer → Taken → ℕ → ℕ → System → ℕ → Type 0
+PlacesAt Done reply call p seg system at = IsPlacedAt (placed_reply reply call p seg system) call.word at
+PlacesAt Ended reply call p seg system at = ⊥
+PlacesAt Held reply call p seg system at = ⊥
+PlacesAt Retry reply call p seg system at = ⊥
 
 -- a process of a segment writes there: the reply to its call is placed there, or its instruction writes there
 abbrev pub WritesAt : Option Gate → ℕ → ℕ → System → ℕ → Type 0
@@ -33,7 +37,8 @@ WritesAt (Some End) p seg system at = ⊥
 WritesAt (Some Call) p seg system at =
     let call = asked p seg system in
     let done = served call p (keeping p call system) in
-    PlacesAt done.outcome done.reply call.word at
+    PlacesAt done.outcome done.reply call p seg done.system at
+WritesAt (Some Return) p seg system at = ⊥
 WritesAt None p seg system at = list_any (writes_to at) (actions_of (instruction_at p seg system)) ≡ true
 
 -- no event comes in this step, and the process that runs lives in that segment, and writes at the address
@@ -43,24 +48,32 @@ pub record IsWritten (system : System) (seg at : ℕ) : Type 0 where
   pub runs : system.kernel.running ≡ Some who
   pub lives : Lives system.kernel.procs who
   pub home : (process_in system.kernel.procs who).seg ≡ Some seg
-  pub writes : WritesAt (gate_before who seg system) who seg system at
+  pub writes : WritesAt (gate_before who seg system) who seg (counted system) at
 
 -- the system behind what a step begins with, an event or what the running process does, as the held calls that were
 -- completed are to be answered
 abbrev pub behind_begun : System → System
 behind_begun system = let begun = counted system in (begun_by (coming begun) begun).system
 
--- the held call of a process that lives in that segment was completed, and its reply is placed at the address
-pub record Answers (system : System) (seg at : ℕ) : Type 0 where
-  pub who : ℕ
-  pub among : list_any (λ p. p == who) system.kernel.completed ≡ true
-  pub lives : Lives system.kernel.procs who
-  pub home : (process_in system.kernel.procs who).seg ≡ Some seg
-  pub places : IsPlacedAt (completion_reply system.kernel who) (call_of system.kernel.procs who).word at
+-- a process lives in that segment, and the reply to its call that is completed is placed at the address
+pub record Answers (p : ℕ) (system : System) (seg at : ℕ) : Type 0 where
+  pub lives : Lives system.kernel.procs p
+  pub home : (process_in system.kernel.procs p).seg ≡ Some seg
+  pub places : IsPlacedAt (reply_at_entry (completion_reply system.kernel p) (call_of system.kernel.procs p) p system) (call_of system.kernel.procs p).word at
+
+-- so does one of several, as they are handed out and answered one behind another
+unfoldable pub AnswersAmong : List ℕ → System → ℕ → ℕ → Type 0
+AnswersAmong [] system seg at = ⊥
+AnswersAmong (p ∷ ps) system seg at =
+    Answers p (handed system) seg at ⊎ AnswersAmong ps (finished (process_in system.kernel.procs p).seg p (handed system)).system seg at
+
+-- one of those whose held calls were completed
+abbrev pub AnswersOne : System → ℕ → ℕ → Type 0
+AnswersOne system seg at = AnswersAmong system.kernel.completed system seg at
 
 -- a process ends, as that is due, whose end completes such a call
 abbrev pub AnswersAtEnd : ℕ → System → ℕ → ℕ → Type 0
-AnswersAtEnd p system seg at = (is_due system.kernel p ≡ true) × Answers (ended p system) seg at
+AnswersAtEnd p system seg at = (is_due system.kernel p ≡ true) × AnswersOne (ended p system) seg at
 
 -- so does one of several, as their ends come
 unfoldable pub AnswersAtEnds : List ℕ → System → ℕ → ℕ → Type 0
@@ -70,7 +83,7 @@ AnswersAtEnds (p ∷ ps) system seg at = AnswersAtEnd p system seg at ⊎ Answer
 -- in this step such a call is completed, by what the step begins with or by an end that is due
 unfoldable pub IsAnswered : System → ℕ → ℕ → Type 0
 IsAnswered system seg at =
-    Answers (behind_begun system) seg at ⊎ AnswersAtEnds (range_with_len 0 32) (all_finished (behind_begun system)).system seg at
+    AnswersOne (behind_begun system) seg at ⊎ AnswersAtEnds (range_with_len 0 32) (all_finished (behind_begun system)).system seg at
 
 -- a byte of a segment stays unless a process that lives there writes it or has its call's reply placed there, and a byte of
 -- common memory, whoever reads it, unless some process does

@@ -1,6 +1,6 @@
 -- The end of a process.
 use Rattle.std.specs.Prelude.{ℕ}
-use Rattle.mpm_kernel.specs.Dispatch.{discharged}
+use Rattle.mpm_kernel.specs.Ending.{discharged}
 use Rattle.mpm_xdos.specs.Ending.{memory_without}
 use Rattle.mpm_machine.specs.declared.system.System.{System}
 

@@ -1,17 +1,18 @@
 -- Held calls that are completed, by another process's call or by an event: their replies are placed, in order. (MP/M II
--- Programmer's Guide, "Function 132: Flag Wait", "Function 141: Delay", "Function 131: Poll".)
+-- Programmer's Guide, "Function 132: Flag Wait", "Function 141: Delay", "Function 131: Poll", "Function 151: Call Resident
+-- System Procedure".)
 use Rattle.std.specs.Prelude.{ℕ, List, [], ◌∷◌, ◌++◌, Option, Some, None}
 use Rattle.mpm_procs.specs.Table.{process_in, call_of}
 use Rattle.mpm_kernel.specs.Events.{handed_out}
 use Rattle.mpm_kernel.specs.Waiting.{completion_reply}
 use Rattle.mpm_machine.specs.declared.system.System.{System}
 use Rattle.mpm_machine.specs.State.{Change, silent}
-use Rattle.mpm_machine.specs.Serving.{answering_call}
+use Rattle.mpm_machine.specs.Serving.{fulfilling}
 
--- the held call of a process is completed: its reply is placed in its segment, and its record follows
+-- the held call of a process is completed: it is fulfilled in its segment
 abbrev pub finished : Option ℕ → ℕ → System → Change
 finished None p system = silent system
-finished (Some seg) p system = answering_call (completion_reply system.kernel p) (call_of system.kernel.procs p) p seg system
+finished (Some seg) p system = fulfilling (completion_reply system.kernel p) (call_of system.kernel.procs p) p seg system
 
 -- the next process is handed out
 abbrev pub handed : System → System

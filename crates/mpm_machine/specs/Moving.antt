@@ -1,5 +1,5 @@
 -- Instructions of one process, one behind another, as long as nothing else may come between them.
-use Rattle.std.specs.Prelude.{◌≡◌, ℕ, zero, suc, ◌+◌, ◌<◌, false, [], Option, Some, None, IsSome}
+use Rattle.std.specs.Prelude.{◌≡◌, ℕ, zero, suc, ◌+◌, ◌<◌, Bool, false, [], Option, Some, None, IsSome}
 use Rattle.z80_regs.specs.declared.regs.Regs.{Regs}
 use Rattle.z80_regs.specs.Outcome.{Outcome}
 use Rattle.z80_ext.specs.Instruction.{instruction, registers_after, actions_of}
@@ -13,7 +13,7 @@ use Rattle.mpm_procs.specs.Table.{process_in}
 use Rattle.mpm_kernel.specs.Kernel.{ready}
 use Rattle.mpm_machine.specs.declared.system.System.{System}
 use Rattle.mpm_machine.specs.State.{NobodyAborted}
-use Rattle.mpm_machine.specs.Gates.{gate_of}
+use Rattle.mpm_machine.specs.Gates.{is_inside, gate_of}
 use Rattle.mpm_machine.specs.Interrupts.{due}
 use Rattle.mpm_machine.specs.Serving.{with_regs}
 
@@ -42,15 +42,15 @@ unfoldable pub moves : ℕ → ℕ → View → View
 moves zero seg view = view
 moves (suc n) seg view = moved seg (moves n seg view)
 
--- a listed instruction stands there, and no gate
-pub record CanMove (seg : ℕ) (view : View) : Type 0 where
-  pub no_gate : gate_of view.memory seg view.regs.pc ≡ None
+-- a listed instruction stands there, and no gate for a process that is in a resident procedure or isn't
+pub record CanMove (inside : Bool) (seg : ℕ) (view : View) : Type 0 where
+  pub no_gate : gate_of inside view.memory seg view.regs.pc ≡ None
   pub listed : IsSome (instruction_in seg view)
 
 -- n instructions, each of which could be done
-pub record Moves (n seg : ℕ) (old new : View) : Type 0 where
+pub record Moves (inside : Bool) (n seg : ℕ) (old new : View) : Type 0 where
   pub is : new ≡ moves n seg old
-  pub each : (k : ℕ) → k < n → CanMove seg (moves k seg old)
+  pub each : (k : ℕ) → k < n → CanMove inside seg (moves k seg old)
 
 -- what a process of a system sees
 abbrev pub view_of : System → ℕ → View
@@ -82,5 +82,5 @@ pub record RunsOn (system : System) (p seg : ℕ) : Type 0 where
 -- a system ran n instructions of a process
 pub record Moved (n p seg : ℕ) (old new : System) : Type 0 where
   pub view : View
-  pub moves : Moves n seg (view_of old p) view
+  pub moves : Moves (is_inside old.kernel.procs p) n seg (view_of old p) view
   pub is : new ≡ with_view old p view n

@@ -1,5 +1,6 @@
 -- The gate step of a kernel call: what it reads is taken, it is done, and its reply is placed. (MP/M II Programmer's Guide,
--- "BDOS Calling Conventions"; functions 128 to 130, memory segments; 144, create process; 157, abort specified process.)
+-- "BDOS Calling Conventions"; functions 128 to 130, memory segments; 144, create process; 151, call resident system
+-- procedure; 157, abort specified process.)
 use Rattle.std.specs.Prelude.{ℕ, ◌%◌, ◌≤◌, length, Bool, true, false, not, List, [], ◌∷◌, ◌++◌, Option, Some, None, ◌==◌, ◌&&◌, ◌||◌, slice_index, slice_index_or, if◌then◌else◌}
 use Rattle.z80_regs.specs.declared.regs.Regs.{Regs}
 use Rattle.z80_regs.specs.Words.{word_of}
@@ -19,6 +20,7 @@ use Rattle.mpm_kernel.specs.Calls.{called, refusal}
 use Rattle.mpm_kernel.specs.Columns.{expanded, tab_text}
 use Rattle.mpm_xdos.specs.Creating.{home_base, created, create_answer}
 use Rattle.mpm_xdos.specs.Aborting.{waits_to_end, target, behind_abort, memory_behind_abort}
+use Rattle.mpm_xdos.specs.Procedures.{entered, entry_reply, left}
 use Rattle.mpm_render.specs.Outputs.{Output, Completed}
 use Rattle.mpm_machine.specs.declared.system.System.{System}
 use Rattle.mpm_machine.specs.State.{Change, silent, speaking}
@@ -179,12 +181,34 @@ answering_call reply call p seg system =
     let behind = replied reply call p seg system in
     record { system = behind; news = completion call p behind ∷ [] }
 
+-- a call 151 got its message, since it is refused by FFFFh alone: its process enters the resident procedure
+abbrev pub is_entry : Taken → Answer → Bool
+is_entry call reply = call.function == 151 && reply.hl == 0
+
+unfoldable pub with_entry : Answer → Taken → ℕ → System → System
+with_entry reply call p system =
+    record system { kernel = if is_entry call reply then entered p system.kernel else system.kernel }
+
+-- and the reply that is placed is the gate that it pushes
+unfoldable pub reply_at_entry : Answer → Taken → ℕ → System → Answer
+reply_at_entry reply call p system =
+    if is_entry call reply then entry_reply system.memory (process_in system.kernel.procs p) else reply
+
+-- a call is fulfilled, whose return address was taken: at once, or later where it was held
+unfoldable pub fulfilling : Answer → Taken → ℕ → ℕ → System → Change
+fulfilling reply call p seg system =
+    answering_call (reply_at_entry reply call p system) call p seg (with_entry reply call p system)
+
 -- a call that is done: its text, its reply behind the return address, its record
 unfoldable pub completing : Answer → Taken → ℕ → ℕ → System → Change
 completing reply call p seg system =
     let spoke = said_by call p seg system in
-    let behind = answering_call reply call p seg (popped p seg spoke.system) in
+    let behind = fulfilling reply call p seg (popped p seg spoke.system) in
     record { system = behind.system; news = behind.news ++ spoke.news }
+
+-- a process leaves the resident procedure that it is in
+unfoldable pub returning : ℕ → System → System
+returning p system = record system { kernel = left p system.kernel }
 
 -- what a served call brings about: the return address is taken as it is done or held, and one that is to be tried again stays
 -- at the gate

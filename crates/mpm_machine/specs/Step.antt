@@ -13,13 +13,13 @@ use Rattle.mpm_kernel.specs.Events.{happened}
 use Rattle.mpm_render.specs.Lines.{hex_word}
 use Rattle.mpm_render.specs.Outputs.{rendered}
 use Rattle.mpm_render.specs.Shown.{EndsBetween}
-use Rattle.mpm_machine.specs.Gates.{gate_of}
+use Rattle.mpm_machine.specs.Gates.{is_inside, gate_of}
 use Rattle.mpm_machine.specs.declared.gate.Gate.{Gate}
-use Rattle.mpm_machine.specs.declared.gate.Gate.TheVariants.{End, Call}
+use Rattle.mpm_machine.specs.declared.gate.Gate.TheVariants.{End, Call, Return}
 use Rattle.mpm_machine.specs.declared.system.System.{System}
 use Rattle.mpm_machine.specs.State.{State, Change, silent, speaking}
 use Rattle.mpm_machine.specs.Ending.{ended}
-use Rattle.mpm_machine.specs.Serving.{with_regs, gate_step}
+use Rattle.mpm_machine.specs.Serving.{with_regs, gate_step, returning}
 use Rattle.mpm_machine.specs.Due.{settled}
 use Rattle.mpm_machine.specs.Interrupts.{due, behind_due}
 
@@ -53,15 +53,17 @@ abbrev pub instruction_at : ℕ → ℕ → System → Option Outcome
 instruction_at p seg system =
     instruction (process_in system.kernel.procs p).regs (byte_at system.memory seg) (port_byte system.kernel.devices)
 
--- what a process of a segment does: at its gates it ends, or calls the kernel; elsewhere an instruction stands
+-- what a process of a segment does: at its gates it ends, calls the kernel, or leaves its resident procedure; elsewhere an
+-- instruction stands
 abbrev pub acted_at : Option Gate → ℕ → ℕ → System → Change
 acted_at (Some End) p seg system = silent (ended p system)
 acted_at (Some Call) p seg system = gate_step p seg system
+acted_at (Some Return) p seg system = silent (returning p system)
 acted_at None p seg system = instructed (instruction_at p seg system) p seg system
 
 -- the gate at which a process of a segment stands
 abbrev pub gate_before : ℕ → ℕ → System → Option Gate
-gate_before p seg system = gate_of system.memory seg (process_in system.kernel.procs p).regs.pc
+gate_before p seg system = gate_of (is_inside system.kernel.procs p) system.memory seg (process_in system.kernel.procs p).regs.pc
 
 -- what the running process does, in its segment
 abbrev pub acted_by : Option ℕ → Option ℕ → System → Change

@@ -21,7 +21,7 @@ const ALLOCATED: u8 = 0x80;
 impl System {
     ghost use Rattle.mpm_banks.specs.Allocations.{released, is_reserved};
     ghost use Rattle.mpm_machine.specs.State.{IsWhole, IsHome};
-    ghost use Rattle.mpm_machine.specs.Serving.{asked, keeping, IsTaken, served, reserving, releasing, creating, calling, base_asked, said_by, popped, replied, answering_call, completing, completion, outcome_of, gate_step};
+    ghost use Rattle.mpm_machine.specs.Serving.{asked, keeping, IsTaken, served, reserving, releasing, creating, calling, base_asked, said_by, popped, replied, answering_call, fulfilling, completing, completion, outcome_of, gate_step};
     ghost use Rattle.mpm_machine.specs.Ending.{ended};
 
     /// The gate step of a kernel call of a process of a segment.
@@ -54,15 +54,15 @@ impl System {
         outcome: Outcome,
         p: Pid,
         seg: Seg,
-        reply: &Reply,
+        reply: &mut Reply,
         render: &mut Render,
         sink: &mut S,
     ) -> Result<(), Failed>
         requires whole { IsWhole self.old }
         requires lives { Lives self.old.kernel.procs p }
-        ensures system { OnOk result (self.new ≡ (outcome_of outcome reply.now (call_of self.old.kernel.procs p) p seg self.old).system) }
-        ensures ok { OnOk result (Showed render.old (S.written sink.old) render.new (S.written sink.new) (outcome_of outcome reply.now (call_of self.old.kernel.procs p) p seg self.old).news) }
-        ensures err { OnErr result (Stopped render.old (S.written sink.old) (S.written sink.new) (outcome_of outcome reply.now (call_of self.old.kernel.procs p) p seg self.old).news) }
+        ensures system { OnOk result (self.new ≡ (outcome_of outcome reply.old (call_of self.old.kernel.procs p) p seg self.old).system) }
+        ensures ok { OnOk result (Showed render.old (S.written sink.old) render.new (S.written sink.new) (outcome_of outcome reply.old (call_of self.old.kernel.procs p) p seg self.old).news) }
+        ensures err { OnErr result (Stopped render.old (S.written sink.old) (S.written sink.new) (outcome_of outcome reply.old (call_of self.old.kernel.procs p) p seg self.old).news) }
         ensures cause { HasCause (S.faults sink.old) (S.faults sink.new) result }
         ensures trace { render.new.trace ≡ render.old.trace }
     {
@@ -185,27 +185,50 @@ impl System {
         &mut self,
         p: Pid,
         seg: Seg,
-        reply: &Reply,
+        reply: &mut Reply,
         render: &mut Render,
         sink: &mut S,
     ) -> Result<(), Failed>
         requires whole { IsWhole self.old }
         requires lives { Lives self.old.kernel.procs p }
-        ensures system { OnOk result (self.new ≡ (completing reply.now (call_of self.old.kernel.procs p) p seg self.old).system) }
-        ensures ok { OnOk result (Showed render.old (S.written sink.old) render.new (S.written sink.new) (completing reply.now (call_of self.old.kernel.procs p) p seg self.old).news) }
-        ensures err { OnErr result (Stopped render.old (S.written sink.old) (S.written sink.new) (completing reply.now (call_of self.old.kernel.procs p) p seg self.old).news) }
+        ensures system { OnOk result (self.new ≡ (completing reply.old (call_of self.old.kernel.procs p) p seg self.old).system) }
+        ensures ok { OnOk result (Showed render.old (S.written sink.old) render.new (S.written sink.new) (completing reply.old (call_of self.old.kernel.procs p) p seg self.old).news) }
+        ensures err { OnErr result (Stopped render.old (S.written sink.old) (S.written sink.new) (completing reply.old (call_of self.old.kernel.procs p) p seg self.old).news) }
         ensures cause { HasCause (S.faults sink.old) (S.faults sink.new) result }
         ensures trace { render.new.trace ≡ render.old.trace }
     {
         self.speak(p, seg, render, sink)?;
         self.pop(p, seg);
+        self.fulfil(p, seg, reply, render, sink)
+    }
+
+    /// The call that a process keeps, whose return address was taken, is fulfilled: where it is a call 151 that got its
+    /// message, the process enters the resident procedure; the reply is placed, and its record is written.
+    #[tactic(auto, unfolding(crate::specs::Serving::fulfilling))]
+    pub fn fulfil<S: Sink>(
+        &mut self,
+        p: Pid,
+        seg: Seg,
+        reply: &mut Reply,
+        render: &mut Render,
+        sink: &mut S,
+    ) -> Result<(), Failed>
+        requires whole { IsWhole self.old }
+        requires lives { Lives self.old.kernel.procs p }
+        ensures system { OnOk result (self.new ≡ (fulfilling reply.old (call_of self.old.kernel.procs p) p seg self.old).system) }
+        ensures ok { OnOk result (Showed render.old (S.written sink.old) render.new (S.written sink.new) (fulfilling reply.old (call_of self.old.kernel.procs p) p seg self.old).news) }
+        ensures err { OnErr result (Stopped render.old (S.written sink.old) (S.written sink.new) (fulfilling reply.old (call_of self.old.kernel.procs p) p seg self.old).news) }
+        ensures cause { HasCause (S.faults sink.old) (S.faults sink.new) result }
+        ensures trace { render.new.trace ≡ render.old.trace }
+    {
+        self.enter(p, reply);
         self.answer(p, seg, reply, render, sink)
     }
 
     /// The reply to the call that a process keeps is placed, and its record is written.
     #[inline(always)]
     #[tactic(auto, unfolding(crate::specs::Serving::answering_call))]
-    pub fn answer<S: Sink>(
+    fn answer<S: Sink>(
         &mut self,
         p: Pid,
         seg: Seg,

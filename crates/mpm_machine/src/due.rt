@@ -76,7 +76,7 @@ impl System {
     }
 
     /// A process ends, where that is due, and the held calls that its end completes are answered.
-    #[tactic(auto, using(crate::proofs::WholeLaws::live_ended), unfolding(crate::specs::Due::ended_if_due))]
+    #[tactic(auto, using(crate::proofs::WholeLaws::whole_due_end), unfolding(crate::specs::Due::ended_if_due))]
     fn end_if_due<S: Sink>(
         &mut self,
         p: Pid,

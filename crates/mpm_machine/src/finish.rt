@@ -9,10 +9,10 @@ use mpm_render::Render;
 
 impl System {
     ghost use Rattle.mpm_procs.specs.Table.{Lives, process_in};
-    ghost use Rattle.mpm_kernel.specs.Kernel.{CompletedLive};
     ghost use Rattle.std.specs.Prelude.{IfSome, IfNone};
     ghost use Rattle.mpm_kernel.specs.Waiting.{completion_reply};
     ghost use Rattle.mpm_kernel.specs.Events.{first_completed};
+    ghost use Rattle.mpm_machine.specs.State.{IsWhole};
     ghost use Rattle.mpm_machine.specs.Finishing.{finished, handed, all_finished};
 
     /// The held calls that were completed are answered, in order: each reply is placed, and its record follows.
@@ -22,7 +22,7 @@ impl System {
         render: &mut Render,
         sink: &mut S,
     ) -> Result<(), Failed>
-        requires live { CompletedLive self.old.kernel }
+        requires whole { IsWhole self.old }
         ensures system { OnOk result (self.new ≡ (all_finished self.old).system) }
         ensures ok { OnOk result (Showed render.old (S.written sink.old) render.new (S.written sink.new) (all_finished self.old).news) }
         ensures err { OnErr result (Stopped render.old (S.written sink.old) (S.written sink.new) (all_finished self.old).news) }
@@ -38,11 +38,12 @@ impl System {
     }
 
     /// Hands out the next process whose held call was completed, with its reply.
-    #[tactic(auto, using(crate::proofs::FinishLaws::handed_nobody, crate::proofs::FinishLaws::handed_lives, crate::proofs::FinishLaws::handed_reply))]
+    #[tactic(auto, using(crate::proofs::WholeLaws::whole_handed, crate::proofs::FinishLaws::handed_nobody, crate::proofs::FinishLaws::handed_lives, crate::proofs::FinishLaws::handed_reply))]
     fn next_completed(&mut self, reply: &mut Reply) -> Option<Pid>
-        requires { CompletedLive self.old.kernel }
+        requires { IsWhole self.old }
         ensures process { result ≡ first_completed self.old.kernel.completed }
         ensures system { self.new ≡ handed self.old }
+        ensures whole { IsWhole self.new }
         ensures nothing { IfNone result (self.new ≡ self.old) }
         ensures lives { IfSome result (λ p. Lives self.new.kernel.procs p) }
         ensures reply { IfSome result (λ p. reply.new ≡ completion_reply self.new.kernel p) }
@@ -50,16 +51,17 @@ impl System {
         self.kernel.completed(reply)
     }
 
-    /// The held call of a process is completed.
+    /// The held call of a process is completed, with its reply.
     fn finish<S: Sink>(
         &mut self,
         p: Pid,
-        reply: &Reply,
+        reply: &mut Reply,
         render: &mut Render,
         sink: &mut S,
     ) -> Result<(), Failed>
+        requires whole { IsWhole self.old }
         requires lives { Lives self.old.kernel.procs p }
-        requires reply { reply.now ≡ completion_reply self.old.kernel p }
+        requires reply { reply.old ≡ completion_reply self.old.kernel p }
         ensures system { OnOk result (self.new ≡ (finished (process_in self.old.kernel.procs p).seg p self.old).system) }
         ensures ok { OnOk result (Showed render.old (S.written sink.old) render.new (S.written sink.new) (finished (process_in self.old.kernel.procs p).seg p self.old).news) }
         ensures err { OnErr result (Stopped render.old (S.written sink.old) (S.written sink.new) (finished (process_in self.old.kernel.procs p).seg p self.old).news) }
@@ -67,7 +69,7 @@ impl System {
         ensures trace { render.new.trace ≡ render.old.trace }
     {
         match self.kernel.segment(p) {
-            Some(seg) => self.answer(p, seg, reply, render, sink),
+            Some(seg) => self.fulfil(p, seg, reply, render, sink),
             None => Ok(()),
         }
     }

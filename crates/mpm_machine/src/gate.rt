@@ -11,6 +11,8 @@ pub(crate) enum Gate {
     End,
     /// Calls the kernel.
     Call,
+    /// Ends the resident procedure that its process is in; for others it is no gate.
+    Return,
 }
 
 /// The place in the last page of the gate that ends the process.
@@ -18,6 +20,9 @@ const END: u8 = 0x03;
 
 /// The place of the gate that calls the kernel.
 const CALL: u8 = 0x06;
+
+/// The place of the gate that ends a resident procedure.
+const RETURN: u8 = 0x09;
 
 /// The last page of a segment, in which its gates are.
 pub(crate) fn page_of_gates(banks: &Banks, seg: Seg) -> u8
@@ -28,25 +33,27 @@ pub(crate) fn page_of_gates(banks: &Banks, seg: Seg) -> u8
     spec.base + spec.pages - 1
 }
 
-/// The gate at an address, if any.
+/// The gate at an address, if any, for a process that is in a resident procedure (`inside`) or in none.
 #[tactic(auto, unfolding(crate::specs::Gates::gate_in))]
-pub(crate) fn gate_at(page: u8, address: u16) -> Option<Gate>
-    ensures { result ≡ gate_in page address }
+pub(crate) fn gate_at(inside: bool, page: u8, address: u16) -> Option<Gate>
+    ensures { result ≡ gate_in inside page address }
 {
     if address == u16::from_le_bytes([END, page]) {
         Some(Gate::End)
     } else if address == u16::from_le_bytes([CALL, page]) {
         Some(Gate::Call)
+    } else if inside && address == u16::from_le_bytes([RETURN, page]) {
+        Some(Gate::Return)
     } else {
         None
     }
 }
 
-/// Whether there is a gate at an address.
+/// Whether there is a gate at an address, for a process that is in a resident procedure (`inside`) or in none.
 #[inline]
 #[tactic(auto, unfolding(crate::specs::Gates::gate_in))]
-pub(crate) fn is_gate(page: u8, address: u16) -> bool
-    ensures { result ≡ is_some (gate_in page address) }
+pub(crate) fn is_gate(inside: bool, page: u8, address: u16) -> bool
+    ensures { result ≡ is_some (gate_in inside page address) }
 {
     let [place, high] = address.to_le_bytes();
     if high != page {
@@ -54,6 +61,7 @@ pub(crate) fn is_gate(page: u8, address: u16) -> bool
     }
     match place {
         END | CALL => true,
+        RETURN => inside,
         _ => false,
     }
 }

@@ -79,10 +79,12 @@ fn advance(regs: &mut Regs, banks: &mut Banks, seg: Seg, devices: &mut Devices) 
     }
 }
 
-/// Instructions of a process of a segment, at most so many, up to a gate or an unlisted opcode. Answers how many were done.
+/// Instructions of a process of a segment, which is in a resident procedure (`inside`) or in none, at most so many, up to a
+/// gate or an unlisted opcode. Answers how many were done.
 /// All instructions are done here, in code of its own, so that what each one needs stays at hand.
 #[inline(never)]
 pub(crate) fn run_instructions(
+    inside: bool,
     regs: &mut Regs,
     banks: &mut Banks,
     seg: Seg,
@@ -91,13 +93,13 @@ pub(crate) fn run_instructions(
 ) -> u64
     requires { IsHome banks.old seg }
     ensures count { result ≤ most }
-    ensures moved { Moves result seg (record { regs = regs.old; memory = banks.old; devices = devices.old })
+    ensures moved { Moves inside result seg (record { regs = regs.old; memory = banks.old; devices = devices.old })
         (record { regs = regs.new; memory = banks.new; devices = devices.new }) }
-    ensures stopped { result < most → CanMove seg (record { regs = regs.new; memory = banks.new; devices = devices.new }) → ⊥ }
+    ensures stopped { result < most → CanMove inside seg (record { regs = regs.new; memory = banks.new; devices = devices.new }) → ⊥ }
 {
     let page = page_of_gates(banks, seg);
     for done in 0..most {
-        if is_gate(page, regs.pc) {
+        if is_gate(inside, page, regs.pc) {
             return done;
         }
         match advance(regs, banks, seg, devices) {
@@ -110,15 +112,21 @@ pub(crate) fn run_instructions(
 
 /// One instruction of a process of a segment that stands at no gate, with these registers. False comes exactly where no
 /// listed one stands there, and then nothing changes.
-pub(crate) fn execute(regs: &mut Regs, banks: &mut Banks, seg: Seg, devices: &mut Devices) -> bool
+pub(crate) fn execute(
+    inside: bool,
+    regs: &mut Regs,
+    banks: &mut Banks,
+    seg: Seg,
+    devices: &mut Devices,
+) -> bool
     requires home { IsHome banks.old seg }
-    requires gate { gate_of banks.old seg regs.old.pc ≡ None }
+    requires gate { gate_of inside banks.old seg regs.old.pc ≡ None }
     ensures listed { result ≡ is_some (instruction regs.old (byte_at banks.old seg) (port_byte devices.old)) }
     ensures registers { regs.new ≡ registers_after (instruction regs.old (byte_at banks.old seg) (port_byte devices.old)) regs.old }
     ensures memory { banks.new ≡ memory_after (actions_of (instruction regs.old (byte_at banks.old seg) (port_byte devices.old))) seg banks.old }
     ensures devices { devices.new ≡ devices_after (actions_of (instruction regs.old (byte_at banks.old seg) (port_byte devices.old))) devices.old }
 {
-    run_instructions(regs, banks, seg, devices, 1) == 1
+    run_instructions(inside, regs, banks, seg, devices, 1) == 1
 }
 
 /// `Illegal instruction at`, the address in four digits, CR, LF.

@@ -11,6 +11,7 @@ mod instruction;
 mod interrupts;
 mod machine;
 mod opening;
+mod procedures;
 #[cfg(test)]
 mod scenes;
 mod schedule;

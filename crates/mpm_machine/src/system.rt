@@ -1,4 +1,4 @@
-ghost use Rattle.std.specs.Prelude.{◌≡◌, ◌↔◌, ◌<◌, ◌≤◌, ◌+◌, ℕ, List, [], Option, Some, None, is_some, IfSome, IfOk, OnOk, OnErr};
+ghost use Rattle.std.specs.Prelude.{◌≡◌, ◌↔◌, ◌<◌, ◌≤◌, ◌+◌, ℕ, true, List, [], Option, Some, None, is_some, IfSome, IfOk, OnOk, OnErr};
 ghost use Rattle.mpm_port.specs.Causes.{HasCause};
 ghost use Rattle.mpm_procs.specs.Table.{Lives, process_in};
 ghost use Rattle.mpm_kernel.specs.Kernel.{IsReady};
@@ -28,13 +28,14 @@ pub(crate) struct System {
 }
 
 impl System {
-    ghost use Rattle.mpm_machine.specs.Gates.{gate_of};
+    ghost use Rattle.mpm_machine.specs.Gates.{is_inside, gate_of};
     ghost use Rattle.mpm_machine.specs.State.{State, StandsFor, IsWhole, IsHome};
     ghost use Rattle.mpm_ready.specs.Order.{first_of};
     ghost use Rattle.mpm_ready.specs.Tables.{list_at};
     ghost use Rattle.mpm_kernel.specs.Kernel.{ready};
     ghost use Rattle.mpm_machine.specs.Moving.{Moved};
     ghost use Rattle.mpm_machine.specs.Interrupts.{due};
+    ghost use Rattle.mpm_machine.specs.declared.gate.Gate.TheVariants.{Return};
     ghost use Rattle.mpm_machine.specs.Step.{acted, acted_at, at_instruction, gate_before, is_no_gate, coming, begun_by, instruction_unless, step_of, instruction_at, ran, instructed, illegal, after};
 
     /// Instructions of the running process, at most so many, each of which is a step: up to a gate or an unlisted opcode, and
@@ -91,9 +92,10 @@ impl System {
         ensures count { result ≤ most }
         ensures moved { Moved result p seg self.old self.new }
     {
+        let inside = self.is_inside(p);
         let mut devices = *self.kernel.devices_mut();
         let regs = self.kernel.regs_mut(p);
-        let done = run_instructions(regs, &mut self.memory, seg, &mut devices, most);
+        let done = run_instructions(inside, regs, &mut self.memory, seg, &mut devices, most);
         *self.kernel.devices_mut() = devices;
         self.steps += done;
         done
@@ -204,6 +206,10 @@ impl System {
                 self.call(p, seg, reply, render, sink)?;
                 Ok(false)
             }
+            Some(Gate::Return) => {
+                self.leave_procedure(p);
+                Ok(false)
+            }
             None => {
                 self.execute(p, seg, render, sink)?;
                 Ok(true)
@@ -212,12 +218,15 @@ impl System {
     }
 
     /// The gate at which a process of a segment stands, if any.
+    #[tactic(auto, using(crate::proofs::GateLaws::returns_inside))]
     fn gate(&self, p: Pid, seg: Seg) -> Option<Gate>
         requires lives { Lives self.now.kernel.procs p }
         requires home { IsHome self.now.memory seg }
-        ensures { result ≡ gate_of self.now.memory seg (process_in self.now.kernel.procs p).regs.pc }
+        ensures gate { result ≡ gate_before p seg self.now }
+        ensures inside { result ≡ Some Return → is_inside self.now.kernel.procs p ≡ true }
     {
-        gate_at(page_of_gates(&self.memory, seg), self.kernel.regs(p).pc)
+        let page = page_of_gates(&self.memory, seg);
+        gate_at(self.is_inside(p), page, self.kernel.regs(p).pc)
     }
 
     /// One instruction of a process of a segment, which is at no gate.
@@ -255,8 +264,10 @@ impl System {
         ensures listed { result ≡ is_some (instruction_at p seg self.old) }
         ensures system { self.new ≡ ran (instruction_at p seg self.old) p seg self.old }
     {
+        let inside = self.is_inside(p);
         let mut regs = *self.kernel.regs(p);
-        let listed = execute(&mut regs, &mut self.memory, seg, self.kernel.devices_mut());
+        let devices = self.kernel.devices_mut();
+        let listed = execute(inside, &mut regs, &mut self.memory, seg, devices);
         *self.kernel.regs_mut(p) = regs;
         listed
     }

@@ -325,15 +325,24 @@ impl Queues {
     {
         let _ = &self.alive;
         for q in 0..QUEUES {
-            if self.holds(p, q) {
+            if self.is_holder(p, q) {
                 return Some(q as u8);
             }
         }
         None
     }
 
+    /// Whether the process holds the message of the queue of that number. (MP/M II Programmer's Guide, "Mutual Exclusion
+    /// Queues".)
+    pub fn holds(&self, p: Pid, q: u8) -> bool
+        requires { q < 32 }
+        ensures { result ≡ holds self.now p q }
+    {
+        self.is_holder(p, usize::from(q))
+    }
+
     /// Whether the process holds the queue's message.
-    fn holds(&self, p: Pid, q: usize) -> bool
+    fn is_holder(&self, p: Pid, q: usize) -> bool
         requires { q < 32 }
         ensures { result ≡ holds self.now p q }
     {

@@ -3,3 +3,4 @@ pub mod Homes
 pub mod CreatedLaws
 pub mod Beginning
 pub mod TargetLaws
+pub mod AbortLaws

@@ -8,7 +8,7 @@ use Rattle.mpm_procs.specs.declared.process.Process.{Process}
 use Rattle.mpm_queues.specs.Queues.{lowest, held}
 use Rattle.mpm_kernel.specs.Kernel.{Kernel, with_changed}
 use Rattle.mpm_kernel.specs.Called.{byte_in, word_at}
-use Rattle.mpm_kernel.specs.Dispatch.{discharged}
+use Rattle.mpm_kernel.specs.Ending.{discharged}
 use Rattle.mpm_banks.specs.Memory.{Memory}
 use Rattle.mpm_xdos.specs.Ending.{memory_without}
 

@@ -6,7 +6,7 @@ use Rattle.mpm_banks.specs.Memory.{Memory}
 use Rattle.mpm_banks.specs.Allocations.{all_released, vacated}
 use Rattle.mpm_procs.specs.Table.{Table, lives, process_in}
 use Rattle.mpm_kernel.specs.Kernel.{Kernel}
-use Rattle.mpm_kernel.specs.Dispatch.{discharged}
+use Rattle.mpm_kernel.specs.Ending.{discharged}
 
 -- it is that segment
 abbrev pub is_segment : ℕ → Option ℕ → Bool

@@ -1,3 +1,4 @@
 pub mod Ending
 pub mod Creating
 pub mod Aborting
+pub mod Procedures

@@ -1,6 +1,7 @@
 ghost use Rattle.std.specs.Prelude.{◌≡◌, ◌&&◌, ℕ, Some, IfSome};
 ghost use Rattle.mpm_banks.specs.Memory.{HasSegment};
 ghost use Rattle.mpm_procs.specs.Table.{Lives, lives, process_in};
+ghost use Rattle.mpm_kernel.specs.Kernel.{IsSound};
 ghost use Rattle.mpm_xdos.specs.Aborting.{name_in, copy_address as address_of_copy, has_name as has_name_of, is_described as is_described_by, described as described_by, target as target_of, behind_abort, memory_behind_abort};
 
 use crate::ending::end;
@@ -33,6 +34,7 @@ pub fn target(kernel: &Kernel, p: Pid) -> Option<Pid>
 /// Specified Process".)
 #[tactic(auto, unfolding(crate::specs::Aborting::behind_abort, crate::specs::Aborting::memory_behind_abort))]
 pub fn abort(kernel: &mut Kernel, banks: &mut Banks, p: Pid, in_service: bool)
+    requires sound { IsSound kernel.old }
     requires lives { Lives kernel.old.procs p }
     requires segment { (seg : ℕ) → (process_in kernel.old.procs p).seg ≡ Some seg → HasSegment banks.old seg }
     ensures kernel { kernel.new ≡ behind_abort kernel.old p in_service }

@@ -1,17 +1,19 @@
 ghost use Rattle.std.specs.Prelude.{◌≡◌, ◌&&◌, ℕ, Some};
 ghost use Rattle.mpm_banks.specs.Memory.{HasSegment};
 ghost use Rattle.mpm_procs.specs.Table.{Lives, lives, process_in};
-ghost use Rattle.mpm_kernel.specs.Dispatch.{discharged};
+ghost use Rattle.mpm_kernel.specs.Kernel.{IsSound};
+ghost use Rattle.mpm_kernel.specs.Ending.{discharged};
 ghost use Rattle.mpm_xdos.specs.Ending.{memory_without, left_by, is_home as is_home_in, lives_in as lives_in_segment};
 
 use mpm_banks::Banks;
 use mpm_base::{Pid, Seg};
 use mpm_kernel::Kernel;
 
-/// Ends a living process: it is taken out of the kernel, and gives back the segments that it reserved, and its own where
+/// Ends a living process: it is taken out of the kernel, to which its messages go back, and gives back the segments that it reserved, and its own where
 /// nobody else lives there.
 #[tactic(auto, using(mpm_banks::proofs::SegmentLaws::count_all_released, crate::proofs::Homes::left_by_none), unfolding(crate::specs::Ending::memory_without))]
 pub fn end(kernel: &mut Kernel, banks: &mut Banks, p: Pid)
+    requires sound { IsSound kernel.old }
     requires lives { Lives kernel.old.procs p }
     requires segment { (seg : ℕ) → (process_in kernel.old.procs p).seg ≡ Some seg → HasSegment banks.old seg }
     ensures kernel { kernel.new ≡ discharged kernel.old p }

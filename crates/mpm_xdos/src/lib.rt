@@ -1,13 +1,15 @@
-//! Making and ending processes.
+//! Making and ending processes, and the resident procedures that they enter.
 #![tactic(auto)]
 
 mod aborting;
 mod creating;
 mod ending;
+mod procedures;
 
 pub use aborting::{abort, target};
 pub use creating::create;
 pub use ending::end;
+pub use procedures::{enter_procedure, leave_procedure};
 
 #[cfg(test)]
 mod tests;

@@ -10,6 +10,8 @@ use mpm_procs::{NewProcess, Process};
 use std::alloc::{AllocError, Global};
 use std::test::Fail;
 
+mod procedures;
+
 /// Memory with two segments of sixteen pages.
 fn memory(alloc: Global) -> Result<Banks, AllocError> {
     let low = SegmentSpec {
@@ -95,7 +97,11 @@ fn process(kernel: &Kernel, p: Pid) -> Result<&Process, Fail> {
 }
 
 /// Ends the process of a number, which lives in the first segment.
-fn finish(kernel: &mut Kernel, banks: &mut Banks, p: Pid) {
+#[tactic(auto, using(mpm_kernel::proofs::EndingLaws::sound_discharged))]
+fn finish(kernel: &mut Kernel, banks: &mut Banks, p: Pid)
+    requires { IsSound kernel.old }
+    ensures { IsSound kernel.new }
+{
     if 1 <= banks.segments() && kernel.lives(p) && kernel.segment(p) == Some(Seg(0)) {
         end(kernel, banks, p);
     }
@@ -206,7 +212,9 @@ fn begin(kernel: &mut Kernel, new: NewProcess)
 
 /// A kernel of two consoles in which there are, from slot 0 on, the parent, a program on each console, a resident and a program
 /// of its name and console.
-fn five_processes(alloc: Global) -> Result<Kernel, AllocError> {
+fn five_processes(alloc: Global) -> Result<Kernel, AllocError>
+    ensures { IfOk result (λ kernel. IsSound kernel) }
+{
     let mut kernel = kernel(alloc)?;
     begin(&mut kernel, named(b"PROGRAM ", 0, Some(Seg(0))));
     begin(&mut kernel, named(b"PROGRAM ", 1, Some(Seg(0))));
@@ -260,7 +268,11 @@ fn a_resident_is_not_aborted(rt: HostRuntime) -> Result<(), Fail> {
 }
 
 /// Aborts the process of a number, which lives in the first segment; answers whether it lives on.
-fn lives_behind_abort(kernel: &mut Kernel, banks: &mut Banks, p: Pid, in_service: bool) -> bool {
+#[tactic(auto, using(crate::proofs::AbortLaws::sound_aborted))]
+fn lives_behind_abort(kernel: &mut Kernel, banks: &mut Banks, p: Pid, in_service: bool) -> bool
+    requires { IsSound kernel.old }
+    ensures { IsSound kernel.new }
+{
     if 1 <= banks.segments() && kernel.lives(p) && kernel.segment(p) == Some(Seg(0)) {
         abort(kernel, banks, p, in_service);
     }

@@ -4,7 +4,7 @@ ghost use Rattle.mpm_kernel.specs.Kernel.{IsSound};
 use super::*;
 
 /// Where the block of a call stands.
-const BLOCK: u16 = 0x0200;
+pub(crate) const BLOCK: u16 = 0x0200;
 
 /// A queue control block: a name, the length of a message, how many messages there are.
 fn control_block(name: [u8; 8], message_length: u16, count: u16) -> [u8; 14] {
@@ -30,13 +30,13 @@ fn control_block(name: [u8; 8], message_length: u16, count: u16) -> [u8; 14] {
 }
 
 /// A user queue control block with its message: a pointer, the message's address 0300h, a name, a byte.
-fn user_block(pointer: u8, name: [u8; 8], byte: u8) -> [u8; 13] {
+pub(crate) fn user_block(pointer: u8, name: [u8; 8], byte: u8) -> [u8; 13] {
     let [a, b, c, d, e, f, g, h] = name;
     [pointer, 0, 0x00, 0x03, a, b, c, d, e, f, g, h, byte]
 }
 
 /// The process that runs makes a queue.
-fn make(
+pub(crate) fn make(
     kernel: &mut Kernel,
     name: [u8; 8],
     message_length: u16,
@@ -63,18 +63,18 @@ fn delete(kernel: &mut Kernel, name: [u8; 8]) -> Option<(Outcome, u16)>
 
 /// What a reply says and where it places bytes, with the first of these.
 #[derive(Clone, Copy, Debug, PartialEq, Eq)]
-struct Placed {
-    hl: u16,
-    at: u16,
-    byte: u8,
+pub(crate) struct Placed {
+    pub(crate) hl: u16,
+    pub(crate) at: u16,
+    pub(crate) byte: u8,
 }
 
-fn answered(hl: u16, at: u16, byte: u8) -> Placed {
+pub(crate) fn answered(hl: u16, at: u16, byte: u8) -> Placed {
     Placed { hl, at, byte }
 }
 
 /// A reply, 0 as its first byte where it places none.
-fn placed_by(reply: &Reply) -> Placed {
+pub(crate) fn placed_by(reply: &Reply) -> Placed {
     let byte = match reply.placed() {
         [byte, ..] => *byte,
         [] => 0,
@@ -93,7 +93,7 @@ fn open(kernel: &mut Kernel, name: [u8; 8]) -> Placed
 }
 
 /// The process that runs reads or writes a byte by a pointer: the outcome and the value.
-fn pass(kernel: &mut Kernel, function: u8, pointer: u8, byte: u8) -> Option<(Outcome, u16)>
+pub(crate) fn pass(kernel: &mut Kernel, function: u8, pointer: u8, byte: u8) -> Option<(Outcome, u16)>
     requires { IsSound kernel.old }
     ensures { IsSound kernel.new }
 {

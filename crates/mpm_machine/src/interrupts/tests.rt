@@ -84,3 +84,21 @@ fn a_clock_of_sixty_ticks_a_second_is_told(rt: HostRuntime) -> Result<(), Fail> 
     assert_eq!(rt; (regs.h, regs.l), (0, 1));
     Ok(())
 }
+
+#[test]
+fn a_message_comes_into_the_memory_of_who_waits_for_it(rt: HostRuntime) -> Result<(), Fail> {
+    let scene = Scene {
+        tick_every: 0,
+        script: b"",
+        // Function 134 with the block at 4115h, for one message of two bytes; function 137 with that at 4123h, which names
+        // 412Fh; LD A,(4130h); JR to itself; the blocks.
+        first: b"\x0E\x86\x11\x15\x41\xCD\x05\x40\x0E\x89\x11\x23\x41\xCD\x05\x40\x3A\x30\x41\x18\xFE\0\0QUEUE   \x02\0\x01\0\x01\0\x2F\x41QUEUE   ",
+        // Function 139 with the block at 410Fh, which names 411Bh; function 142; JR to itself; the block; the message.
+        second: b"\x0E\x8B\x11\x0F\x41\xCD\x05\x40\x0E\x8E\xCD\x05\x40\x18\xFE\x01\0\x1B\x41QUEUE   \x55\x66",
+    };
+    let text =
+        b"t 5 0 134 00 0086 4115 0000\nt 15 1 139 00 008B 410F 0000\nt 15 0 137 00 0089 4123 0000\nt 19 1 142 00 008E 410F 0000\n";
+    let reader = regs_after(&rt, &scene, 20, 0, text)?;
+    assert_eq!(rt; (reader.a, reader.pc), (0x66, 0x4113));
+    Ok(())
+}

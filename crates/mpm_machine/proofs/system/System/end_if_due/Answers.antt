@@ -1,8 +1,8 @@
 use Rattle.std.proofs.Common.{◌∙◌, sym}
-use Rattle.mpm_machine.proofs.WholeLaws.{live_ended}
+use Rattle.mpm_machine.proofs.WholeLaws.{whole_due_end}
 use Rattle.mpm_machine.proofs.system.System.end_if_due.Goals as goal
 
 pub finish_all-requires : goal.finish_all-requires
 finish_all-requires g c = record {
-  live = live_ended c.args.self.now c.end.new.self c.args.p c.requires.whole (sym c.is_due.ensures ∙ c.if-is_due.true) c.end.ensures;
+  whole = whole_due_end c.args.self.now c.end.new.self c.args.p c.requires.whole (sym c.is_due.ensures ∙ c.if-is_due.true) c.end.ensures;
 }

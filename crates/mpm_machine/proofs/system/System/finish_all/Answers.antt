@@ -1,7 +1,8 @@
 use Rattle.std.proofs.Common.{◌∙◌, List, sym, subst}
 use Rattle.mpm_render.specs.Outputs.{Output}
 use Rattle.mpm_machine.specs.Writing.{Showed, Stopped}
-use Rattle.mpm_machine.proofs.FinishLaws.{completed_none, finished_more, finished_system, finished_shown, finished_stopped, finished_first, news_first, fewer_left, live_left}
+use Rattle.mpm_machine.proofs.FinishLaws.{completed_none, finished_more, finished_system, finished_shown, finished_stopped, finished_first, news_first, fewer_left}
+use Rattle.mpm_machine.proofs.WholeLaws.{whole_left}
 use Rattle.mpm_machine.proofs.system.System.finish_all.Goals as goal
 
 pub returns-in-Err-clause-err : goal.returns-in-Err-clause-err
@@ -30,7 +31,7 @@ loop-p-preserved g c =
           c.loop-p.render (g.S.Sink.written c.loop-p.sink) c.finish.new.render (g.S.Sink.written c.finish.new.sink)
           c.loop-p.invariant.so (sym c.in-Some.ensures.process) is
           (subst P (news_first now next c.in-Some.p c.in-Some.ensures.system) c.in_default-finish.ensures.ok) c.in_default-finish.ensures.trace;
-      live = live_left now c.finish.new.self c.in-Some.p c.loop-p.invariant.live is;
+      whole = whole_left now c.finish.new.self c.in-Some.p c.loop-p.invariant.whole (sym c.in-Some.ensures.process) is;
       faults = c.in_default-finish.ensures.cause.stays ∙ c.loop-p.invariant.faults;
     }
 

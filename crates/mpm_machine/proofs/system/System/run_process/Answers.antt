@@ -1,5 +1,5 @@
-use Rattle.std.proofs.Common.{refl}
-use Rattle.mpm_machine.specs.Moving.{View, with_view, view_of}
+use Rattle.std.proofs.Common.{Bool, refl, subst}
+use Rattle.mpm_machine.specs.Moving.{View, Moves, with_view, view_of}
 use Rattle.mpm_machine.proofs.MovingLaws.{view_is, moves_from}
 use Rattle.mpm_machine.proofs.system.System.run_process.Goals as goal
 
@@ -7,9 +7,11 @@ pub returns-clause-moved : goal.returns-clause-moved
 unfolding with_view
 returns-clause-moved c =
     let new : View = record { regs = c.run_instructions-done.new.regs; memory = c.run_instructions-done.new.banks; devices = c.run_instructions-done.new.devices } in
+    let P : Bool → Type 0 = λ inside. Moves inside c.run_instructions-done.result c.args.seg (view_of c.args.self.now c.args.p) new in
     record {
       view = new;
-      moves = moves_from c.run_instructions-done.result c.args.seg (view_of c.args.self.now c.args.p) _ new c.run_instructions-done.ensures.moved
-          (view_is _ (view_of c.args.self.now c.args.p) c.regs_mut-regs.ensures.value refl c.devices_mut.ensures.value);
+      moves = subst P c.is_inside-inside.ensures
+          (moves_from c.is_inside-inside.result c.run_instructions-done.result c.args.seg (view_of c.args.self.now c.args.p) _ new c.run_instructions-done.ensures.moved
+          (view_is _ (view_of c.args.self.now c.args.p) c.regs_mut-regs.ensures.value refl c.devices_mut.ensures.value));
       is = refl;
     }

@@ -1,0 +1,406 @@
+-- What stays so as a process ends: all that it gives back while it still lives and waits for nothing, and then its end.
+use Rattle.std.proofs.Common.{◌≡◌, ◌≢◌, ◌∙◌, ℕ, suc, ◌+◌, ◌<◌, ◌≤◌, Bool, true, false, List, [], ◌∷◌, ◌++◌, length, Option, Some, None, if◌then◌else◌, inl, inr, refl, sym, ap, subst, arith, get_or-set_other}
+use Rattle.std.specs.List.{AllByRecursion, range_with_len}
+use Rattle.std.proofs.lemmas.Bool.{cases_eq}
+use Rattle.std.proofs.lemmas.List.{length-append}
+use Rattle.mpm_base.specs.Calls.{no_call}
+use Rattle.mpm_ready.specs.Tables.{list_of}
+use Rattle.mpm_ready.proofs.TableLaws.{table_removed, list_of_removed, list_of_removed_other}
+use Rattle.mpm_clock.specs.Times.{left}
+use Rattle.mpm_clock.proofs.DelayLaws.{delays_left_own, delays_left_other}
+use Rattle.mpm_procs.specs.Table.{Table, lives, Lives, process_in, call_of, with_process, without}
+use Rattle.mpm_procs.specs.declared.process.Process.{Process}
+use Rattle.mpm_procs.proofs.MapLaws.{lives_below, lives_changed, lives_without, lives_without_other, process_without_other, slots_without}
+use Rattle.mpm_queues.specs.Queue.{is_full}
+use Rattle.mpm_queues.specs.Queues.{Queues, IsMade, is_made, queue_in, holds, waits}
+use Rattle.mpm_queues.specs.Handling.{left as unqueued, first_reader, written_by, procs_behind_write, write_outcome, ended}
+use Rattle.mpm_queues.proofs.SoundLaws.{sound_left, reader_waits}
+use Rattle.mpm_queues.proofs.WaitLaws.{waits_left, waits_left_other, waits_one, write_ends_waiter, holds_made}
+use Rattle.mpm_kernel.specs.Kernel.{Kernel, ready, in_lists, places, IsReady, IsFit, IsSound, CompletedLive}
+use Rattle.mpm_kernel.specs.Dispatch.{moved}
+use Rattle.mpm_kernel.specs.Called.{valued}
+use Rattle.mpm_kernel.specs.Queueing.{with_other, given_to}
+use Rattle.mpm_kernel.specs.Procedures.{writing, outside, given_back_to, given_back}
+use Rattle.mpm_kernel.specs.Ending.{dropped_out, returned, all_returned, relieved, vacated, discharged, Leaves}
+use Rattle.mpm_kernel.proofs.PlaceLaws.{in_none, not_equal, list_moved_other, flags_left_own, flags_left_other, length_left}
+use Rattle.mpm_kernel.proofs.Soundness.{dead_and_alive, listed_once, runs_other, sound_ready, sound_with_completed, MayBeReady}
+use Rattle.mpm_kernel.proofs.Staying.{all_and_one}
+use Rattle.mpm_kernel.proofs.QueueingLaws.{sound_given, write_waits, may_by_write, lives_written}
+use Rattle.mpm_kernel.proofs.HomeLaws.{SameHomes, homes_stay, homes_both, homes_vacated, kept_told, procs_with_other}
+use Rattle.mpm_kernel.proofs.ProcedureLaws.{sound_outside, lives_outside, nobody_outside, homes_given, homes_given_back}
+
+-- a process stands nowhere any more, and the others where they stood
+dropped_nowhere : (p : ℕ) (kernel : Kernel) → places (dropped_out p kernel) p ≡ 0
+unfolding dropped_out left
+dropped_nowhere p kernel =
+    omega (arith, in_none _ (list_of_removed kernel.lists p), flags_left_own kernel.flags p, delays_left_own kernel.clock.delays p, waits_left kernel.queues p)
+
+dropped_elsewhere : (p q : ℕ) (kernel : Kernel) → IsSound kernel → q ≢ p → places (dropped_out p kernel) q ≡ places kernel q
+unfolding dropped_out left
+dropped_elsewhere p q kernel s other =
+    let same = list_of_removed_other kernel.lists p q s.table (not_equal p q (λ e. other (sym e))) in
+    omega (arith, ap in_lists same, flags_left_other kernel.flags p q other, delays_left_other kernel.clock.delays p q other, waits_left_other kernel.queues p q s.queues other)
+
+made_left : (t : Queues) (p q : ℕ) → IsMade t q → IsMade (unqueued t p) q
+unfolding unqueued
+made_left t p q is = is
+
+procs_dropped : (p : ℕ) (kernel : Kernel) → (dropped_out p kernel).procs ≡ kernel.procs
+unfolding dropped_out
+procs_dropped p kernel = refl
+
+pub sound_dropped : (p : ℕ) (kernel : Kernel) → IsSound kernel → Lives kernel.procs p → IsSound (dropped_out p kernel)
+unfolding dropped_out
+sound_dropped p kernel s h = record {
+  some = s.some;
+  few = s.few;
+  columns = s.columns;
+  slots = s.slots;
+  table = table_removed kernel.lists p s.table;
+  fit = s.fit;
+  flags = length_left kernel.flags p ∙ s.flags;
+  queues = sound_left kernel.queues p s.queues;
+  system = λ q below. made_left kernel.queues p q (s.system q below);
+  once = λ q. elim (cases_eq q p) [
+    | inl same ↦ omega (arith, ap (places (dropped_out p kernel)) same, dropped_nowhere p kernel)
+    | inr other ↦ omega (arith, s.once q, dropped_elsewhere p q kernel s other)
+  ];
+  live = λ q some. elim (cases_eq q p) [
+    | inl same ↦ ap (lives kernel.procs) same ∙ h
+    | inr other ↦ s.live q (omega (arith, some, dropped_elsewhere p q kernel s other))
+  ];
+  runs = λ q e.
+      let other : q ≢ p = (runs_other p q kernel.running e).0 in
+      list_of_removed_other kernel.lists p q s.table (not_equal p q (λ e. other (sym e)))
+      ∙ s.runs q (runs_other p q kernel.running e).1;
+}
+
+pub lives_dropped : (p q : ℕ) (kernel : Kernel) → Lives kernel.procs q → Lives (dropped_out p kernel).procs q
+unfolding dropped_out
+lives_dropped p q kernel h = h
+
+-- what it has goes back
+places_outside : (p q : ℕ) (kernel : Kernel) → places (outside p kernel) q ≡ places kernel q
+unfolding outside
+places_outside p q kernel = refl
+
+leaves_outside : (p : ℕ) (kernel : Kernel) → IsSound kernel → Lives kernel.procs p → places kernel p ≡ 0 → Leaves p (outside p kernel)
+leaves_outside p kernel s h none =
+    let P : List ℕ → Type 0 = λ ps. AllByRecursion (λ q. Lives (outside p kernel).procs q × (q ≢ p)) ps in
+    record {
+      sound = sound_outside p kernel s h;
+      lives = lives_outside p p kernel h;
+      nowhere = places_outside p p kernel ∙ none;
+      others = subst P (sym (nobody_outside p kernel)) tt;
+    }
+
+-- the held call of another one is completed
+leaves_other : (other : Option ℕ) (p : ℕ) (kernel : Kernel) → Leaves p kernel → ((r : ℕ) → other ≡ Some r → MayBeReady kernel r × (r ≢ p))
+    → Leaves p (with_other other kernel)
+unfolding with_other moved
+leaves_other None p kernel l may = l
+leaves_other (Some r) p kernel l may =
+    let one = may r refl in
+    let below : r < 32 = lives_below kernel.procs r l.sound.slots one.0.0 in
+    let apart : p ≢ r = λ same. one.1 (sym same) in
+    record {
+      sound = sound_with_completed (moved kernel ready r) (kernel.completed ++ r ∷ []) (sound_ready kernel r l.sound one.0.0 one.0.1);
+      lives = l.lives;
+      nowhere = omega (arith, ap in_lists (list_moved_other kernel.lists ready r (process_in kernel.procs r).priority p l.sound.table (omega arith) below apart), l.nowhere);
+      others = all_and_one (λ q. Lives kernel.procs q × (q ≢ p)) kernel.completed r l.others (one.0.0, one.1);
+    }
+
+others_kept : (old new : Table) (p : ℕ) (ps : List ℕ) → ((q : ℕ) → lives new q ≡ lives old q) → AllByRecursion (λ q. Lives old q × (q ≢ p)) ps
+    → AllByRecursion (λ q. Lives new q × (q ≢ p)) ps
+others_kept old new p [] same all = tt
+others_kept old new p (q ∷ ps) same all = ((same q ∙ all.0.0, all.0.1), others_kept old new p ps same all.1)
+
+leaves_written : (p q : ℕ) (kernel : Kernel) → Leaves p kernel → IsMade kernel.queues q → Leaves p (given_to kernel p q)
+leaves_written p q kernel l is =
+    let t = kernel.queues in
+    record {
+      sound = sound_given kernel p q l.sound is;
+      lives = lives_written t p q kernel.procs p ∙ l.lives;
+      nowhere = omega (arith, l.nowhere, write_waits t p q kernel.procs p l.sound.queues);
+      others = others_kept kernel.procs (procs_behind_write t p q kernel.procs) p kernel.completed (λ k. lives_written t p q kernel.procs k) l.others;
+    }
+
+-- who waits to read from a queue is another one
+waiter_apart : (p q r : ℕ) (kernel : Kernel) → Leaves p kernel → ended (write_outcome kernel.queues q) ≡ Some r → r ≢ p
+waiter_apart p q r kernel l first = λ same.
+    let t = kernel.queues in
+    omega (arith, waits_one t q r l.sound.queues (write_ends_waiter t q r first), ap (waits t) same, l.nowhere)
+
+leaves_if : (b : Bool) (p : ℕ) (new old : Kernel) → (b ≡ true → Leaves p new) → Leaves p old → Leaves p (if b then new else old)
+leaves_if true p new old is was = is refl
+leaves_if false p new old is was = was
+
+leaves_given : (queue : Option ℕ) (p : ℕ) (kernel : Kernel) → Leaves p kernel → Leaves p (given_back_to queue p kernel)
+unfolding given_back_to
+leaves_given None p kernel l = l
+leaves_given (Some q) p kernel l =
+    leaves_if (is_made kernel.queues q) p _ kernel
+    (λ is. leaves_other (ended (write_outcome kernel.queues q)) p (given_to kernel p q) (leaves_written p q kernel l is)
+    (λ r first. (may_by_write kernel p q r l.sound first, waiter_apart p q r kernel l first)))
+    l
+
+pub leaves_given_back : (p : ℕ) (kernel : Kernel) → IsSound kernel → Lives kernel.procs p → Leaves p (given_back p (dropped_out p kernel))
+unfolding given_back
+leaves_given_back p kernel s h =
+    let gone = dropped_out p kernel in
+    leaves_given (process_in gone.procs p).procedure p (outside p gone)
+    (leaves_outside p gone (sound_dropped p kernel s h) (lives_dropped p p kernel h) (dropped_nowhere p kernel))
+
+pub held_made : (p q : ℕ) (kernel : Kernel) → Leaves p kernel → holds kernel.queues p q ≡ true → IsMade kernel.queues q
+held_made p q kernel l held = holds_made kernel.queues p q l.sound.queues held
+
+pub leaves_returned : (p q : ℕ) (kernel : Kernel) → Leaves p kernel → Leaves p (returned p q kernel)
+unfolding returned
+leaves_returned p q kernel l = leaves_if (holds kernel.queues p q) p _ kernel (λ _. leaves_given (Some q) p kernel l) l
+
+pub leaves_all_returned : (qs : List ℕ) (p : ℕ) (kernel : Kernel) → Leaves p kernel → Leaves p (all_returned qs p kernel)
+unfolding all_returned
+leaves_all_returned [] p kernel l = l
+leaves_all_returned (q ∷ qs) p kernel l = leaves_all_returned qs p (returned p q kernel) (leaves_returned p q kernel l)
+
+pub leaves_relieved : (p : ℕ) (kernel : Kernel) → IsSound kernel → Lives kernel.procs p → Leaves p (relieved p kernel)
+unfolding relieved
+leaves_relieved p kernel s h = leaves_all_returned (range_with_len 0 32) p _ (leaves_given_back p kernel s h)
+
+-- how many calls are completed by that
+few_other : (other : Option ℕ) (kernel : Kernel) → length (with_other other kernel).completed ≤ length kernel.completed + 1
+unfolding with_other moved
+few_other None kernel = omega arith
+few_other (Some p) kernel = omega (arith, length-append kernel.completed (p ∷ []))
+
+few_if : (b : Bool) (new old : Kernel) → length new.completed ≤ length old.completed + 1 → length (if b then new else old).completed ≤ length old.completed + 1
+few_if true new old few = few
+few_if false new old few = omega arith
+
+few_given : (queue : Option ℕ) (p : ℕ) (kernel : Kernel) → length (given_back_to queue p kernel).completed ≤ length kernel.completed + 1
+unfolding given_back_to
+few_given None p kernel = omega arith
+few_given (Some q) p kernel =
+    few_if (is_made kernel.queues q) _ kernel (few_other (ended (write_outcome kernel.queues q)) (given_to kernel p q))
+
+pub few_given_back : (p : ℕ) (kernel : Kernel) → length (given_back p kernel).completed ≤ 1
+unfolding given_back
+few_given_back p kernel =
+    omega (arith, few_given (process_in kernel.procs p).procedure p (outside p kernel), ap (λ (ps : List ℕ). length ps) (nobody_outside p kernel))
+
+few_returned : (p q : ℕ) (kernel : Kernel) → length (returned p q kernel).completed ≤ length kernel.completed + 1
+unfolding returned
+few_returned p q kernel = few_if (holds kernel.queues p q) _ kernel (few_given (Some q) p kernel)
+
+-- the queues so far: what is left of all
+pub record ReturnedSo (p : ℕ) (start now : Kernel) (q : ℕ) : Type 0 where
+  pub kernel : (rest : ℕ) → q + rest ≡ 32 → all_returned (range_with_len 0 32) p start ≡ all_returned (range_with_len q rest) p now
+  pub leaves : Leaves p now
+  pub few : length now.completed ≤ 1 + q
+
+all_of : (rest : ℕ) → 0 + rest ≡ 32 → 32 ≡ rest
+all_of rest all = omega (arith, all)
+
+pub returned_nothing : (p : ℕ) (start : Kernel) → Leaves p start → length start.completed ≤ 1 → ReturnedSo p start start 0
+returned_nothing p start l few = record {
+  kernel = λ rest all. ap (λ (n : ℕ). all_returned (range_with_len 0 n) p start) (all_of rest all);
+  leaves = l;
+  few = omega (arith, few);
+}
+
+one_returned : (q : ℕ) (qs : List ℕ) (p : ℕ) (kernel : Kernel) → all_returned (q ∷ qs) p kernel ≡ all_returned qs p (returned p q kernel)
+unfolding all_returned
+one_returned q qs p kernel = refl
+
+pub returned_more : (p : ℕ) (start now next : Kernel) (q : ℕ) → ReturnedSo p start now q → next ≡ returned p q now → ReturnedSo p start next (q + 1)
+returned_more p start now next q so is = record {
+  kernel = λ rest all.
+      so.kernel (suc rest) (omega (arith, all)) ∙ one_returned q (range_with_len (q + 1) rest) p now
+      ∙ ap (λ (kernel : Kernel). all_returned (range_with_len (q + 1) rest) p kernel) (sym is);
+  leaves = subst (Leaves p) (sym is) (leaves_returned p q now so.leaves);
+  few = omega (arith, ap (λ (kernel : Kernel). length kernel.completed) is, few_returned p q now, so.few);
+}
+
+none_returned : (p : ℕ) (kernel : Kernel) → all_returned [] p kernel ≡ kernel
+unfolding all_returned
+none_returned p kernel = refl
+
+pub returned_all : (p : ℕ) (start now : Kernel) (q : ℕ) → 32 ≡ q → ReturnedSo p start now q → now ≡ all_returned (range_with_len 0 32) p start
+returned_all p start now q end so =
+    let all : q + 0 ≡ 32 = omega arith in
+    sym (so.kernel 0 all ∙ none_returned p now)
+
+-- the slot is free
+sound_vacated : (p : ℕ) (kernel : Kernel) → Leaves p kernel → IsSound (vacated p kernel)
+sound_vacated p kernel l =
+    let s = l.sound in
+    let below : p < 32 = lives_below kernel.procs p s.slots l.lives in
+    record {
+      some = s.some;
+      few = s.few;
+      columns = s.columns;
+      slots = slots_without kernel.procs p s.slots;
+      table = s.table;
+      fit = λ q living. elim (cases_eq q p) [
+        | inl same ↦ absurd (dead_and_alive _ (ap (lives (without kernel.procs p)) same ∙ lives_without kernel.procs p (omega (arith, s.slots.alive))) living)
+        | inr other ↦
+            let P : Process → Type 0 = λ x. IsFit kernel.consoles x in
+            subst P (sym (process_without_other kernel.procs p q other)) (s.fit q (sym (lives_without_other kernel.procs p q other) ∙ living))
+      ];
+      flags = s.flags;
+      queues = s.queues;
+      system = s.system;
+      once = s.once;
+      live = λ q some. elim (cases_eq q p) [
+        | inl same ↦ absurd (omega (arith, ap (places kernel) same, l.nowhere))
+        | inr other ↦ lives_without_other kernel.procs p q other ∙ s.live q some
+      ];
+      runs = s.runs;
+    }
+
+others_live : (p : ℕ) (ps : List ℕ) (procs : Table) → AllByRecursion (λ q. Lives procs q × (q ≢ p)) ps → AllByRecursion (λ q. Lives (without procs p) q) ps
+others_live p [] procs all = tt
+others_live p (q ∷ ps) procs all = (lives_without_other procs p q all.0.1 ∙ all.0.0, others_live p ps procs all.1)
+
+-- a process ends
+pub sound_discharged : (kernel : Kernel) (p : ℕ) → IsSound kernel → Lives kernel.procs p → IsSound (discharged kernel p)
+unfolding discharged
+sound_discharged kernel p s h = sound_vacated p (relieved p kernel) (leaves_relieved p kernel s h)
+
+pub live_discharged : (kernel : Kernel) (p : ℕ) → IsSound kernel → Lives kernel.procs p → CompletedLive (discharged kernel p)
+unfolding discharged
+live_discharged kernel p s h =
+    let behind = relieved p kernel in others_live p behind.completed behind.procs (leaves_relieved p kernel s h).others
+
+-- who lives lives where somebody did
+homes_if : (b : Bool) (old new : Kernel) → SameHomes old new → SameHomes old (if b then new else old)
+homes_if true old new is = is
+homes_if false old new is = homes_stay old old refl
+
+homes_returned : (p q : ℕ) (kernel : Kernel) → SameHomes kernel (returned p q kernel)
+unfolding returned
+homes_returned p q kernel = homes_if (holds kernel.queues p q) kernel _ (homes_given (Some q) p kernel)
+
+homes_all_returned : (qs : List ℕ) (p : ℕ) (kernel : Kernel) → SameHomes kernel (all_returned qs p kernel)
+unfolding all_returned
+homes_all_returned [] p kernel = homes_stay kernel kernel refl
+homes_all_returned (q ∷ qs) p kernel = homes_both kernel (returned p q kernel) _ (homes_returned p q kernel) (homes_all_returned qs p (returned p q kernel))
+
+homes_relieved : (p : ℕ) (kernel : Kernel) → IsSound kernel → Lives kernel.procs p → SameHomes kernel (relieved p kernel)
+unfolding relieved
+homes_relieved p kernel s h =
+    let gone = dropped_out p kernel in
+    homes_both kernel gone _ (homes_stay kernel gone (procs_dropped p kernel))
+    (homes_both gone (given_back p gone) _ (homes_given_back p gone (sound_dropped p kernel s h) (lives_dropped p p kernel h))
+    (homes_all_returned (range_with_len 0 32) p (given_back p gone)))
+
+pub homes_discharged : (kernel : Kernel) (p : ℕ) → IsSound kernel → Lives kernel.procs p → SameHomes kernel (discharged kernel p)
+unfolding discharged
+homes_discharged kernel p s h =
+    let behind = relieved p kernel in
+    let leaves = leaves_relieved p kernel s h in
+    homes_both kernel behind _ (homes_relieved p kernel s h) (homes_vacated behind p leaves.sound.slots leaves.lives)
+
+-- who doesn't end lives on, and keeps its call where it waits at no queue
+record Keeps (q : ℕ) (old new : Kernel) : Type 0 where
+  pub lives : lives new.procs q ≡ lives old.procs q
+  pub call : waits old.queues q ≡ 0 → call_of new.procs q ≡ call_of old.procs q
+  pub waits : waits old.queues q ≡ 0 → waits new.queues q ≡ 0
+
+keeps_both : (q : ℕ) (old middle new : Kernel) → Keeps q old middle → Keeps q middle new → Keeps q old new
+keeps_both q old middle new first second = record {
+  lives = second.lives ∙ first.lives;
+  call = λ none. second.call (first.waits none) ∙ first.call none;
+  waits = λ none. second.waits (first.waits none);
+}
+
+keeps_same : (q : ℕ) (old new : Kernel) → new.procs ≡ old.procs → (waits old.queues q ≡ 0 → waits new.queues q ≡ 0) → Keeps q old new
+keeps_same q old new same none = record { lives = ap (λ procs. lives procs q) same; call = λ _. ap (λ procs. call_of procs q) same; waits = none }
+
+keeps_if : (b : Bool) (q : ℕ) (old new : Kernel) → (b ≡ true → Keeps q old new) → Keeps q old (if b then new else old)
+keeps_if true q old new is = is refl
+keeps_if false q old new is = keeps_same q old old refl (λ none. none)
+
+keeps_dropped : (p q : ℕ) (kernel : Kernel) → IsSound kernel → q ≢ p → Keeps q kernel (dropped_out p kernel)
+unfolding dropped_out
+keeps_dropped p q kernel s other = keeps_same q kernel (dropped_out p kernel) refl (λ none. waits_left_other kernel.queues p q s.queues other ∙ none)
+
+keeps_outside : (p q : ℕ) (kernel : Kernel) → q ≢ p → Keeps q kernel (outside p kernel)
+unfolding outside with_process Rattle.mpm_procs.specs.Table.with_call
+keeps_outside p q kernel other = record {
+  lives = refl;
+  call = λ none. get_or-set_other kernel.procs.calls p q (writing (process_in kernel.procs p).kept) no_call other;
+  waits = λ none. none;
+}
+
+pub queues_with_other : (other : Option ℕ) (kernel : Kernel) → (with_other other kernel).queues ≡ kernel.queues
+unfolding with_other moved
+queues_with_other None kernel = refl
+queues_with_other (Some p) kernel = refl
+
+keeps_written : (p q k : ℕ) (kernel : Kernel) → IsSound kernel → Keeps k kernel (with_other (ended (write_outcome kernel.queues q)) (given_to kernel p q))
+unfolding procs_behind_write
+keeps_written p q k kernel s =
+    let t = kernel.queues in
+    let other = ended (write_outcome t q) in
+    let behind = with_other other (given_to kernel p q) in
+    let kept = kept_told (is_full (queue_in t q)) (first_reader t q) (written_by t q kernel.procs p) kernel (valued 0 behind) (procs_with_other other (given_to kernel p q))
+    (λ r first. waits_one t q r s.queues (reader_waits t q r first)) in
+    record {
+      lives = ap (λ procs. lives procs k) (procs_with_other other (given_to kernel p q)) ∙ lives_written t p q kernel.procs k;
+      call = λ none. kept.call k none;
+      waits = λ none. omega (arith, none, ap (λ queues. waits queues k) (queues_with_other other (given_to kernel p q)), write_waits t p q kernel.procs k s.queues);
+    }
+
+keeps_given : (queue : Option ℕ) (p k : ℕ) (kernel : Kernel) → IsSound kernel → Keeps k kernel (given_back_to queue p kernel)
+unfolding given_back_to
+keeps_given None p k kernel s = keeps_same k kernel kernel refl (λ none. none)
+keeps_given (Some q) p k kernel s = keeps_if (is_made kernel.queues q) k kernel _ (λ _. keeps_written p q k kernel s)
+
+keeps_given_back : (p k : ℕ) (kernel : Kernel) → IsSound kernel → Lives kernel.procs p → k ≢ p → Keeps k kernel (given_back p kernel)
+unfolding given_back
+keeps_given_back p k kernel s h other =
+    keeps_both k kernel (outside p kernel) _ (keeps_outside p k kernel other)
+    (keeps_given (process_in kernel.procs p).procedure p k (outside p kernel) (sound_outside p kernel s h))
+
+keeps_returned : (p q k : ℕ) (kernel : Kernel) → IsSound kernel → Keeps k kernel (returned p q kernel)
+unfolding returned
+keeps_returned p q k kernel s = keeps_if (holds kernel.queues p q) k kernel _ (λ _. keeps_given (Some q) p k kernel s)
+
+keeps_all_returned : (qs : List ℕ) (p k : ℕ) (kernel : Kernel) → Leaves p kernel → Keeps k kernel (all_returned qs p kernel)
+unfolding all_returned
+keeps_all_returned [] p k kernel l = keeps_same k kernel kernel refl (λ none. none)
+keeps_all_returned (q ∷ qs) p k kernel l =
+    keeps_both k kernel (returned p q kernel) _ (keeps_returned p q k kernel l.sound)
+    (keeps_all_returned qs p k (returned p q kernel) (leaves_returned p q kernel l))
+
+keeps_relieved : (p k : ℕ) (kernel : Kernel) → IsSound kernel → Lives kernel.procs p → k ≢ p → Keeps k kernel (relieved p kernel)
+unfolding relieved
+keeps_relieved p k kernel s h other =
+    let gone = dropped_out p kernel in
+    keeps_both k kernel gone _ (keeps_dropped p k kernel s other)
+    (keeps_both k gone (given_back p gone) _ (keeps_given_back p k gone (sound_dropped p kernel s h) (lives_dropped p p kernel h) other)
+    (keeps_all_returned (range_with_len 0 32) p k (given_back p gone) (leaves_given_back p kernel s h)))
+
+pub lives_discharged : (kernel : Kernel) (p q : ℕ) → IsSound kernel → Lives kernel.procs p → q ≢ p → lives (discharged kernel p).procs q ≡ lives kernel.procs q
+unfolding discharged
+lives_discharged kernel p q s h other = lives_without_other (relieved p kernel).procs p q other ∙ (keeps_relieved p q kernel s h other).lives
+
+call_without_other : (procs : Table) (p q : ℕ) → q ≢ p → call_of (without procs p) q ≡ call_of procs q
+unfolding without
+call_without_other procs p q other = get_or-set_other procs.calls p q no_call no_call other
+
+pub call_discharged : (kernel : Kernel) (p q : ℕ) → IsSound kernel → Lives kernel.procs p → q ≢ p → waits kernel.queues q ≡ 0
+    → call_of (discharged kernel p).procs q ≡ call_of kernel.procs q
+unfolding discharged
+call_discharged kernel p q s h other none =
+    call_without_other (relieved p kernel).procs p q other ∙ (keeps_relieved p q kernel s h other).call none
+
+-- the code: behind each part of an end
+pub lives_relieved : (p : ℕ) (old new : Kernel) → Leaves p old → new ≡ all_returned (range_with_len 0 32) p old → Lives new.procs p
+lives_relieved p old new l is =
+    ap (λ (kernel : Kernel). lives kernel.procs p) is ∙ (leaves_all_returned (range_with_len 0 32) p old l).lives
+
+-- who is ready waits at no queue
+pub ready_waits_at_none : (kernel : Kernel) (p : ℕ) → IsSound kernel → IsReady kernel p → waits kernel.queues p ≡ 0
+ready_waits_at_none kernel p s is_ready = omega (arith, listed_once kernel p ready s is_ready)

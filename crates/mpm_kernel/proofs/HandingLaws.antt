@@ -1,0 +1,58 @@
+-- What stays so where a process whose held call was completed is handed out.
+use Rattle.std.proofs.Common.{◌≡◌, ◌∙◌, ℕ, List, [], ◌∷◌, ◌==◌, drop, Option, Some, None, refl, sym, ap}
+use Rattle.std.specs.List.{AllByRecursion}
+use Rattle.mpm_queues.specs.Queue.{block_size}
+use Rattle.mpm_procs.specs.Table.{Table, lives, Lives, call_of}
+use Rattle.mpm_kernel.specs.Kernel.{Kernel, IsSound, CompletedLive, with_completed}
+use Rattle.mpm_kernel.specs.Called.{valued, word_at}
+use Rattle.mpm_kernel.specs.Procedures.{procedure_queue}
+use Rattle.mpm_kernel.specs.Events.{first_completed, inside_of, with_procedure, with_first, handed_out}
+use Rattle.mpm_kernel.proofs.Soundness.{none_and_some, some_same, sound_with_completed}
+use Rattle.mpm_kernel.proofs.Staying.{StaysSound, kernel_if}
+use Rattle.mpm_kernel.proofs.QueueCalls.{stays_inside}
+
+-- those who are left once one was handed out live, and so did that one
+dropped_live : (procs : Table) (ps : List ℕ) → AllByRecursion (λ p. Lives procs p) ps → AllByRecursion (λ p. Lives procs p) (drop 1 ps)
+dropped_live procs [] live = tt
+dropped_live procs (p ∷ ps) live = live.1
+
+first_lives : (procs : Table) (ps : List ℕ) (p : ℕ) → AllByRecursion (λ q. Lives procs q) ps → first_completed ps ≡ Some p → Lives procs p
+first_lives procs [] p live e = absurd (none_and_some None p refl e)
+first_lives procs (q ∷ ps) p live e = ap (lives procs) (sym (some_same q p e)) ∙ live.0
+
+pub completed_lives : (kernel : Kernel) (p : ℕ) → CompletedLive kernel → first_completed kernel.completed ≡ Some p → Lives kernel.procs p
+completed_lives kernel p live e = first_lives kernel.procs kernel.completed p live e
+
+-- and may be in a procedure now
+stays_inside_of : (slot : Option ℕ) (p message : ℕ) (kernel : Kernel) → StaysSound p (valued 0 kernel) → StaysSound p (valued 0 (inside_of slot p message kernel))
+stays_inside_of None p message kernel s = s
+stays_inside_of (Some q) p message kernel s = stays_inside p q message 0 kernel s
+
+stays_with_procedure : (p : ℕ) (kernel : Kernel) → StaysSound p (valued 0 kernel) → StaysSound p (valued 0 (with_procedure p kernel))
+unfolding with_procedure
+stays_with_procedure p kernel s =
+    let call = call_of kernel.procs p in
+    kernel_if p (call.function == 151) _ _ 0 (λ _. stays_inside_of (procedure_queue kernel.queues call) p (word_at call block_size) kernel s) (λ _. s)
+
+record IsHanded (kernel : Kernel) : Type 0 where
+  pub sound : IsSound kernel
+  pub live : CompletedLive kernel
+
+handed_first : (first : Option ℕ) (kernel : Kernel) → IsSound kernel → CompletedLive kernel → ((p : ℕ) → first ≡ Some p → Lives kernel.procs p)
+    → IsHanded (with_first first kernel)
+handed_first None kernel s live living = record { sound = s; live = live }
+handed_first (Some p) kernel s live living =
+    let stays = stays_with_procedure p kernel (record { sound = s; lives = living p refl; completed = live }) in
+    record { sound = stays.sound; live = stays.completed }
+
+is_handed : (kernel : Kernel) → IsSound kernel → CompletedLive kernel → IsHanded (handed_out kernel)
+unfolding handed_out
+is_handed kernel s live =
+    handed_first (first_completed kernel.completed) (with_completed kernel (drop 1 kernel.completed)) (sound_with_completed kernel _ s)
+    (dropped_live kernel.procs kernel.completed live) (λ p first. completed_lives kernel p live first)
+
+pub sound_completed : (kernel : Kernel) → IsSound kernel → CompletedLive kernel → IsSound (handed_out kernel)
+sound_completed kernel s live = (is_handed kernel s live).sound
+
+pub live_handed_out : (kernel : Kernel) → IsSound kernel → CompletedLive kernel → CompletedLive (handed_out kernel)
+live_handed_out kernel s live = (is_handed kernel s live).live

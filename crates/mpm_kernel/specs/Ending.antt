@@ -1,0 +1,51 @@
+-- The end of a process: it waits no more, its messages go back, and its slot is free. (MP/M II Programmer's Guide, functions 0,
+-- "System Reset", and 143, "Terminate Process"; "Mutual Exclusion Queues".)
+use Rattle.std.specs.Prelude.{◌≡◌, ◌≢◌, ℕ, List, [], ◌∷◌, Some, if◌then◌else◌}
+use Rattle.std.specs.List.{AllByRecursion, range_with_len}
+use Rattle.mpm_ready.specs.Tables.{removed}
+use Rattle.mpm_flags.specs.States.{left as without_waiter}
+use Rattle.mpm_clock.specs.Times.{left as without_delay}
+use Rattle.mpm_queues.specs.Queues.{holds}
+use Rattle.mpm_queues.specs.Handling.{left as unqueued}
+use Rattle.mpm_procs.specs.Table.{Lives, without}
+use Rattle.mpm_kernel.specs.Kernel.{Kernel, IsSound, places}
+use Rattle.mpm_kernel.specs.Dispatch.{runs_still}
+use Rattle.mpm_kernel.specs.Procedures.{given_back_to, given_back}
+
+-- a process stands in no list, and waits neither for a flag nor for the clock nor at a queue
+unfoldable pub dropped_out : ℕ → Kernel → Kernel
+dropped_out p kernel = record kernel {
+  lists = removed kernel.lists p;
+  running = runs_still p kernel.running;
+  flags = without_waiter kernel.flags p;
+  clock = without_delay kernel.clock p;
+  queues = unqueued kernel.queues p;
+}
+
+-- the message of a mutual exclusion queue that it holds goes back
+unfoldable pub returned : ℕ → ℕ → Kernel → Kernel
+returned p q kernel = if holds kernel.queues p q then given_back_to (Some q) p kernel else kernel
+
+-- those of the queues of some numbers, one after the other
+unfoldable pub all_returned : List ℕ → ℕ → Kernel → Kernel
+all_returned [] p kernel = kernel
+all_returned (q ∷ qs) p kernel = all_returned qs p (returned p q kernel)
+
+-- first the message of its resident procedure goes back, then those of mutual exclusion queues, by rising number
+unfoldable pub relieved : ℕ → Kernel → Kernel
+relieved p kernel = all_returned (range_with_len 0 32) p (given_back p (dropped_out p kernel))
+
+-- the slot of a process is free
+abbrev pub vacated : ℕ → Kernel → Kernel
+vacated p kernel = record kernel { procs = without kernel.procs p }
+
+-- a process ends
+unfoldable pub discharged : Kernel → ℕ → Kernel
+discharged kernel p = vacated p (relieved p kernel)
+
+-- what is so of it while its messages go back: it lives and stands nowhere, and only others' held calls are completed
+pub record Leaves (p : ℕ) (kernel : Kernel) : Type 0 where
+  pub sound : IsSound kernel
+  pub lives : Lives kernel.procs p
+  pub nowhere : places kernel p ≡ 0
+  pub others : AllByRecursion (λ q. Lives kernel.procs q × (q ≢ p)) kernel.completed

@@ -1,0 +1,81 @@
+ghost use Rattle.std.specs.Prelude.{◌≡◌, ◌<◌, ◌≤◌, ℕ, false, length};
+ghost use Rattle.std.specs.List.{range_with_len};
+
+use crate::Kernel;
+use mpm_base::Pid;
+
+impl Kernel {
+    ghost use Rattle.mpm_procs.specs.Table.{Lives};
+    ghost use Rattle.mpm_queues.specs.Queues.{holds};
+    ghost use Rattle.mpm_kernel.specs.Kernel.{IsSound};
+    ghost use Rattle.mpm_kernel.specs.Ending.{dropped_out, returned, all_returned, vacated, discharged, Leaves};
+
+    /// A process ends: it stands in no list and waits for nothing, the message of its resident procedure goes back and then
+    /// those of the mutual exclusion queues that it holds, by rising number, and its slot is free: it holds nothing then.
+    /// The held calls that are completed by that are handed out in the order in which they were.
+    pub fn discharge(&mut self, p: Pid)
+        requires sound { IsSound self.old }
+        requires lives { Lives self.old.procs p }
+        ensures kernel { self.new ≡ discharged self.old p }
+        ensures nothing { (q : ℕ) → holds self.new.queues p q ≡ false }
+    {
+        self.let_go(p);
+    }
+
+    /// A process ends: it drops out, its messages go back, and its slot is free.
+    #[tactic(auto, using(crate::proofs::EndingLaws::sound_dropped, crate::proofs::EndingLaws::lives_dropped, crate::proofs::EndingLaws::leaves_given_back, crate::proofs::EndingLaws::few_given_back, crate::proofs::EndingLaws::lives_relieved), unfolding(crate::specs::Ending::discharged, crate::specs::Ending::relieved))]
+    fn let_go(&mut self, p: Pid)
+        requires sound { IsSound self.old }
+        requires lives { Lives self.old.procs p }
+        ensures { self.new ≡ discharged self.old p }
+    {
+        self.drop_out(p);
+        self.put_back(p);
+        self.return_held(p);
+        self.vacate(p);
+    }
+
+    /// The slot of a process is free.
+    fn vacate(&mut self, p: Pid)
+        requires { Lives self.old.procs p }
+        ensures { self.new ≡ vacated p self.old }
+    {
+        self.procs.end(p);
+    }
+
+    /// A process stands in no list any more and waits for nothing.
+    #[tactic(auto, unfolding(crate::specs::Ending::dropped_out))]
+    fn drop_out(&mut self, p: Pid)
+        ensures { self.new ≡ dropped_out p self.old }
+    {
+        let _list = self.lists.remove(p);
+        self.flags.leave(p);
+        self.clock.leave(p);
+        self.queues.leave(p);
+        self.rest(p);
+    }
+
+    /// The messages of mutual exclusion queues that a process holds go back, by rising number.
+    fn return_held(&mut self, p: Pid)
+        requires leaves { Leaves p self.old }
+        requires few { length self.old.completed ≤ 1 }
+        ensures { self.new ≡ all_returned (range_with_len 0 32) p self.old }
+    {
+        for q in 0..32 {
+            self.return_if_held(p, q);
+        }
+    }
+
+    /// The message of a mutual exclusion queue goes back where a process holds it.
+    #[tactic(auto, using(crate::proofs::EndingLaws::held_made), unfolding(crate::specs::Ending::returned))]
+    fn return_if_held(&mut self, p: Pid, q: u8)
+        requires leaves { Leaves p self.old }
+        requires below { q < 32 }
+        requires room { length self.old.completed < 64 }
+        ensures { self.new ≡ returned p q self.old }
+    {
+        if self.queues.holds(p, q) {
+            self.write_back(p, q);
+        }
+    }
+}

@@ -1,0 +1,54 @@
+ghost use Rattle.std.specs.Prelude.{◌≡◌, true};
+ghost use Rattle.mpm_procs.specs.Table.{Lives, call_of};
+ghost use Rattle.mpm_machine.specs.Serving.{is_entry as got_message};
+
+use crate::system::System;
+use mpm_base::{Call, Pid, Reply};
+
+impl System {
+    ghost use Rattle.mpm_machine.specs.State.{IsWhole};
+    ghost use Rattle.mpm_machine.specs.Gates.{is_inside};
+    ghost use Rattle.mpm_machine.specs.Serving.{with_entry, reply_at_entry, returning};
+
+    /// A process enters a resident procedure, where the call that it keeps is a call 151 that got its message.
+    #[tactic(auto, using(crate::proofs::WholeLaws::segment_is_there), unfolding(crate::specs::Serving::with_entry, crate::specs::Serving::reply_at_entry))]
+    pub fn enter(&mut self, p: Pid, reply: &mut Reply)
+        requires whole { IsWhole self.old }
+        requires lives { Lives self.old.kernel.procs p }
+        ensures system { self.new ≡ with_entry reply.old (call_of self.old.kernel.procs p) p self.old }
+        ensures reply { reply.new ≡ reply_at_entry reply.old (call_of self.old.kernel.procs p) p self.old }
+    {
+        if is_entry(self.kernel.kept_call(p), reply) {
+            mpm_xdos::enter_procedure(&mut self.kernel, &self.memory, p, reply);
+        }
+    }
+
+    /// Whether a process is in a resident procedure.
+    pub fn is_inside(&self, p: Pid) -> bool
+        requires { Lives self.now.kernel.procs p }
+        ensures { result ≡ is_inside self.now.kernel.procs p }
+    {
+        self.kernel.living(p).procedure.is_some()
+    }
+
+    /// A process leaves the resident procedure that it is in.
+    #[tactic(auto, unfolding(crate::specs::Serving::returning))]
+    pub fn leave_procedure(&mut self, p: Pid)
+        requires whole { IsWhole self.old }
+        requires lives { Lives self.old.kernel.procs p }
+        requires inside { is_inside self.old.kernel.procs p ≡ true }
+        ensures { self.new ≡ returning p self.old }
+    {
+        mpm_xdos::leave_procedure(&mut self.kernel, p);
+    }
+}
+
+/// Whether a call is a call 151 that got its message: it is refused by FFFFh alone.
+fn is_entry(call: &Call, reply: &Reply) -> bool
+    ensures { result ≡ got_message call.now reply.now }
+{
+    call.function == 151 && reply.hl == 0
+}
+
+#[cfg(test)]
+mod tests;

@@ -1,0 +1,44 @@
+-- Resident procedures: how a process enters one, and how it leaves it. (MP/M II Programmer's Guide, "Function 151: Call
+-- Resident System Procedure".)
+use Rattle.std.specs.Prelude.{ℕ, ◌+◌, ◌-◌, false, Option, Some, None, [], ◌∷◌}
+use Rattle.z80_regs.specs.Words.{back}
+use Rattle.mpm_base.specs.Calls.{Taken, Answer, answering}
+use Rattle.mpm_banks.specs.Memory.{Memory, segment_of}
+use Rattle.mpm_procs.specs.Table.{process_in, call_of}
+use Rattle.mpm_procs.specs.declared.process.Process.{Process}
+use Rattle.mpm_kernel.specs.Kernel.{Kernel, with_changed}
+use Rattle.mpm_kernel.specs.Called.{byte_in}
+use Rattle.mpm_kernel.specs.Procedures.{given_back}
+
+-- a process goes on at the address that is the message that it got, with the parameter of its call, the second word of what
+-- the call read, in DE; its stack pointer makes room for the address to which the procedure returns
+unfoldable pub entering : Taken → Process → Process
+entering call process = record process {
+  back = process.regs.pc;
+  regs = record process.regs { d = byte_in call 3; e = byte_in call 2; pc = process.kept; sp = back process.regs.sp 2 };
+}
+
+unfoldable pub entered : ℕ → Kernel → Kernel
+entered p kernel = with_changed kernel p (entering (call_of kernel.procs p) (process_in kernel.procs p))
+
+-- the last page of the segment that a process has
+abbrev pub last_page : Memory → Option ℕ → ℕ
+last_page memory None = 0
+last_page memory (Some seg) = (segment_of memory seg).base + (segment_of memory seg).pages - 1
+
+-- a procedure returns to the gate that ends it, at 09h in that page: this word is pushed
+unfoldable pub entry_reply : Memory → Process → Answer
+entry_reply memory process =
+    record (answering 0) { at = back process.regs.sp 2; bytes = 9 ∷ last_page memory process.seg ∷ [] }
+
+-- a process goes on where it called the procedure, with HL as it is and the same in A and B; an EI takes effect
+unfoldable pub leaving : Process → Process
+leaving process = record process {
+  regs = record process.regs { pc = process.back; a = process.regs.l; b = process.regs.h; shadow = false };
+}
+
+-- it leaves the procedure: the message is written back first
+unfoldable pub left : ℕ → Kernel → Kernel
+left p kernel =
+    let behind = given_back p kernel in
+    with_changed behind p (leaving (process_in behind.procs p))

@@ -1,0 +1,65 @@
+ghost use Rattle.std.specs.Prelude.{◌≡◌, ℕ, Some, IsSome};
+ghost use Rattle.mpm_banks.specs.Memory.{HasSegment};
+ghost use Rattle.mpm_procs.specs.Table.{Lives, process_in};
+ghost use Rattle.mpm_kernel.specs.Kernel.{IsSound};
+ghost use Rattle.mpm_xdos.specs.Procedures.{entered, entry_reply, left, last_page as page_of};
+
+use mpm_banks::Banks;
+use mpm_base::{Pid, Reply, Seg};
+use mpm_kernel::Kernel;
+
+/// The place in a segment's last page of the gate that ends a resident procedure.
+const RETURN: u8 = 0x09;
+
+/// A process enters the resident procedure whose message its call 151 has just got: it goes on at the address that is the
+/// message, with the call's parameter in DE. Its return address is kept; in its place the gate is pushed that ends the
+/// procedure, which the reply places. (MP/M II Programmer's Guide, "Function 151: Call Resident System Procedure".)
+#[tactic(auto, unfolding(crate::specs::Procedures::entered, crate::specs::Procedures::entering, crate::specs::Procedures::entry_reply))]
+pub fn enter_procedure(kernel: &mut Kernel, banks: &Banks, p: Pid, reply: &mut Reply)
+    requires lives { Lives kernel.old.procs p }
+    requires segment { (seg : ℕ) → (process_in kernel.old.procs p).seg ≡ Some seg → HasSegment banks.now seg }
+    ensures kernel { kernel.new ≡ entered p kernel.old }
+    ensures reply { reply.new ≡ entry_reply banks.now (process_in kernel.old.procs p) }
+{
+    let page = last_page(banks, kernel.segment(p));
+    let call = kernel.kept_call(p);
+    let low = call.byte(2);
+    let high = call.byte(3);
+    let process = kernel.process_mut(p);
+    let at = process.regs.sp.wrapping_sub(2);
+    process.back = process.regs.pc;
+    process.regs.d = high;
+    process.regs.e = low;
+    process.regs.pc = process.kept;
+    process.regs.sp = at;
+    reply.answer_with(0, at, &[RETURN, page]);
+}
+
+/// The last page of a segment.
+fn last_page(banks: &Banks, home: Option<Seg>) -> u8
+    requires { (seg : ℕ) → home ≡ Some seg → HasSegment banks.now seg }
+    ensures { result ≡ page_of banks.now home }
+{
+    let Some(seg) = home else {
+        return 0;
+    };
+    let spec = banks.spec(seg);
+    spec.base + spec.pages - 1
+}
+
+/// A process leaves the resident procedure that it is in: its message is written back, and the process goes on where it
+/// called the procedure, with HL as it is and the same in A and B.
+#[tactic(auto, using(mpm_kernel::proofs::ProcedureLaws::lives_given_back), unfolding(crate::specs::Procedures::left, crate::specs::Procedures::leaving))]
+pub fn leave_procedure(kernel: &mut Kernel, p: Pid)
+    requires sound { IsSound kernel.old }
+    requires lives { Lives kernel.old.procs p }
+    requires inside { IsSome (process_in kernel.old.procs p).procedure }
+    ensures { kernel.new ≡ left p kernel.old }
+{
+    kernel.put_back(p);
+    let process = kernel.process_mut(p);
+    process.regs.pc = process.back;
+    process.regs.a = process.regs.l;
+    process.regs.b = process.regs.h;
+    process.regs.shadow = false;
+}
