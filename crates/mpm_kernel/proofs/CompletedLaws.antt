@@ -1,5 +1,5 @@
 -- The processes whose held calls were completed, as the front of an array.
-use Rattle.std.proofs.Common.{◌≡◌, ◌∙◌, ℕ, zero, suc, ◌+◌, ◌-◌, ◌<◌, ◌≤◌, List, [], ◌∷◌, ◌++◌, length, get_or, take, drop, Option, Some, None, refl, sym, ap, arith}
+use Rattle.std.proofs.Common.{◌≡◌, ◌∙◌, ℕ, zero, suc, ◌+◌, ◌-◌, ◌<◌, ◌≤◌, List, [], ◌∷◌, ◌++◌, length, get_or, take, drop, Some, refl, sym, ap, arith}
 use Rattle.std.proofs.lemmas.List.{take-append-le, drop-take, length-drop}
 use Rattle.mpm_kernel.specs.Events.{first_completed}
 

@@ -1,29 +1,34 @@
 -- What stays so as a process ends: all that it gives back while it still lives and waits for nothing, and then its end.
 use Rattle.std.proofs.Common.{◌≡◌, ◌≢◌, ◌∙◌, ℕ, suc, ◌+◌, ◌<◌, ◌≤◌, Bool, true, false, List, [], ◌∷◌, ◌++◌, length, Option, Some, None, if◌then◌else◌, inl, inr, refl, sym, ap, subst, arith, get_or-set_other}
 use Rattle.std.specs.List.{AllByRecursion, range_with_len}
-use Rattle.std.proofs.lemmas.Bool.{cases_eq}
+use Rattle.std.proofs.lemmas.Bool.{cases_eq, false≢true}
 use Rattle.std.proofs.lemmas.List.{length-append}
 use Rattle.mpm_base.specs.Calls.{no_call}
-use Rattle.mpm_ready.specs.Tables.{list_of}
 use Rattle.mpm_ready.proofs.TableLaws.{table_removed, list_of_removed, list_of_removed_other}
 use Rattle.mpm_clock.specs.Times.{left}
 use Rattle.mpm_clock.proofs.DelayLaws.{delays_left_own, delays_left_other}
 use Rattle.mpm_procs.specs.Table.{Table, lives, Lives, process_in, call_of, with_process, without}
 use Rattle.mpm_procs.specs.declared.process.Process.{Process}
-use Rattle.mpm_procs.proofs.MapLaws.{lives_below, lives_changed, lives_without, lives_without_other, process_without_other, slots_without}
+use Rattle.mpm_procs.proofs.MapLaws.{lives_below, lives_without, lives_without_other, process_without_other, slots_without}
 use Rattle.mpm_queues.specs.Queue.{is_full}
 use Rattle.mpm_queues.specs.Queues.{Queues, IsMade, is_made, queue_in, holds, waits}
 use Rattle.mpm_queues.specs.Handling.{left as unqueued, first_reader, written_by, procs_behind_write, write_outcome, ended}
 use Rattle.mpm_queues.proofs.SoundLaws.{sound_left, reader_waits}
 use Rattle.mpm_queues.proofs.WaitLaws.{waits_left, waits_left_other, waits_one, write_ends_waiter, holds_made}
-use Rattle.mpm_kernel.specs.Kernel.{Kernel, ready, in_lists, places, IsReady, IsFit, IsSound, CompletedLive}
+use Rattle.mpm_consoles.specs.Console.{is_owner}
+use Rattle.mpm_consoles.specs.Consoles.{owns}
+use Rattle.mpm_consoles.specs.Handling.{left as without_units}
+use Rattle.mpm_consoles.proofs.SoundLaws.{sound_left as sound_units_left}
+use Rattle.mpm_kernel.specs.Kernel.{Kernel, ready, in_lists, places, IsReady, IsFit, AreUnits, IsSound, CompletedLive}
 use Rattle.mpm_kernel.specs.Dispatch.{moved}
 use Rattle.mpm_kernel.specs.Called.{valued}
 use Rattle.mpm_kernel.specs.Queueing.{with_other, given_to}
 use Rattle.mpm_kernel.specs.Procedures.{writing, outside, given_back_to, given_back}
-use Rattle.mpm_kernel.specs.Ending.{dropped_out, returned, all_returned, relieved, vacated, discharged, Leaves}
+use Rattle.mpm_kernel.specs.Ending.{dropped_out, returned, all_returned, units_left, relieved, vacated, discharged, Leaves}
 use Rattle.mpm_kernel.proofs.PlaceLaws.{in_none, not_equal, list_moved_other, flags_left_own, flags_left_other, length_left}
 use Rattle.mpm_kernel.proofs.Soundness.{dead_and_alive, listed_once, runs_other, sound_ready, sound_with_completed, MayBeReady}
+use Rattle.mpm_kernel.proofs.UnitWaits.{units_left_own, units_left_other, length_units_left, printers_units_left, has_units_left, owner_units_left}
+use Rattle.mpm_kernel.proofs.LeavingLaws.{OwnsNothing, left_units, owns_none}
 use Rattle.mpm_kernel.proofs.Staying.{all_and_one}
 use Rattle.mpm_kernel.proofs.QueueingLaws.{sound_given, write_waits, may_by_write, lives_written}
 use Rattle.mpm_kernel.proofs.HomeLaws.{SameHomes, homes_stay, homes_both, homes_vacated, kept_told, procs_with_other}
@@ -33,13 +38,13 @@ use Rattle.mpm_kernel.proofs.ProcedureLaws.{sound_outside, lives_outside, nobody
 dropped_nowhere : (p : ℕ) (kernel : Kernel) → places (dropped_out p kernel) p ≡ 0
 unfolding dropped_out left
 dropped_nowhere p kernel =
-    omega (arith, in_none _ (list_of_removed kernel.lists p), flags_left_own kernel.flags p, delays_left_own kernel.clock.delays p, waits_left kernel.queues p)
+    omega (arith, in_none _ (list_of_removed kernel.lists p), flags_left_own kernel.flags p, delays_left_own kernel.clock.delays p, waits_left kernel.queues p, units_left_own kernel.units p)
 
 dropped_elsewhere : (p q : ℕ) (kernel : Kernel) → IsSound kernel → q ≢ p → places (dropped_out p kernel) q ≡ places kernel q
 unfolding dropped_out left
 dropped_elsewhere p q kernel s other =
     let same = list_of_removed_other kernel.lists p q s.table (not_equal p q (λ e. other (sym e))) in
-    omega (arith, ap in_lists same, flags_left_other kernel.flags p q other, delays_left_other kernel.clock.delays p q other, waits_left_other kernel.queues p q s.queues other)
+    omega (arith, ap in_lists same, flags_left_other kernel.flags p q other, delays_left_other kernel.clock.delays p q other, waits_left_other kernel.queues p q s.queues other, units_left_other kernel.units p q s.units.sound other)
 
 made_left : (t : Queues) (p q : ℕ) → IsMade t q → IsMade (unqueued t p) q
 unfolding unqueued
@@ -49,12 +54,21 @@ procs_dropped : (p : ℕ) (kernel : Kernel) → (dropped_out p kernel).procs ≡
 unfolding dropped_out
 procs_dropped p kernel = refl
 
+units_dropped : (kernel : Kernel) (p : ℕ) → IsSound kernel → AreUnits kernel.consoles kernel.printers kernel.procs (without_units kernel.units p)
+units_dropped kernel p s = record {
+  sound = sound_units_left kernel.units p s.units.sound;
+  all_consoles = length_units_left kernel.units p ∙ s.units.all_consoles;
+  all_printers = printers_units_left kernel.units p ∙ s.units.all_printers;
+  owners = λ unit q there is.
+      s.units.owners unit q (has_units_left kernel.units p unit there) (sym (ap (λ o. is_owner o q) (owner_units_left kernel.units p unit)) ∙ is);
+}
+
 pub sound_dropped : (p : ℕ) (kernel : Kernel) → IsSound kernel → Lives kernel.procs p → IsSound (dropped_out p kernel)
 unfolding dropped_out
 sound_dropped p kernel s h = record {
   some = s.some;
   few = s.few;
-  columns = s.columns;
+  units = units_dropped kernel p s;
   slots = s.slots;
   table = table_removed kernel.lists p s.table;
   fit = s.fit;
@@ -163,9 +177,35 @@ unfolding all_returned
 leaves_all_returned [] p kernel l = l
 leaves_all_returned (q ∷ qs) p kernel l = leaves_all_returned qs p (returned p q kernel) (leaves_returned p q kernel l)
 
+pub leaves_messages : (p : ℕ) (kernel : Kernel) → IsSound kernel → Lives kernel.procs p
+    → Leaves p (all_returned (range_with_len 0 32) p (given_back p (dropped_out p kernel)))
+leaves_messages p kernel s h = leaves_all_returned (range_with_len 0 32) p _ (leaves_given_back p kernel s h)
+
+-- its consoles and printers pass on
+completed_as : (p : ℕ) (old new : Kernel) → new.procs ≡ old.procs → new.completed ≡ old.completed
+    → AllByRecursion (λ q. Lives old.procs q × (q ≢ p)) old.completed → AllByRecursion (λ q. Lives new.procs q × (q ≢ p)) new.completed
+completed_as p old new same all_same all =
+    let P : Table → Type 0 = λ procs. AllByRecursion (λ q. Lives procs q × (q ≢ p)) new.completed in
+    let Q : List ℕ → Type 0 = λ ps. AllByRecursion (λ q. Lives old.procs q × (q ≢ p)) ps in
+    subst P (sym same) (subst Q (sym all_same) all)
+
+leaves_units_left : (p : ℕ) (kernel : Kernel) → Leaves p kernel → Leaves p (units_left p kernel)
+leaves_units_left p kernel l =
+    let left = left_units p kernel l.sound in
+    record {
+      sound = left.sound;
+      lives = ap (λ procs. lives procs p) left.procs ∙ l.lives;
+      nowhere = left.nowhere l.nowhere;
+      others = completed_as p kernel (units_left p kernel) left.procs left.completed l.others;
+    }
+
 pub leaves_relieved : (p : ℕ) (kernel : Kernel) → IsSound kernel → Lives kernel.procs p → Leaves p (relieved p kernel)
 unfolding relieved
-leaves_relieved p kernel s h = leaves_all_returned (range_with_len 0 32) p _ (leaves_given_back p kernel s h)
+leaves_relieved p kernel s h = leaves_units_left p _ (leaves_messages p kernel s h)
+
+nothing_relieved : (p : ℕ) (kernel : Kernel) → IsSound kernel → Lives kernel.procs p → OwnsNothing (relieved p kernel).units p
+unfolding relieved
+nothing_relieved p kernel s h = owns_none p _ (leaves_messages p kernel s h).sound
 
 -- how many calls are completed by that
 few_other : (other : Option ℕ) (kernel : Kernel) → length (with_other other kernel).completed ≤ length kernel.completed + 1
@@ -231,20 +271,33 @@ returned_all p start now q end so =
     sym (so.kernel 0 all ∙ none_returned p now)
 
 -- the slot is free
-sound_vacated : (p : ℕ) (kernel : Kernel) → Leaves p kernel → IsSound (vacated p kernel)
-sound_vacated p kernel l =
+units_vacated : (p : ℕ) (kernel : Kernel) → Leaves p kernel → OwnsNothing kernel.units p
+    → AreUnits kernel.consoles kernel.printers (without kernel.procs p) kernel.units
+units_vacated p kernel l nothing =
+    let are = l.sound.units in
+    record {
+      sound = are.sound;
+      all_consoles = are.all_consoles;
+      all_printers = are.all_printers;
+      owners = λ unit q has is.
+          let other : q ≢ p = λ same. false≢true (sym (nothing unit has) ∙ ap (λ x. owns kernel.units x unit) (sym same) ∙ is) in
+          lives_without_other kernel.procs p q other ∙ are.owners unit q has is;
+    }
+
+sound_vacated : (p : ℕ) (kernel : Kernel) → Leaves p kernel → OwnsNothing kernel.units p → IsSound (vacated p kernel)
+sound_vacated p kernel l nothing =
     let s = l.sound in
     let below : p < 32 = lives_below kernel.procs p s.slots l.lives in
     record {
       some = s.some;
       few = s.few;
-      columns = s.columns;
+      units = units_vacated p kernel l nothing;
       slots = slots_without kernel.procs p s.slots;
       table = s.table;
       fit = λ q living. elim (cases_eq q p) [
         | inl same ↦ absurd (dead_and_alive _ (ap (lives (without kernel.procs p)) same ∙ lives_without kernel.procs p (omega (arith, s.slots.alive))) living)
         | inr other ↦
-            let P : Process → Type 0 = λ x. IsFit kernel.consoles x in
+            let P : Process → Type 0 = λ x. IsFit kernel.consoles kernel.printers x in
             subst P (sym (process_without_other kernel.procs p q other)) (s.fit q (sym (lives_without_other kernel.procs p q other) ∙ living))
       ];
       flags = s.flags;
@@ -265,7 +318,7 @@ others_live p (q ∷ ps) procs all = (lives_without_other procs p q all.0.1 ∙ 
 -- a process ends
 pub sound_discharged : (kernel : Kernel) (p : ℕ) → IsSound kernel → Lives kernel.procs p → IsSound (discharged kernel p)
 unfolding discharged
-sound_discharged kernel p s h = sound_vacated p (relieved p kernel) (leaves_relieved p kernel s h)
+sound_discharged kernel p s h = sound_vacated p (relieved p kernel) (leaves_relieved p kernel s h) (nothing_relieved p kernel s h)
 
 pub live_discharged : (kernel : Kernel) (p : ℕ) → IsSound kernel → Lives kernel.procs p → CompletedLive (discharged kernel p)
 unfolding discharged
@@ -290,9 +343,12 @@ homes_relieved : (p : ℕ) (kernel : Kernel) → IsSound kernel → Lives kernel
 unfolding relieved
 homes_relieved p kernel s h =
     let gone = dropped_out p kernel in
+    let back = given_back p gone in
+    let returned_all = all_returned (range_with_len 0 32) p back in
     homes_both kernel gone _ (homes_stay kernel gone (procs_dropped p kernel))
-    (homes_both gone (given_back p gone) _ (homes_given_back p gone (sound_dropped p kernel s h) (lives_dropped p p kernel h))
-    (homes_all_returned (range_with_len 0 32) p (given_back p gone)))
+    (homes_both gone back _ (homes_given_back p gone (sound_dropped p kernel s h) (lives_dropped p p kernel h))
+    (homes_both back returned_all _ (homes_all_returned (range_with_len 0 32) p back)
+    (homes_stay returned_all (units_left p returned_all) (left_units p returned_all (leaves_messages p kernel s h).sound).procs)))
 
 pub homes_discharged : (kernel : Kernel) (p : ℕ) → IsSound kernel → Lives kernel.procs p → SameHomes kernel (discharged kernel p)
 unfolding discharged
@@ -374,13 +430,21 @@ keeps_all_returned (q ∷ qs) p k kernel l =
     keeps_both k kernel (returned p q kernel) _ (keeps_returned p q k kernel l.sound)
     (keeps_all_returned qs p k (returned p q kernel) (leaves_returned p q kernel l))
 
+keeps_units_left : (p k : ℕ) (kernel : Kernel) → IsSound kernel → Keeps k kernel (units_left p kernel)
+keeps_units_left p k kernel s =
+    let left = left_units p kernel s in
+    keeps_same k kernel (units_left p kernel) left.procs (λ none. ap (λ queues. waits queues k) left.queues ∙ none)
+
 keeps_relieved : (p k : ℕ) (kernel : Kernel) → IsSound kernel → Lives kernel.procs p → k ≢ p → Keeps k kernel (relieved p kernel)
 unfolding relieved
 keeps_relieved p k kernel s h other =
     let gone = dropped_out p kernel in
+    let back = given_back p gone in
+    let returned_all = all_returned (range_with_len 0 32) p back in
     keeps_both k kernel gone _ (keeps_dropped p k kernel s other)
-    (keeps_both k gone (given_back p gone) _ (keeps_given_back p k gone (sound_dropped p kernel s h) (lives_dropped p p kernel h) other)
-    (keeps_all_returned (range_with_len 0 32) p k (given_back p gone) (leaves_given_back p kernel s h)))
+    (keeps_both k gone back _ (keeps_given_back p k gone (sound_dropped p kernel s h) (lives_dropped p p kernel h) other)
+    (keeps_both k back returned_all _ (keeps_all_returned (range_with_len 0 32) p k back (leaves_given_back p kernel s h))
+    (keeps_units_left p k returned_all (leaves_messages p kernel s h).sound)))
 
 pub lives_discharged : (kernel : Kernel) (p q : ℕ) → IsSound kernel → Lives kernel.procs p → q ≢ p → lives (discharged kernel p).procs q ≡ lives kernel.procs q
 unfolding discharged
@@ -397,9 +461,14 @@ call_discharged kernel p q s h other none =
     call_without_other (relieved p kernel).procs p q other ∙ (keeps_relieved p q kernel s h other).call none
 
 -- the code: behind each part of an end
-pub lives_relieved : (p : ℕ) (old new : Kernel) → Leaves p old → new ≡ all_returned (range_with_len 0 32) p old → Lives new.procs p
-lives_relieved p old new l is =
-    ap (λ (kernel : Kernel). lives kernel.procs p) is ∙ (leaves_all_returned (range_with_len 0 32) p old l).lives
+pub leaves_held : (p : ℕ) (kernel gone back held : Kernel) → IsSound kernel → Lives kernel.procs p → gone ≡ dropped_out p kernel
+    → back ≡ given_back p gone → held ≡ all_returned (range_with_len 0 32) p back → Leaves p held
+leaves_held p kernel gone back held s h is_gone is_back is_held =
+    let first : back ≡ given_back p (dropped_out p kernel) = is_back ∙ ap (given_back p) is_gone in
+    subst (Leaves p) (sym (is_held ∙ ap (all_returned (range_with_len 0 32) p) first)) (leaves_messages p kernel s h)
+
+pub lives_behind_units : (p : ℕ) (old new : Kernel) → Leaves p old → new ≡ units_left p old → Lives new.procs p
+lives_behind_units p old new l is = ap (λ (kernel : Kernel). lives kernel.procs p) is ∙ (leaves_units_left p old l).lives
 
 -- who is ready waits at no queue
 pub ready_waits_at_none : (kernel : Kernel) (p : ℕ) → IsSound kernel → IsReady kernel p → waits kernel.queues p ≡ 0

@@ -14,7 +14,8 @@ use Rattle.mpm_kernel.specs.Kernel.{Kernel, IsSound}
 use Rattle.mpm_kernel.specs.Queueing.{with_other, given_to}
 use Rattle.mpm_kernel.specs.Procedures.{given_back_to}
 use Rattle.mpm_kernel.specs.Ending.{returned, all_returned, relieved, discharged, Leaves}
-use Rattle.mpm_kernel.proofs.EndingLaws.{leaves_given_back, leaves_returned, leaves_relieved, queues_with_other}
+use Rattle.mpm_kernel.proofs.EndingLaws.{leaves_given_back, leaves_returned, leaves_messages, leaves_relieved, queues_with_other}
+use Rattle.mpm_kernel.proofs.LeavingLaws.{left_units}
 
 -- a queue whose message is held has room for it
 holder_is : (o : Option ℕ) (p : ℕ) → is_holder o p ≡ true → o ≡ Some p
@@ -107,7 +108,9 @@ all_gone (suc n) a p k kernel l from below = elim (cases_eq k a) [
 
 relieved_gone : (p k : ℕ) (kernel : Kernel) → IsSound kernel → Lives kernel.procs p → k < 32 → holds (relieved p kernel).queues p k ≡ false
 unfolding relieved
-relieved_gone p k kernel s h below = all_gone 32 0 p k _ (leaves_given_back p kernel s h) (omega arith) (omega (arith, below))
+relieved_gone p k kernel s h below =
+    ap (λ (queues : Queues). holds queues p k) (left_units p _ (leaves_messages p kernel s h).sound).queues
+    ∙ all_gone 32 0 p k _ (leaves_given_back p kernel s h) (omega arith) (omega (arith, below))
 
 past_gone : (b : Bool) → (b ≡ true → ⊥) → b ≡ false
 past_gone true never = absurd (never refl)

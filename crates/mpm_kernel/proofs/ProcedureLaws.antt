@@ -1,11 +1,11 @@
 -- What stays so where a process's resident procedure ends.
-use Rattle.std.proofs.Common.{◌≡◌, ◌∙◌, ℕ, Bool, true, false, [], ◌∷◌, Option, Some, None, if◌then◌else◌, refl, sym, ap, subst, arith}
-use Rattle.mpm_procs.specs.Table.{Table, lives, Lives, process_in, with_process}
+use Rattle.std.proofs.Common.{◌≡◌, ◌∙◌, ℕ, Bool, true, false, [], Option, Some, None, if◌then◌else◌, refl, ap}
+use Rattle.mpm_procs.specs.Table.{lives, Lives, process_in, with_process}
 use Rattle.mpm_procs.proofs.MapLaws.{lives_changed, lives_behind}
 use Rattle.mpm_queues.specs.Queue.{is_full, with_given}
-use Rattle.mpm_queues.specs.Queues.{IsMade, is_made, queue_in}
+use Rattle.mpm_queues.specs.Queues.{is_made, queue_in}
 use Rattle.mpm_queues.specs.Handling.{first_reader, written_by, told, procs_behind_write, write_outcome, ended}
-use Rattle.mpm_kernel.specs.Kernel.{Kernel, IsSound, CompletedLive, with_changed, with_completed}
+use Rattle.mpm_kernel.specs.Kernel.{Kernel, IsSound, with_changed}
 use Rattle.mpm_kernel.specs.Called.{valued}
 use Rattle.mpm_kernel.specs.Queueing.{with_other, given_to}
 use Rattle.mpm_kernel.specs.Procedures.{writing, outside, given_back_to, given_back}
@@ -25,7 +25,7 @@ sound_outside p kernel s h =
     let process = record (process_in kernel.procs p) { procedure = None } in
     sound_with_completed _ []
     (sound_call (with_changed kernel p process) p (writing (process_in kernel.procs p).kept)
-    (sound_changed kernel p process s h (record { console = fit.console; some = fit.some; few = fit.few })))
+    (sound_changed kernel p process s h (record { console = fit.console; printer = fit.printer; some = fit.some; few = fit.few })))
 
 pub lives_outside : (p q : ℕ) (kernel : Kernel) → Lives kernel.procs q → Lives (outside p kernel).procs q
 unfolding outside

@@ -5,7 +5,7 @@ use Rattle.std.proofs.lemmas.Bool.Decides.{nat_tests}
 use Rattle.mpm_base.specs.Calls.{Taken}
 use Rattle.mpm_procs.specs.Table.{Lives, process_in}
 use Rattle.mpm_procs.proofs.MapLaws.{lives_below, lives_changed}
-use Rattle.mpm_queues.specs.Queues.{Queues, IsMade, found, width_of, may_end, behind_delete, refusal as make_refusal}
+use Rattle.mpm_queues.specs.Queues.{Queues, IsMade, found, width_of, behind_delete, refusal as make_refusal}
 use Rattle.mpm_queues.specs.declared.queues.QueueOutcome.{QueueOutcome}
 use Rattle.mpm_queues.specs.declared.queues.QueueOutcome.TheVariants.{Done as Passed, NotNow}
 use Rattle.mpm_queues.specs.Handling.{read_outcome, write_outcome, enlisted, may_wait, ended}
@@ -147,7 +147,7 @@ stays_inside p q message value kernel s =
     let fit = s.sound.fit p s.lives in
     let process = record (process_in kernel.procs p) { procedure = Some q; kept = message } in
     record {
-      sound = sound_changed kernel p process s.sound s.lives (record { console = fit.console; some = fit.some; few = fit.few });
+      sound = sound_changed kernel p process s.sound s.lives (record { console = fit.console; printer = fit.printer; some = fit.some; few = fit.few });
       lives = lives_changed kernel.procs p p process ∙ s.lives;
       completed = live_kept kernel (with_changed kernel p process) refl (λ k living. lives_changed kernel.procs p k process ∙ living) s.completed;
     }

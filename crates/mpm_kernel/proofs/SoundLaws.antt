@@ -1,5 +1,5 @@
 -- What a sound kernel stays through: its calls and its events. The laws on its parts are told here too.
-use Rattle.std.proofs.Common.{◌≡◌, ◌≢◌, ◌∙◌, ℕ, ◌+◌, ◌<◌, ◌≤◌, Bool, true, false, ◌||◌, ◌==◌, List, [], ◌∷◌, drop, Option, Some, None, if◌then◌else◌, refl, sym, ap, subst, arith}
+use Rattle.std.proofs.Common.{◌≡◌, ◌≢◌, ◌∙◌, ℕ, ◌+◌, ◌<◌, ◌≤◌, Bool, true, false, ◌||◌, ◌==◌, List, [], ◌∷◌, Option, Some, None, if◌then◌else◌, refl, sym, ap, subst, arith}
 use Rattle.std.specs.List.{AllByRecursion}
 use Rattle.std.proofs.lemmas.Bool.Decides.{nat_tests}
 use Rattle.std.proofs.lemmas.List.{length-set}
@@ -22,13 +22,13 @@ use Rattle.mpm_clock.proofs.DelayLaws.{delays_ticked, delays_more_own, delays_mo
 use Rattle.mpm_procs.specs.Table.{Table, lives, Lives, process_in, call_of}
 use Rattle.mpm_procs.specs.declared.process.Process.{Process}
 use Rattle.mpm_procs.proofs.MapLaws.{lives_changed}
-use Rattle.mpm_kernel.specs.Kernel.{Kernel, ready, poll_list, is_waiter, flags_of, waits_of, IsReady, IsFit, IsSound, CompletedLive, with_changed, with_completed}
+use Rattle.mpm_kernel.specs.Kernel.{Kernel, ready, poll_list, is_waiter, flags_of, waits_of, IsReady, IsFit, IsSound, CompletedLive, with_changed, afresh}
 use Rattle.mpm_kernel.specs.Dispatch.{at_rest, stays, is_ready, behind_equals, with_priority, unlisted, moved, all_ready, all_woken, runner_behind}
-use Rattle.mpm_kernel.specs.Calls.{is_count, with_user, with_multi, call_done, called}
+use Rattle.mpm_kernel.specs.Calls.{is_count, is_for_console, is_for_unit, with_user, with_multi, call_done, called}
 use Rattle.mpm_kernel.specs.Called.{Called, valued, low_parameter, refusal}
 use Rattle.mpm_kernel.specs.Waiting.{polled, is_flag, waited, flag_waited, with_woken, signalled, flag_set, slept}
 use Rattle.mpm_kernel.specs.Dates.{names_time, named_moment, date_set, date_told, time_told}
-use Rattle.mpm_kernel.specs.Events.{MayCome, with_tick, clock_ticked, pollers, with_ready, device_ready, happens, happened, first_completed, handed_out}
+use Rattle.mpm_kernel.specs.Events.{MayCome, with_tick, clock_ticked, pollers, with_ready, device_ready, happens, happened}
 use Rattle.mpm_script.specs.Events.{IsEvent}
 use Rattle.mpm_script.specs.declared.event.Event.{Event}
 use Rattle.mpm_script.specs.declared.event.Event.TheVariants.{Tick, Key, Ready, Int}
@@ -36,13 +36,29 @@ use Rattle.mpm_kernel.proofs.PlaceLaws.{flags_with, all_by_counts, all_members}
 pub use Rattle.mpm_kernel.proofs.Staying.{live_kept}
 pub use Rattle.mpm_kernel.proofs.HandingLaws.{sound_completed, live_handed_out, completed_lives}
 use Rattle.mpm_kernel.proofs.Staying.{StaysSound, Calls, nobody, called_if, kernel_if, same}
+use Rattle.mpm_consoles.specs.Handling.{behind_output}
+use Rattle.mpm_consoles.specs.declared.unit.Unit.{Unit}
+use Rattle.mpm_consoles.specs.declared.unit.Unit.TheVariants.{Console as ConsoleUnit, Printer as PrinterUnit}
+use Rattle.mpm_kernel.specs.Columns.{wrote}
+use Rattle.mpm_kernel.proofs.SpokeLaws.{wrote_itself, wrote_tabbed}
+use Rattle.mpm_kernel.specs.Consoling.{key_came}
+use Rattle.mpm_kernel.proofs.UnitCalls.{stays_unit_called}
+use Rattle.mpm_kernel.proofs.InputCalls.{stays_console_called}
+use Rattle.mpm_kernel.proofs.KeyLaws.{sound_key_came, procs_key_came, completed_key_came}
 use Rattle.mpm_kernel.proofs.QueueCalls.{stays_queue_made, stays_queue_opened, stays_queue_deleted, stays_queue_read, stays_queue_written, stays_procedure_called}
-pub use Rattle.mpm_kernel.proofs.Soundness.{none_and_some, sound_new, sound_changed, sound_call, sound_devices, sound_spoke, first_is_in, some_same, first_is_ready, listed, listed_once, not_delayed, runner_lives, sound_picked, free_is_unlisted, sound_admitted, sound_in_slot, consoles_in_slot, completed_in_slot, sound_ready, sound_moved, sound_unlisted, sound_fewer, own_queues, sound_behind_equals, lives_behind_equals, sound_all_ready, procs_all_ready, running_all_ready, is_ready_true, sound_runner_behind, completed_if, procs_runner_behind, sound_with_completed, MayBeReady}
+pub use Rattle.mpm_kernel.proofs.Soundness.{none_and_some, sound_new, sound_changed, sound_call, sound_devices, sound_spoke, first_is_in, some_same, first_is_ready, listed, listed_once, not_delayed, runner_lives, sound_picked, free_is_unlisted, sound_afresh, sound_admitted, sound_in_slot, consoles_in_slot, completed_in_slot, sound_ready, sound_moved, sound_unlisted, sound_fewer, own_queues, sound_behind_equals, lives_behind_equals, sound_all_ready, procs_all_ready, running_all_ready, is_ready_true, sound_runner_behind, completed_if, procs_runner_behind, sound_with_completed, MayBeReady}
+
+-- a byte comes to a unit
+pub sound_wrote : (kernel : Kernel) (unit : Unit) (byte : ℕ) (tabs : Bool) → IsSound kernel → IsSound (wrote kernel unit byte tabs)
+unfolding wrote behind_output
+sound_wrote kernel (ConsoleUnit n) byte true s = subst IsSound (sym (wrote_tabbed kernel n byte)) (sound_spoke kernel n _ s)
+sound_wrote kernel (ConsoleUnit n) byte false s = subst IsSound (sym (wrote_itself kernel n byte)) (sound_spoke kernel n _ s)
+sound_wrote kernel (PrinterUnit n) byte tabs s = s
 
 -- the calls of the kernel
 
 -- the process with a field changed
-stays_changed : (p value : ℕ) (kernel : Kernel) (process : Process) → Calls p kernel → IsFit kernel.consoles process
+stays_changed : (p value : ℕ) (kernel : Kernel) (process : Process) → Calls p kernel → IsFit kernel.consoles kernel.printers process
     → StaysSound p (valued value (with_changed kernel p process))
 stays_changed p value kernel process c fit = record {
   sound = sound_changed kernel p process c.sound c.lives fit;
@@ -55,14 +71,14 @@ unfolding with_user
 stays_user call p value kernel c =
     let fit = c.sound.fit p c.lives in
     kernel_if p (low_parameter call == 255) _ _ value (λ _. same p value kernel c)
-    (λ _. stays_changed p value kernel _ c (record { console = fit.console; some = fit.some; few = fit.few }))
+    (λ _. stays_changed p value kernel _ c (record { console = fit.console; printer = fit.printer; some = fit.some; few = fit.few }))
 
 stays_multi : (call : Taken) (p value : ℕ) (kernel : Kernel) → Calls p kernel → StaysSound p (valued value (with_multi call p (process_in kernel.procs p) kernel))
 unfolding with_multi
 stays_multi call p value kernel c =
     let fit = c.sound.fit p c.lives in
     kernel_if p (is_count (low_parameter call)) _ _ value
-    (λ is. stays_changed p value kernel _ c (record { console = fit.console; some = grind (arith, nat_tests, is); few = grind (arith, nat_tests, is) }))
+    (λ is. stays_changed p value kernel _ c (record { console = fit.console; printer = fit.printer; some = grind (arith, nat_tests, is); few = grind (arith, nat_tests, is) }))
     (λ _. same p value kernel c)
 
 completed_behind_equals : (kernel : Kernel) (p : ℕ) → (behind_equals kernel p).completed ≡ kernel.completed
@@ -82,7 +98,7 @@ stays_priority p value priority kernel c =
     let fit = c.sound.fit p c.lives in
     let process = record (process_in kernel.procs p) { priority = priority } in
     stays_behind p value (with_changed kernel p process) (record {
-      sound = sound_changed kernel p process c.sound c.lives (record { console = fit.console; some = fit.some; few = fit.few });
+      sound = sound_changed kernel p process c.sound c.lives (record { console = fit.console; printer = fit.printer; some = fit.some; few = fit.few });
       lives = lives_changed kernel.procs p p process ∙ c.lives;
       ready = c.ready;
       none = c.none;
@@ -274,16 +290,17 @@ stays_call_done call p kernel c =
     let f = call.function in
     let s = same p 0 kernel c in
     called_if p (f == 0 || f == 143) _ _ (λ _. record { sound = s.sound; lives = s.lives; completed = s.completed })
-    (λ _. called_if p (f == 2 || f == 9) _ _ (λ _. same p _ kernel c)
+    (λ _. called_if p (is_for_console f) _ _ (λ _. stays_console_called call p kernel c)
+    (λ _. called_if p (is_for_unit f) _ _ (λ _. stays_unit_called call p kernel c)
     (λ _. called_if p (f == 12 || f == 163) _ _ (λ _. same p _ kernel c)
     (λ _. called_if p (f == 25) _ _ (λ _. same p _ kernel c)
-    (λ _. called_if p (f == 26) _ _ (λ _. stays_changed p 0 kernel _ c (record { console = fit.console; some = fit.some; few = fit.few }))
+    (λ _. called_if p (f == 26) _ _ (λ _. stays_changed p 0 kernel _ c (record { console = fit.console; printer = fit.printer; some = fit.some; few = fit.few }))
     (λ _. called_if p (f == 32) _ _ (λ _. stays_user call p _ kernel c)
     (λ _. called_if p (f == 44) _ _ (λ _. stays_multi call p _ kernel c)
-    (λ _. called_if p (f == 45) _ _ (λ _. stays_changed p 0 kernel _ c (record { console = fit.console; some = fit.some; few = fit.few }))
+    (λ _. called_if p (f == 45) _ _ (λ _. stays_changed p 0 kernel _ c (record { console = fit.console; printer = fit.printer; some = fit.some; few = fit.few }))
     (λ _. called_if p (f == 104) _ _ (λ _. stays_date_set call p kernel c)
     (λ _. called_if p (f == 105) _ _ (λ _. stays_told p kernel _ (kernel_date_told call kernel) c)
-    (λ _. called_if p (f == 106) _ _ (λ _. stays_changed p 0 kernel _ c (record { console = fit.console; some = fit.some; few = fit.few }))
+    (λ _. called_if p (f == 106) _ _ (λ _. stays_changed p 0 kernel _ c (record { console = fit.console; printer = fit.printer; some = fit.some; few = fit.few }))
     (λ _. called_if p (f == 131) _ _ (λ _. stays_polled call p kernel c)
     (λ _. called_if p (f == 132) _ _ (λ _. stays_flag_waited call p kernel c)
     (λ _. called_if p (f == 133) _ _ (λ _. stays_flag_set call p kernel c)
@@ -299,11 +316,11 @@ stays_call_done call p kernel c =
     (λ _. called_if p (f == 145) _ _ (λ _. stays_priority p 0 (low_parameter call) kernel c)
     (λ _. called_if p (f == 151) _ _ (λ _. stays_procedure_called call p kernel c)
     (λ _. called_if p (f == 155) _ _ (λ _. stays_told p kernel _ (kernel_time_told call kernel) c)
-    (λ _. same p _ kernel c))))))))))))))))))))))))))
+    (λ _. same p _ kernel c)))))))))))))))))))))))))))
 
 -- a process that is ready may call
-begun : (p : ℕ) (kernel : Kernel) → IsSound kernel → Lives kernel.procs p → IsReady kernel p → Calls p (with_completed kernel [])
-begun p kernel s h is_ready = record { sound = sound_with_completed kernel [] s; lives = h; ready = is_ready; none = refl }
+begun : (p : ℕ) (kernel : Kernel) → IsSound kernel → Lives kernel.procs p → IsReady kernel p → Calls p (afresh kernel)
+begun p kernel s h is_ready = record { sound = sound_afresh kernel s; lives = h; ready = is_ready; none = refl }
 
 pub sound_called : (p : ℕ) (kernel : Kernel) → IsSound kernel → Lives kernel.procs p → IsReady kernel p → IsSound (called p kernel).kernel
 sound_called p kernel s h is_ready = (stays_call_done (call_of kernel.procs p) p _ (begun p kernel s h is_ready)).sound
@@ -392,27 +409,28 @@ woke_device_ready kernel device byte s =
 woke_happens : (event : Event) (kernel : Kernel) → MayCome event → IsSound kernel → CompletedLive kernel → Woke (happens event kernel)
 unfolding happens
 woke_happens Tick kernel may s live = woke_clock_ticked kernel s
-woke_happens (Key console byte) kernel may s live = record { sound = s; completed = live }
+woke_happens (Key console byte) kernel may s live =
+    record { sound = sound_key_came console byte kernel s; completed = live_same kernel (key_came console byte kernel) (procs_key_came console byte kernel) (completed_key_came console byte kernel) live }
 woke_happens (Ready device byte) kernel may s live = woke_device_ready kernel device byte s
 woke_happens (Int flag) kernel may s live = woke_signalled flag kernel s live may
 
 pub sound_happened : (event : Event) (kernel : Kernel) → MayCome event → IsSound kernel → IsSound (happened event kernel)
-sound_happened event kernel may s = (woke_happens event (with_completed kernel []) may (sound_with_completed kernel [] s) tt).sound
+sound_happened event kernel may s = (woke_happens event (afresh kernel) may (sound_afresh kernel s) tt).sound
 
 pub live_happened : (event : Event) (kernel : Kernel) → MayCome event → IsSound kernel → CompletedLive (happened event kernel)
-live_happened event kernel may s = (woke_happens event (with_completed kernel []) may (sound_with_completed kernel [] s) tt).completed
+live_happened event kernel may s = (woke_happens event (afresh kernel) may (sound_afresh kernel s) tt).completed
 
 -- no event changes a process or the call that it keeps
 procs_happens : (event : Event) (kernel : Kernel) → (happens event kernel).procs ≡ kernel.procs
 unfolding happens clock_ticked device_ready
 procs_happens Tick kernel =
     procs_runner_behind kernel.running _ ∙ procs_all_ready (woken_by_tick kernel.clock.delays) (with_tick kernel)
-procs_happens (Key console byte) kernel = refl
+procs_happens (Key console byte) kernel = procs_key_came console byte kernel
 procs_happens (Ready device byte) kernel = procs_all_ready (pollers kernel device) (with_ready kernel device byte)
 procs_happens (Int flag) kernel = procs_signalled flag kernel
 
 pub procs_happened : (event : Event) (kernel : Kernel) → (happened event kernel).procs ≡ kernel.procs
-procs_happened event kernel = procs_happens event (with_completed kernel [])
+procs_happened event kernel = procs_happens event (afresh kernel)
 
 -- what a script may ask for may come
 pub may_come : (event : Event) → IsEvent event → MayCome event

@@ -1,9 +1,11 @@
 -- What a sound kernel stays through: changes of its parts, one by one.
-use Rattle.std.proofs.Common.{◌≡◌, ◌≢◌, ◌∙◌, ℕ, zero, suc, ◌+◌, ◌<◌, ◌≤◌, Bool, true, false, ◌&&◌, List, [], ◌∷◌, length, Option, Some, None, if◌then◌else◌, inl, inr, refl, sym, ap, subst, arith}
+use Rattle.std.proofs.Common.{◌≡◌, ◌≢◌, ◌∙◌, ℕ, zero, suc, ◌+◌, ◌<◌, ◌≤◌, Bool, true, false, ◌&&◌, List, [], ◌∷◌, length, get_or, replicate, Option, Some, None, if◌then◌else◌, inl, inr, refl, sym, ap, subst, arith}
 use Rattle.std.specs.List.{AllByRecursion}
-use Rattle.std.proofs.lemmas.Bool.{cases_eq}
+use Rattle.std.proofs.lemmas.Bool.{cases_eq, cases_lt, false≢true}
 use Rattle.std.proofs.lemmas.Bool.Decides.{nat_tests}
-use Rattle.std.proofs.lemmas.List.{length-set}
+use Rattle.std.specs.Prelude.{count_by}
+use Rattle.std.proofs.lemmas.List.{length-set, length-replicate, set_past, get_or-replicate, get_or_past}
+use Rattle.mpm_base.proofs.CountLaws.{count_cons}
 use Rattle.mpm_base.specs.Calls.{Taken}
 use Rattle.mpm_base.specs.declared.devices.Devices.{Devices}
 use Rattle.mpm_ready.specs.Order.{Member, first_of, in_list}
@@ -13,21 +15,27 @@ use Rattle.mpm_flags.specs.declared.flags.Flag.{Flag}
 use Rattle.mpm_flags.specs.States.{no_flags}
 use Rattle.mpm_clock.specs.declared.moment.Moment.{Moment}
 use Rattle.mpm_clock.specs.Delays.{delays_of}
-use Rattle.mpm_clock.specs.Times.{Clock, new_clock, left}
-use Rattle.mpm_clock.proofs.DelayLaws.{delays_none, delays_left_own, delays_left_other}
-use Rattle.mpm_procs.specs.Table.{lives, Lives, process_in, with_process, with_call, lowest_free, added, without}
+use Rattle.mpm_clock.specs.Times.{Clock, new_clock}
+use Rattle.mpm_clock.proofs.DelayLaws.{delays_none}
+use Rattle.mpm_procs.specs.Table.{Table, no_processes, lives, Lives, process_in, with_process, with_call, lowest_free, added}
 use Rattle.mpm_procs.specs.declared.process.Process.{Process}
 use Rattle.mpm_procs.specs.declared.process.NewProcess.{NewProcess}
 use Rattle.mpm_procs.specs.Opening.{opening}
-use Rattle.mpm_procs.proofs.MapLaws.{lives_below, process_changed, process_kept, lives_changed, slots_changed, slots_behind, free_below, free_is_dead, lives_added, lives_added_other, process_added, process_added_other, slots_added, lives_without, lives_without_other, process_without_other, slots_without, slots_none, nobody_lives}
+use Rattle.mpm_procs.proofs.MapLaws.{lives_below, process_changed, process_kept, lives_changed, slots_changed, slots_behind, free_below, free_is_dead, lives_added, lives_added_other, process_added, process_added_other, slots_added, slots_none, nobody_lives}
 use Rattle.mpm_queues.specs.Queues.{Queues, no_queues, IsMade, waits, IsSound as AreSound}
-use Rattle.mpm_queues.specs.Handling.{left as unqueued}
-use Rattle.mpm_queues.proofs.SoundLaws.{sound_none, sound_left}
-use Rattle.mpm_queues.proofs.WaitLaws.{waits_nowhere, waits_left, waits_left_other}
-use Rattle.mpm_kernel.specs.Kernel.{Kernel, ready, in_lists, flags_of, waits_in, waits_of, places, IsReady, IsFit, IsSound, with_changed, with_completed}
+use Rattle.mpm_queues.proofs.SoundLaws.{sound_none}
+use Rattle.mpm_queues.proofs.WaitLaws.{waits_nowhere}
+use Rattle.mpm_consoles.specs.Console.{Console, new_console, is_owner, spoken}
+use Rattle.mpm_consoles.specs.Consoles.{Consoles, rests, no_owners, console_at, owner_of, with_console, IsSound as AreUnitsSound}
+use Rattle.mpm_consoles.specs.Handling.{spoke as spoke_units}
+use Rattle.mpm_consoles.specs.declared.unit.Unit.{Unit}
+use Rattle.mpm_consoles.specs.declared.unit.Unit.TheVariants.{Console as ConsoleUnit, Printer as PrinterUnit}
+use Rattle.mpm_consoles.proofs.SoundLaws.{sound_none as sound_units_new, sound_kept}
+use Rattle.mpm_kernel.proofs.UnitWaits.{is_at_gate, waits_nowhere as waits_for_none, gates_kept, waits_console, owner_kept, has_before, proper_spoken}
+use Rattle.mpm_kernel.specs.Kernel.{Kernel, ready, in_lists, flags_of, waits_in, waits_at_units, waits_of, places, IsReady, IsFit, AreUnits, HasConsole, IsSound, with_changed, with_completed, afresh}
 use Rattle.mpm_kernel.specs.Columns.{spoke}
 use Rattle.mpm_kernel.specs.Dispatch.{new_kernel, admitted, in_slot, at_rest, runs_still, picked, stays, is_ready, behind_equals, moved, all_ready, runner_behind}
-use Rattle.mpm_kernel.proofs.PlaceLaws.{in_some, in_none, in_at_most, not_equal, moved_lists, table_moved, list_moved, list_moved_other, flags_none, flags_left_own, flags_left_other, length_left}
+use Rattle.mpm_kernel.proofs.PlaceLaws.{in_some, in_none, in_at_most, not_equal, moved_lists, table_moved, list_moved, list_moved_other, flags_none}
 
 pub dead_and_alive : (b : Bool) → b ≡ false → b ≡ true → ⊥
 dead_and_alive true e f = absurd (cc)
@@ -45,42 +53,82 @@ no_waits p = waits_nowhere no_queues p (list_of_none p)
 nowhere : (p : ℕ) → in_lists (list_of no_lists p) + (flags_of no_flags p + delays_of [] p + waits no_queues p) ≡ 0
 nowhere p = omega (arith, in_none _ (list_of_none p), flags_none p, delays_none p, no_waits p)
 
+-- the units at first: nobody owns one, or waits for one
+all_new : {X : Type 0} (n k : ℕ) (x : X) → get_or (replicate n x) k x ≡ x
+all_new n k x = elim (cases_lt k n) [
+  | inl h ↦ get_or-replicate n k x x h
+  | inr h ↦ get_or_past (replicate n x) k x (omega (arith, length-replicate n x, h))
+]
+
+owner_new : (consoles printers : ℕ) (unit : Unit) → owner_of (no_owners consoles printers) unit ≡ None
+unfolding no_owners new_console
+owner_new consoles printers (ConsoleUnit n) = ap (λ (c : Console). c.owner) (all_new consoles n new_console)
+owner_new consoles printers (PrinterUnit n) = all_new printers n None
+
+units_new : (consoles printers : ℕ) → 1 ≤ consoles → consoles ≤ 8 → printers ≤ 4 → AreUnits consoles printers no_processes (no_owners consoles printers)
+unfolding no_owners
+units_new consoles printers some few more = record {
+  sound = sound_units_new consoles printers some few more;
+  all_consoles = length-replicate consoles new_console;
+  all_printers = length-replicate {A = Option ℕ} printers None;
+  owners = λ unit p has is. absurd (false≢true (sym (ap (λ o. is_owner o p) (owner_new consoles printers unit)) ∙ is));
+}
+
+no_gates : (n p : ℕ) → count_by (is_at_gate p) (replicate n new_console) ≡ 0
+unfolding new_console
+no_gates zero p = refl
+no_gates (suc n) p = omega (arith, count_cons (is_at_gate p) new_console (replicate n new_console), no_gates n p)
+
+nowhere_new : (consoles printers p : ℕ) → waits_at_units (no_owners consoles printers) p ≡ 0
+unfolding no_owners rests
+nowhere_new consoles printers p = omega (arith, waits_for_none (no_owners consoles printers) p (list_of_none p), no_gates consoles p)
+
+-- the units where everybody lives on
+pub units_kept : (consoles printers : ℕ) (old new : Table) (units : Consoles) → ((p : ℕ) → Lives old p → Lives new p)
+    → AreUnits consoles printers old units → AreUnits consoles printers new units
+units_kept consoles printers old new units lives are = record {
+  sound = are.sound;
+  all_consoles = are.all_consoles;
+  all_printers = are.all_printers;
+  owners = λ unit p has is. lives p (are.owners unit p has is);
+}
+
 -- no process lives
-pub sound_new : (consoles printers : ℕ) (now : Moment) → 1 ≤ consoles → consoles ≤ 8 → IsSound (new_kernel consoles printers now)
+pub sound_new : (consoles printers : ℕ) (now : Moment) → 1 ≤ consoles → consoles ≤ 8 → printers ≤ 4 → IsSound (new_kernel consoles printers now)
 unfolding new_kernel new_clock no_flags
-sound_new consoles printers now some few = record {
+sound_new consoles printers now some few more = record {
   some = some;
   few = few;
-  columns = refl;
+  units = units_new consoles printers some few more;
   slots = slots_none;
   table = table_none;
   fit = λ p living. absurd (dead_and_alive _ (nobody_lives p) living);
   flags = refl;
   queues = sound_none;
   system = λ q below. absurd (omega (arith, below));
-  once = λ p. omega (arith, nowhere p);
-  live = λ p some. absurd (omega (arith, nowhere p));
+  once = λ p. omega (arith, nowhere p, nowhere_new consoles printers p);
+  live = λ p some. absurd (omega (arith, nowhere p, nowhere_new consoles printers p));
   runs = λ p e. absurd (none_and_some None p refl e);
 }
 
 -- a process is another one that fits
-pub sound_changed : (kernel : Kernel) (p : ℕ) (process : Process) → IsSound kernel → Lives kernel.procs p → IsFit kernel.consoles process
+pub sound_changed : (kernel : Kernel) (p : ℕ) (process : Process) → IsSound kernel → Lives kernel.procs p → IsFit kernel.consoles kernel.printers process
     → IsSound (with_changed kernel p process)
 sound_changed kernel p process s h fit = record {
   some = s.some;
   few = s.few;
-  columns = s.columns;
+  units = units_kept kernel.consoles kernel.printers kernel.procs (with_process kernel.procs p process) kernel.units (λ q living. lives_changed kernel.procs p q process ∙ living) s.units;
   slots = slots_changed kernel.procs p process s.slots;
   table = s.table;
   fit = λ q living. elim (cases_eq q p) [
     | inl same ↦
-        let P : Process → Type 0 = λ x. IsFit kernel.consoles x in
+        let P : Process → Type 0 = λ x. IsFit kernel.consoles kernel.printers x in
         let at : process_in (with_process kernel.procs p process) q ≡ process =
         ap (process_in (with_process kernel.procs p process)) same
         ∙ process_changed kernel.procs p process (omega (arith, s.slots.processes, lives_below kernel.procs p s.slots h)) in
         subst P (sym at) fit
     | inr other ↦
-        let P : Process → Type 0 = λ x. IsFit kernel.consoles x in
+        let P : Process → Type 0 = λ x. IsFit kernel.consoles kernel.printers x in
         subst P (sym (process_kept kernel.procs p q process other)) (s.fit q (sym (lives_changed kernel.procs p q process) ∙ living))
   ];
   flags = s.flags;
@@ -97,7 +145,7 @@ unfolding with_call
 sound_call kernel p call s = record {
   some = s.some;
   few = s.few;
-  columns = s.columns;
+  units = units_kept kernel.consoles kernel.printers kernel.procs (with_call kernel.procs p call) kernel.units (λ q living. living) s.units;
   slots = slots_behind kernel.procs p call s.slots;
   table = s.table;
   fit = s.fit;
@@ -113,7 +161,7 @@ pub sound_devices : (kernel : Kernel) (devices : Devices) → IsSound kernel →
 sound_devices kernel devices s = record {
   some = s.some;
   few = s.few;
-  columns = s.columns;
+  units = s.units;
   slots = s.slots;
   table = s.table;
   fit = s.fit;
@@ -125,12 +173,37 @@ sound_devices kernel devices s = record {
   runs = s.runs;
 }
 
-pub sound_spoke : (kernel : Kernel) (console : ℕ) (bytes : List ℕ) → IsSound kernel → IsSound (spoke kernel console bytes)
-unfolding spoke
-sound_spoke kernel console bytes s = record {
+-- the units are others, and everybody stands in at most one place
+pub sound_with_units : (kernel : Kernel) (units : Consoles) → IsSound kernel → AreUnits kernel.consoles kernel.printers kernel.procs units
+    → ((q : ℕ) → places (record kernel { units = units }) q ≤ 1) → ((q : ℕ) → 0 < places (record kernel { units = units }) q → Lives kernel.procs q)
+    → IsSound (record kernel { units = units })
+sound_with_units kernel units s are once live = record {
   some = s.some;
   few = s.few;
-  columns = length-set kernel.columns console _ ∙ s.columns;
+  units = are;
+  slots = s.slots;
+  table = s.table;
+  fit = s.fit;
+  flags = s.flags;
+  queues = s.queues;
+  system = s.system;
+  once = once;
+  live = live;
+  runs = s.runs;
+}
+
+-- the units are others, at which nobody waits who didn't before
+pub sound_units : (kernel : Kernel) (units : Consoles) → IsSound kernel → AreUnits kernel.consoles kernel.printers kernel.procs units
+    → ((q : ℕ) → waits_at_units units q ≤ waits_at_units kernel.units q) → IsSound (record kernel { units = units })
+sound_units kernel units s are fewer =
+    sound_with_units kernel units s are (λ q. omega (arith, s.once q, fewer q)) (λ q some. s.live q (omega (arith, fewer q, some)))
+
+-- what was written by the last call, and who is aborted, is no part of that
+pub sound_told : (kernel : Kernel) (echo : List ℕ) (aborted : Option ℕ) → IsSound kernel → IsSound (record kernel { echo = echo; aborted = aborted })
+sound_told kernel echo aborted s = record {
+  some = s.some;
+  few = s.few;
+  units = s.units;
   slots = s.slots;
   table = s.table;
   fit = s.fit;
@@ -141,6 +214,36 @@ sound_spoke kernel console bytes s = record {
   live = s.live;
   runs = s.runs;
 }
+
+-- one console is another one, of the same owner, at whose gate the same process waits
+pub units_console : (kernel : Kernel) (n : ℕ) (console : Console) → IsSound kernel → HasConsole kernel n
+    → console.owner ≡ (console_at kernel.units n).owner → AreUnitsSound (with_console kernel.units n console)
+    → AreUnits kernel.consoles kernel.printers kernel.procs (with_console kernel.units n console)
+units_console kernel n console s has same sound = record {
+  sound = sound;
+  all_consoles = length-set kernel.units.consoles n console ∙ s.units.all_consoles;
+  all_printers = s.units.all_printers;
+  owners = λ unit p there is. s.units.owners unit p (has_before kernel.units n console unit there) (sym (ap (λ o. is_owner o p) (owner_kept kernel.units n console unit has same)) ∙ is);
+}
+
+pub sound_console : (kernel : Kernel) (n : ℕ) (console : Console) → IsSound kernel → HasConsole kernel n
+    → console.owner ≡ (console_at kernel.units n).owner → console.awaits ≡ (console_at kernel.units n).awaits
+    → AreUnitsSound (with_console kernel.units n console) → IsSound (record kernel { units = with_console kernel.units n console })
+sound_console kernel n console s has owner awaits sound =
+    sound_units kernel (with_console kernel.units n console) s (units_console kernel n console s has owner sound)
+    (λ q. omega (arith, gates_kept kernel.units n console q has owner awaits, waits_console kernel.units n console q))
+
+-- bytes come to a console
+pub sound_spoke : (kernel : Kernel) (console : ℕ) (bytes : List ℕ) → IsSound kernel → IsSound (spoke kernel console bytes)
+unfolding spoke spoke_units spoken
+sound_spoke kernel console bytes s = elim (cases_lt console (length kernel.units.consoles)) [
+  | inl has ↦
+      sound_console kernel console _ s has refl refl
+      (sound_kept kernel.units console _ s.units.sound has refl (proper_spoken (console_at kernel.units console) bytes (s.units.sound.proper console)))
+  | inr past ↦
+      let P : List Console → Type 0 = λ cs. IsSound (record kernel { units = record kernel.units { consoles = cs } }) in
+      subst P (sym (set_past kernel.units.consoles console _ past)) s
+]
 
 pub first_is_in : (ms : List Member) (p : ℕ) → first_of ms ≡ Some p → in_list p ms ≡ true
 unfolding first_of in_list
@@ -168,9 +271,9 @@ runs_other p q (Some other) e = elim (cases_eq other p) [
       ((λ same. distinct (some_same other q is ∙ same)), is)
 ]
 
-fit_opening : (consoles : ℕ) (new : NewProcess) → new.console < consoles → IsFit consoles (opening new)
+fit_opening : (consoles printers : ℕ) (new : NewProcess) → new.console < consoles → IsFit consoles printers (opening new)
 unfolding opening
-fit_opening consoles new h = record { console = h; some = omega arith; few = omega arith }
+fit_opening consoles printers new h = record { console = h; printer = λ there. there; some = omega arith; few = omega arith }
 
 -- the first of the ready list is ready
 pub first_is_ready : (kernel : Kernel) (p : ℕ) → IsSound kernel → first_of (list_at kernel.lists ready) ≡ Some p → IsReady kernel p
@@ -199,7 +302,7 @@ unfolding picked
 sound_picked kernel instruction s = sound_if (instruction && stays kernel kernel.running) kernel _ s (record {
   some = s.some;
   few = s.few;
-  columns = s.columns;
+  units = s.units;
   slots = s.slots;
   table = s.table;
   fit = s.fit;
@@ -227,6 +330,14 @@ free_is_nowhere kernel p s free =
     let none = none_if_dead (places kernel p) (λ some. dead_and_alive _ (free_is_dead kernel.procs p free) (s.live p some)) in
     omega (arith, none)
 
+-- who lives lives on as a process begins
+lives_on : (kernel : Kernel) (p : ℕ) (new : NewProcess) → IsSound kernel → lowest_free kernel.procs ≡ Some p → (q : ℕ) → Lives kernel.procs q
+    → Lives (added kernel.procs p new) q
+lives_on kernel p new s free q living = elim (cases_eq q p) [
+  | inl same ↦ absurd (dead_and_alive _ (free_is_dead kernel.procs p free) (ap (lives kernel.procs) (sym same) ∙ living))
+  | inr other ↦ lives_added_other kernel.procs p q new other ∙ living
+]
+
 -- a process begins
 pub sound_admitted : (kernel : Kernel) (p : ℕ) (new : NewProcess) → IsSound kernel → lowest_free kernel.procs ≡ Some p → new.console < kernel.consoles
     → IsSound (admitted kernel p new)
@@ -238,16 +349,16 @@ sound_admitted kernel p new s free console =
     record {
       some = s.some;
       few = s.few;
-      columns = s.columns;
+      units = units_kept kernel.consoles kernel.printers kernel.procs (added kernel.procs p new) kernel.units (lives_on kernel p new s free) s.units;
       slots = slots_added kernel.procs p new s.slots;
       table = table_inserted kernel.lists ready member s.table (omega arith) below none;
       fit = λ q living. elim (cases_eq q p) [
         | inl same ↦
-            let P : Process → Type 0 = λ x. IsFit kernel.consoles x in
+            let P : Process → Type 0 = λ x. IsFit kernel.consoles kernel.printers x in
             let at = ap (process_in (added kernel.procs p new)) same ∙ process_added kernel.procs p new (omega (arith, s.slots.processes)) in
-            subst P (sym at) (fit_opening kernel.consoles new console)
+            subst P (sym at) (fit_opening kernel.consoles kernel.printers new console)
         | inr other ↦
-            let P : Process → Type 0 = λ x. IsFit kernel.consoles x in
+            let P : Process → Type 0 = λ x. IsFit kernel.consoles kernel.printers x in
             subst P (sym (process_added_other kernel.procs p q new other)) (s.fit q (sym (lives_added_other kernel.procs p q new other) ∙ living))
       ];
       flags = s.flags;
@@ -301,7 +412,7 @@ placed_in kernel list p running s h small nowhere_else runs =
     record {
       some = s.some;
       few = s.few;
-      columns = s.columns;
+      units = s.units;
       slots = s.slots;
       table = table_moved kernel.lists list p priority s.table small below;
       flags = s.flags;
@@ -354,13 +465,13 @@ own_queues kernel s = record { sound = s.queues; system = s.system }
 -- a process that runs no more leaves its list, and waits for a flag, for the clock or at a queue
 pub sound_unlisted : (kernel : Kernel) (p : ℕ) (flags : List Flag) (clock : Clock) (queues : Queues) → IsSound kernel → Lives kernel.procs p
     → length flags ≡ 32 → AreQueues kernel queues
-    → waits_in flags clock queues p ≤ 1
-    → ((q : ℕ) → q ≢ p → waits_in flags clock queues q ≡ waits_of kernel q)
+    → waits_in flags clock queues p + waits_at_units kernel.units p ≤ 1
+    → ((q : ℕ) → q ≢ p → waits_in flags clock queues q ≡ waits_in kernel.flags kernel.clock kernel.queues q)
     → IsSound (record kernel { lists = removed kernel.lists p; flags = flags; clock = clock; queues = queues; running = runs_still p kernel.running })
 sound_unlisted kernel p flags clock queues s h size are own others = record {
   some = s.some;
   few = s.few;
-  columns = s.columns;
+  units = s.units;
   slots = s.slots;
   table = table_removed kernel.lists p s.table;
   flags = size;
@@ -370,7 +481,7 @@ sound_unlisted kernel p flags clock queues s h size are own others = record {
   once = λ q. elim (cases_eq q p) [
     | inl same ↦
         let none = in_none _ (ap (list_of (removed kernel.lists p)) same ∙ list_of_removed kernel.lists p) in
-        let here = ap (λ x. waits_in flags clock queues x) same in
+        let here = ap (λ x. waits_in flags clock queues x + waits_at_units kernel.units x) same in
         omega (arith, none, here, own)
     | inr other ↦
         let there = list_of_removed_other kernel.lists p q s.table (not_equal p q (λ e. other (sym e))) in
@@ -389,12 +500,12 @@ sound_unlisted kernel p flags clock queues s h size are own others = record {
 
 -- nobody waits more than before
 pub sound_fewer : (kernel : Kernel) (flags : List Flag) (clock : Clock) (queues : Queues) → IsSound kernel → length flags ≡ 32 → AreQueues kernel queues
-    → ((q : ℕ) → waits_in flags clock queues q ≤ waits_of kernel q)
+    → ((q : ℕ) → waits_in flags clock queues q ≤ waits_in kernel.flags kernel.clock kernel.queues q)
     → IsSound (record kernel { flags = flags; clock = clock; queues = queues })
 sound_fewer kernel flags clock queues s size are fewer = record {
   some = s.some;
   few = s.few;
-  columns = s.columns;
+  units = s.units;
   slots = s.slots;
   table = s.table;
   flags = size;
@@ -470,12 +581,29 @@ unfolding runner_behind behind_equals
 procs_runner_behind None kernel = refl
 procs_runner_behind (Some p) kernel = procs_if (is_ready (list_of kernel.lists p)) (behind_equals kernel p) kernel refl
 
+-- a call or an event begins
+pub sound_afresh : (kernel : Kernel) → IsSound kernel → IsSound (afresh kernel)
+sound_afresh kernel s = record {
+  some = s.some;
+  few = s.few;
+  units = s.units;
+  slots = s.slots;
+  table = s.table;
+  flags = s.flags;
+  queues = s.queues;
+  system = s.system;
+  fit = s.fit;
+  once = s.once;
+  live = s.live;
+  runs = s.runs;
+}
+
 -- calls are completed
 pub sound_with_completed : (kernel : Kernel) (ps : List ℕ) → IsSound kernel → IsSound (with_completed kernel ps)
 sound_with_completed kernel ps s = record {
   some = s.some;
   few = s.few;
-  columns = s.columns;
+  units = s.units;
   slots = s.slots;
   table = s.table;
   flags = s.flags;

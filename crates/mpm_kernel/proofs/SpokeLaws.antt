@@ -1,42 +1,48 @@
 -- Bytes that come to a console one behind another.
-use Rattle.std.proofs.Common.{◌≡◌, ◌∙◌, ℕ, ◌-◌, ◌%◌, ◌<◌, ◌≤◌, Bool, true, false, ◌==◌, if◌then◌else◌, List, [], ◌∷◌, ◌++◌, set, get_or, take, replicate, refl, sym, ap, arith}
-use Rattle.std.proofs.lemmas.List.{get_or-set_same, set-get_or, set-set}
-use Rattle.mpm_kernel.specs.Kernel.{Kernel, HasColumns}
-use Rattle.mpm_kernel.specs.Columns.{columns_after, tab_text, spoke, wrote, spaces_for}
-use Rattle.mpm_kernel.proofs.ColumnLaws.{columns_nil, columns_append, first_spaces}
+use Rattle.std.proofs.Common.{◌≡◌, ◌∙◌, ℕ, ◌-◌, ◌%◌, ◌<◌, ◌≤◌, Bool, true, false, ◌==◌, if◌then◌else◌, List, [], ◌∷◌, ◌++◌, take, replicate, refl, ap, arith}
+use Rattle.std.proofs.lemmas.List.{length-set}
+use Rattle.mpm_consoles.specs.Columns.{spaces_for as spaces_at}
+use Rattle.mpm_consoles.specs.Console.{spoken}
+use Rattle.mpm_consoles.specs.Consoles.{Consoles, console_at}
+use Rattle.mpm_consoles.specs.Handling.{spoke as spoke_units, output_spaces}
+use Rattle.mpm_consoles.proofs.SpokeLaws.{column_spoke as column_in_units, spoke_none as none_in_units, spoke_both as both_in_units, output_itself, output_tabbed}
+use Rattle.mpm_consoles.specs.declared.unit.Unit.TheVariants.{Console as ConsoleUnit}
+use Rattle.mpm_kernel.specs.Kernel.{Kernel, HasConsole}
+use Rattle.mpm_kernel.specs.Columns.{columns_after, tab_text, column_of, spoke, wrote, spaces_for}
+use Rattle.mpm_kernel.proofs.ColumnLaws.{first_spaces}
+
+with_units : Kernel → Consoles → Kernel
+with_units kernel units = record kernel { units = units }
 
 -- the column behind some bytes
-pub column_spoke : (kernel : Kernel) (console : ℕ) (bytes : List ℕ) → HasColumns kernel → console < 8
-    → get_or (spoke kernel console bytes).columns console 0 ≡ columns_after (get_or kernel.columns console 0) bytes
+pub column_spoke : (kernel : Kernel) (console : ℕ) (bytes : List ℕ) → HasConsole kernel console
+    → column_of (spoke kernel console bytes) console ≡ columns_after (column_of kernel console) bytes
 unfolding spoke
-column_spoke kernel console bytes has h = get_or-set_same kernel.columns console _ 0 (omega (arith, has))
+column_spoke kernel console bytes has = column_in_units kernel.units console bytes has
+
+pub has_spoke : (kernel : Kernel) (console : ℕ) (bytes : List ℕ) → HasConsole kernel console → HasConsole (spoke kernel console bytes) console
+unfolding spoke spoke_units
+has_spoke kernel console bytes has = omega (arith, length-set kernel.units.consoles console (spoken bytes (console_at kernel.units console)), has)
 
 pub spoke_none : (kernel : Kernel) (console : ℕ) → spoke kernel console [] ≡ kernel
-unfolding spoke
-spoke_none kernel console =
-    ap (λ columns. record kernel { columns = columns })
-    (ap (set kernel.columns console) (columns_nil (get_or kernel.columns console 0)) ∙ set-get_or kernel.columns console 0)
+unfolding spoke with_units
+spoke_none kernel console = ap (with_units kernel) (none_in_units kernel.units console)
 
-pub spoke_both : (kernel : Kernel) (console : ℕ) (a b : List ℕ) → HasColumns kernel → console < 8
+pub spoke_both : (kernel : Kernel) (console : ℕ) (a b : List ℕ) → HasConsole kernel console
     → spoke (spoke kernel console a) console b ≡ spoke kernel console (a ++ b)
-unfolding spoke
-spoke_both kernel console a b has h =
-    let c = get_or kernel.columns console 0 in
-    let once = set kernel.columns console (columns_after c a) in
-    let at : get_or once console 0 ≡ columns_after c a = get_or-set_same kernel.columns console (columns_after c a) 0 (omega (arith, has)) in
-    ap (λ columns. record kernel { columns = columns })
-    (set-set kernel.columns console (columns_after c a) _
-    ∙ ap (set kernel.columns console) (ap (λ d. columns_after d b) at ∙ sym (columns_append c a b)))
+unfolding spoke with_units
+spoke_both kernel console a b has = ap (with_units kernel) (both_in_units kernel.units console a b has)
 
 -- a byte that is written as itself
-pub wrote_itself : (kernel : Kernel) (console byte : ℕ) → wrote kernel console byte false ≡ spoke kernel console (byte ∷ [])
-unfolding wrote
-wrote_itself kernel console byte = refl
+pub wrote_itself : (kernel : Kernel) (console byte : ℕ) → wrote kernel (ConsoleUnit console) byte false ≡ spoke kernel console (byte ∷ [])
+unfolding wrote spoke with_units
+wrote_itself kernel console byte = ap (with_units kernel) (output_itself kernel.units console byte)
 
 -- a byte that is written with a tab expanded
-pub wrote_tabbed : (kernel : Kernel) (console byte : ℕ) → wrote kernel console byte true ≡ spoke kernel console (tab_text (get_or kernel.columns console 0) byte)
-unfolding wrote
-wrote_tabbed kernel console byte = refl
+pub wrote_tabbed : (kernel : Kernel) (console byte : ℕ)
+    → wrote kernel (ConsoleUnit console) byte true ≡ spoke kernel console (tab_text (column_of kernel console) byte)
+unfolding wrote spoke with_units
+wrote_tabbed kernel console byte = ap (with_units kernel) (output_tabbed kernel.units console byte)
 
 -- how many spaces stand for a byte, and what it is written as then
 
@@ -54,16 +60,16 @@ as_itself : (b : Bool) (column byte spaces : ℕ) → spaces ≡ (if b then 8 - 
 as_itself true column byte spaces e none = absurd (omega arith)
 as_itself false column byte spaces e none = refl
 
-pub spaces_most : (kernel : Kernel) (console byte spaces : ℕ) → spaces ≡ spaces_for kernel console byte true → spaces ≤ 8
-unfolding spaces_for
-spaces_most kernel console byte spaces e = omega (arith, most_spaces (byte == 9) (get_or kernel.columns console 0))
+pub spaces_most : (kernel : Kernel) (console byte spaces : ℕ) → spaces ≡ spaces_for kernel (ConsoleUnit console) byte true → spaces ≤ 8
+unfolding output_spaces spaces_at
+spaces_most kernel console byte spaces e = omega (arith, most_spaces (byte == 9) (column_of kernel console))
 
-pub tab_is_spaces : (kernel : Kernel) (console byte spaces : ℕ) → spaces ≡ spaces_for kernel console byte true → 0 < spaces
-    → take {A = ℕ} spaces (32 ∷ 32 ∷ 32 ∷ 32 ∷ 32 ∷ 32 ∷ 32 ∷ 32 ∷ []) ≡ tab_text (get_or kernel.columns console 0) byte
-unfolding spaces_for tab_text
-tab_is_spaces kernel console byte spaces e some = as_spaces (byte == 9) (get_or kernel.columns console 0) byte spaces e some
+pub tab_is_spaces : (kernel : Kernel) (console byte spaces : ℕ) → spaces ≡ spaces_for kernel (ConsoleUnit console) byte true → 0 < spaces
+    → take {A = ℕ} spaces (32 ∷ 32 ∷ 32 ∷ 32 ∷ 32 ∷ 32 ∷ 32 ∷ 32 ∷ []) ≡ tab_text (column_of kernel console) byte
+unfolding output_spaces spaces_at tab_text
+tab_is_spaces kernel console byte spaces e some = as_spaces (byte == 9) (column_of kernel console) byte spaces e some
 
-pub tab_is_itself : (kernel : Kernel) (console byte spaces : ℕ) → spaces ≡ spaces_for kernel console byte true → spaces ≡ 0
-    → byte ∷ [] ≡ tab_text (get_or kernel.columns console 0) byte
-unfolding spaces_for tab_text
-tab_is_itself kernel console byte spaces e none = as_itself (byte == 9) (get_or kernel.columns console 0) byte spaces e none
+pub tab_is_itself : (kernel : Kernel) (console byte spaces : ℕ) → spaces ≡ spaces_for kernel (ConsoleUnit console) byte true → spaces ≡ 0
+    → byte ∷ [] ≡ tab_text (column_of kernel console) byte
+unfolding output_spaces spaces_at tab_text
+tab_is_itself kernel console byte spaces e none = as_itself (byte == 9) (column_of kernel console) byte spaces e none

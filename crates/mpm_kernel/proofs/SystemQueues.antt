@@ -80,7 +80,7 @@ sound_system_queue kernel name width count s only none =
     record {
       some = more.some;
       few = more.few;
-      columns = more.columns;
+      units = more.units;
       slots = more.slots;
       table = more.table;
       flags = more.flags;

@@ -1,14 +1,16 @@
 -- What the kernel's calls do and answer, by the call that the process keeps. (MP/M II Programmer's Guide, the functions
 -- named.)
-use Rattle.std.specs.Prelude.{ℕ, ◌%◌, Bool, true, false, [], ◌&&◌, ◌||◌, ◌==◌, nat_le, if◌then◌else◌}
+use Rattle.std.specs.Prelude.{ℕ, ◌%◌, Bool, true, false, ◌&&◌, ◌||◌, ◌==◌, nat_le, if◌then◌else◌}
 use Rattle.mpm_base.specs.Calls.{Taken, answering}
 use Rattle.mpm_base.specs.declared.call.Outcome.TheVariants.{Ended}
 use Rattle.mpm_procs.specs.Table.{process_in, call_of}
 use Rattle.mpm_procs.specs.declared.process.Process.{Process}
-use Rattle.mpm_kernel.specs.Kernel.{Kernel, with_changed, with_completed}
+use Rattle.mpm_kernel.specs.Kernel.{Kernel, with_changed, afresh}
 use Rattle.mpm_kernel.specs.Dispatch.{behind_equals, with_priority}
 use Rattle.mpm_kernel.specs.Waiting.{polled, flag_waited, flag_set, slept}
 use Rattle.mpm_kernel.specs.Dates.{date_set, date_told, time_told}
+use Rattle.mpm_kernel.specs.Consoling.{unit_called}
+use Rattle.mpm_kernel.specs.ConsoleInput.{console_called}
 use Rattle.mpm_kernel.specs.Queueing.{queue_made, queue_opened, queue_deleted, queue_read, queue_written}
 use Rattle.mpm_kernel.specs.Procedures.{procedure_called}
 pub use Rattle.mpm_kernel.specs.Called.{Called, valued, done, low_parameter, refusal, eight_of}
@@ -37,12 +39,24 @@ unfoldable pub with_multi : Taken → ℕ → Process → Kernel → Kernel
 with_multi call p process kernel =
     if is_count (low_parameter call) then with_changed kernel p (record process { multi = low_parameter call }) else kernel
 
+-- the functions that read from a console or write to it, and those that attach, detach, change or tell a console or a printer
+abbrev pub is_for_console : ℕ → Bool
+is_for_console function =
+    function == 1 || (function == 2 || (function == 3 || (function == 4
+    || (function == 6 || (function == 9 || (function == 10 || function == 11))))))
+
+abbrev pub is_for_unit : ℕ → Bool
+is_for_unit function =
+    function == 5 || ((nat_le 146 function && nat_le function 149)
+    || (function == 153 || ((nat_le 158 function && nat_le function 162) || function == 164)))
+
 -- the call of a process, which it keeps
 unfoldable pub call_done : Taken → ℕ → Process → Kernel → Called
 call_done call p process kernel =
     let function = call.function in
     if function == 0 || function == 143 then record { kernel = kernel; outcome = Ended; reply = answering 0 }
-    else (if function == 2 || function == 9 then done kernel
+    else (if is_for_console function then console_called call p kernel
+    else (if is_for_unit function then unit_called call p kernel
     else (if function == 12 || function == 163 then valued version kernel
     else (if function == 25 then valued process.drive kernel
     else (if function == 26 then done (with_changed kernel p (record process { dma = call.word }))
@@ -67,8 +81,8 @@ call_done call p process kernel =
     else (if function == 145 then done (with_priority kernel p (low_parameter call))
     else (if function == 151 then procedure_called call p kernel
     else (if function == 155 then time_told call kernel
-    else (valued 65535 kernel))))))))))))))))))))))))))
+    else (valued 65535 kernel)))))))))))))))))))))))))))
 
 -- the call that a process keeps is done
 abbrev pub called : ℕ → Kernel → Called
-called p kernel = call_done (call_of kernel.procs p) p (process_in kernel.procs p) (with_completed kernel [])
+called p kernel = call_done (call_of kernel.procs p) p (process_in kernel.procs p) (afresh kernel)

@@ -2,12 +2,15 @@
 -- 144 and 145.)
 use Rattle.std.specs.Prelude.{ℕ, Bool, false, not, Option, Some, None, List, [], ◌∷◌, ◌&&◌, ◌||◌, ◌==◌, replicate, if◌then◌else◌}
 use Rattle.z80_regs.specs.declared.regs.Regs.{Regs}
-use Rattle.mpm_ready.specs.Order.{first_of}
+use Rattle.mpm_ready.specs.Order.{Member, first_of}
 use Rattle.mpm_ready.specs.Tables.{no_lists, list_at, list_of, inserted, removed, rotated}
 use Rattle.mpm_flags.specs.States.{no_flags}
 use Rattle.mpm_clock.specs.declared.moment.Moment.{Moment}
 use Rattle.mpm_clock.specs.Times.{new_clock}
 use Rattle.mpm_queues.specs.Queues.{no_queues}
+use Rattle.mpm_consoles.specs.Consoles.{no_owners}
+use Rattle.mpm_consoles.specs.Handling.{behind_detach, heir_of}
+use Rattle.mpm_consoles.specs.declared.unit.Unit.{Unit}
 use Rattle.mpm_procs.specs.Table.{no_processes, process_in, added}
 use Rattle.mpm_procs.specs.declared.process.NewProcess.{NewProcess}
 use Rattle.mpm_kernel.specs.Kernel.{Kernel, ready, with_changed, with_completed}
@@ -23,10 +26,12 @@ new_kernel consoles printers now = record {
   devices = record { ready = replicate 16 false; last = replicate 16 0 };
   consoles = consoles;
   printers = printers;
-  columns = replicate 8 0;
+  units = no_owners consoles printers;
   queues = no_queues;
   system_queues = 0;
   completed = [];
+  echo = [];
+  aborted = None;
 }
 
 -- a process begins in a slot, and is ready
@@ -58,6 +63,21 @@ unlisted kernel p = record kernel { lists = removed kernel.lists p }
 unfoldable pub moved : Kernel → ℕ → ℕ → Kernel
 moved kernel list p = record kernel {
   lists = inserted (removed kernel.lists p) list (record { slot = p; priority = (process_in kernel.procs p).priority });
+}
+
+-- a process becomes ready, if there is one: the lists, and the kernel
+unfoldable pub lists_ready : Option ℕ → Kernel → List (List Member)
+lists_ready None kernel = kernel.lists
+lists_ready (Some p) kernel = (moved kernel ready p).lists
+
+abbrev pub made_ready : Option ℕ → Kernel → Kernel
+made_ready o kernel = record kernel { lists = lists_ready o kernel }
+
+-- a unit that a process owns passes to the process that waits for it first, who becomes ready
+unfoldable pub unit_left : ℕ → Unit → Kernel → Kernel
+unit_left p unit kernel = record kernel {
+  lists = lists_ready (heir_of kernel.units p unit) kernel;
+  units = behind_detach kernel.units p unit;
 }
 
 -- processes become ready, one after the other

@@ -1,18 +1,20 @@
--- The end of a process: it waits no more, its messages go back, and its slot is free. (MP/M II Programmer's Guide, functions 0,
--- "System Reset", and 143, "Terminate Process"; "Mutual Exclusion Queues".)
-use Rattle.std.specs.Prelude.{◌≡◌, ◌≢◌, ℕ, List, [], ◌∷◌, Some, if◌then◌else◌}
+-- The end of a process: it waits no more, its messages go back, its consoles and printers pass on, and its slot is free. (MP/M
+-- II Programmer's Guide, functions 0, "System Reset", and 143, "Terminate Process"; "Mutual Exclusion Queues".)
+use Rattle.std.specs.Prelude.{◌≡◌, ◌≢◌, ℕ, zero, suc, List, [], ◌∷◌, Some, if◌then◌else◌}
 use Rattle.std.specs.List.{AllByRecursion, range_with_len}
 use Rattle.mpm_ready.specs.Tables.{removed}
 use Rattle.mpm_flags.specs.States.{left as without_waiter}
 use Rattle.mpm_clock.specs.Times.{left as without_delay}
 use Rattle.mpm_queues.specs.Queues.{holds}
 use Rattle.mpm_queues.specs.Handling.{left as unqueued}
+use Rattle.mpm_consoles.specs.Handling.{left as without_units}
+use Rattle.mpm_consoles.specs.declared.unit.Unit.TheVariants.{Console as ConsoleUnit, Printer as PrinterUnit}
 use Rattle.mpm_procs.specs.Table.{Lives, without}
 use Rattle.mpm_kernel.specs.Kernel.{Kernel, IsSound, places}
-use Rattle.mpm_kernel.specs.Dispatch.{runs_still}
+use Rattle.mpm_kernel.specs.Dispatch.{runs_still, unit_left}
 use Rattle.mpm_kernel.specs.Procedures.{given_back_to, given_back}
 
--- a process stands in no list, and waits neither for a flag nor for the clock nor at a queue
+-- a process stands in no list, and waits neither for a flag nor for the clock nor at a queue nor for a console or a printer
 unfoldable pub dropped_out : ℕ → Kernel → Kernel
 dropped_out p kernel = record kernel {
   lists = removed kernel.lists p;
@@ -20,6 +22,7 @@ dropped_out p kernel = record kernel {
   flags = without_waiter kernel.flags p;
   clock = without_delay kernel.clock p;
   queues = unqueued kernel.queues p;
+  units = without_units kernel.units p;
 }
 
 -- the message of a mutual exclusion queue that it holds goes back
@@ -31,9 +34,24 @@ unfoldable pub all_returned : List ℕ → ℕ → Kernel → Kernel
 all_returned [] p kernel = kernel
 all_returned (q ∷ qs) p kernel = all_returned qs p (returned p q kernel)
 
--- first the message of its resident procedure goes back, then those of mutual exclusion queues, by rising number
+-- so many consoles and printers that it owns pass on, by rising number
+unfoldable pub consoles_left : ℕ → ℕ → Kernel → Kernel
+consoles_left p zero kernel = kernel
+consoles_left p (suc n) kernel = unit_left p (ConsoleUnit n) (consoles_left p n kernel)
+
+unfoldable pub printers_left : ℕ → ℕ → Kernel → Kernel
+printers_left p zero kernel = kernel
+printers_left p (suc n) kernel = unit_left p (PrinterUnit n) (printers_left p n kernel)
+
+-- first all its consoles, and then its printers
+unfoldable pub units_left : ℕ → Kernel → Kernel
+units_left p kernel =
+    let behind = consoles_left p kernel.consoles kernel in printers_left p behind.printers behind
+
+-- first the message of its resident procedure goes back, then those of mutual exclusion queues, by rising number, and then its
+-- consoles and printers pass on
 unfoldable pub relieved : ℕ → Kernel → Kernel
-relieved p kernel = all_returned (range_with_len 0 32) p (given_back p (dropped_out p kernel))
+relieved p kernel = units_left p (all_returned (range_with_len 0 32) p (given_back p (dropped_out p kernel)))
 
 -- the slot of a process is free
 abbrev pub vacated : ℕ → Kernel → Kernel
@@ -43,7 +61,7 @@ vacated p kernel = record kernel { procs = without kernel.procs p }
 unfoldable pub discharged : Kernel → ℕ → Kernel
 discharged kernel p = vacated p (relieved p kernel)
 
--- what is so of it while its messages go back: it lives and stands nowhere, and only others' held calls are completed
+-- what is so of it while it gives these up: it lives and stands nowhere, and only others' held calls are completed
 pub record Leaves (p : ℕ) (kernel : Kernel) : Type 0 where
   pub sound : IsSound kernel
   pub lives : Lives kernel.procs p

@@ -7,11 +7,12 @@ use Rattle.mpm_procs.specs.Table.{call_of}
 use Rattle.mpm_queues.specs.Queue.{block_size}
 use Rattle.mpm_script.specs.declared.event.Event.{Event}
 use Rattle.mpm_script.specs.declared.event.Event.TheVariants.{Tick, Key, Ready, Int}
-use Rattle.mpm_kernel.specs.Kernel.{Kernel, poll_list, with_completed}
+use Rattle.mpm_kernel.specs.Kernel.{Kernel, poll_list, with_completed, afresh}
 use Rattle.mpm_kernel.specs.Dispatch.{all_woken, runner_behind}
 use Rattle.mpm_kernel.specs.Called.{word_at}
 use Rattle.mpm_kernel.specs.Waiting.{signalled}
 use Rattle.mpm_kernel.specs.Procedures.{inside, procedure_queue}
+use Rattle.mpm_kernel.specs.Consoling.{key_came}
 
 -- an event that may come: its device or its flag is there
 abbrev pub MayCome : Event → Type 0
@@ -44,15 +45,15 @@ with_ready kernel device byte = record kernel {
 unfoldable pub device_ready : Kernel → ℕ → ℕ → Kernel
 device_ready kernel device byte = all_woken (pollers kernel device) (with_ready kernel device byte)
 
--- an event; keys have no meaning yet
+-- an event
 unfoldable pub happens : Event → Kernel → Kernel
 happens Tick kernel = clock_ticked kernel
-happens (Key console byte) kernel = kernel
+happens (Key console byte) kernel = key_came console byte kernel
 happens (Ready device byte) kernel = device_ready kernel device byte
 happens (Int flag) kernel = signalled flag kernel
 
 abbrev pub happened : Event → Kernel → Kernel
-happened event kernel = happens event (with_completed kernel [])
+happened event kernel = happens event (afresh kernel)
 
 -- whose held call was completed first, and the kernel once it is handed out
 abbrev pub first_completed : List ℕ → Option ℕ

@@ -1,5 +1,5 @@
 -- The kernel as the record of its parts, each the value of the crate that keeps it.
-use Rattle.std.specs.Prelude.{◌≡◌, ℕ, ◌+◌, ◌<◌, ◌≤◌, Bool, false, List, Option, Some, None, ◌==◌, ◌&&◌, count_by, length}
+use Rattle.std.specs.Prelude.{◌≡◌, ℕ, ◌+◌, ◌<◌, ◌≤◌, Bool, true, false, List, [], Option, Some, None, ◌==◌, ◌&&◌, count_by, length}
 use Rattle.std.specs.List.{AllByRecursion}
 use Rattle.mpm_base.specs.declared.devices.Devices.{Devices}
 use Rattle.mpm_ready.specs.Order.{Member}
@@ -9,13 +9,15 @@ use Rattle.mpm_flags.specs.declared.flags.Flag.TheVariants.{Clear, Set, Waits}
 use Rattle.mpm_clock.specs.Delays.{delays_of}
 use Rattle.mpm_clock.specs.Times.{Clock}
 use Rattle.mpm_queues.specs.Queues.{Queues, IsMade, waits, IsSound as AreSound}
+use Rattle.mpm_consoles.specs.Consoles.{Consoles, HasUnit, owns, waits as waits_for_unit, rests, IsSound as AreUnitsSound}
+use Rattle.mpm_consoles.specs.declared.unit.Unit.{Unit}
 use Rattle.mpm_procs.specs.Table.{Table, HasSlots, lives, Lives, process_in, with_process}
 use Rattle.mpm_procs.specs.declared.process.Process.{Process}
 
 -- the processes, the lists in which they stand, the process that runs, the flags, the clock, the polled devices, how many
--- consoles and printers there are, the column of each console, the queues, how many of them are the system's, which have the
--- lowest numbers, and the processes whose held calls the last call or event completed, in order, which were not handed out
--- yet
+-- consoles and printers there are, the consoles and printers with those who wait for them, the queues, how many of them are
+-- the system's, which have the lowest numbers, and what the last call or event left to be handed out: the processes whose held
+-- calls it completed, in order, what it wrote to its console by itself, and the process that it aborts
 pub record Kernel : Type 0 where
   pub procs : Table
   pub lists : List (List Member)
@@ -25,10 +27,12 @@ pub record Kernel : Type 0 where
   pub devices : Devices
   pub consoles : ℕ
   pub printers : ℕ
-  pub columns : List ℕ
+  pub units : Consoles
   pub queues : Queues
   pub system_queues : ℕ
   pub completed : List ℕ
+  pub echo : List ℕ
+  pub aborted : Option ℕ
 
 -- the number of the ready list
 abbrev pub ready : ℕ
@@ -50,11 +54,16 @@ with_changed kernel p process = record kernel { procs = with_process kernel.proc
 abbrev pub with_completed : Kernel → List ℕ → Kernel
 with_completed kernel ps = record kernel { completed = ps }
 
+-- the kernel as a call or an event begins: nothing is left to be handed out
+abbrev pub afresh : Kernel → Kernel
+afresh kernel = record kernel { completed = []; echo = []; aborted = None }
+
 -- a process lives, and its end by an abort is put off
 abbrev pub is_aborted : Table → ℕ → Bool
 is_aborted procs p = lives procs p && (process_in procs p).abort_due
 
--- the places where a process stands: it is in a list, it waits for flags, delays are its, it waits at queues
+-- the places where a process stands: it is in a list, it waits for flags, delays are its, it waits at queues, it waits for a
+-- console or a printer, it waits at its gate as the owner of a console
 
 unfoldable pub in_lists : Option ℕ → ℕ
 in_lists None = 0
@@ -72,8 +81,11 @@ flags_of flags p = count_by (is_waiter p) flags
 abbrev pub waits_in : List Flag → Clock → Queues → ℕ → ℕ
 waits_in flags clock queues p = flags_of flags p + delays_of clock.delays p + waits queues p
 
+abbrev pub waits_at_units : Consoles → ℕ → ℕ
+waits_at_units units p = waits_for_unit units p + rests units p
+
 abbrev pub waits_of : Kernel → ℕ → ℕ
-waits_of kernel p = waits_in kernel.flags kernel.clock kernel.queues p
+waits_of kernel p = waits_in kernel.flags kernel.clock kernel.queues p + waits_at_units kernel.units p
 
 abbrev pub places : Kernel → ℕ → ℕ
 places kernel p = in_lists (list_of kernel.lists p) + waits_of kernel p
@@ -82,28 +94,37 @@ places kernel p = in_lists (list_of kernel.lists p) + waits_of kernel p
 abbrev pub CompletedLive : Kernel → Type 0
 CompletedLive kernel = AllByRecursion (λ p. Lives kernel.procs p) kernel.completed
 
--- what is so of each process: its console is there, and its multi-sector count is 1 to 16
-pub record IsFit (consoles : ℕ) (process : Process) : Type 0 where
+-- what is so of each process: its console is there, and its printer where there are printers, and its multi-sector count is 1
+-- to 16
+pub record IsFit (consoles printers : ℕ) (process : Process) : Type 0 where
   pub console : process.console < consoles
+  pub printer : 0 < printers → process.printer < printers
   pub some : 1 ≤ process.multi
   pub few : process.multi ≤ 16
 
--- there is a column for each of eight consoles
-abbrev pub HasColumns : Kernel → Type 0
-HasColumns kernel = length kernel.columns ≡ 8
+-- what is so of the consoles and printers: there are as many as the machine has, and each owner lives
+pub record AreUnits (consoles printers : ℕ) (procs : Table) (units : Consoles) : Type 0 where
+  pub sound : AreUnitsSound units
+  pub all_consoles : length units.consoles ≡ consoles
+  pub all_printers : length units.printers ≡ printers
+  pub owners : (unit : Unit) (p : ℕ) → HasUnit units unit → owns units p unit ≡ true → Lives procs p
+
+-- a console is there
+abbrev pub HasConsole : Kernel → ℕ → Type 0
+HasConsole kernel console = console < length kernel.units.consoles
 
 -- what is so of the kernel behind each step: a process is in at most one place, and only living ones are; the system's
 -- queues are there
 pub record IsSound (kernel : Kernel) : Type 0 where
   pub some : 1 ≤ kernel.consoles
   pub few : kernel.consoles ≤ 8
-  pub columns : HasColumns kernel
+  pub units : AreUnits kernel.consoles kernel.printers kernel.procs kernel.units
   pub slots : HasSlots kernel.procs
   pub table : IsTable kernel.lists
   pub flags : length kernel.flags ≡ 32
   pub queues : AreSound kernel.queues
   pub system : (q : ℕ) → q < kernel.system_queues → IsMade kernel.queues q
-  pub fit : (p : ℕ) → Lives kernel.procs p → IsFit kernel.consoles (process_in kernel.procs p)
+  pub fit : (p : ℕ) → Lives kernel.procs p → IsFit kernel.consoles kernel.printers (process_in kernel.procs p)
   pub once : (p : ℕ) → places kernel p ≤ 1
   pub live : (p : ℕ) → 0 < places kernel p → Lives kernel.procs p
   pub runs : (p : ℕ) → kernel.running ≡ Some p → IsReady kernel p

@@ -3,6 +3,8 @@ pub mod Dispatch
 pub mod Columns
 pub mod Called
 pub mod Waiting
+pub mod Consoling
+pub mod ConsoleInput
 pub mod Dates
 pub mod Queueing
 pub mod Procedures
@@ -10,3 +12,4 @@ pub mod Ending
 pub mod Calls
 pub mod Events
 pub mod Lending
+pub mod Joining

@@ -4,7 +4,7 @@ use Rattle.std.specs.Prelude.{ℕ, Bool, true, false, List, ◌++◌, [], ◌∷
 use Rattle.z80_regs.specs.Words.{low, high, word_of}
 use Rattle.mpm_base.specs.Lists.{zeros}
 use Rattle.mpm_base.specs.Calls.{Taken, answering}
-use Rattle.mpm_procs.specs.Table.{Table, process_in, with_process, with_call}
+use Rattle.mpm_procs.specs.Table.{process_in, with_process, with_call}
 use Rattle.mpm_queues.specs.Queues.{Queues, is_made, found, width_of}
 use Rattle.mpm_queues.specs.Handling.{read_outcome, read_reply, write_outcome, ended}
 use Rattle.mpm_queues.specs.declared.queues.QueueOutcome.{QueueOutcome}

@@ -18,7 +18,7 @@ impl Kernel {
     ghost use Rattle.mpm_kernel.specs.Calls.{called, user_value, with_user, multi_value, with_multi, low_parameter};
 
     /// Does the call that a ready process keeps.
-    #[tactic(auto, using(crate::proofs::SoundLaws::sound_with_completed), unfolding(crate::specs::Calls::call_done))]
+    #[tactic(auto, using(crate::proofs::SoundLaws::sound_afresh), unfolding(crate::specs::Calls::call_done))]
     pub fn call(&mut self, p: Pid, reply: &mut Reply) -> Outcome
         requires sound { IsSound self.old }
         requires lives { Lives self.old.procs p }
@@ -27,7 +27,7 @@ impl Kernel {
         ensures outcome { result ≡ (called p self.old).outcome }
         ensures reply { reply.new ≡ (called p self.old).reply }
     {
-        self.completed.clear();
+        self.begin();
         let call = self.procs.call(p);
         let function = call.function;
         let word = call.word;
@@ -35,7 +35,8 @@ impl Kernel {
         reply.answer(0);
         match function {
             0 | 143 => return Outcome::Ended,
-            2 | 9 => {}
+            1 | 2 | 3 | 4 | 6 | 9 | 10 | 11 => return self.console_call(p, reply),
+            5 | 146..=149 | 153 | 158..=162 | 164 => return self.unit_call(p, reply),
             12 | 163 => reply.answer(VERSION),
             25 => reply.answer(u16::from(self.procs.get(p).drive)),
             26 => self.set_dma(p, word),

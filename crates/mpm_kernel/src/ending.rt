@@ -3,16 +3,18 @@ ghost use Rattle.std.specs.List.{range_with_len};
 
 use crate::Kernel;
 use mpm_base::Pid;
+use mpm_consoles::Unit;
 
 impl Kernel {
     ghost use Rattle.mpm_procs.specs.Table.{Lives};
     ghost use Rattle.mpm_queues.specs.Queues.{holds};
     ghost use Rattle.mpm_kernel.specs.Kernel.{IsSound};
-    ghost use Rattle.mpm_kernel.specs.Ending.{dropped_out, returned, all_returned, vacated, discharged, Leaves};
+    ghost use Rattle.mpm_kernel.specs.Ending.{dropped_out, returned, all_returned, consoles_left, printers_left, units_left, vacated, discharged, Leaves};
 
     /// A process ends: it stands in no list and waits for nothing, the message of its resident procedure goes back and then
-    /// those of the mutual exclusion queues that it holds, by rising number, and its slot is free: it holds nothing then.
-    /// The held calls that are completed by that are handed out in the order in which they were.
+    /// those of the mutual exclusion queues that it holds, by rising number, its consoles and then its printers pass on by
+    /// number, each to the process that waits for it first, and its slot is free: it holds nothing then. The held calls that
+    /// are completed by that are handed out in the order in which they were.
     pub fn discharge(&mut self, p: Pid)
         requires sound { IsSound self.old }
         requires lives { Lives self.old.procs p }
@@ -22,8 +24,8 @@ impl Kernel {
         self.let_go(p);
     }
 
-    /// A process ends: it drops out, its messages go back, and its slot is free.
-    #[tactic(auto, using(crate::proofs::EndingLaws::sound_dropped, crate::proofs::EndingLaws::lives_dropped, crate::proofs::EndingLaws::leaves_given_back, crate::proofs::EndingLaws::few_given_back, crate::proofs::EndingLaws::lives_relieved), unfolding(crate::specs::Ending::discharged, crate::specs::Ending::relieved))]
+    /// A process ends: it drops out, its messages go back, its consoles and printers pass on, and its slot is free.
+    #[tactic(auto, using(crate::proofs::EndingLaws::sound_dropped, crate::proofs::EndingLaws::lives_dropped, crate::proofs::EndingLaws::leaves_given_back, crate::proofs::EndingLaws::few_given_back), unfolding(crate::specs::Ending::discharged, crate::specs::Ending::relieved))]
     fn let_go(&mut self, p: Pid)
         requires sound { IsSound self.old }
         requires lives { Lives self.old.procs p }
@@ -32,6 +34,7 @@ impl Kernel {
         self.drop_out(p);
         self.put_back(p);
         self.return_held(p);
+        self.leave_units(p);
         self.vacate(p);
     }
 
@@ -52,6 +55,7 @@ impl Kernel {
         self.flags.leave(p);
         self.clock.leave(p);
         self.queues.leave(p);
+        self.units.leave(p);
         self.rest(p);
     }
 
@@ -76,6 +80,36 @@ impl Kernel {
     {
         if self.queues.holds(p, q) {
             self.write_back(p, q);
+        }
+    }
+
+    /// The consoles that a process owns and then its printers pass on.
+    #[tactic(auto, using(crate::proofs::LeavingLaws::sound_consoles_left), unfolding(crate::specs::Ending::units_left))]
+    fn leave_units(&mut self, p: Pid)
+        requires { Leaves p self.old }
+        ensures { self.new ≡ units_left p self.old }
+    {
+        self.leave_consoles(p);
+        self.leave_printers(p);
+    }
+
+    /// The consoles that a process owns pass on, by number.
+    fn leave_consoles(&mut self, p: Pid)
+        requires { IsSound self.old }
+        ensures { self.new ≡ consoles_left p self.old.consoles self.old }
+    {
+        for n in 0..self.consoles {
+            self.leave_unit(p, Unit::Console { n });
+        }
+    }
+
+    /// The printers that a process owns pass on, by number.
+    fn leave_printers(&mut self, p: Pid)
+        requires { IsSound self.old }
+        ensures { self.new ≡ printers_left p self.old.printers self.old }
+    {
+        for n in 0..self.printers {
+            self.leave_unit(p, Unit::Printer { n });
         }
     }
 }

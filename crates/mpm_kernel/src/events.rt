@@ -16,17 +16,17 @@ impl Kernel {
     ghost use Rattle.mpm_kernel.specs.Dispatch.{all_ready, runner_behind as behind_runner};
     ghost use Rattle.mpm_kernel.specs.Events.{MayCome, with_tick, clock_ticked, device_ready as device_is_ready, pollers, with_ready, happened};
 
-    /// An event comes: a tick of the clock, a device that is ready, or a flag that is set. Keys have no meaning yet.
-    #[tactic(auto, using(crate::proofs::SoundLaws::sound_with_completed), unfolding(crate::specs::Events::happens))]
+    /// An event comes: a tick of the clock, a device that is ready, a flag that is set, or a key.
+    #[tactic(auto, using(crate::proofs::SoundLaws::sound_afresh), unfolding(crate::specs::Events::happens))]
     pub fn event(&mut self, event: Event)
         requires sound { IsSound self.old }
         requires comes { MayCome event }
         ensures { self.new ≡ happened event self.old }
     {
-        self.completed.clear();
+        self.begin();
         match event {
             Event::Tick => self.tick(),
-            Event::Key { .. } => {}
+            Event::Key { console, byte } => self.key(console, byte),
             Event::Ready { device, byte } => self.device_ready(device, byte),
             Event::Int { flag } => {
                 let _answer = self.signal(flag);

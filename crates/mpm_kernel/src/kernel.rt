@@ -1,6 +1,5 @@
 ghost use Rattle.std.specs.Prelude.{◌≡◌, ℕ, ◌<◌, ◌≤◌, Some, None, true, IfOk, OnErr, MatchOption};
 ghost use Rattle.std.specs.Borrow.{sem};
-ghost use Rattle.mpm_kernel.specs.Columns.{column_after as column_of};
 ghost use Rattle.mpm_kernel.specs.Dispatch.{is_held_off};
 ghost use Rattle.mpm_clock.specs.Times.{IsTime};
 ghost use Rattle.mpm_kernel.specs.Waiting.{completion_of, completion_value as value_of_completion};
@@ -9,7 +8,9 @@ use crate::completed::Completed;
 use crate::queueing::{given_message, word_at};
 use mpm_base::{Call, Devices, Pid, Reply, Seg};
 use mpm_clock::{Clock, Moment};
+use mpm_consoles::Consoles;
 use mpm_flags::Flags;
+use mpm_line_input::Echo;
 use mpm_procs::{NewProcess, NoSlot, Process, Procs};
 use mpm_queues::Queues;
 use mpm_ready::Lists;
@@ -29,12 +30,14 @@ pub struct Kernel {
     pub(crate) flags: Flags,
     pub(crate) clock: Clock,
     pub(crate) devices: Devices,
-    consoles: u8,
-    printers: u8,
-    columns: [u16; 8],
+    pub(crate) consoles: u8,
+    pub(crate) printers: u8,
+    pub(crate) units: Consoles,
     pub(crate) queues: Queues,
     pub(crate) system_queues: u8,
     pub(crate) completed: Completed,
+    pub(crate) echo: Echo,
+    pub(crate) aborted: Option<Pid>,
 }
 
 impl Model for Kernel {
@@ -42,7 +45,7 @@ impl Model for Kernel {
 
     ghost Value = { Kernel };
 
-    ghost view = { λ k. record { procs = k.procs; lists = k.lists; running = k.running; flags = k.flags; clock = k.clock; devices = k.devices; consoles = k.consoles; printers = k.printers; columns = k.columns; queues = k.queues; system_queues = k.system_queues; completed = k.completed } };
+    ghost view = { λ k. record { procs = k.procs; lists = k.lists; running = k.running; flags = k.flags; clock = k.clock; devices = k.devices; consoles = k.consoles; printers = k.printers; units = k.units; queues = k.queues; system_queues = k.system_queues; completed = k.completed; echo = k.echo; aborted = k.aborted } };
 }
 
 impl Kernel {
@@ -51,9 +54,8 @@ impl Kernel {
     ghost use Rattle.std.specs.Prelude.{is_some};
     ghost use Rattle.mpm_ready.specs.Tables.{list_at};
     ghost use Rattle.mpm_queues.specs.Queues.{held as held_queue};
-    ghost use Rattle.mpm_kernel.specs.Kernel.{ready, IsReady, IsSound, CompletedLive};
+    ghost use Rattle.mpm_kernel.specs.Kernel.{ready, IsReady, IsSound, CompletedLive, afresh};
     ghost use Rattle.mpm_kernel.specs.Dispatch.{new_kernel, in_slot, at_rest, stays, picked, behind_equals};
-    ghost use Rattle.mpm_kernel.specs.Columns.{wrote, spaces_for};
     ghost use Rattle.mpm_kernel.specs.Waiting.{completion_reply};
     ghost use Rattle.mpm_kernel.specs.Events.{first_completed, handed_out};
     ghost use Rattle.mpm_clock.specs.Times.{moment_of};
@@ -80,10 +82,12 @@ impl Kernel {
             devices: Devices::new(),
             consoles,
             printers,
-            columns: [0; 8],
+            units: Consoles::new(alloc, consoles, printers)?,
             queues: Queues::new(alloc)?,
             system_queues: 0,
             completed: Completed::new(),
+            echo: Echo::new(),
+            aborted: None,
         })
     }
 
@@ -229,6 +233,15 @@ impl Kernel {
         Ok(p)
     }
 
+    /// A call or an event begins: nothing is left to be handed out.
+    pub(crate) fn begin(&mut self)
+        ensures { self.new ≡ afresh self.old }
+    {
+        self.completed.clear();
+        self.echo = Echo::new();
+        self.aborted = None;
+    }
+
     /// A process doesn't run any more.
     pub(crate) fn rest(&mut self, p: Pid)
         ensures { self.new ≡ at_rest self.old p }
@@ -294,38 +307,6 @@ impl Kernel {
     {
         let priority = self.procs.get(p).priority;
         self.lists.rotate(p, priority);
-    }
-
-    /// A byte comes to a console: its column moves. Answers the number of spaces that stand for a tab that is expanded, 0
-    /// where the byte stands for itself.
-    #[tactic(auto, using(crate::proofs::ColumnLaws::columns_spaces, crate::proofs::ColumnLaws::columns_one), unfolding(crate::specs::Columns::wrote, crate::specs::Columns::spoke, crate::specs::Columns::spaces_for, crate::specs::Columns::tab_text))]
-    pub fn write(&mut self, console: u8, byte: u8, tabs: bool) -> u8
-        requires { console < 8 }
-        ensures kernel { self.new ≡ wrote self.old console byte tabs }
-        ensures spaces { result ≡ spaces_for self.old console byte tabs }
-    {
-        let column = self.columns[console as usize];
-        if tabs && byte == b'\t' {
-            let spaces = (8 - column % 8) as u8;
-            self.columns[console as usize] = column.saturating_add(u16::from(spaces));
-            spaces
-        } else {
-            self.columns[console as usize] = column_after(column, byte);
-            0
-        }
-    }
-}
-
-/// The column behind a byte: a printable one goes one on, CR to the first, BS one back.
-#[tactic(auto, unfolding(crate::specs::Columns::column_after))]
-fn column_after(column: u16, byte: u8) -> u16
-    ensures { result ≡ column_of column byte }
-{
-    match byte {
-        32..=126 => column.saturating_add(1),
-        b'\r' => 0,
-        8 => column.saturating_sub(1),
-        _ => column,
     }
 }
 

@@ -4,9 +4,12 @@
 
 mod call;
 mod completed;
+mod console_input;
+mod consoles;
 mod dates;
 mod ending;
 mod events;
+mod joining;
 mod kernel;
 mod procedures;
 mod queueing;

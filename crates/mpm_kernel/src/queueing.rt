@@ -225,7 +225,14 @@ impl Kernel {
 
     /// A call that can't be done now is held, if it may wait, or else refused.
     #[tactic(auto, unfolding(crate::specs::Queueing::put_off))]
-    pub(crate) fn put_off(&mut self, p: Pid, q: u8, reader: bool, waits: bool, reply: &mut Reply) -> Outcome
+    pub(crate) fn put_off(
+        &mut self,
+        p: Pid,
+        q: u8,
+        reader: bool,
+        waits: bool,
+        reply: &mut Reply,
+    ) -> Outcome
         requires sound { IsSound self.old }
         requires lives { Lives self.old.procs p }
         requires ready { IsReady self.old p }

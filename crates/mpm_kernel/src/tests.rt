@@ -10,6 +10,7 @@ use mpm_script::Event;
 use std::alloc::Global;
 use std::test::Fail;
 
+mod consoles;
 mod ending;
 mod queues;
 
@@ -314,17 +315,6 @@ fn functions_that_end_their_caller(rt: HostRuntime) -> Result<(), Fail> {
 }
 
 #[test]
-fn tabs_go_to_the_next_column_divisible_by_eight(rt: HostRuntime) -> Result<(), Fail> {
-    let mut kernel = kernel_of_one(rt.alloc())?;
-    assert_eq!(rt; kernel.write(1, b'A', true), 0);
-    assert_eq!(rt; kernel.write(1, b'\t', true), 7);
-    assert_eq!(rt; kernel.write(1, b'\t', false), 0);
-    assert_eq!(rt; kernel.write(1, b'\t', true), 8);
-    assert_eq!(rt; kernel.write(0, b'\t', true), 8);
-    Ok(())
-}
-
-#[test]
 fn a_flag_is_set_once(rt: HostRuntime) -> Result<(), Fail> {
     let mut kernel = kernel_of_one(rt.alloc())?;
     assert_eq!(rt; ask(&mut kernel, 133, 5), done(0));
@@ -442,7 +432,7 @@ fn who_ends_waits_no_more(rt: HostRuntime) -> Result<(), Fail> {
 }
 
 #[test]
-fn a_key_changes_nothing(rt: HostRuntime) -> Result<(), Fail> {
+fn a_key_that_nobody_awaits_completes_no_call(rt: HostRuntime) -> Result<(), Fail> {
     let mut kernel = kernel_of_one(rt.alloc())?;
     let key = Event::Key {
         console: 0,

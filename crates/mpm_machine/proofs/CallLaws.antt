@@ -9,8 +9,8 @@ use Rattle.mpm_render.specs.Outputs.{Output}
 use Rattle.mpm_render.specs.Shown.{Kept}
 use Rattle.mpm_machine.specs.declared.system.System.{System}
 use Rattle.mpm_machine.specs.State.{Change, IsWhole}
-use Rattle.mpm_machine.specs.Serving.{asked, keeping, IsTaken, Served, served, said_by, popped, fulfilling, completing, outcome_of, gate_step}
-use Rattle.mpm_machine.specs.Writing.{Showed, Stopped}
+use Rattle.mpm_machine.specs.Serving.{asked, keeping, IsTaken, Served, served, string_of, said_by, echo_of, behind_echo, popped, fulfilling, completing, outcome_of, gate_step}
+use Rattle.mpm_machine.specs.Writing.{spoken, Showed, Stopped}
 use Rattle.mpm_machine.proofs.WritingLaws.{showed_behind, stopped_before, stopped_behind}
 use Rattle.mpm_machine.proofs.WholeLaws.{StaysWhole, Keeps, keeps_call, whole_served, whole_said, whole_popped}
 use Rattle.mpm_machine.proofs.TakenLaws.{call_is_taken}
@@ -20,19 +20,19 @@ pub record Popped (p seg : ℕ) (old behind : System) : Type 0 where
   pub whole : IsWhole behind
   pub lives : Lives behind.kernel.procs p
   pub call : call_of behind.kernel.procs p ≡ call_of old.kernel.procs p
-  pub is : behind ≡ popped p seg (said_by (call_of old.kernel.procs p) p seg old).system
+  pub is : behind ≡ popped p seg (said_by (call_of old.kernel.procs p) (string_of (call_of old.kernel.procs p) seg old.memory) p old).system
 
 pub lives_said : (p seg : ℕ) (old said : System) → IsWhole old → Lives old.kernel.procs p
-    → said ≡ (said_by (call_of old.kernel.procs p) p seg old).system → Lives said.kernel.procs p
+    → said ≡ (said_by (call_of old.kernel.procs p) (string_of (call_of old.kernel.procs p) seg old.memory) p old).system → Lives said.kernel.procs p
 lives_said p seg old said w h is =
     let P : System → Type 0 = λ system. Lives system.kernel.procs p in
-    subst P (sym is) (whole_said (call_of old.kernel.procs p) p seg old w h).lives
+    subst P (sym is) (whole_said (call_of old.kernel.procs p) (string_of (call_of old.kernel.procs p) seg old.memory) p old w h).lives
 
 pub popped_behind : (p seg : ℕ) (old said behind : System) → IsWhole old → Lives old.kernel.procs p
-    → said ≡ (said_by (call_of old.kernel.procs p) p seg old).system → behind ≡ popped p seg said → Popped p seg old behind
+    → said ≡ (said_by (call_of old.kernel.procs p) (string_of (call_of old.kernel.procs p) seg old.memory) p old).system → behind ≡ popped p seg said → Popped p seg old behind
 popped_behind p seg old said behind w h is was =
-    let spoke = (said_by (call_of old.kernel.procs p) p seg old).system in
-    let text = whole_said (call_of old.kernel.procs p) p seg old w h in
+    let spoke = (said_by (call_of old.kernel.procs p) (string_of (call_of old.kernel.procs p) seg old.memory) p old).system in
+    let text = whole_said (call_of old.kernel.procs p) (string_of (call_of old.kernel.procs p) seg old.memory) p old w h in
     let taken = whole_popped p seg spoke text.whole text.lives in
     let whole : behind ≡ popped p seg spoke = was ∙ ap (popped p seg) is in
     let P : System → Type 0 = λ system. Lives system.kernel.procs p in
@@ -46,7 +46,7 @@ popped_behind p seg old said behind w h is was =
 -- the reply and the record that follow are those of the call
 answers_call : (reply : Answer) (p seg : ℕ) (old behind : System) → Popped p seg old behind
     → fulfilling reply (call_of behind.kernel.procs p) p seg behind
-    ≡ fulfilling reply (call_of old.kernel.procs p) p seg (popped p seg (said_by (call_of old.kernel.procs p) p seg old).system)
+    ≡ fulfilling reply (call_of old.kernel.procs p) p seg (popped p seg (said_by (call_of old.kernel.procs p) (string_of (call_of old.kernel.procs p) seg old.memory) p old).system)
 answers_call reply p seg old behind so =
     ap (λ call. fulfilling reply call p seg behind) so.call ∙ ap (fulfilling reply (call_of old.kernel.procs p) p seg) so.is
 
@@ -57,15 +57,15 @@ unfolding completing
 completed_system reply p seg old behind new so is = is ∙ ap (λ (change : Change). change.system) (answers_call reply p seg old behind so)
 
 completed_news : (reply : Answer) (p seg : ℕ) (old behind : System) → Popped p seg old behind
-    → (fulfilling reply (call_of behind.kernel.procs p) p seg behind).news ++ (said_by (call_of old.kernel.procs p) p seg old).news
+    → (fulfilling reply (call_of behind.kernel.procs p) p seg behind).news ++ (said_by (call_of old.kernel.procs p) (string_of (call_of old.kernel.procs p) seg old.memory) p old).news
     ≡ (completing reply (call_of old.kernel.procs p) p seg old).news
 unfolding completing
 completed_news reply p seg old behind so =
-    ap (λ (change : Change). change.news ++ (said_by (call_of old.kernel.procs p) p seg old).news) (answers_call reply p seg old behind so)
+    ap (λ (change : Change). change.news ++ (said_by (call_of old.kernel.procs p) (string_of (call_of old.kernel.procs p) seg old.memory) p old).news) (answers_call reply p seg old behind so)
 
 pub showed_call : (k0 : Kept) (t0 : Option (List ℕ)) (k1 : Kept) (t1 : Option (List ℕ)) (k2 : Kept) (t2 : Option (List ℕ))
     (reply : Answer) (p seg : ℕ) (old behind : System) → Popped p seg old behind
-    → Showed k0 t0 k1 t1 (said_by (call_of old.kernel.procs p) p seg old).news
+    → Showed k0 t0 k1 t1 (said_by (call_of old.kernel.procs p) (string_of (call_of old.kernel.procs p) seg old.memory) p old).news
     → Showed k1 t1 k2 t2 (fulfilling reply (call_of behind.kernel.procs p) p seg behind).news
     → Showed k0 t0 k2 t2 (completing reply (call_of old.kernel.procs p) p seg old).news
 showed_call k0 t0 k1 t1 k2 t2 reply p seg old behind so text last =
@@ -75,14 +75,14 @@ showed_call k0 t0 k1 t1 k2 t2 reply p seg old behind so text last =
 -- a stop in the text, or behind it
 
 pub stopped_text : (kept : Kept) (told told' : Option (List ℕ)) (reply : Answer) (p seg : ℕ) (old : System)
-    → Stopped kept told told' (said_by (call_of old.kernel.procs p) p seg old).news
+    → Stopped kept told told' (said_by (call_of old.kernel.procs p) (string_of (call_of old.kernel.procs p) seg old.memory) p old).news
     → Stopped kept told told' (completing reply (call_of old.kernel.procs p) p seg old).news
 unfolding completing
 stopped_text kept told told' reply p seg old stopped = stopped_before kept told told' _ _ stopped
 
 pub stopped_record : (k0 : Kept) (t0 : Option (List ℕ)) (k1 : Kept) (t1 t2 : Option (List ℕ)) (reply : Answer) (p seg : ℕ) (old behind : System)
     → k1.trace ≡ k0.trace → Popped p seg old behind
-    → Showed k0 t0 k1 t1 (said_by (call_of old.kernel.procs p) p seg old).news
+    → Showed k0 t0 k1 t1 (said_by (call_of old.kernel.procs p) (string_of (call_of old.kernel.procs p) seg old.memory) p old).news
     → Stopped k1 t1 t2 (fulfilling reply (call_of behind.kernel.procs p) p seg behind).news
     → Stopped k0 t0 t2 (completing reply (call_of old.kernel.procs p) p seg old).news
 stopped_record k0 t0 k1 t1 t2 reply p seg old behind same so text stopped =
@@ -105,10 +105,28 @@ kept_is_taken p seg old kept w h kept_call =
     let P : Taken → Type 0 = λ call. IsTaken call in
     subst P (sym kept_call.call) (call_is_taken process.regs (byte_at old.memory seg) process.dma process.multi (w.sound.fit p h).few)
 
+-- what the kernel itself wrote comes before what the call brings about
+
+pub echo_shown : (k0 : Kept) (t0 : Option (List ℕ)) (k1 : Kept) (t1 : Option (List ℕ)) (k2 : Kept) (t2 : Option (List ℕ))
+    (call : Taken) (p : ℕ) (system : System) (change : Change)
+    → Showed k0 t0 k1 t1 (spoken (process_in system.kernel.procs p).console (echo_of call system.kernel)) → Showed k1 t1 k2 t2 change.news
+    → Showed k0 t0 k2 t2 (behind_echo call p system change).news
+echo_shown k0 t0 k1 t1 k2 t2 call p system change echo rest = showed_behind k0 t0 k1 t1 k2 t2 _ change.news echo rest
+
+pub echo_stopped : (kept : Kept) (told told' : Option (List ℕ)) (call : Taken) (p : ℕ) (system : System) (change : Change)
+    → Stopped kept told told' (spoken (process_in system.kernel.procs p).console (echo_of call system.kernel))
+    → Stopped kept told told' (behind_echo call p system change).news
+echo_stopped kept told told' call p system change stopped = stopped_before kept told told' _ change.news stopped
+
+pub stopped_later : (k0 : Kept) (t0 : Option (List ℕ)) (k1 : Kept) (t1 t2 : Option (List ℕ)) (call : Taken) (p : ℕ) (system : System) (change : Change)
+    → k1.trace ≡ k0.trace → Showed k0 t0 k1 t1 (spoken (process_in system.kernel.procs p).console (echo_of call system.kernel))
+    → Stopped k1 t1 t2 change.news → Stopped k0 t0 t2 (behind_echo call p system change).news
+stopped_later k0 t0 k1 t1 t2 call p system change same echo stopped = stopped_behind k0 t0 k1 t1 t2 _ change.news same echo stopped
+
 pub record Concludes (p seg : ℕ) (old done : System) (outcome : Outcome) (reply : Answer) : Type 0 where
   pub whole : IsWhole done
   pub lives : Lives done.kernel.procs p
-  pub change : outcome_of outcome reply (call_of done.kernel.procs p) p seg done ≡ gate_step p seg old
+  pub change : behind_echo (call_of done.kernel.procs p) p done (outcome_of outcome reply (call_of done.kernel.procs p) p seg done) ≡ gate_step p seg old
 
 pub done_behind : (p seg : ℕ) (old kept done : System) (outcome : Outcome) (reply : Answer) → IsReady old.kernel p → kept ≡ keeping p (asked p seg old) old
     → Keeps p (asked p seg old) old kept
@@ -127,8 +145,8 @@ done_behind p seg old kept done outcome reply ready is k system how what =
     record {
       whole = here.whole;
       lives = here.lives;
-      change = ap (λ c. outcome_of outcome reply c p seg done) whole_call
-          ∙ ap (λ o. outcome_of o reply call p seg done) (how ∙ ap (λ (r : Served). r.outcome) same)
-          ∙ ap (λ r. outcome_of result.outcome r call p seg done) (what ∙ ap (λ (r : Served). r.reply) same)
-          ∙ ap (outcome_of result.outcome result.reply call p seg) (system ∙ ap (λ (r : Served). r.system) same);
+      change = ap (λ c. behind_echo c p done (outcome_of outcome reply c p seg done)) whole_call
+          ∙ ap (λ o. behind_echo call p done (outcome_of o reply call p seg done)) (how ∙ ap (λ (r : Served). r.outcome) same)
+          ∙ ap (λ r. behind_echo call p done (outcome_of result.outcome r call p seg done)) (what ∙ ap (λ (r : Served). r.reply) same)
+          ∙ ap (λ s. behind_echo call p s (outcome_of result.outcome result.reply call p seg s)) (system ∙ ap (λ (r : Served). r.system) same);
     }

@@ -30,9 +30,14 @@ use Rattle.mpm_machine.specs.declared.gate.Gate.TheVariants.{End, Call, Return}
 use Rattle.mpm_machine.specs.State.{Change, IsWhole, speaking}
 use Rattle.mpm_machine.specs.Ending.{ended}
 use Rattle.mpm_machine.specs.Serving.{asked, keeping, Served, served, reserving, releasing, creating, aborted, aborting_this, aborting, said_by, popped, replied, with_entry, reply_at_entry, fulfilling, answering_call, completing, returning, outcome_of, gate_step}
+use Rattle.mpm_residents.specs.Natives.{native_call}
+use Rattle.mpm_residents.specs.declared.native.Native.{Native}
+use Rattle.mpm_kernel.specs.Consoling.{abort_taken}
+use Rattle.mpm_machine.specs.Residing.{native_in, native_outcome, native_step, resided}
+use Rattle.mpm_machine.specs.Interrupts.{behind_due}
 use Rattle.mpm_machine.specs.Finishing.{finished, handed, finishing, all_finished}
 use Rattle.mpm_machine.specs.Due.{is_due, ended_if_due, due_ended, with_ends, settled}
-use Rattle.mpm_machine.specs.Step.{ran, illegal, instructed, instruction_at, acted_at, gate_before, acted_by, acted, running_segment, coming, interrupted, begun_by, with_settled, counted, step_of}
+use Rattle.mpm_machine.specs.Step.{ran, illegal, instructed, instruction_at, acted_at, gate_before, acted_by, acted, running_segment, coming, key_aborted, happened_to, event_come, interrupted, begun_by, with_settled, counted, step_of}
 use Rattle.mpm_machine.specs.Contained.{placed_reply, PlacesAt, WritesAt, IsWritten, behind_begun, Answers, AnswersAmong, AnswersOne, AnswersAtEnd, AnswersAtEnds, IsAnswered, IsContained}
 use Rattle.mpm_machine.proofs.FinishLaws.{first_finished, left_completed, handed_lives, home_handed}
 use Rattle.mpm_machine.proofs.WholeLaws.{whole_counted, whole_behind_begun, whole_answered, whole_first, whole_if_due, whole_due_end}
@@ -76,6 +81,31 @@ served_alike call p system =
 illegal_alike : (p : ℕ) (system : System) → SameBytes system.memory (illegal p system).system.memory
 unfolding illegal speaking
 illegal_alike p system = ended_alike p _
+
+-- nor does a resident, or a key that aborts a process
+
+native_alike : (outcome : CallOutcome) (reply : Answer) (call : Taken) (p : ℕ) (system : System)
+    → SameBytes system.memory (native_outcome outcome reply call p system).system.memory
+unfolding said_by speaking
+native_alike Done reply call p system = same_bytes_itself system.memory
+native_alike Ended reply call p system = ended_alike p system
+native_alike Held reply call p system = same_bytes_itself system.memory
+native_alike Retry reply call p system = same_bytes_itself system.memory
+
+resided_alike : (native : Option Native) (p : ℕ) (system : System) → SameBytes system.memory (resided native p system).system.memory
+unfolding native_step
+resided_alike None p system = same_bytes_itself system.memory
+resided_alike (Some native) p system = native_alike _ _ (native_call native) p _
+
+key_alike : (aborts : Option ℕ) (system : System) → SameBytes system.memory (key_aborted aborts system).memory
+key_alike None system = same_bytes_itself system.memory
+key_alike (Some p) system = aborted_alike p (record system { kernel = abort_taken system.kernel })
+
+event_alike : (event : Event) (system : System) → SameBytes system.memory (interrupted event system).system.memory
+unfolding interrupted event_come
+event_alike event system =
+    let timed = record system { interrupts = behind_due system.steps system.interrupts } in
+    key_alike (happened_to event timed).kernel.aborted (happened_to event timed)
 
 -- so a call leaves a byte where its reply does, if one is placed
 
@@ -154,7 +184,8 @@ segments_by : (running home : Option ℕ) (system : System) (seg at : ℕ) → c
     → ((p : ℕ) → running ≡ Some p → Lives system.kernel.procs p) → at < 49152 → (IsWritten system seg at → ⊥)
     → byte_at (acted_by running home (counted system)).system.memory seg at ≡ byte_at system.memory seg at
 segments_by None home system seg at quiet runs there living below none = refl
-segments_by (Some p) None system seg at quiet runs there living below none = refl
+segments_by (Some p) None system seg at quiet runs there living below none =
+    reads_alike system.memory _ (resided_alike (native_in system.residents p) p (counted system)) seg at
 segments_by (Some p) (Some home) system seg at quiet runs there living below none = elim (cases_eq seg home) [
   | inl same ↦
       let behind = (acted_at (gate_before p home system) p home (counted system)).system.memory in
@@ -168,7 +199,8 @@ common_by : (running home : Option ℕ) (system : System) (seg at : ℕ) → com
     → ((p : ℕ) → running ≡ Some p → Lives system.kernel.procs p) → 49152 ≤ at → ((s : ℕ) → IsWritten system s at → ⊥)
     → byte_at (acted_by running home (counted system)).system.memory seg at ≡ byte_at system.memory seg at
 common_by None home system seg at quiet runs there living above none = refl
-common_by (Some p) None system seg at quiet runs there living above none = refl
+common_by (Some p) None system seg at quiet runs there living above none =
+    reads_alike system.memory _ (resided_alike (native_in system.residents p) p (counted system)) seg at
 common_by (Some p) (Some home) system seg at quiet runs there living above none =
     byte_at_common (acted_at (gate_before p home system) p home (counted system)).system.memory seg home at above
     ∙ own p home system seg at quiet runs (living p refl) there (none home)
@@ -182,19 +214,19 @@ segment_of_begun (Some p) system = refl
 
 segments_begun : (event : Option Event) (system : System) (seg at : ℕ) → IsWhole system → coming (counted system) ≡ event
     → at < 49152 → (IsWritten system seg at → ⊥) → byte_at (begun_by event (counted system)).system.memory seg at ≡ byte_at system.memory seg at
-unfolding acted interrupted
+unfolding acted
 segments_begun None system seg at w quiet below none =
     let running = system.kernel.running in
     segments_by running _ system seg at quiet refl (sym (segment_of_begun running system)) (λ p runs. runner_lives system.kernel p w.sound runs) below none
-segments_begun (Some event) system seg at w comes below none = refl
+segments_begun (Some event) system seg at w comes below none = reads_alike system.memory _ (event_alike event (counted system)) seg at
 
 common_begun : (event : Option Event) (system : System) (seg at : ℕ) → IsWhole system → coming (counted system) ≡ event
     → 49152 ≤ at → ((home : ℕ) → IsWritten system home at → ⊥) → byte_at (begun_by event (counted system)).system.memory seg at ≡ byte_at system.memory seg at
-unfolding acted interrupted
+unfolding acted
 common_begun None system seg at w quiet above none =
     let running = system.kernel.running in
     common_by running _ system seg at quiet refl (sym (segment_of_begun running system)) (λ p runs. runner_lives system.kernel p w.sound runs) above none
-common_begun (Some event) system seg at w comes above none = refl
+common_begun (Some event) system seg at w comes above none = reads_alike system.memory _ (event_alike event (counted system)) seg at
 
 -- the reply to a held call that is completed leaves a byte where it isn't placed
 

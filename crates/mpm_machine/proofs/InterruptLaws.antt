@@ -7,7 +7,7 @@ use Rattle.std.proofs.lemmas.List.Elements.{All-drop}
 use Rattle.mpm_script.specs.declared.event.Event.{Event}
 use Rattle.mpm_script.specs.declared.event.Event.TheVariants.{Tick}
 use Rattle.mpm_script.specs.declared.event.Timed.{Timed}
-use Rattle.mpm_script.specs.Events.{IsTimed}
+use Rattle.mpm_script.specs.Events.{IsTimed, IsEvent}
 use Rattle.mpm_kernel.specs.Events.{MayCome}
 use Rattle.mpm_kernel.proofs.SoundLaws.{may_come}
 use Rattle.mpm_machine.specs.Interrupts.{is_tick_due, script_due, due, script_behind, behind_due}
@@ -21,6 +21,9 @@ no_tick_before step next interrupts some end before =
     grind (arith, nat_tests, few)
 
 -- an event of a script may come
+
+pub may_be : (event : Event) → IsEvent event → MayCome event
+may_be event is = may_come event is
 
 from_may : (b : Bool) (event : Event) → MayCome event → IfSome (if b then Some event else None) MayCome
 from_may true event may = may

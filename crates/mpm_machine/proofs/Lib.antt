@@ -1,6 +1,7 @@
 pub mod InterruptLaws
 pub mod WritingLaws
 pub mod StringLaws
+pub mod SayingLaws
 pub mod HomeLaws
 pub mod GateLaws
 pub mod EntryLaws
@@ -9,7 +10,9 @@ pub mod DueLaws
 pub mod WholeLaws
 pub mod TakenLaws
 pub mod CallLaws
+pub mod ResidingLaws
 pub mod PlacedLaws
+pub mod OpeningLaws
 pub mod StepLaws
 pub mod QuietLaws
 pub mod MovingLaws

@@ -18,14 +18,18 @@ use Rattle.mpm_procs.specs.Table.{HasSlots, lives, Lives, process_in, living, no
 use Rattle.mpm_procs.specs.Opening.{opening}
 use Rattle.mpm_procs.specs.declared.process.NewProcess.{NewProcess}
 use Rattle.mpm_procs.proofs.CountLaws.{living_added, full_from_none}
-use Rattle.mpm_procs.proofs.MapLaws.{nobody_lives, free_below, free_is_dead, lives_added_other, process_added, process_added_other}
+use Rattle.mpm_procs.proofs.MapLaws.{nobody_lives, free_below, free_is_dead, lives_added, lives_added_other, process_added, process_added_other}
 use Rattle.std.specs.List.{AllByRecursion}
 use Rattle.mpm_kernel.specs.Kernel.{Kernel, CompletedLive, is_aborted}
 use Rattle.mpm_kernel.specs.Dispatch.{new_kernel, admitted, stays, picked}
 use Rattle.mpm_kernel.proofs.SoundLaws.{sound_new, sound_admitted, sound_picked}
+use Rattle.mpm_kernel.specs.Consoling.{given}
+use Rattle.mpm_kernel.proofs.GivingLaws.{sound_gave, procs_gave, completed_gave}
+use Rattle.mpm_kernel.proofs.JoinedLaws.{consoles_gave}
 use Rattle.mpm_kernel.proofs.HomeLaws.{aborts_admitted, opening_home, procs_picked}
 use Rattle.mpm_script.specs.declared.event.Timed.{Timed}
 use Rattle.mpm_script.specs.Events.{IsTimed}
+use Rattle.mpm_residents.specs.declared.native.Native.{Native}
 use Rattle.mpm_machine_file.specs.MachineFiles.{IsSegment}
 use Rattle.mpm_machine_file.specs.declared.machine_file.MachineFile.{MachineFile}
 use Rattle.mpm_machine.specs.Gates.{last_page}
@@ -84,8 +88,9 @@ whole_placed system p seg name priority console program may free =
     let memory = laid_out system.memory seg program in
     let keeps : KeepsHomes system.memory (occupied memory seg) =
     keeps_both _ memory _ (keeps_same _ _ (same_segments_laid_out system.memory seg program)) (keeps_occupied memory seg) in
-    let kernel = admitted system.kernel p new in
-    let same = procs_picked false kernel in
+    let begun = admitted system.kernel p new in
+    let kernel = given console None (Some p) begun in
+    let same : (picked false kernel).procs ≡ begun.procs = procs_picked false kernel ∙ procs_gave console None (Some p) begun in
     let laid = same_segments_laid_out system.memory seg program in
     let here : IsOccupied (occupied memory seg) seg = allocation_of_allocated memory seg Occupied (omega (arith, laid.count, may.home.exists)) in
     let homes = homes_admitted (IsHome (occupied memory seg)) system.kernel p seg new w.sound.slots free refl (keeps.all seg may.home)
@@ -94,8 +99,9 @@ whole_placed system p seg name priority console program may free =
     (λ q other living there. keeps.lived other (w.homes q other living there) (w.lived q other living there)) in
     let alive = λ (q : ℕ) (living : Lives (picked false kernel).procs q). ap (λ procs. lives procs q) (sym same) ∙ living in
     record {
-      sound = sound_picked kernel false (sound_admitted system.kernel p new w.sound free may.has_console);
-      live = nobody_completed (picked false kernel) (same_picked false kernel ∙ may.bare.handed);
+      sound = sound_picked kernel false (sound_gave console None (Some p) begun (sound_admitted system.kernel p new w.sound free may.has_console) may.has_console
+          (lives_added system.kernel.procs p new (free_below system.kernel.procs p free)));
+      live = nobody_completed (picked false kernel) (same_picked false kernel ∙ completed_gave console None (Some p) begun ∙ may.bare.handed);
       script = w.script;
       settled = λ off. nobody_more system.kernel (picked false kernel)
           (λ q due. aborts_admitted system.kernel p new w.sound.slots free q (ap (λ procs. is_aborted procs q) (sym same) ∙ due)) (w.settled off);
@@ -103,13 +109,13 @@ whole_placed system p seg name priority console program may free =
       lived = λ q other living there. lived q other (alive q living) (ap (λ procs. (process_in procs q).seg) (sym same) ∙ there);
     }
 
-whole_booted : (file : MachineFile) (events : List Timed) → 1 ≤ file.consoles → file.consoles ≤ 8 → All IsTimed events → IsWhole (booted file events)
+whole_booted : (file : MachineFile) (events : List Timed) → 1 ≤ file.consoles → file.consoles ≤ 8 → file.printers ≤ 4 → All IsTimed events → IsWhole (booted file events)
 unfolding booted new_kernel
-whole_booted file events some few script = record {
+whole_booted file events some few printers script = record {
   live = tt;
   script = script;
   settled = λ off p. ap (λ b. b && (process_in no_processes p).abort_due) (nobody_lives p);
-  sound = sound_new file.consoles file.printers (moment_of file) some few;
+  sound = sound_new file.consoles file.printers (moment_of file) some few printers;
   homes = λ p seg living there. absurd (false≢true (sym (nobody_lives p) ∙ living));
   lived = λ p seg living there. absurd (false≢true (sym (nobody_lives p) ∙ living));
 }
@@ -180,7 +186,8 @@ bare_placed : (system : System) (p seg : ℕ) (name : Name8) (priority console :
 unfolding with_placed placed_process admitted
 bare_placed system p seg name priority console program may free =
     let new = placed_process (spec_of system.memory seg) seg name priority console in
-    let kernel = admitted system.kernel p new in
+    let begun = admitted system.kernel p new in
+    let kernel = given console None (Some p) begun in
     let memory = laid_out system.memory seg program in
     let same = same_segments_laid_out system.memory seg program in
     let there : HasSegment memory seg = omega (arith, same.count, may.home.exists) in
@@ -190,30 +197,30 @@ bare_placed system p seg name priority console program may free =
     let more = living_added system.kernel.procs p new (free_below system.kernel.procs p free) (free_is_dead system.kernel.procs p free) in
     record {
       whole = whole_placed system p seg name priority console program may free;
-      handed = same_picked false kernel ∙ may.bare.handed;
+      handed = same_picked false kernel ∙ completed_gave console None (Some p) begun ∙ may.bare.handed;
       start = may.bare.start;
       few = omega (arith, count_allocated memory seg Occupied, same.count, may.bare.few);
-      counted = omega (arith, ap living (procs_picked false kernel), more, count, before, may.bare.counted);
+      counted = omega (arith, ap living (procs_picked false kernel ∙ procs_gave console None (Some p) begun), more, count, before, may.bare.counted);
     }
 
 -- the machine behind a placement
 pub placed_is_bare : (old : System) (kernel : Kernel) (memory laid : Memory) (new : NewProcess) (p seg : ℕ) (name : Name8) (priority console : ℕ) (program : List ℕ)
     → MayPlace old seg console (length program) → lowest_free old.kernel.procs ≡ Some p
-    → new ≡ placed_process (spec_of old.memory seg) seg name priority console → kernel ≡ picked false (admitted old.kernel p new)
+    → new ≡ placed_process (spec_of old.memory seg) seg name priority console → kernel ≡ picked false (given new.console None (Some p) (admitted old.kernel p new))
     → laid ≡ laid_out old.memory seg program → memory ≡ occupied laid seg → IsBare (record old { kernel = kernel; memory = memory })
-unfolding with_placed
+unfolding with_placed placed_process
 placed_is_bare old kernel memory laid new p seg name priority console program may free process is written lived =
     let whole : record old { kernel = kernel; memory = memory } ≡ with_placed old p seg name priority console program =
-    ap (λ k. record old { kernel = k; memory = memory }) (is ∙ ap (λ n. picked false (admitted old.kernel p n)) process)
-    ∙ ap (λ m. record old { kernel = picked false (admitted old.kernel p (placed_process (spec_of old.memory seg) seg name priority console)); memory = m })
+    ap (λ k. record old { kernel = k; memory = memory }) (is ∙ ap (λ (n : NewProcess). picked false (given n.console None (Some p) (admitted old.kernel p n))) process)
+    ∙ ap (λ m. record old { kernel = picked false (given console None (Some p) (admitted old.kernel p (placed_process (spec_of old.memory seg) seg name priority console))); memory = m })
     (lived ∙ ap (λ m. occupied m seg) written) in
     subst IsBare (sym whole) (bare_placed old p seg name priority console program may free)
 
-pub booted_is_bare : (file : MachineFile) (events : List Timed) → 1 ≤ file.consoles → file.consoles ≤ 8 → length file.segments ≤ 16
+pub booted_is_bare : (file : MachineFile) (events : List Timed) → 1 ≤ file.consoles → file.consoles ≤ 8 → file.printers ≤ 4 → length file.segments ≤ 16
     → All IsTimed events → IsBare (booted file events)
 unfolding booted new_kernel new_memory living no_processes
-booted_is_bare file events some few count script = record {
-  whole = whole_booted file events some few script;
+booted_is_bare file events some few printers count script = record {
+  whole = whole_booted file events some few printers script;
   handed = refl;
   start = refl;
   few = omega (arith, length-map file.segments new_segment, count);
@@ -221,17 +228,17 @@ booted_is_bare file events some few count script = record {
 }
 
 -- a program can be placed into each segment of a machine in which nobody lives
-pub may_place_booted : (file : MachineFile) (events : List Timed) (seg console size : ℕ) → 1 ≤ file.consoles → file.consoles ≤ 8
+pub may_place_booted : (file : MachineFile) (events : List Timed) (seg console size : ℕ) → 1 ≤ file.consoles → file.consoles ≤ 8 → file.printers ≤ 4
     → length file.segments ≤ 16 → All IsTimed events → All IsSegment file.segments → seg < length file.segments → console < file.consoles
     → size + 640 ≤ 256 * (get_or file.segments seg (record { base = 0; pages = 0 })).pages
     → MayPlace (booted file events) seg console size
 unfolding booted new_kernel new_memory
-may_place_booted file events seg console size some few count script fit h has_console room =
+may_place_booted file events seg console size some few printers count script fit h has_console room =
     let segments = file.segments in
     let none : SegmentSpec = record { base = 0; pages = 0 } in
     let at : segment_of (new_memory segments) seg ≡ new_segment (get_or segments seg none) = get_or-map new_segment segments seg none no_segment h in
     record {
-      bare = booted_is_bare file events some few count script;
+      bare = booted_is_bare file events some few printers count script;
       home = home_bare segments seg fit h;
       empty = ap is_occupied at;
       has_console = has_console;
@@ -261,36 +268,46 @@ may_place_again system p seg name priority console program other next size may f
       bare = bare_placed system p seg name priority console program may free;
       home = keeps.all other again.home;
       empty = ap is_occupied there ∙ ap is_lived_in (same.allocation other) ∙ again.empty;
-      has_console = omega (arith, consoles_picked false (admitted system.kernel p new), again.has_console);
+      has_console = omega (
+        arith,
+        consoles_picked false (given console None (Some p) (admitted system.kernel p new)),
+        consoles_gave console None (Some p) (admitted system.kernel p new),
+        again.has_console,
+      );
       room = omega (arith, ap (λ (s : Segment). s.pages) there, same.pages other, again.room);
     }
 
 -- the program of a machine of one segment
-pub may_place_program : (size : ℕ) → size ≤ 48512 → MayPlace (booted program_file []) 0 0 size
+pub may_place_first : (events : List Timed) (size : ℕ) → All IsTimed events → size ≤ 48512 → MayPlace (booted program_file events) 0 0 size
 unfolding new_memory
-may_place_program size h =
+may_place_first events size script h =
     let whole : SegmentSpec = record { base = 0; pages = 192 } in
     let fits : IsSegment whole = record { pages = omega arith; end = omega arith } in
-    may_place_booted program_file [] 0 0 size (omega arith) (omega arith) (omega arith) (All-nil IsTimed) (All-cons IsSegment whole [] fits (All-nil IsSegment)) (omega arith) (omega arith) (omega arith)
+    may_place_booted program_file events 0 0 size (omega arith) (omega arith) (omega arith) (omega arith) script (All-cons IsSegment whole [] fits (All-nil IsSegment)) (omega arith) (omega arith) (omega arith)
 
-pub booted_parts : (file : MachineFile) (events : List Timed) (interrupts : Interrupts) (kernel : Kernel) (memory : Memory)
-    → 1 ≤ file.consoles → file.consoles ≤ 8 → length file.segments ≤ 16 → All IsTimed events
+pub may_place_program : (size : ℕ) → size ≤ 48512 → MayPlace (booted program_file []) 0 0 size
+may_place_program size h = may_place_first [] size (All-nil IsTimed) h
+
+pub booted_parts : (file : MachineFile) (events : List Timed) (interrupts : Interrupts) (kernel : Kernel) (memory : Memory) (residents : List Native)
+    → 1 ≤ file.consoles → file.consoles ≤ 8 → file.printers ≤ 4 → length file.segments ≤ 16 → All IsTimed events
     → interrupts ≡ record { tick_every = file.tick_every; ticks = 0; script = events }
-    → kernel ≡ new_kernel file.consoles file.printers (moment_of file) → memory ≡ new_memory file.segments
-    → IsBare (record { steps = 0; interrupts = interrupts; kernel = kernel; memory = memory; put_off = false })
+    → kernel ≡ new_kernel file.consoles file.printers (moment_of file) → memory ≡ new_memory file.segments → residents ≡ []
+    → IsBare (record { steps = 0; interrupts = interrupts; kernel = kernel; memory = memory; put_off = false; residents = residents })
 unfolding booted
-booted_parts file events interrupts kernel memory some few count script is was there =
-    let whole : record { steps = 0; interrupts = interrupts; kernel = kernel; memory = memory; put_off = false } ≡ booted file events =
-    ap (λ (i : Interrupts). record { steps = 0; interrupts = i; kernel = kernel; memory = memory; put_off = false }) is
-    ∙ ap (λ (k : Kernel). record { steps = 0; interrupts = record { tick_every = file.tick_every; ticks = 0; script = events }; kernel = k; memory = memory; put_off = false }) was
+booted_parts file events interrupts kernel memory residents some few printers count script is was there none =
+    let whole : record { steps = 0; interrupts = interrupts; kernel = kernel; memory = memory; put_off = false; residents = residents } ≡ booted file events =
+    ap (λ (r : List Native). record { steps = 0; interrupts = interrupts; kernel = kernel; memory = memory; put_off = false; residents = r }) none
+    ∙ ap (λ (i : Interrupts). record { steps = 0; interrupts = i; kernel = kernel; memory = memory; put_off = false; residents = [] }) is
+    ∙ ap (λ (k : Kernel). record { steps = 0; interrupts = record { tick_every = file.tick_every; ticks = 0; script = events }; kernel = k; memory = memory; put_off = false; residents = [] }) was
     ∙ ap (λ (m : Memory). record {
       steps = 0;
       interrupts = record { tick_every = file.tick_every; ticks = 0; script = events };
       kernel = new_kernel file.consoles file.printers (moment_of file);
       memory = m;
       put_off = false;
+      residents = [];
     }) there in
-    subst IsBare (sym whole) (booted_is_bare file events some few count script)
+    subst IsBare (sym whole) (booted_is_bare file events some few printers count script)
 
 pub booted_program : (file : MachineFile) (events : List Timed) (machine : System) → machine ≡ booted file events → file ≡ program_file → events ≡ []
     → machine ≡ booted program_file []

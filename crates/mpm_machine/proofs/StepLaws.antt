@@ -1,10 +1,11 @@
 -- Laws of a step and of n steps.
-use Rattle.std.proofs.Common.{◌≡◌, ◌∙◌, ℕ, zero, suc, ◌+◌, ◌-◌, ◌<◌, ◌≤◌, Bool, true, false, not, ◌&&◌, ◌==◌, List, [], ◌∷◌, ◌++◌, Option, Some, None, if◌then◌else◌, refl, ap, sym, subst, arith, add-one}
+use Rattle.std.proofs.Common.{◌≡◌, ◌∙◌, ℕ, zero, suc, ◌+◌, ◌-◌, ◌<◌, ◌≤◌, Bool, true, false, not, ◌&&◌, ◌==◌, List, [], ◌∷◌, ◌++◌, Option, Some, None, is_some, if◌then◌else◌, refl, ap, sym, subst, arith, add-one}
+use Rattle.std.proofs.lemmas.List.{append-nil}
 use Rattle.z80_regs.specs.Outcome.{Outcome}
 use Rattle.mpm_base.specs.Calls.{Taken, Answer}
 use Rattle.mpm_base.specs.declared.call.Outcome.{Outcome as CallOutcome}
 use Rattle.mpm_base.specs.declared.call.Outcome.TheVariants.{Done, Held, Retry, Ended}
-use Rattle.mpm_render.specs.Outputs.{rendered}
+use Rattle.mpm_render.specs.Outputs.{Output, rendered}
 use Rattle.mpm_render.specs.Shown.{Kept, Shows, EndsBetween}
 use Rattle.mpm_script.specs.declared.event.Event.{Event}
 use Rattle.std.specs.List.{range_with_len}
@@ -18,10 +19,14 @@ use Rattle.mpm_machine.specs.Writing.{Showed, Stopped}
 use Rattle.mpm_machine.specs.State.{State, Change, speaking, StandsFor}
 use Rattle.mpm_machine.specs.Ending.{ended}
 use Rattle.mpm_machine.specs.Serving.{asked, keeping, Served, reserving, releasing, creating, aborted, aborting_this, aborting, served, said_by, popped, replied, answering_call, with_entry, fulfilling, completing, returning, outcome_of, gate_step}
+use Rattle.mpm_residents.specs.Natives.{native_call}
+use Rattle.mpm_residents.specs.declared.native.Native.{Native}
+use Rattle.mpm_machine.specs.Residing.{native_in, native_outcome, native_step, resided}
+use Rattle.mpm_machine.specs.Interrupts.{behind_due}
 use Rattle.mpm_machine.specs.Finishing.{finished, handed, finishing, all_finished}
 use Rattle.mpm_machine.specs.Due.{is_due, ended_if_due, due_ended, with_ends, settled}
 use Rattle.mpm_machine.proofs.WritingLaws.{stopped_before, stopped_behind}
-use Rattle.mpm_machine.specs.Step.{ran, illegal, instructed, instruction_at, acted_at, gate_before, acted_by, acted, coming, interrupted, begun_by, with_settled, counted, step_of, next, after, EndsInStep}
+use Rattle.mpm_machine.specs.Step.{ran, illegal, instructed, instruction_at, acted_at, gate_before, acted_by, acted, coming, key_aborted, happened_to, event_come, interrupted, interrupted_by, begun_by, with_settled, counted, step_of, next, after, EndsInStep}
 
 -- a step that a machine does is the state's next
 
@@ -92,15 +97,35 @@ acted_at_steps (Some Call) p seg system = gate_step_steps p seg system
 acted_at_steps (Some Return) p seg system = refl
 acted_at_steps None p seg system = instructed_steps (instruction_at p seg system) p seg system
 
+native_steps : (outcome : CallOutcome) (reply : Answer) (call : Taken) (p : ℕ) (system : System)
+    → (native_outcome outcome reply call p system).system.steps ≡ system.steps
+unfolding said_by speaking ended
+native_steps Done reply call p system = refl
+native_steps Ended reply call p system = refl
+native_steps Held reply call p system = refl
+native_steps Retry reply call p system = refl
+
+resided_steps : (native : Option Native) (p : ℕ) (system : System) → (resided native p system).system.steps ≡ system.steps
+unfolding native_step
+resided_steps None p system = refl
+resided_steps (Some native) p system = native_steps _ _ (native_call native) p _
+
 acted_by_steps : (running seg : Option ℕ) (system : System) → (acted_by running seg system).system.steps ≡ system.steps
 acted_by_steps None seg system = refl
-acted_by_steps (Some p) None system = refl
+acted_by_steps (Some p) None system = resided_steps (native_in system.residents p) p system
 acted_by_steps (Some p) (Some seg) system = acted_at_steps (gate_before p seg system) p seg system
 
+key_steps : (aborts : Option ℕ) (system : System) → (key_aborted aborts system).steps ≡ system.steps
+unfolding aborted
+key_steps None system = refl
+key_steps (Some p) system = refl
+
 begun_steps : (event : Option Event) (system : System) → (begun_by event system).system.steps ≡ system.steps
-unfolding acted interrupted
+unfolding acted interrupted event_come
 begun_steps None system = acted_by_steps system.kernel.running _ system
-begun_steps (Some event) system = refl
+begun_steps (Some event) system =
+    let timed = record system { interrupts = behind_due system.steps system.interrupts } in
+    key_steps (happened_to event timed).kernel.aborted (happened_to event timed)
 
 finished_steps : (seg : Option ℕ) (p : ℕ) (system : System) → (finished seg p system).system.steps ≡ system.steps
 unfolding with_entry fulfilling answering_call replied
@@ -151,6 +176,16 @@ unfolding step_of with_settled
 stopped_settled system begun k0 t0 k1 t1 t2 same is shown stopped =
     let P : System → Type 0 = λ s. Stopped k1 t1 t2 (settled s).news in
     stopped_behind k0 t0 k1 t1 t2 _ _ same shown (subst P is stopped)
+
+-- where no event comes, writing that stops in what the running process does, stops there
+pub begun_stopped : (event : Option Event) (old behind : System) (k0 : Kept) (t0 : Option (List ℕ)) (k1 : Kept) (t1 t2 : Option (List ℕ))
+    → is_some event ≡ false → k1.trace ≡ k0.trace → behind ≡ (interrupted_by event old).system → Showed k0 t0 k1 t1 (interrupted_by event old).news
+    → Stopped k1 t1 t2 (acted behind).news → Stopped k0 t0 t2 (begun_by event old).news
+begun_stopped None old behind k0 t0 k1 t1 t2 none same is shown stopped =
+    let P : List Output → Type 0 = λ news. Stopped k0 t0 t2 news in
+    let Q : System → Type 0 = λ s. Stopped k1 t1 t2 (acted s).news in
+    subst P (append-nil (acted old).news) (stopped_behind k0 t0 k1 t1 t2 [] (acted old).news same shown (subst Q is stopped))
+begun_stopped (Some event) old behind k0 t0 k1 t1 t2 none same is shown stopped = absurd (cc)
 
 -- n steps
 

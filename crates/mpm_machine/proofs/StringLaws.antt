@@ -8,8 +8,8 @@ use Rattle.mpm_gate.specs.Texts.{text_from, ends}
 use Rattle.mpm_gate.specs.declared.take.TextEnd.TheVariants.{Dollar}
 use Rattle.mpm_gate.proofs.BytesLaws.{length_bytes, bytes_more}
 use Rattle.mpm_gate.proofs.TextLaws.{text_more, text_goes_on}
-use Rattle.mpm_kernel.specs.Kernel.{Kernel, HasColumns}
-use Rattle.mpm_kernel.specs.Columns.{columns_after, tab_text, expanded, spoke}
+use Rattle.mpm_kernel.specs.Kernel.{Kernel, HasConsole}
+use Rattle.mpm_kernel.specs.Columns.{columns_after, tab_text, column_of, expanded, spoke}
 use Rattle.mpm_kernel.proofs.ColumnLaws.{expanded_nil, expanded_cons, expanded_byte, expanded_append}
 use Rattle.mpm_kernel.proofs.SpokeLaws.{column_spoke, spoke_none, spoke_both}
 use Rattle.mpm_base.specs.Calls.{Taken}
@@ -22,8 +22,8 @@ use Rattle.mpm_machine.proofs.WritingLaws.{spoke_nothing, spoke_more, stopped_mo
 
 -- a part of a string came out to a console, with tabs expanded
 pub record WrittenTo (console : ℕ) (kept : Kept) (told : Option (List ℕ)) (kernel : Kernel) (kept' : Kept) (told' : Option (List ℕ)) (kernel' : Kernel) (part : List ℕ) : Type 0 where
-  pub kernel_is : kernel' ≡ spoke kernel console (expanded (get_or kernel.columns console 0) part)
-  pub shown : Showed kept told kept' told' (spoken console (expanded (get_or kernel.columns console 0) part))
+  pub kernel_is : kernel' ≡ spoke kernel console (expanded (column_of kernel console) part)
+  pub shown : Showed kept told kept' told' (spoken console (expanded (column_of kernel console) part))
   pub trace : kept'.trace ≡ kept.trace
 
 -- the string has one byte more, and goes on behind it
@@ -42,7 +42,7 @@ string_goes_on memory address k byte whole here goes_on h =
 
 pub written_nothing : (console : ℕ) (kept : Kept) (told : Option (List ℕ)) (kernel : Kernel) → WrittenTo console kept told kernel kept told kernel []
 written_nothing console kept told kernel =
-    let column = get_or kernel.columns console 0 in
+    let column = column_of kernel console in
     let P : List ℕ → Type 0 = λ bytes. Showed kept told kept told (spoken console bytes) in
     record {
       kernel_is = sym (spoke_none kernel console) ∙ ap (spoke kernel console) (sym (expanded_nil column));
@@ -51,31 +51,31 @@ written_nothing console kept told kernel =
     }
 
 -- a part and one byte more, expanded, by the column at which the byte stands
-expanded_more : (console byte : ℕ) (kernel now : Kernel) (part : List ℕ) → HasColumns kernel → console < 8
-    → now ≡ spoke kernel console (expanded (get_or kernel.columns console 0) part)
-    → expanded (get_or kernel.columns console 0) (part ++ (byte ∷ []))
-    ≡ expanded (get_or kernel.columns console 0) part ++ tab_text (get_or now.columns console 0) byte
-expanded_more console byte kernel now part has h e =
-    let column = get_or kernel.columns console 0 in
-    let at : get_or now.columns console 0 ≡ columns_after column (expanded column part) =
-    ap (λ k. get_or k.columns console 0) e ∙ column_spoke kernel console (expanded column part) has h in
+expanded_more : (console byte : ℕ) (kernel now : Kernel) (part : List ℕ) → HasConsole kernel console
+    → now ≡ spoke kernel console (expanded (column_of kernel console) part)
+    → expanded (column_of kernel console) (part ++ (byte ∷ []))
+    ≡ expanded (column_of kernel console) part ++ tab_text (column_of now console) byte
+expanded_more console byte kernel now part has e =
+    let column = column_of kernel console in
+    let at : column_of now console ≡ columns_after column (expanded column part) =
+    ap (λ k. column_of k console) e ∙ column_spoke kernel console (expanded column part) has in
     expanded_append column part (byte ∷ [])
-    ∙ ap (λ t. expanded column part ++ t) (ap (λ c. expanded c (byte ∷ [])) (sym at) ∙ expanded_byte (get_or now.columns console 0) byte)
+    ∙ ap (λ t. expanded column part ++ t) (ap (λ c. expanded c (byte ∷ [])) (sym at) ∙ expanded_byte (column_of now console) byte)
 
 pub written_more : (console byte : ℕ) (k0 : Kept) (t0 : Option (List ℕ)) (kernel : Kernel) (k1 : Kept) (t1 : Option (List ℕ)) (now : Kernel)
-    (k2 : Kept) (t2 : Option (List ℕ)) (later : Kernel) (part : List ℕ) → HasColumns kernel → console < 8
+    (k2 : Kept) (t2 : Option (List ℕ)) (later : Kernel) (part : List ℕ) → HasConsole kernel console
     → WrittenTo console k0 t0 kernel k1 t1 now part
-    → later ≡ spoke now console (tab_text (get_or now.columns console 0) byte)
-    → Showed k1 t1 k2 t2 (spoken console (tab_text (get_or now.columns console 0) byte)) → k2.trace ≡ k1.trace
+    → later ≡ spoke now console (tab_text (column_of now console) byte)
+    → Showed k1 t1 k2 t2 (spoken console (tab_text (column_of now console) byte)) → k2.trace ≡ k1.trace
     → WrittenTo console k0 t0 kernel k2 t2 later (part ++ (byte ∷ []))
-written_more console byte k0 t0 kernel k1 t1 now k2 t2 later part has h w is shown trace =
-    let column = get_or kernel.columns console 0 in
-    let tab = tab_text (get_or now.columns console 0) byte in
-    let both = expanded_more console byte kernel now part has h w.kernel_is in
+written_more console byte k0 t0 kernel k1 t1 now k2 t2 later part has w is shown trace =
+    let column = column_of kernel console in
+    let tab = tab_text (column_of now console) byte in
+    let both = expanded_more console byte kernel now part has w.kernel_is in
     record {
       kernel_is = is
           ∙ ap (λ k. spoke k console tab) w.kernel_is
-          ∙ spoke_both kernel console (expanded column part) tab has h
+          ∙ spoke_both kernel console (expanded column part) tab has
           ∙ ap (spoke kernel console) (sym both);
       shown = spoke_more console k0 t0 k1 t1 k2 t2 (expanded column part) tab (expanded column (part ++ (byte ∷ []))) both w.shown shown;
       trace = trace ∙ w.trace;
@@ -83,38 +83,19 @@ written_more console byte k0 t0 kernel k1 t1 now k2 t2 later part has h w is sho
 
 -- a byte of a string that stops, stops the string
 pub stopped_string : (console byte : ℕ) (k0 : Kept) (t0 : Option (List ℕ)) (kernel : Kernel) (k1 : Kept) (t1 t2 : Option (List ℕ)) (now : Kernel)
-    (part rest whole : List ℕ) → whole ≡ part ++ (byte ∷ rest) → HasColumns kernel → console < 8
+    (part rest whole : List ℕ) → whole ≡ part ++ (byte ∷ rest) → HasConsole kernel console
     → WrittenTo console k0 t0 kernel k1 t1 now part
-    → Stopped k1 t1 t2 (spoken console (tab_text (get_or now.columns console 0) byte))
-    → Stopped k0 t0 t2 (spoken console (expanded (get_or kernel.columns console 0) whole))
-stopped_string console byte k0 t0 kernel k1 t1 t2 now part rest whole e has h w stopped =
-    let column = get_or kernel.columns console 0 in
-    let here = get_or now.columns console 0 in
+    → Stopped k1 t1 t2 (spoken console (tab_text (column_of now console) byte))
+    → Stopped k0 t0 t2 (spoken console (expanded (column_of kernel console) whole))
+stopped_string console byte k0 t0 kernel k1 t1 t2 now part rest whole e has w stopped =
+    let column = column_of kernel console in
+    let here = column_of now console in
     let tab = tab_text here byte in
     let at : here ≡ columns_after column (expanded column part) =
-    ap (λ k. get_or k.columns console 0) w.kernel_is ∙ column_spoke kernel console (expanded column part) has h in
+    ap (λ k. column_of k console) w.kernel_is ∙ column_spoke kernel console (expanded column part) has in
     let tail = expanded (columns_after here tab) rest in
     let all : expanded column whole ≡ expanded column part ++ (tab ++ tail) =
     ap (expanded column) e
     ∙ expanded_append column part (byte ∷ rest)
     ∙ ap (λ t. expanded column part ++ t) (ap (λ c. expanded c (byte ∷ rest)) (sym at) ∙ expanded_cons here byte rest) in
     stopped_more console k0 t0 k1 t1 t2 (expanded column part) tab tail (expanded column whole) all w.trace w.shown stopped
-
--- a call of another function writes nothing
-
-neither : (call : Taken) (column : ℕ) (memory : ℕ → ℕ) → call.function ≢ 2 → call.function ≢ 9 → call_text call column memory ≡ []
-unfolding call_text
-neither call column memory two nine =
-    let first : call.function == 2 ≡ false = grind (arith, nat_tests, two) in
-    let second : call.function == 9 ≡ false = grind (arith, nat_tests, nine) in
-    let text = expanded column (text_from Dollar memory call.word 65536) in
-    let one = tab_text column (call.word % 256) in
-    ap (λ b. if b then one else (if call.function == 9 then text else [])) first ∙ ap (λ b. if b then text else []) second
-
-pub said_nothing : (kept : Kept) (told : Option (List ℕ)) (call : Taken) (p seg : ℕ) (system : System) → call.function ≢ 2 → call.function ≢ 9
-    → Showed kept told kept told (said_by call p seg system).news
-unfolding said_by speaking
-said_nothing kept told call p seg system two nine =
-    let console = (process_in system.kernel.procs p).console in
-    let P : List ℕ → Type 0 = λ text. Showed kept told kept told (spoken console text) in
-    subst P (sym (neither call _ _ two nine)) (spoke_nothing console kept told)

@@ -45,12 +45,17 @@ use Rattle.mpm_machine.specs.declared.gate.Gate.{Gate}
 use Rattle.mpm_machine.specs.declared.gate.Gate.TheVariants.{End, Call, Return}
 use Rattle.mpm_machine.specs.State.{Change, IsHome, IsWhole, NobodyAborted, speaking}
 use Rattle.mpm_machine.specs.Ending.{ended}
-use Rattle.mpm_machine.specs.Serving.{with_regs, asked, keeping, Served, reserving, releasing, creating, aborted, aborting_this, aborting, calling, served, said_by, popped, replied, completion, is_entry, with_entry, reply_at_entry, fulfilling, answering_call, completing, returning, outcome_of, gate_step}
+use Rattle.mpm_machine.specs.Serving.{with_regs, asked, keeping, Served, reserving, releasing, creating, aborted, aborting_this, aborting, calling, served, string_of, said_by, popped, replied, completion, is_entry, with_entry, reply_at_entry, fulfilling, answering_call, completing, returning, outcome_of, gate_step}
+use Rattle.mpm_residents.specs.Natives.{native_call}
+use Rattle.mpm_residents.specs.declared.native.Native.{Native}
+use Rattle.mpm_kernel.specs.Consoling.{abort_taken}
+use Rattle.mpm_kernel.proofs.AbortLaws.{abort_lives, sound_abort_taken}
+use Rattle.mpm_machine.specs.Residing.{native_in, asking, native_outcome, native_step, resided}
 use Rattle.mpm_machine.specs.Interrupts.{due, behind_due}
 use Rattle.mpm_machine.specs.declared.interrupts.Interrupts.{Interrupts}
 use Rattle.mpm_machine.specs.Finishing.{finished, handed, finishing, all_finished}
 use Rattle.mpm_machine.specs.Due.{is_due, ended_if_due, due_ended, is_any_aborted, noted, with_ends, settled}
-use Rattle.mpm_machine.specs.Step.{counted, illegal, illegal_text, instructed, ran, instruction_at, acted_at, gate_before, acted_by, acted, lets_in, coming, roused, interrupted, begun_by, instruction_unless, with_settled, step_of}
+use Rattle.mpm_machine.specs.Step.{counted, illegal, illegal_text, instructed, ran, instruction_at, acted_at, gate_before, acted_by, acted, lets_in, coming, roused, key_aborted, happened_to, event_come, interrupted, begun_by, instruction_unless, with_settled, step_of}
 use Rattle.mpm_machine.proofs.InterruptLaws.{due_may, script_behind_due}
 use Rattle.mpm_machine.proofs.FinishLaws.{first_finished, left_completed}
 use Rattle.mpm_machine.proofs.DueLaws.{handed_settled}
@@ -123,7 +128,7 @@ whole_regs p regs system w h =
     let fit = w.sound.fit p h in
     record {
       whole = whole_kernel system _ w
-          (sound_changed system.kernel p process w.sound h (record { console = fit.console; some = fit.some; few = fit.few }))
+          (sound_changed system.kernel p process w.sound h (record { console = fit.console; printer = fit.printer; some = fit.some; few = fit.few }))
           (live_kept system.kernel (with_changed system.kernel p process) refl (λ q living. lives_changed system.kernel.procs p q process ∙ living) w.live)
           (homes_changed system.kernel p process w.sound.slots h refl refl);
       lives = lives_changed system.kernel.procs p p process ∙ h;
@@ -157,6 +162,11 @@ whole_behind_text system kernel console bytes w is =
 pub lives_behind_text : (old kernel : Kernel) (console p : ℕ) (bytes : List ℕ) → Lives old.procs p → kernel ≡ spoke old console bytes → Lives kernel.procs p
 lives_behind_text old kernel console p bytes h is =
     ap (λ (k : Kernel). lives k.procs p) is ∙ ap (λ procs. lives procs p) (procs_spoke old console bytes) ∙ h
+
+pub call_behind_text : (old kernel : Kernel) (console p : ℕ) (bytes : List ℕ) → kernel ≡ spoke old console bytes
+    → call_of kernel.procs p ≡ call_of old.procs p
+call_behind_text old kernel console p bytes is =
+    ap (λ (k : Kernel). call_of k.procs p) is ∙ ap (λ procs. call_of procs p) (procs_spoke old console bytes)
 
 -- a process ends
 
@@ -218,10 +228,10 @@ ran_nothing None p seg system none = ap (λ kernel. record system { kernel = ker
 ran_nothing (Some outcome) p seg system none = absurd (cc)
 
 -- a call's text comes out, and its reply is placed
-pub whole_said : (call : Taken) (p seg : ℕ) (system : System) → IsWhole system → Lives system.kernel.procs p
-    → StaysWhole p system (said_by call p seg system).system
+pub whole_said : (call : Taken) (string : List ℕ) (p : ℕ) (system : System) → IsWhole system → Lives system.kernel.procs p
+    → StaysWhole p system (said_by call string p system).system
 unfolding said_by
-whole_said call p seg system w h = whole_speaking (process_in system.kernel.procs p).console p _ system w h
+whole_said call string p system w h = whole_speaking (process_in system.kernel.procs p).console p _ system w h
 
 pub whole_popped : (p seg : ℕ) (system : System) → IsWhole system → Lives system.kernel.procs p → StaysWhole p system (popped p seg system)
 unfolding popped
@@ -262,7 +272,7 @@ whole_entered p system w h =
     let fit = w.sound.fit p h in
     record {
       whole = whole_kernel system _ w
-          (sound_changed system.kernel p process w.sound h (record { console = fit.console; some = fit.some; few = fit.few }))
+          (sound_changed system.kernel p process w.sound h (record { console = fit.console; printer = fit.printer; some = fit.some; few = fit.few }))
           (live_kept system.kernel (with_changed system.kernel p process) refl (λ q living. lives_changed system.kernel.procs p q process ∙ living) w.live)
           (homes_changed system.kernel p process w.sound.slots h refl refl);
       lives = lives_changed system.kernel.procs p p process ∙ h;
@@ -300,7 +310,7 @@ whole_completing : (reply : Answer) (call : Taken) (p seg : ℕ) (system : Syste
     → IsWhole (completing reply call p seg system).system
 unfolding completing
 whole_completing reply call p seg system w h =
-    let said = whole_said call p seg system w h in
+    let said = whole_said call (string_of call seg system.memory) p system w h in
     let behind = whole_popped p seg _ said.whole said.lives in
     whole_fulfilling reply call p seg _ behind.whole behind.lives
 
@@ -361,7 +371,7 @@ whole_put_off p system w h =
     let kernel = with_changed system.kernel p process in
     let there = lived_in_changed system.kernel p process w.sound.slots h refl in
     record {
-      sound = sound_changed system.kernel p process w.sound h (record { console = fit.console; some = fit.some; few = fit.few });
+      sound = sound_changed system.kernel p process w.sound h (record { console = fit.console; printer = fit.printer; some = fit.some; few = fit.few });
       live = live_kept system.kernel kernel refl (λ q living. lives_changed system.kernel.procs p q process ∙ living) w.live;
       script = w.script;
       settled = λ off. absurd (false≢true (sym off));
@@ -417,7 +427,7 @@ whole_aborting p system w h is_ready =
     whole_aborting_this (target system.kernel.procs p) p system w h (λ q named. target_lives system.kernel.procs p q named)
     (ready_waits_at_none system.kernel p w.sound is_ready)
 
-whole_calling : (p : ℕ) (system : System) → IsWhole system → Lives system.kernel.procs p → IsReady system.kernel p
+pub whole_calling : (p : ℕ) (system : System) → IsWhole system → Lives system.kernel.procs p → IsReady system.kernel p
     → StaysWhole p system (calling p system).system
 whole_calling p system w h ready = record {
   whole = whole_kernel system _ w (sound_called p system.kernel w.sound h ready) (live_called p system.kernel w.sound h ready)
@@ -482,6 +492,42 @@ whole_gate_step p seg system w h ready =
     let done = whole_served call p (keeping p call system) kept.whole kept.lives (kept.ready ready) in
     whole_outcome _ _ call p seg _ done.whole done.lives
 
+-- the step of a resident
+
+pub keeps_asked : (p : ℕ) (call : Taken) (system : System) → IsWhole system → Lives system.kernel.procs p → Keeps p call system (asking p call system)
+keeps_asked p call system w h =
+    let kernel = system.kernel in
+    let slots = w.sound.slots in
+    let below = lives_below kernel.procs p slots h in
+    record {
+      whole = whole_kernel system _ w (sound_call kernel p call w.sound)
+          (live_kept kernel (record kernel { procs = with_call kernel.procs p call }) refl (λ q living. lives_behind kernel.procs p q call ∙ living) w.live)
+          (homes_call kernel p call);
+      lives = lives_behind kernel.procs p p call ∙ h;
+      ready = λ ready. ready;
+      call = call_changed kernel.procs p call (omega (arith, slots.calls, below));
+      home = ap (λ x. x.seg) (process_behind kernel.procs p p call);
+    }
+
+pub whole_residents : (system : System) (residents : List Native) → IsWhole system → IsWhole (record system { residents = residents })
+whole_residents system residents w = record { sound = w.sound; live = w.live; homes = w.homes; lived = w.lived; script = w.script; settled = w.settled }
+
+whole_native : (outcome : Ended_how) (reply : Answer) (call : Taken) (p : ℕ) (system : System) → IsWhole system → Lives system.kernel.procs p
+    → IsWhole (native_outcome outcome reply call p system).system
+whole_native Done reply call p system w h = whole_residents _ _ (whole_said call call.bytes p system w h).whole
+whole_native Ended reply call p system w h = whole_ended p system w h
+whole_native Held reply call p system w h = w
+whole_native Retry reply call p system w h = w
+
+whole_resided : (native : Option Native) (p : ℕ) (system : System) → IsWhole system → Lives system.kernel.procs p → IsReady system.kernel p
+    → IsWhole (resided native p system).system
+unfolding native_step
+whole_resided None p system w h ready = w
+whole_resided (Some native) p system w h ready =
+    let kept = keeps_asked p (native_call native) system w h in
+    let done = whole_calling p (asking p (native_call native) system) kept.whole kept.lives (kept.ready ready) in
+    whole_native _ _ (native_call native) p _ done.whole done.lives
+
 -- what the running process does
 whole_acted_at : (gate : Option Gate) (p seg : ℕ) (system : System) → IsWhole system → Lives system.kernel.procs p → IsReady system.kernel p
     → IsWhole (acted_at gate p seg system).system
@@ -492,7 +538,8 @@ whole_acted_at None p seg system w h ready = whole_instructed (instruction_at p 
 
 whole_acted_by : (running seg : Option ℕ) (system : System) → IsWhole system → system.kernel.running ≡ running → IsWhole (acted_by running seg system).system
 whole_acted_by None seg system w e = w
-whole_acted_by (Some p) None system w e = w
+whole_acted_by (Some p) None system w e =
+    whole_resided (native_in system.residents p) p system w (runner_lives system.kernel p w.sound e) (w.sound.runs p e)
 whole_acted_by (Some p) (Some seg) system w e =
     whole_acted_at (gate_before p seg system) p seg system w (runner_lives system.kernel p w.sound e) (w.sound.runs p e)
 
@@ -524,15 +571,58 @@ sound_roused system behind w is =
     let P : System → Type 0 = λ s. IsSound s.kernel in
     subst P (sym is) (whole_roused system.kernel.running system w refl).sound
 
-whole_interrupted : (event : Event) (system : System) → MayCome event → IsWhole system → IsWhole (interrupted event system)
+-- an event, behind which the process that it aborts lives
+pub whole_happened : (event : Event) (system behind : System) (kernel : Kernel) → MayCome event → IsWhole system
+    → behind ≡ record system { kernel = roused system.kernel.running system.kernel } → kernel ≡ happened event behind.kernel
+    → IsWhole (record behind { kernel = kernel })
+whole_happened event system behind kernel may w is was =
+    let before : IsWhole behind = subst IsWhole (sym is) (whole_roused system.kernel.running system w refl) in
+    let P : Kernel → Type 0 = λ k. IsWhole (record behind { kernel = k }) in
+    subst P (sym was)
+    (whole_kernel behind (happened event behind.kernel) before (sound_happened event behind.kernel may before.sound)
+    (live_happened event behind.kernel may before.sound) (homes_happened event behind.kernel))
+
+pub aborted_lives : (event : Event) (system behind : System) (kernel : Kernel) → IsWhole system
+    → behind ≡ record system { kernel = roused system.kernel.running system.kernel } → kernel ≡ happened event behind.kernel
+    → IfSome kernel.aborted (λ p. Lives kernel.procs p)
+aborted_lives event system behind kernel w is was =
+    let before : IsWhole behind = subst IsWhole (sym is) (whole_roused system.kernel.running system w refl) in
+    let P : Kernel → Type 0 = λ k. IfSome k.aborted (λ p. Lives k.procs p) in
+    subst P (sym was) (abort_lives event behind.kernel before.sound)
+
+whole_aborted_by : (waits : Bool) (p : ℕ) (system : System) → IsWhole system → Lives system.kernel.procs p → IsWhole (aborted_by waits p system)
+whole_aborted_by true p system w h = subst IsWhole (sym (put_off_is p system)) (whole_put_off p system w h)
+whole_aborted_by false p system w h = subst IsWhole (sym (ends_at_once p system)) (whole_ended p system w h)
+
+pub whole_abort_taken : (system : System) → IsWhole system → IsWhole (record system { kernel = abort_taken system.kernel })
+whole_abort_taken system w =
+    whole_kernel system _ w (sound_abort_taken system.kernel w.sound) w.live (homes_stay system.kernel _ refl)
+
+pub whole_taken : (system : System) (kernel : Kernel) → IsWhole system → kernel ≡ abort_taken system.kernel → IsWhole (record system { kernel = kernel })
+whole_taken system kernel w is =
+    let P : Kernel → Type 0 = λ k. IsWhole (record system { kernel = k }) in subst P (sym is) (whole_abort_taken system w)
+
+whole_key_aborted : (aborts : Option ℕ) (system : System) → IsWhole system → IfSome aborts (λ p. Lives system.kernel.procs p)
+    → IsWhole (key_aborted aborts system)
+whole_key_aborted None system w lives = w
+whole_key_aborted (Some p) system w lives =
+    let taken = record system { kernel = abort_taken system.kernel } in
+    let waits = waits_to_end taken.kernel p false in
+    subst IsWhole (sym (aborted_is waits p taken refl)) (whole_aborted_by waits p taken (whole_abort_taken system w) lives)
+
+whole_event_come : (event : Event) (system : System) → MayCome event → IsWhole system → IsWhole (event_come event system).system
+unfolding event_come
+whole_event_come event system may w =
+    let roused_system = record system { kernel = roused system.kernel.running system.kernel } in
+    whole_key_aborted (happened_to event system).kernel.aborted (happened_to event system)
+    (whole_happened event system roused_system (happened event roused_system.kernel) may w refl refl)
+    (aborted_lives event system roused_system (happened event roused_system.kernel) w refl refl)
+
+whole_interrupted : (event : Event) (system : System) → MayCome event → IsWhole system → IsWhole (interrupted event system).system
 unfolding interrupted
 whole_interrupted event system may w =
-    let before = whole_roused system.kernel.running system w refl in
-    let kernel = roused system.kernel.running system.kernel in
-    whole_interrupts _ (behind_due system.steps system.interrupts)
-    (whole_kernel _ (happened event kernel) before (sound_happened event kernel may before.sound) (live_happened event kernel may before.sound)
-    (homes_happened event kernel))
-    (script_behind_due system.steps system.interrupts w.script)
+    whole_event_come event (record system { interrupts = behind_due system.steps system.interrupts }) may
+    (whole_interrupts system (behind_due system.steps system.interrupts) w (script_behind_due system.steps system.interrupts w.script))
 
 whole_begun : (event : Option Event) (system : System) → IfSome event MayCome → IsWhole system → IsWhole (begun_by event system).system
 whole_begun None system may w = whole_acted system w
@@ -663,7 +753,7 @@ live_if : (b : Bool) (one other : Kernel) → CompletedLive one → CompletedLiv
 live_if true one other is was = is
 live_if false one other is was = was
 
-live_picked : (instruction : Bool) (kernel : Kernel) → CompletedLive kernel → CompletedLive (picked instruction kernel)
+pub live_picked : (instruction : Bool) (kernel : Kernel) → CompletedLive kernel → CompletedLive (picked instruction kernel)
 unfolding picked
 live_picked instruction kernel live = live_if (instruction && stays kernel kernel.running) kernel _ live live
 

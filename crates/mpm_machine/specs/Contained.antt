@@ -14,7 +14,7 @@ use Rattle.mpm_kernel.specs.Waiting.{completion_reply}
 use Rattle.mpm_machine.specs.declared.system.System.{System}
 use Rattle.mpm_machine.specs.declared.gate.Gate.{Gate}
 use Rattle.mpm_machine.specs.declared.gate.Gate.TheVariants.{End, Call, Return}
-use Rattle.mpm_machine.specs.Serving.{with_regs, asked, keeping, Served, served, said_by, popped, reply_at_entry}
+use Rattle.mpm_machine.specs.Serving.{with_regs, asked, keeping, Served, served, string_of, said_by, popped, reply_at_entry}
 use Rattle.mpm_machine.specs.Ending.{ended}
 use Rattle.mpm_machine.specs.Finishing.{finished, handed, all_finished}
 use Rattle.mpm_machine.specs.Due.{is_due, ended_if_due, with_ends}
@@ -22,7 +22,7 @@ use Rattle.mpm_machine.specs.Step.{instruction_at, gate_before, coming, begun_by
 
 -- the reply that is placed where a call is done: for one that enters a resident procedure the gate that it pushes
 abbrev pub placed_reply : Answer → Taken → ℕ → ℕ → System → Answer
-placed_reply reply call p seg system = reply_at_entry reply call p (popped p seg (said_by call p seg system).system)
+placed_reply reply call p seg system = reply_at_entry reply call p (popped p seg (said_by call (string_of call seg system.memory) p system).system)
 
 -- a call that is done places its reply's bytes; another places none
 abbrev pub PlacesAt : Outcome → Answer → Taken → ℕ → ℕ → System → ℕ → Type 0

@@ -5,6 +5,7 @@ pub mod State
 pub mod Opening
 pub mod Ending
 pub mod Serving
+pub mod Residing
 pub mod Finishing
 pub mod Due
 pub mod Step

@@ -1,6 +1,6 @@
 -- How a program is laid out in its segment, and how its process begins. (MP/M II System Guide, "Memory Segment Base Page
 -- Initialization".)
-use Rattle.std.specs.Prelude.{◌≡◌, ℕ, ◌+◌, ◌-◌, ◌*◌, ◌<◌, ◌≤◌, Bool, true, false, List, [], ◌∷◌, ◌++◌, Some, None, length, count_by, codes}
+use Rattle.std.specs.Prelude.{◌≡◌, ℕ, zero, suc, ◌+◌, ◌-◌, ◌*◌, ◌<◌, ◌≤◌, Bool, true, false, List, [], ◌∷◌, ◌++◌, Option, Some, None, length, count_by, codes}
 use Rattle.mpm_base.specs.Lists.{zeros}
 use Rattle.mpm_base.specs.declared.number.Name8.{Name8}
 use Rattle.mpm_base.specs.declared.segment.SegmentSpec.{SegmentSpec}
@@ -9,9 +9,15 @@ use Rattle.mpm_banks.specs.Allocations.{new_memory, occupied, spec_of}
 use Rattle.mpm_banks.specs.declared.segment.Segment.{Segment}
 use Rattle.mpm_banks.specs.declared.segment.Allocation.{Allocation}
 use Rattle.mpm_banks.specs.declared.segment.Allocation.TheVariants.{Free, Reserved, Occupied}
-use Rattle.mpm_procs.specs.Table.{living}
+use Rattle.mpm_procs.specs.Table.{living, process_in, lowest_free}
 use Rattle.mpm_procs.specs.declared.process.NewProcess.{NewProcess}
+use Rattle.mpm_kernel.specs.Kernel.{Kernel, with_changed}
 use Rattle.mpm_kernel.specs.Dispatch.{new_kernel, admitted, picked}
+use Rattle.mpm_kernel.specs.Joining.{joined}
+use Rattle.mpm_kernel.specs.Queueing.{with_system_queue}
+use Rattle.mpm_kernel.specs.Consoling.{given}
+use Rattle.mpm_residents.specs.Terminals.{opening}
+use Rattle.mpm_residents.specs.declared.native.Native.TheVariants.{Tmp}
 use Rattle.mpm_clock.specs.declared.moment.Moment.{Moment}
 use Rattle.mpm_script.specs.declared.event.Timed.{Timed}
 use Rattle.mpm_machine_file.specs.declared.machine_file.MachineFile.{MachineFile}
@@ -65,6 +71,7 @@ booted file events = record {
   kernel = new_kernel file.consoles file.printers (moment_of file);
   memory = new_memory file.segments;
   put_off = false;
+  residents = [];
 }
 
 -- a process lives in the segment
@@ -92,10 +99,11 @@ pub record MayPlace (system : System) (seg console size : ℕ) : Type 0 where
   pub has_console : console < system.kernel.consoles
   pub room : size + 640 ≤ 256 * (segment_of system.memory seg).pages
 
--- the system with a program placed: the first of the ready list runs
+-- the system with a program placed: its process owns its console where nobody does, and the first of the ready list runs
 unfoldable pub with_placed : System → ℕ → ℕ → Name8 → ℕ → ℕ → List ℕ → System
 with_placed system p seg name priority console program = record system {
-  kernel = picked false (admitted system.kernel p (placed_process (spec_of system.memory seg) seg name priority console));
+  kernel = picked false (given console None (Some p)
+      (admitted system.kernel p (placed_process (spec_of system.memory seg) seg name priority console)));
   memory = occupied (laid_out system.memory seg program) seg;
 }
 
@@ -118,3 +126,59 @@ program_file = record {
 -- the system as a program begins: it is the process `PROGRAM ` in the one segment
 unfoldable pub opening_system : List ℕ → System
 opening_system program = with_placed (booted program_file []) 0 0 (record { 0 = codes "PROGRAM " }) 200 0 program
+
+-- the process of a resident: it has no memory segment
+unfoldable pub resident_process : Name8 → ℕ → ℕ → NewProcess
+resident_process name priority console =
+    record { name = name; priority = priority; console = console; seg = None; pc = 0; sp = 0; dma = 0; user = 0; drive = 0 }
+
+-- the process of the command line interpreter begins in a slot. It isn't ready, and so never runs.
+unfoldable pub with_interpreter : Option ℕ → Kernel → Kernel
+with_interpreter None kernel = kernel
+with_interpreter (Some p) kernel =
+    let begun = joined kernel p (resident_process (record { 0 = codes "cli     " }) 190 0) in
+    with_changed begun p (record (process_in begun.procs p) { error_mode = 255; multi = 16 })
+
+-- the name of the terminal message processor of a console
+abbrev pub terminal_name : ℕ → Name8
+terminal_name console = record { 0 = codes "Tmp" ++ ((48 + console) ∷ codes "    ") }
+
+-- a terminal message processor begins in a slot, for a console, and is ready. Residents take extended errors as answers.
+unfoldable pub with_terminal : Option ℕ → ℕ → System → System
+with_terminal None console system = system
+with_terminal (Some p) console system =
+    let begun = admitted system.kernel p (resident_process (terminal_name console) 198 console) in
+    record system {
+      kernel = with_changed begun p (record (process_in begun.procs p) { error_mode = 255 });
+      residents = system.residents ++ Tmp (opening console) ∷ [];
+    }
+
+-- one for each console, by number, each in the lowest free slot
+unfoldable pub with_terminals : ℕ → System → System
+with_terminals zero system = system
+with_terminals (suc n) system =
+    let others = with_terminals n system in with_terminal (lowest_free others.kernel.procs) n others
+
+-- the command queue, which is the system's: messages of 130 bytes, with room for 15
+abbrev pub command_queue : Name8
+command_queue = record { 0 = codes "CliQ    " }
+
+abbrev pub with_command_queue : Kernel → Kernel
+with_command_queue kernel = with_system_queue kernel command_queue 130 15
+
+-- the command queue, and the command line interpreter in the lowest slot
+unfoldable pub begun_by_interpreter : System → System
+begun_by_interpreter system =
+    let queued = with_command_queue system.kernel in
+    record system { kernel = with_interpreter (lowest_free queued.procs) queued }
+
+-- what a machine has as it is run, beside what its file says: these, and a terminal message processor for each console behind
+-- them; the first of the ready list runs
+unfoldable pub with_residents : ℕ → System → System
+with_residents consoles system =
+    let begun = with_terminals consoles (begun_by_interpreter system) in
+    record begun { kernel = picked false begun.kernel }
+
+-- the machine of a machine file and of the events of its script, as it is run
+unfoldable pub opened : MachineFile → List Timed → System
+opened file events = with_residents file.consoles (booted file events)

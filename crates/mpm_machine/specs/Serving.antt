@@ -1,7 +1,7 @@
 -- The gate step of a kernel call: what it reads is taken, it is done, and its reply is placed. (MP/M II Programmer's Guide,
 -- "BDOS Calling Conventions"; functions 128 to 130, memory segments; 144, create process; 151, call resident system
 -- procedure; 157, abort specified process.)
-use Rattle.std.specs.Prelude.{ℕ, ◌%◌, ◌≤◌, length, Bool, true, false, not, List, [], ◌∷◌, ◌++◌, Option, Some, None, ◌==◌, ◌&&◌, ◌||◌, slice_index, slice_index_or, if◌then◌else◌}
+use Rattle.std.specs.Prelude.{ℕ, ◌%◌, ◌≤◌, length, Bool, true, false, not, List, [], ◌∷◌, ◌++◌, Option, Some, None, ◌==◌, ◌&&◌, ◌||◌, slice_index_or, nat_lt, if◌then◌else◌}
 use Rattle.z80_regs.specs.declared.regs.Regs.{Regs}
 use Rattle.z80_regs.specs.Words.{word_of}
 use Rattle.mpm_base.specs.Calls.{Taken, Answer, answering}
@@ -17,12 +17,16 @@ use Rattle.mpm_gate.specs.declared.take.TextEnd.TheVariants.{Dollar}
 use Rattle.mpm_procs.specs.Table.{process_in, with_call}
 use Rattle.mpm_kernel.specs.Kernel.{Kernel, with_changed}
 use Rattle.mpm_kernel.specs.Calls.{called, refusal}
-use Rattle.mpm_kernel.specs.Columns.{expanded, tab_text}
+use Rattle.mpm_kernel.specs.Columns.{column_of, expanded, tab_text}
+use Rattle.mpm_kernel.specs.Called.{low_parameter}
+use Rattle.mpm_kernel.specs.ConsoleInput.{writes}
 use Rattle.mpm_xdos.specs.Creating.{home_base, created, create_answer}
 use Rattle.mpm_xdos.specs.Aborting.{waits_to_end, target, behind_abort, memory_behind_abort}
 use Rattle.mpm_xdos.specs.Procedures.{entered, entry_reply, left}
-use Rattle.mpm_render.specs.Outputs.{Output, Completed}
+use Rattle.mpm_render.specs.declared.unit.Unit2.TheVariants.{Printer}
+use Rattle.mpm_render.specs.Outputs.{Output, Completed, said}
 use Rattle.mpm_machine.specs.declared.system.System.{System}
+use Rattle.mpm_machine.specs.Writing.{spoken}
 use Rattle.mpm_machine.specs.State.{Change, silent, speaking}
 use Rattle.mpm_machine.specs.Ending.{ended}
 
@@ -134,11 +138,21 @@ served call p system =
     else (if call.function == 157 then aborting p system
     else (calling p system)))))
 
--- what a call writes to its process's console: function 2 the byte in E, function 9 the string at DE
-unfoldable pub call_text : Taken → ℕ → (ℕ → ℕ) → List ℕ
-call_text call column memory =
-    if call.function == 2 then tab_text column (call.word % 256)
-    else (if call.function == 9 then expanded column (text_from Dollar memory call.word 65536) else [])
+-- what a call writes to its process's console: functions 2 and 9 with tabs expanded, the byte in E or a string, and
+-- functions 4 and 6 the byte in E as it is
+unfoldable pub call_text : Taken → ℕ → List ℕ → List ℕ
+call_text call column string =
+    if call.function == 2 then tab_text column (low_parameter call)
+    else (if call.function == 9 then expanded column string
+    else (if writes call then low_parameter call ∷ [] else []))
+
+-- what function 5 writes to its process's printer, where there are printers: the byte in E
+abbrev pub printed : Taken → Kernel → List ℕ
+printed call kernel = if call.function == 5 && nat_lt 0 kernel.printers then low_parameter call ∷ [] else []
+
+-- the string of function 9 stands at DE, up to a dollar sign
+abbrev pub string_of : Taken → ℕ → Memory → List ℕ
+string_of call seg memory = text_from Dollar (byte_at memory seg) call.word 65536
 
 -- the return address is taken from the stack
 unfoldable pub popped : ℕ → ℕ → System → System
@@ -169,11 +183,21 @@ completion call p system =
       hl = word_of regs.l regs.h;
     })
 
--- the text of a call comes to its process's console
-unfoldable pub said_by : Taken → ℕ → ℕ → System → Change
-said_by call p seg system =
+-- the text of a call comes to its process's console, and its byte to its printer; a string is the one that is given
+unfoldable pub said_by : Taken → List ℕ → ℕ → System → Change
+said_by call string p system =
     let process = process_in system.kernel.procs p in
-    speaking process.console (call_text call (slice_index system.kernel.columns process.console) (byte_at system.memory seg)) system
+    let spoke = speaking process.console (call_text call (column_of system.kernel process.console) string) system in
+    record spoke { news = said (Printer process.printer) (printed call system.kernel) spoke.news }
+
+-- what the kernel itself wrote to the console of a process in its call: functions 1 and 10 echo the key that they take
+abbrev pub echo_of : Taken → Kernel → List ℕ
+echo_of call kernel = if call.function == 1 || call.function == 10 then kernel.echo else []
+
+-- that comes before what else the call brings about
+abbrev pub behind_echo : Taken → ℕ → System → Change → Change
+behind_echo call p system change =
+    record change { news = change.news ++ spoken (process_in system.kernel.procs p).console (echo_of call system.kernel) }
 
 -- a call whose reply is placed, and then its record
 unfoldable pub answering_call : Answer → Taken → ℕ → ℕ → System → Change
@@ -202,7 +226,7 @@ fulfilling reply call p seg system =
 -- a call that is done: its text, its reply behind the return address, its record
 unfoldable pub completing : Answer → Taken → ℕ → ℕ → System → Change
 completing reply call p seg system =
-    let spoke = said_by call p seg system in
+    let spoke = said_by call (string_of call seg system.memory) p system in
     let behind = fulfilling reply call p seg (popped p seg spoke.system) in
     record { system = behind.system; news = behind.news ++ spoke.news }
 
@@ -218,9 +242,9 @@ outcome_of Ended reply call p seg system = silent (ended p system)
 outcome_of Held reply call p seg system = silent (popped p seg system)
 outcome_of Retry reply call p seg system = silent system
 
--- the gate step of a call
+-- the gate step of a call: it is taken, kept and served, and its outcome follows
 unfoldable pub gate_step : ℕ → ℕ → System → Change
 gate_step p seg system =
     let call = asked p seg system in
     let done = served call p (keeping p call system) in
-    outcome_of done.outcome done.reply call p seg done.system
+    behind_echo call p done.system (outcome_of done.outcome done.reply call p seg done.system)

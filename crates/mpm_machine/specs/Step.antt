@@ -7,19 +7,23 @@ use Rattle.mpm_banks.specs.Ports.{port_byte}
 use Rattle.mpm_banks.specs.Actions.{memory_after, devices_after}
 use Rattle.mpm_procs.specs.Table.{process_in}
 use Rattle.mpm_script.specs.declared.event.Event.{Event}
+use Rattle.mpm_script.specs.declared.event.Event.TheVariants.{Tick, Key, Ready, Int}
 use Rattle.mpm_kernel.specs.Kernel.{Kernel}
 use Rattle.mpm_kernel.specs.Dispatch.{picked}
 use Rattle.mpm_kernel.specs.Events.{happened}
+use Rattle.mpm_kernel.specs.Consoling.{abort_taken}
 use Rattle.mpm_render.specs.Lines.{hex_word}
-use Rattle.mpm_render.specs.Outputs.{rendered}
+use Rattle.mpm_render.specs.Outputs.{Output, rendered}
 use Rattle.mpm_render.specs.Shown.{EndsBetween}
 use Rattle.mpm_machine.specs.Gates.{is_inside, gate_of}
 use Rattle.mpm_machine.specs.declared.gate.Gate.{Gate}
 use Rattle.mpm_machine.specs.declared.gate.Gate.TheVariants.{End, Call, Return}
 use Rattle.mpm_machine.specs.declared.system.System.{System}
+use Rattle.mpm_machine.specs.Writing.{spoken}
 use Rattle.mpm_machine.specs.State.{State, Change, silent, speaking}
 use Rattle.mpm_machine.specs.Ending.{ended}
-use Rattle.mpm_machine.specs.Serving.{with_regs, gate_step, returning}
+use Rattle.mpm_machine.specs.Serving.{with_regs, aborted, gate_step, returning}
+use Rattle.mpm_machine.specs.Residing.{native_in, resided}
 use Rattle.mpm_machine.specs.Due.{settled}
 use Rattle.mpm_machine.specs.Interrupts.{due, behind_due}
 
@@ -65,10 +69,10 @@ acted_at None p seg system = instructed (instruction_at p seg system) p seg syst
 abbrev pub gate_before : ℕ → ℕ → System → Option Gate
 gate_before p seg system = gate_of (is_inside system.kernel.procs p) system.memory seg (process_in system.kernel.procs p).regs.pc
 
--- what the running process does, in its segment
+-- what the running process does: in its segment, or as a resident
 abbrev pub acted_by : Option ℕ → Option ℕ → System → Change
 acted_by None seg system = silent system
-acted_by (Some p) None system = silent system
+acted_by (Some p) None system = resided (native_in system.residents p) p system
 acted_by (Some p) (Some seg) system = acted_at (gate_before p seg system) p seg system
 
 -- the segment of the running process
@@ -108,22 +112,41 @@ abbrev pub roused : Option ℕ → Kernel → Kernel
 roused None kernel = kernel
 roused (Some p) kernel = with_regs kernel p (record (process_in kernel.procs p).regs { halted = false })
 
--- an event comes
-unfoldable pub interrupted : Event → System → System
-interrupted event system = record system {
-  kernel = happened event (roused system.kernel.running system.kernel);
-  interrupts = behind_due system.steps system.interrupts;
-}
+-- the process that a key aborts, if any: it ends, or its end is put off
+abbrev pub key_aborted : Option ℕ → System → System
+key_aborted None system = system
+key_aborted (Some p) system = aborted p (record system { kernel = abort_taken system.kernel })
+
+-- what the kernel itself writes to the console of a key
+abbrev pub event_text : Event → Kernel → List Output
+event_text Tick kernel = []
+event_text (Key console byte) kernel = spoken console kernel.echo
+event_text (Ready device byte) kernel = []
+event_text (Int flag) kernel = []
+
+-- an event comes, and who waits for it becomes ready
+abbrev pub happened_to : Event → System → System
+happened_to event system = record system { kernel = happened event (roused system.kernel.running system.kernel) }
+
+-- the change that an event brings about
+unfoldable pub event_come : Event → System → Change
+event_come event system =
+    let behind = happened_to event system in
+    record { system = key_aborted behind.kernel.aborted behind; news = event_text event behind.kernel }
+
+-- the event that is due comes
+unfoldable pub interrupted : Event → System → Change
+interrupted event system = event_come event (record system { interrupts = behind_due system.steps system.interrupts })
 
 -- the event that comes, if one does
-abbrev pub interrupted_by : Option Event → System → System
-interrupted_by None system = system
+abbrev pub interrupted_by : Option Event → System → Change
+interrupted_by None system = silent system
 interrupted_by (Some event) system = interrupted event system
 
 -- what a step begins with: the event that comes, or else what the running process does
 abbrev pub begun_by : Option Event → System → Change
 begun_by None system = acted system
-begun_by (Some event) system = silent (interrupted event system)
+begun_by (Some event) system = interrupted event system
 
 -- that was an instruction
 abbrev pub instruction_unless : Option Event → System → Bool

@@ -33,7 +33,7 @@ impl System {
 
     /// A process is aborted: it ends, or its end is put off while it holds the message of a mutual exclusion queue.
     #[tactic(auto, using(crate::proofs::WholeLaws::segment_is_there), unfolding(crate::specs::Serving::aborted))]
-    fn abort_process(&mut self, p: Pid)
+    pub fn abort_process(&mut self, p: Pid)
         requires whole { IsWhole self.old }
         requires lives { Lives self.old.kernel.procs p }
         ensures { self.new ≡ aborted p self.old }

@@ -1,19 +1,22 @@
-ghost use Rattle.std.specs.Prelude.{◌∷◌, [], ◌≡◌, ◌<◌, ◌≤◌, ◌%◌, ℕ, Some, OnOk, OnErr, length, slice_index};
+ghost use Rattle.std.specs.Prelude.{◌∷◌, [], ◌≡◌, ◌≢◌, List, ◌<◌, ◌≤◌, ◌%◌, ℕ, Some, OnOk, OnErr, length, slice_index};
 ghost use Rattle.mpm_port.specs.Causes.{HasCause};
 ghost use Rattle.mpm_base.specs.declared.call.Outcome.TheVariants.{Done};
 ghost use Rattle.mpm_base.specs.Calls.{answering};
 ghost use Rattle.mpm_procs.specs.Table.{Lives, process_in, call_of};
 ghost use Rattle.mpm_kernel.specs.Kernel.{IsReady};
-ghost use Rattle.mpm_machine.specs.Writing.{Showed, Stopped};
+ghost use Rattle.mpm_machine.specs.Writing.{spoken, Showed, Stopped};
 
-use crate::console::{write_string, write_tabbed};
+use crate::console::{put_bytes, write_bytes, write_string, write_tabbed};
 use crate::system::System;
 use mpm_base::{Outcome, Pid, Reply, Seg};
 use mpm_port::{Failed, Sink};
-use mpm_render::Render;
+use mpm_render::{Render, Unit2};
 
 /// The answer of a call that is refused.
 pub(crate) const REFUSED: u16 = 0x00FF;
+
+/// The first parameter of function 6 that asks for a key or for what the console has; it writes those below.
+const FIRST_REQUEST: u8 = 0xFD;
 
 /// The attributes of a memory segment's descriptor: it is allocated.
 const ALLOCATED: u8 = 0x80;
@@ -21,7 +24,7 @@ const ALLOCATED: u8 = 0x80;
 impl System {
     ghost use Rattle.mpm_banks.specs.Allocations.{released, is_reserved};
     ghost use Rattle.mpm_machine.specs.State.{IsWhole, IsHome};
-    ghost use Rattle.mpm_machine.specs.Serving.{asked, keeping, IsTaken, served, reserving, releasing, creating, calling, base_asked, said_by, popped, replied, answering_call, fulfilling, completing, completion, outcome_of, gate_step};
+    ghost use Rattle.mpm_machine.specs.Serving.{asked, keeping, IsTaken, served, reserving, releasing, creating, calling, base_asked, string_of, said_by, echo_of, popped, replied, answering_call, fulfilling, completing, completion, outcome_of, gate_step};
     ghost use Rattle.mpm_machine.specs.Ending.{ended};
 
     /// The gate step of a kernel call of a process of a segment.
@@ -45,6 +48,7 @@ impl System {
     {
         self.take_call(p, seg);
         let outcome = self.serve(p, reply);
+        self.put_echo(p, render, sink)?;
         self.conclude(outcome, p, seg, reply, render, sink)
     }
 
@@ -247,8 +251,7 @@ impl System {
         self.record(p, render, sink)
     }
 
-    /// What the call of a process writes to its console comes out.
-    #[tactic(auto, using(mpm_kernel::proofs::SpokeLaws::spoke_none, crate::proofs::StringLaws::said_nothing), unfolding(crate::specs::Serving::said_by, crate::specs::Serving::call_text, crate::specs::State::speaking))]
+    /// What the call of a process of a segment writes comes out; the string of function 9 stands in memory.
     fn speak<S: Sink>(
         &mut self,
         p: Pid,
@@ -258,18 +261,19 @@ impl System {
     ) -> Result<(), Failed>
         requires whole { IsWhole self.old }
         requires lives { Lives self.old.kernel.procs p }
-        ensures system { OnOk result (self.new ≡ (said_by (call_of self.old.kernel.procs p) p seg self.old).system) }
-        ensures ok { OnOk result (Showed render.old (S.written sink.old) render.new (S.written sink.new) (said_by (call_of self.old.kernel.procs p) p seg self.old).news) }
-        ensures err { OnErr result (Stopped render.old (S.written sink.old) (S.written sink.new) (said_by (call_of self.old.kernel.procs p) p seg self.old).news) }
+        ensures system { OnOk result (self.new ≡ (said_by (call_of self.old.kernel.procs p) (string_of (call_of self.old.kernel.procs p) seg self.old.memory) p self.old).system) }
+        ensures ok { OnOk result (Showed render.old (S.written sink.old) render.new (S.written sink.new)
+            (said_by (call_of self.old.kernel.procs p) (string_of (call_of self.old.kernel.procs p) seg self.old.memory) p self.old).news) }
+        ensures err { OnErr result (Stopped render.old (S.written sink.old) (S.written sink.new)
+            (said_by (call_of self.old.kernel.procs p) (string_of (call_of self.old.kernel.procs p) seg self.old.memory) p self.old).news) }
         ensures cause { HasCause (S.faults sink.old) (S.faults sink.new) result }
         ensures trace { render.new.trace ≡ render.old.trace }
     {
-        let console = self.kernel.living(p).console;
         let call = self.kernel.kept_call(p);
-        let word = call.word;
-        match call.function {
-            2 => write_tabbed(&mut self.kernel, console, (word % 256) as u8, render, sink),
-            9 => write_string(
+        if call.function == 9 {
+            let word = call.word;
+            let console = self.kernel.living(p).console;
+            return write_string(
                 &mut self.kernel,
                 console,
                 &self.memory,
@@ -277,7 +281,70 @@ impl System {
                 word,
                 render,
                 sink,
+            );
+        }
+        self.speak_byte(p, render, sink)
+    }
+
+    /// What a call of a process other than function 9 writes comes out: a byte, at its console or its printer.
+    pub fn speak_byte<S: Sink>(
+        &mut self,
+        p: Pid,
+        render: &mut Render,
+        sink: &mut S,
+    ) -> Result<(), Failed>
+        requires whole { IsWhole self.old }
+        requires lives { Lives self.old.kernel.procs p }
+        requires byte { (call_of self.old.kernel.procs p).function ≢ 9 }
+        ensures system { (string : List ℕ) → OnOk result (self.new ≡ (said_by (call_of self.old.kernel.procs p) string p self.old).system) }
+        ensures ok { (string : List ℕ) → OnOk result (Showed render.old (S.written sink.old) render.new (S.written sink.new)
+            (said_by (call_of self.old.kernel.procs p) string p self.old).news) }
+        ensures err { (string : List ℕ) → OnErr result (Stopped render.old (S.written sink.old) (S.written sink.new)
+            (said_by (call_of self.old.kernel.procs p) string p self.old).news) }
+        ensures cause { HasCause (S.faults sink.old) (S.faults sink.new) result }
+        ensures trace { render.new.trace ≡ render.old.trace }
+    {
+        let process = self.kernel.living(p);
+        let console = process.console;
+        let printer = process.printer;
+        let call = self.kernel.kept_call(p);
+        let byte = (call.word % 256) as u8;
+        match call.function {
+            2 => write_tabbed(&mut self.kernel, console, byte, render, sink),
+            4 => write_bytes(&mut self.kernel, console, &[byte], render, sink),
+            5 if 0 < self.kernel.printers() => render.put(
+                Unit2::Printer { n: printer },
+                byte,
+                sink,
             ),
+            6 if byte < FIRST_REQUEST => write_bytes(
+                &mut self.kernel,
+                console,
+                &[byte],
+                render,
+                sink,
+            ),
+            _ => Ok(()),
+        }
+    }
+
+    /// What the kernel itself wrote to the console of a process in its call comes out: functions 1 and 10 echo the key that they
+    /// take.
+    pub fn put_echo<S: Sink>(&self, p: Pid, render: &mut Render, sink: &mut S) -> Result<(), Failed>
+        requires whole { IsWhole self.now }
+        requires lives { Lives self.now.kernel.procs p }
+        ensures ok { OnOk result (Showed render.old (S.written sink.old) render.new (S.written sink.new)
+            (spoken (process_in self.now.kernel.procs p).console (echo_of (call_of self.now.kernel.procs p) self.now.kernel))) }
+        ensures err { OnErr result (Stopped render.old (S.written sink.old) (S.written sink.new)
+            (spoken (process_in self.now.kernel.procs p).console (echo_of (call_of self.now.kernel.procs p) self.now.kernel))) }
+        ensures cause { HasCause (S.faults sink.old) (S.faults sink.new) result }
+        ensures trace { render.new.trace ≡ render.old.trace }
+    {
+        match self.kernel.kept_call(p).function {
+            1 | 10 => {
+                let console = self.kernel.living(p).console;
+                put_bytes(console, self.kernel.echo().written(), render, sink)
+            }
             _ => Ok(()),
         }
     }

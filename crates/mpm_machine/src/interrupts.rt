@@ -1,4 +1,7 @@
+use crate::console::put_bytes;
 use crate::system::System;
+use mpm_port::{Failed, Sink};
+use mpm_render::Render;
 use mpm_script::{Event, Script, Timed};
 use std::marker::Model;
 
@@ -150,29 +153,93 @@ impl Pending {
 }
 
 impl System {
-    ghost use Rattle.std.specs.Prelude.{◌≡◌, ◌≤◌, is_some};
-    ghost use Rattle.mpm_kernel.specs.Kernel.{Kernel};
+    ghost use Rattle.std.specs.Prelude.{◌≡◌, ◌≤◌, is_some, IfOk, OnOk, OnErr};
+    ghost use Rattle.mpm_port.specs.Causes.{HasCause};
+    ghost use Rattle.mpm_script.specs.Events.{IsEvent};
+    ghost use Rattle.mpm_kernel.specs.Consoling.{AbortLives};
     ghost use Rattle.mpm_machine.specs.State.{IsWhole};
-    ghost use Rattle.mpm_machine.specs.Step.{lets_in, coming, roused, interrupted_by};
+    ghost use Rattle.mpm_machine.specs.Writing.{Showed, Stopped};
+    ghost use Rattle.mpm_machine.specs.Step.{lets_in, coming, roused, interrupted_by, event_come, key_aborted, event_text};
 
-    /// The event that is due in this step happens, if one is and it may come; answers whether one did.
-    #[tactic(auto, using(mpm_kernel::proofs::SoundLaws::may_come), unfolding(crate::specs::Step::coming, crate::specs::Step::interrupted))]
-    pub fn interrupt(&mut self) -> bool
+    /// The event that is due in this step comes, if one is and it may; answers whether one did.
+    #[tactic(auto, unfolding(crate::specs::Step::coming, crate::specs::Step::interrupted))]
+    pub fn interrupt<S: Sink>(&mut self, render: &mut Render, sink: &mut S) -> Result<bool, Failed>
         requires whole { IsWhole self.old }
         requires most { self.old.steps ≤ 4000000000 }
-        ensures came { result ≡ is_some (coming self.old) }
-        ensures system { self.new ≡ interrupted_by (coming self.old) self.old }
+        ensures came { IfOk result (λ came. came ≡ is_some (coming self.old)) }
+        ensures system { OnOk result (self.new ≡ (interrupted_by (coming self.old) self.old).system) }
+        ensures ok { OnOk result (Showed render.old (S.written sink.old) render.new (S.written sink.new) (interrupted_by (coming self.old) self.old).news) }
+        ensures err { OnErr result (Stopped render.old (S.written sink.old) (S.written sink.new) (interrupted_by (coming self.old) self.old).news) }
+        ensures cause { HasCause (S.faults sink.old) (S.faults sink.new) result }
+        ensures trace { render.new.trace ≡ render.old.trace }
     {
         if !self.lets_in() {
-            return false;
+            return Ok(false);
         }
         match self.interrupts.take_due(self.steps) {
             Some(event) => {
-                self.rouse();
-                self.kernel.event(event);
-                true
+                self.come(event, render, sink)?;
+                Ok(true)
             }
-            None => false,
+            None => Ok(false),
+        }
+    }
+
+    /// An event comes: who waits for it becomes ready, the kernel writes for a key what it does, and a key may abort a process.
+    #[tactic(auto, using(mpm_kernel::proofs::SoundLaws::may_come), unfolding(crate::specs::Step::event_come))]
+    fn come<S: Sink>(
+        &mut self,
+        event: Event,
+        render: &mut Render,
+        sink: &mut S,
+    ) -> Result<(), Failed>
+        requires whole { IsWhole self.old }
+        requires is { IsEvent event }
+        ensures system { OnOk result (self.new ≡ (event_come event self.old).system) }
+        ensures ok { OnOk result (Showed render.old (S.written sink.old) render.new (S.written sink.new) (event_come event self.old).news) }
+        ensures err { OnErr result (Stopped render.old (S.written sink.old) (S.written sink.new) (event_come event self.old).news) }
+        ensures cause { HasCause (S.faults sink.old) (S.faults sink.new) result }
+        ensures trace { render.new.trace ≡ render.old.trace }
+    {
+        self.rouse();
+        self.kernel.event(event);
+        self.put_event(event, render, sink)?;
+        self.abort_by_key();
+        Ok(())
+    }
+
+    /// What the kernel itself wrote to the console of a key comes out.
+    fn put_event<S: Sink>(
+        &self,
+        event: Event,
+        render: &mut Render,
+        sink: &mut S,
+    ) -> Result<(), Failed>
+        requires { IsEvent event }
+        ensures ok { OnOk result (Showed render.old (S.written sink.old) render.new (S.written sink.new) (event_text event self.now.kernel)) }
+        ensures err { OnErr result (Stopped render.old (S.written sink.old) (S.written sink.new) (event_text event self.now.kernel)) }
+        ensures cause { HasCause (S.faults sink.old) (S.faults sink.new) result }
+        ensures trace { render.new.trace ≡ render.old.trace }
+    {
+        match event {
+            Event::Key { console, .. } => put_bytes(
+                console,
+                self.kernel.echo().written(),
+                render,
+                sink,
+            ),
+            Event::Tick | Event::Ready { .. } | Event::Int { .. } => Ok(()),
+        }
+    }
+
+    /// The process that a key aborts, if any, ends, or its end is put off.
+    fn abort_by_key(&mut self)
+        requires whole { IsWhole self.old }
+        requires lives { AbortLives self.old.kernel }
+        ensures { self.new ≡ key_aborted self.old.kernel.aborted self.old }
+    {
+        if let Some(p) = self.kernel.take_abort() {
+            self.abort_process(p);
         }
     }
 

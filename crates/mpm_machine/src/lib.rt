@@ -12,6 +12,8 @@ mod interrupts;
 mod machine;
 mod opening;
 mod procedures;
+mod residents;
+mod residing;
 #[cfg(test)]
 mod scenes;
 mod schedule;

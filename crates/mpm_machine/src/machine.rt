@@ -1,8 +1,9 @@
-ghost use Rattle.std.specs.Prelude.{◌≡◌, ℕ, ◌+◌, ◌-◌, ◌*◌, ◌<◌, ◌≤◌, List, [], Option, Some, IfOk, OnOk, IfErr, OnErr, MatchOption, All, length, option_map};
+ghost use Rattle.std.specs.Prelude.{◌≡◌, ℕ, ◌+◌, ◌-◌, ◌*◌, ◌<◌, ◌≤◌, List, [], Option, Some, None, IfOk, OnOk, IfErr, OnErr, MatchOption, All, length, option_map};
 ghost use Rattle.mpm_port.specs.Causes.{HasCause};
 ghost use Rattle.mpm_port.specs.Texts.{appended};
 
 use crate::opening::{moment_of, program_file};
+use crate::residents::Residents;
 use crate::schedule::Schedule;
 use crate::system::System;
 use mpm_banks::Banks;
@@ -55,24 +56,53 @@ impl Model for Machine {
 impl Machine {
     ghost use Rattle.mpm_banks.specs.Memory.{byte_at, segment_of};
     ghost use Rattle.mpm_procs.specs.Table.{process_at, lowest_free};
+    ghost use Rattle.mpm_kernel.specs.Kernel.{HasConsole};
+    ghost use Rattle.mpm_consoles.specs.Consoles.{console_at};
     ghost use Rattle.mpm_render.specs.Outputs.{rendered, closed};
     ghost use Rattle.mpm_render.specs.Shown.{Kept, EndsBetween};
     ghost use Rattle.mpm_machine_file.specs.MachineFiles.{IsMachine};
     ghost use Rattle.mpm_machine.specs.State.{State, StandsFor, IsWhole};
-    ghost use Rattle.mpm_machine.specs.Opening.{booted, IsBare, MayPlace, with_placed, opening_system};
+    ghost use Rattle.mpm_machine.specs.Opening.{booted, opened, IsBare, MayPlace, with_placed, opening_system, command_queue, with_residents};
+    ghost use Rattle.mpm_kernel.specs.Queueing.{OnlySystems};
+    ghost use Rattle.mpm_queues.specs.Queues.{refusal};
     ghost use Rattle.mpm_machine.specs.Contained.{IsContained, Instructs, OnlyInstructed, IsServedByValue};
     ghost use Rattle.mpm_machine.specs.Step.{step_of, next, after, EndsInStep};
 
-    /// The machine of a machine file, and of its script's events. No process lives in it yet.
+    /// The machine of a machine file, and of its script's events, as it is run: the command queue, the command line
+    /// interpreter, and a terminal message processor for each console.
     ///
     /// # Errors
     /// Where no memory is found.
     pub fn boot(alloc: Global, file: &MachineFile, script: Script) -> Result<Machine, BootError>
         requires { IsMachine file.now }
-        ensures booted { IfOk result (λ machine. machine ≡ booted file.now script) }
-        ensures bare { IfOk result (λ machine. IsBare machine) }
+        ensures opening { IfOk result (λ machine. machine ≡ opened file.now script) }
+        ensures start { IfOk result (λ machine. machine.steps ≡ 0) }
+        ensures whole { IfOk result (λ machine. IsWhole machine) }
+        ensures handed { IfOk result (λ machine. machine.kernel.completed ≡ []) }
     {
-        Machine::boot_bare(alloc, file, script)
+        let mut machine = Machine::boot_bare(alloc, file, script)?;
+        match machine.begin_residents(file.consoles) {
+            Ok(()) => Ok(machine),
+            Err(AllocError) => Err(BootError::OutOfMemory),
+        }
+    }
+
+    /// What a machine has as it is run, beside what its file says.
+    ///
+    /// # Errors
+    /// Where no memory is found.
+    fn begin_residents(&mut self, consoles: u8) -> Result<(), AllocError>
+        requires whole { IsWhole self.old }
+        requires handed { self.old.kernel.completed ≡ [] }
+        requires consoles { consoles ≡ self.old.kernel.consoles }
+        requires queues { OnlySystems self.old.kernel }
+        requires room { refusal self.old.kernel.queues command_queue 130 15 ≡ None }
+        ensures system { OnOk result (self.new ≡ with_residents consoles self.old) }
+        ensures whole { OnOk result (IsWhole self.new) }
+        ensures handed { OnOk result (self.new.kernel.completed ≡ []) }
+        ensures steps { OnOk result (self.new.steps ≡ self.old.steps) }
+    {
+        self.system.begin_residents(consoles)
     }
 
     /// The machine of a machine file, and of its script's events, without processes: `place` puts programs into it.
@@ -104,6 +134,7 @@ impl Machine {
                 kernel,
                 memory,
                 put_off: false,
+                residents: Residents::none(alloc),
             },
             reply: Reply::new(),
         })
@@ -161,6 +192,14 @@ impl Machine {
         ensures { result ≡ byte_at self.now.memory seg address }
     {
         self.system.memory.byte(seg, address)
+    }
+
+    /// How many keys of a console were lost, as 64 were stored.
+    pub fn lost(&self, console: u8) -> u64
+        requires { HasConsole self.now.kernel console }
+        ensures { result ≡ (console_at self.now.kernel.units console).lost }
+    {
+        self.system.kernel.lost(console)
     }
 
     /// One step. After an error the machine isn't stepped again.

@@ -1,9 +1,13 @@
-ghost use Rattle.std.specs.Prelude.{IfOk, ◌≡◌, ◌+◌, ◌*◌, ◌-◌, ◌≤◌, ◌<◌, false, Some, IsSome, length};
+ghost use Rattle.std.specs.Prelude.{IfOk, ◌≡◌, ◌+◌, ◌*◌, ◌-◌, ◌≤◌, ◌<◌, false, Some, None, IsSome, OnOk, [], length};
 ghost use Rattle.mpm_banks.specs.Memory.{HasSegment, segment_of};
 ghost use Rattle.mpm_procs.specs.Table.{lowest_free};
 ghost use Rattle.mpm_kernel.specs.Kernel.{IsSound};
 ghost use Rattle.mpm_kernel.specs.Dispatch.{admitted, picked};
-ghost use Rattle.mpm_machine.specs.Opening.{IsBare, MayPlace, with_placed, base_page as base_page_of, laid_out, placed_process as process_placed, moment_of as moment_said, program_file as program_said};
+ghost use Rattle.mpm_kernel.specs.Consoling.{given};
+ghost use Rattle.mpm_kernel.specs.Queueing.{OnlySystems};
+ghost use Rattle.mpm_queues.specs.Queues.{refusal};
+ghost use Rattle.mpm_machine.specs.State.{IsWhole};
+ghost use Rattle.mpm_machine.specs.Opening.{IsBare, MayPlace, with_placed, base_page as base_page_of, laid_out, placed_process as process_placed, moment_of as moment_said, program_file as program_said, command_queue, terminal_name as name_of_terminal, resident_process as process_of_resident, begun_by_interpreter, with_terminal, with_terminals, with_residents};
 
 use crate::system::System;
 use mpm_banks::Banks;
@@ -29,6 +33,117 @@ impl System {
         self.memory.occupy(seg);
         let new = placed_process(spec, seg, name, priority, console);
         begin(&mut self.kernel, new)
+    }
+
+    /// What a machine has as it is run, beside what its file says: the command queue, the process of the command line
+    /// interpreter, and a terminal message processor for each console. The first of the ready list runs.
+    ///
+    /// # Errors
+    /// Where no memory is found.
+    pub fn begin_residents(&mut self, consoles: u8) -> Result<(), AllocError>
+        requires whole { IsWhole self.old }
+        requires handed { self.old.kernel.completed ≡ [] }
+        requires consoles { consoles ≡ self.old.kernel.consoles }
+        requires queues { OnlySystems self.old.kernel }
+        requires room { refusal self.old.kernel.queues command_queue 130 15 ≡ None }
+        ensures system { OnOk result (self.new ≡ with_residents consoles self.old) }
+        ensures whole { OnOk result (IsWhole self.new) }
+        ensures handed { OnOk result (self.new.kernel.completed ≡ []) }
+        ensures steps { OnOk result (self.new.steps ≡ self.old.steps) }
+    {
+        self.begin_interpreter();
+        self.begin_terminals(consoles)?;
+        self.kernel.pick(false);
+        Ok(())
+    }
+
+    /// The command queue is made, and the process of the command line interpreter begins. It isn't ready, and so never runs.
+    fn begin_interpreter(&mut self)
+        requires whole { IsWhole self.old }
+        requires queues { OnlySystems self.old.kernel }
+        requires room { refusal self.old.kernel.queues command_queue 130 15 ≡ None }
+        ensures { self.new ≡ begun_by_interpreter self.old }
+    {
+        self.kernel
+            .system_queue(COMMAND_QUEUE, COMMAND_LENGTH, COMMANDS);
+        let new = resident_process(Name8(*b"cli     "), INTERPRETER_PRIORITY, 0);
+        if let Ok(p) = self.kernel.add(new) {
+            let process = self.kernel.process_mut(p);
+            process.error_mode = ANSWERS_ERRORS;
+            process.multi = 16;
+        }
+    }
+
+    /// The terminal message processors of the consoles begin.
+    ///
+    /// # Errors
+    /// Where no memory is found.
+    fn begin_terminals(&mut self, consoles: u8) -> Result<(), AllocError>
+        requires whole { IsWhole self.old }
+        requires consoles { consoles ≡ self.old.kernel.consoles }
+        ensures system { OnOk result (self.new ≡ with_terminals consoles self.old) }
+        ensures whole { OnOk result (IsWhole self.new) }
+        ensures completed { OnOk result (self.new.kernel.completed ≡ self.old.kernel.completed) }
+        ensures steps { OnOk result (self.new.steps ≡ self.old.steps) }
+    {
+        for console in 0..consoles {
+            self.begin_terminal(console)?;
+        }
+        Ok(())
+    }
+
+    /// The terminal message processor of a console begins.
+    ///
+    /// # Errors
+    /// Where no memory is found.
+    fn begin_terminal(&mut self, console: u8) -> Result<(), AllocError>
+        requires whole { IsWhole self.old }
+        requires console { console < self.old.kernel.consoles }
+        ensures { OnOk result (self.new ≡ with_terminal (lowest_free self.old.kernel.procs) console self.old) }
+    {
+        let new = resident_process(terminal_name(console), TERMINAL_PRIORITY, console);
+        if let Ok(p) = self.kernel.admit(new) {
+            self.kernel.process_mut(p).error_mode = ANSWERS_ERRORS;
+            self.residents.add_terminal(console)?;
+        }
+        Ok(())
+    }
+}
+
+/// The queue of the command line interpreter, the length of its messages and how many it has room for.
+const COMMAND_QUEUE: Name8 = Name8(*b"CliQ    ");
+
+const COMMAND_LENGTH: u16 = 130;
+
+const COMMANDS: u16 = 15;
+
+/// The priorities of the command line interpreter and of the terminal message processors.
+const INTERPRETER_PRIORITY: u8 = 190;
+
+const TERMINAL_PRIORITY: u8 = 198;
+
+/// The error mode of a process that takes extended errors as answers.
+const ANSWERS_ERRORS: u8 = 0xFF;
+
+/// The name of the terminal message processor of a console.
+fn terminal_name(console: u8) -> Name8
+    requires { console < 8 }
+    ensures { result ≡ name_of_terminal console }
+{
+    Name8([b'T', b'm', b'p', b'0' + console, b' ', b' ', b' ', b' '])
+}
+
+/// The process of a resident: it has no memory segment.
+#[tactic(auto, unfolding(crate::specs::Opening::resident_process))]
+fn resident_process(name: Name8, priority: u8, console: u8) -> NewProcess
+    ensures process { result ≡ process_of_resident name priority console }
+    ensures console { result.console ≡ console }
+{
+    NewProcess {
+        name,
+        priority,
+        console,
+        ..NewProcess::default()
     }
 }
 
@@ -132,17 +247,19 @@ pub(crate) fn placed_process(
     }
 }
 
-/// A process begins, for which there is a slot, and the first of the ready list runs.
+/// A process begins, for which there is a slot: it owns its console where nobody does, and the first of the ready list runs.
 #[tactic(auto, using(mpm_kernel::proofs::SoundLaws::sound_in_slot))]
 pub(crate) fn begin(kernel: &mut Kernel, new: NewProcess) -> Pid
     requires sound { IsSound kernel.old }
     requires slot { IsSome (lowest_free kernel.old.procs) }
     requires console { new.console < kernel.old.consoles }
     ensures slot { lowest_free kernel.old.procs ≡ Some result }
-    ensures kernel { kernel.new ≡ picked false (admitted kernel.old result new) }
+    ensures kernel { kernel.new ≡ picked false (given new.console None (Some result) (admitted kernel.old result new)) }
 {
+    let console = new.console;
     match kernel.admit(new) {
         Ok(p) => {
+            kernel.give(console, None, Some(p));
             kernel.pick(false);
             p
         }

@@ -8,6 +8,7 @@ ghost use Rattle.mpm_machine.specs.Writing.{Showed, Stopped};
 use crate::console::write_bytes;
 use crate::gate::{Gate, gate_at, page_of_gates};
 use crate::instruction::{execute, illegal_text, run_instructions};
+use crate::residents::Residents;
 use crate::schedule::Schedule;
 use mpm_banks::Banks;
 use mpm_base::{Pid, Reply, Seg};
@@ -25,6 +26,7 @@ pub(crate) struct System {
     pub memory: Banks,
     /// Whether an end by an abort may be put off: where this is false, none is.
     pub put_off: bool,
+    pub residents: Residents,
 }
 
 impl System {
@@ -146,7 +148,8 @@ impl System {
         ensures cause { HasCause (S.faults sink.old) (S.faults sink.new) result }
         ensures trace { render.new.trace ≡ render.old.trace }
     {
-        if self.interrupt() {
+        let came = self.interrupt(render, sink)?;
+        if came {
             return Ok(false);
         }
         self.act(reply, render, sink)
@@ -171,10 +174,13 @@ impl System {
         let Some(p) = self.kernel.running() else {
             return Ok(false);
         };
-        let Some(seg) = self.kernel.segment(p) else {
-            return Ok(false);
-        };
-        self.act_at(p, seg, reply, render, sink)
+        match self.kernel.segment(p) {
+            Some(seg) => self.act_at(p, seg, reply, render, sink),
+            None => {
+                self.reside(p, reply, render, sink)?;
+                Ok(false)
+            }
+        }
     }
 
     /// What a process of a segment does in a step; answers whether that was an instruction.

@@ -2,7 +2,7 @@
 -- User's Guide, "Terminal Message Processor"; Programmer's Guide, "Function 146: Attach Console", "Function 150: Send CLI
 -- Command", "Function 9: Print String", "Function 10: Read Console Buffer", "Function 14: Select Disk", "Function 32: Set/Get
 -- User Code".)
-use Rattle.std.specs.Prelude.{◌≡◌, ℕ, ◌+◌, ◌*◌, ◌%◌, ◌≤◌, ◌<◌, ◌==◌, if◌then◌else◌, List, [], ◌∷◌, ◌++◌, take, drop, slice_index_or, codes, decimal}
+use Rattle.std.specs.Prelude.{ℕ, ◌+◌, ◌*◌, ◌%◌, ◌<◌, ◌==◌, if◌then◌else◌, List, [], ◌∷◌, ◌++◌, take, drop, slice_index_or, codes, decimal}
 use Rattle.mpm_base.specs.Lists.{zeros}
 use Rattle.mpm_base.specs.Calls.{Taken, Answer}
 use Rattle.mpm_residents.specs.Lines.{form_of, command_text}
@@ -77,10 +77,6 @@ took_at NoDrive tmp reply = record tmp { row = Attach }
 
 unfoldable pub took : Terminal → Answer → Terminal
 took tmp reply = took_at tmp.row tmp reply
-
--- the line that is answered to function 10 is no longer than was asked for
-abbrev pub MayTake : Taken → Answer → Type 0
-MayTake call reply = call.function ≡ 10 → line_length reply ≤ 127
 
 -- the drives of a row have letters, and its users are 0 to 15
 abbrev pub IsRow : Row → Type 0

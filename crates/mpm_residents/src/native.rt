@@ -1,6 +1,5 @@
 ghost use Rattle.std.specs.Prelude.{◌≡◌};
 ghost use Rattle.mpm_residents.specs.declared.native.Act.TheVariants.{Ask as Asks};
-ghost use Rattle.mpm_residents.specs.Terminals.{MayTake};
 ghost use Rattle.mpm_residents.specs.Natives.{native_call, native_took};
 
 use crate::Tmp;
@@ -33,9 +32,8 @@ impl Native {
         Act::Ask
     }
 
-    /// It takes the answer to that call. The line that function 10 answers has at most 127 bytes.
+    /// It takes the answer to that call.
     pub fn took(&mut self, reply: &Reply)
-        requires { MayTake (native_call self.old) reply.now }
         ensures { self.new ≡ native_took self.old reply.now }
     {
         match self {

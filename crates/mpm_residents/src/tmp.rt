@@ -57,7 +57,7 @@ pub struct Tmp {
     drive: u8,
     row: Row,
     /// The line that it read last: the first `length` of these bytes.
-    line: [u8; 127],
+    line: [u8; 255],
     length: u8,
 }
 
@@ -69,13 +69,13 @@ impl Model for Tmp {
 
     ghost view = { λ t. record { console = t.console; user = t.user; drive = t.drive; row = t.row; line = take t.length t.line } };
 
-    ghost invariant = { λ t. (t.length ≤ 127) × (t.user < 16) × (t.drive < 26) × IsRow t.row };
+    ghost invariant = { λ t. (t.length ≤ 255) × (t.user < 16) × (t.drive < 26) × IsRow t.row };
 }
 
 impl Tmp {
     ghost use Rattle.std.specs.Prelude.{◌≡◌, ◌≤◌};
     ghost use Rattle.mpm_residents.specs.Lines.{form_of};
-    ghost use Rattle.mpm_residents.specs.Terminals.{opening, asking, prompt, command_of, next_call, took as behind, MayTake, line_length, line_in, row_behind as row_of, IsRow};
+    ghost use Rattle.mpm_residents.specs.Terminals.{opening, asking, prompt, command_of, next_call, took as behind, line_in, row_behind as row_of, IsRow};
 
     /// The processor of a console: user 0 on drive A, and no console attached yet.
     #[tactic(auto, unfolding(crate::specs::Terminals::opening))]
@@ -87,7 +87,7 @@ impl Tmp {
             user: 0,
             drive: 0,
             row: Row::Attach,
-            line: [0; 127],
+            line: [0; 255],
             length: 0,
         }
     }
@@ -116,10 +116,9 @@ impl Tmp {
         }
     }
 
-    /// Takes the answer to that call. The line that function 10 answers has at most 127 bytes.
+    /// Takes the answer to that call.
     #[tactic(auto, unfolding(crate::specs::Terminals::took, crate::specs::Terminals::next_call))]
     pub fn took(&mut self, reply: &Reply)
-        requires { MayTake (next_call self.old) reply.now }
         ensures { self.new ≡ behind self.old reply.now }
     {
         self.row = match self.row {
@@ -166,7 +165,6 @@ impl Tmp {
 
     /// It keeps the line that was answered: its length comes first, and then its bytes.
     fn keep(&mut self, reply: &Reply)
-        requires { line_length reply.now ≤ 127 }
         ensures { self.new ≡ record self.old { line = line_in reply.now } }
     {
         let placed = reply.placed();

@@ -4,7 +4,7 @@ use Rattle.mpm_script.specs.declared.event.Timed.{Timed}
 use Rattle.mpm_machine_file.specs.declared.machine_file.MachineFile.{MachineFile}
 use Rattle.mpm_machine_file.specs.MachineFiles.{machine_of_text}
 use Rattle.mpm_machine.specs.declared.system.System.{System}
-use Rattle.mpm_machine.specs.Opening.{booted}
+use Rattle.mpm_machine.specs.Opening.{opened}
 use Rattle.mpm_top.specs.declared.words.Form.{Form}
 use Rattle.mpm_top.specs.declared.words.Form.TheVariants.{Program, Run}
 use Rattle.mpm_top.specs.declared.status.Status.{Status}
@@ -13,7 +13,7 @@ use Rattle.mpm_top.specs.Runs.{Contents, system_of, script_name, input_of, Holds
 
 pub no_system : (bytes : List ℕ) (events : List Timed) → machine_of_text bytes ≡ None → system_of Run bytes events ≡ None
 unfolding system_of
-no_system bytes events none = ap (option_map (λ file. booted file events)) none
+no_system bytes events none = ap (option_map (λ file. opened file events)) none
 
 pub no_script : (bytes : List ℕ) → machine_of_text bytes ≡ None → script_name Run bytes ≡ None
 unfolding script_name
@@ -24,9 +24,9 @@ unfolding script_name
 script_of_file bytes file is = ap (option_and_then (λ (f : MachineFile). f.script)) is
 
 pub system_of_file : (bytes : List ℕ) (events : List Timed) (file : MachineFile) → machine_of_text bytes ≡ Some file
-    → system_of Run bytes events ≡ Some (booted file events)
+    → system_of Run bytes events ≡ Some (opened file events)
 unfolding system_of
-system_of_file bytes events file is = ap (option_map (λ f. booted f events)) is
+system_of_file bytes events file is = ap (option_map (λ f. opened f events)) is
 
 pub no_machine : (bytes : List ℕ) → machine_of_text bytes ≡ None → IsNoMachine Run (λ held. held ≡ bytes)
 no_machine bytes none = record { bytes = bytes; held = refl; none = no_system bytes [] none }
@@ -36,7 +36,7 @@ names_nothing bytes script none named =
     let e : Some script ≡ None = sym named ∙ no_script bytes none in absurd (cc)
 
 pub begins_of_file : (contents : Contents) (bytes : List ℕ) (file : MachineFile) (events : List Timed) (system : System) → machine_of_text bytes ≡ Some file
-    → Scripted contents file.script events → system ≡ booted file events → BeginsOf contents Run (λ held. held ≡ bytes) system
+    → Scripted contents file.script events → system ≡ opened file events → BeginsOf contents Run (λ held. held ≡ bytes) system
 begins_of_file contents bytes file events system is scripted was = record {
   bytes = bytes;
   events = events;

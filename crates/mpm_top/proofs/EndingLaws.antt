@@ -7,7 +7,7 @@ use Rattle.mpm_script.specs.declared.event.Timed.{Timed}
 use Rattle.mpm_script.specs.Scripts.{script_of}
 use Rattle.mpm_machine_file.specs.MachineFiles.{machine_of_text}
 use Rattle.mpm_machine.specs.declared.system.System.{System}
-use Rattle.mpm_machine.specs.Opening.{booted}
+use Rattle.mpm_machine.specs.Opening.{opened}
 use Rattle.mpm_top.specs.declared.words.Form.{Form}
 use Rattle.mpm_top.specs.declared.words.Form.TheVariants.{Program, Run}
 use Rattle.mpm_top.specs.declared.status.Input.TheVariants.{ScriptText}
@@ -82,12 +82,12 @@ begins_some : (form : Form) (bytes : List ℕ) (events other : List Timed) (syst
     → IsSome (system_of form bytes other)
 unfolding system_of
 begins_some Program bytes events other system e = refl
-begins_some Run bytes events other system e = mapped_some (λ file. booted file events) (λ file. booted file other) (machine_of_text bytes) system e
+begins_some Run bytes events other system e = mapped_some (λ file. opened file events) (λ file. opened file other) (machine_of_text bytes) system e
 
 names_some : (form : Form) (bytes script : List ℕ) (events : List Timed) → script_name form bytes ≡ Some script → IsSome (system_of form bytes events)
 unfolding system_of script_name
 names_some Program bytes script events e = absurd (cc)
-names_some Run bytes script events e = then_some (λ file. file.script) (λ file. booted file events) (machine_of_text bytes) script e
+names_some Run bytes script events e = then_some (λ file. file.script) (λ file. opened file events) (machine_of_text bytes) script e
 
 -- how a told script ends
 

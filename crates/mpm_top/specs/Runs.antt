@@ -8,7 +8,7 @@ use Rattle.mpm_script.specs.Scripts.{script_of}
 use Rattle.mpm_machine_file.specs.MachineFiles.{machine_of_text}
 use Rattle.mpm_machine.specs.declared.system.System.{System}
 use Rattle.mpm_machine.specs.State.{State}
-use Rattle.mpm_machine.specs.Opening.{opening_system, booted}
+use Rattle.mpm_machine.specs.Opening.{opening_system, opened}
 use Rattle.mpm_machine.specs.Step.{after, EndsInStep}
 use Rattle.mpm_top.specs.declared.words.Form.{Form}
 use Rattle.mpm_top.specs.declared.words.Form.TheVariants.{Program, Run}
@@ -42,7 +42,7 @@ command_on name asked = record { form = asked.form; name = name; steps = asked.s
 -- machine file
 unfoldable pub system_of : Form → List ℕ → List Timed → Option System
 system_of Program bytes events = Some (opening_system bytes)
-system_of Run bytes events = option_map (λ file. booted file events) (machine_of_text bytes)
+system_of Run bytes events = option_map (λ file. opened file events) (machine_of_text bytes)
 
 -- the name of the script that a machine file names
 unfoldable pub script_name : Form → List ℕ → Option (List ℕ)

@@ -33,6 +33,10 @@ const CHILD: &[u8] = b"\x0E\x90\x11\x30\x01\xCD\x05\x00\x0E\x00\xCD\x05\x00\0\0\
     \0\0\0\0\0\0\0\0\0\0\0\0\0\0\0\0\
     \x20\x01";
 
+/// Asks for a printer by functions 158 to 161, where there is none.
+const PRINTERS: &[u8] =
+    b"\x0E\x9E\xCD\x05\x00\x0E\x9F\xCD\x05\x00\x0E\xA0\xCD\x05\x00\x0E\xA1\xCD\x05\x00";
+
 /// Asks for processes by function 144 with a descriptor that is linked to itself, so that 32 are read.
 const CHAIN: &[u8] = b"\x0E\x90\x11\x08\x01\xCD\x05\x00\x08\x01\0\xC7\x18\x01LOOP    \0\0";
 
@@ -109,12 +113,21 @@ fn programs_write_their_text(rt: HostRuntime) -> Result<(), Fail> {
 
 #[test]
 fn completed_calls_are_traced(rt: HostRuntime) -> Result<(), Fail> {
-    let rows: [(&[u8], &str, &[u8]); 7] = [
+    let rows: [(&[u8], &str, &[u8]); 8] = [
         (HI, "9", b"c0 Hi\\r\nt 5 0 9 00 0009 010D 0000\n"),
         (HI, "4", b""),
         (LETTER, "9", b"t 5 0 2 00 0002 0041 0000\nc0 A\\\n"),
         (VERSION, "4", b"t 4 0 12 30 010C 0000 0130\n"),
         (SEGMENT, "5", b"t 5 0 129 FF 0081 0120 00FF\n"),
+        (
+            PRINTERS,
+            "16",
+            b"t 4 0 158 FF 009E 0000 00FF
+t 8 0 159 FF 009F 0000 00FF
+t 12 0 160 FF 00A0 0000 00FF
+t 16 0 161 FF 00A1 0000 00FF
+",
+        ),
         (CHAIN, "5", b"t 5 0 144 FF 0090 0108 00FF\n"),
         (
             CHILD,
@@ -161,24 +174,80 @@ fn a_failed_put_names_its_step(rt: HostRuntime) -> Result<(), Fail> {
 
 #[test]
 fn machine_files_boot_or_are_refused(rt: HostRuntime) -> Result<(), Fail> {
-    let rows: [(&[u8], Status); 8] = [
-        (b"", Status::Ran),
-        (b"printers = 4", Status::Ran),
-        (b"colour = 1", Status::MachineFault),
-        (b"tick_every = 100", Status::Ran),
-        (b"disk_turn = 1", Status::MachineFault),
-        (b"script = 'missing'", Status::ReadFault),
-        (b"version = 1", Status::MachineFault),
-        (b"version", Status::MachineFault),
+    let rows: [(&[u8], Status, &[u8]); 8] = [
+        (b"", Status::Ran, b"c0 0A>\\\n"),
+        (b"printers = 4", Status::Ran, b"c0 0A>\\\n"),
+        (b"colour = 1", Status::MachineFault, b""),
+        (b"tick_every = 100", Status::Ran, b"c0 0A>\\\n"),
+        (b"disk_turn = 1", Status::MachineFault, b""),
+        (b"script = 'missing'", Status::ReadFault, b""),
+        (b"version = 1", Status::MachineFault, b""),
+        (b"version", Status::MachineFault, b""),
     ];
-    for (line, ending) in rows {
+    for (line, ending, written) in rows {
         let mut text = Vec::new(rt.alloc());
         text.extend_from_slice(line)?;
         text.push(b'\n')?;
         text.extend_from_slice(MACHINE)?;
         let words = ["run", "file", "10"];
-        assert!(rt; ends(&rt, &words, text.as_slice(), NOTHING_FAILS, ending, b"")?);
+        assert!(rt; ends(&rt, &words, text.as_slice(), NOTHING_FAILS, ending, written)?);
     }
+    Ok(())
+}
+
+/// A machine of two consoles with a script of the name `keys`.
+const TWO_CONSOLES: &[u8] =
+    b"version = 1\nconsoles = 2\nscript = 'keys'\n[[segment]]\nbase = 0\npages = 192\n";
+
+/// Whether a run of so many steps of a machine file, whose script holds this text, writes just that.
+fn script_writes(
+    rt: &HostRuntime,
+    machine: &[u8],
+    script: &[u8],
+    steps: &str,
+    text: &[u8],
+) -> Result<bool, Fail> {
+    let strings = strings(rt, &["run", "file", steps, "--trace"])?;
+    let mut files = MemoryFiles::new(rt.alloc());
+    files.add("file", machine)?;
+    files.add("keys", script)?;
+    let mut drives = MemoryDrives::new(rt.alloc());
+    let mut sink = MemorySink::new(rt.alloc(), 1024)?;
+    let status = run_words(
+        rt.alloc(),
+        strings.as_slice(),
+        &mut files,
+        &mut drives,
+        &mut sink,
+    );
+    Ok(status == Status::Ran && sink.written() == text)
+}
+
+#[test]
+fn a_terminal_reads_lines_and_prompts_again(rt: HostRuntime) -> Result<(), Fail> {
+    let user: &[u8] = b"c0 0A>user 3\\r\nc0 3A>\\\n";
+    assert!(rt; script_writes(&rt, SCRIPTED, b"0 key 0 user 3\\r\n", "100", user)?);
+    let edited: &[u8] = b"c0 0A>us\\x08 \\x08\\x08 \\x08#\\r\nc0 user 16\\r\nc0 0A>\\\n";
+    let keys: &[u8] = b"0 key 0 us\\x08\\x7F\\x08\\x15user 16\\r\n";
+    assert!(rt; script_writes(&rt, SCRIPTED, keys, "100", edited)?);
+    Ok(())
+}
+
+#[test]
+fn each_console_has_a_terminal(rt: HostRuntime) -> Result<(), Fail> {
+    let keys: &[u8] = b"100 key 0 usr\\x08er 3\\r
+200 key 1 b:\\r
+300 key 1 not this\\x15\\r
+";
+    let text: &[u8] = b"c0 0A>usr\\x08 \\x08er 3\\r
+c1 0A>b:\\r
+c1 No drive\\r
+c1 0A>not this#\\r
+c1 \\r
+c0 3A>\\
+c1 0A>\\
+";
+    assert!(rt; script_writes(&rt, TWO_CONSOLES, keys, "100000", text)?);
     Ok(())
 }
 
@@ -189,7 +258,7 @@ fn script_ends(rt: &HostRuntime, script: &[u8], ending: Status) -> Result<bool, 
     files.add("file", SCRIPTED)?;
     files.add("keys", script)?;
     let mut drives = MemoryDrives::new(rt.alloc());
-    let mut sink = MemorySink::new(rt.alloc(), 0)?;
+    let mut sink = MemorySink::new(rt.alloc(), 64)?;
     let status = run_words(
         rt.alloc(),
         strings.as_slice(),
@@ -224,11 +293,11 @@ fn a_script_is_read_or_its_first_bad_line_is_told(rt: HostRuntime) -> Result<(),
 
 #[test]
 fn inputs_have_their_greatest_lengths(rt: HostRuntime) -> Result<(), Fail> {
-    let rows: [(&str, &[u8], usize, Input); 2] = [
-        ("program", b"", 48_512, Input::ProgramBytes),
-        ("run", MACHINE, 65_536, Input::MachineText),
+    let rows: [(&str, &[u8], usize, Input, &[u8]); 2] = [
+        ("program", b"", 48_512, Input::ProgramBytes, b""),
+        ("run", MACHINE, 65_536, Input::MachineText, b"c0 0A>\\\n"),
     ];
-    for (word, first, greatest, what) in rows {
+    for (word, first, greatest, what, text) in rows {
         let mut bytes = Vec::new(rt.alloc());
         bytes.extend_from_slice(first)?;
         bytes.resize(greatest, b' ')?;
@@ -240,7 +309,7 @@ fn inputs_have_their_greatest_lengths(rt: HostRuntime) -> Result<(), Fail> {
                 bytes.as_slice(),
                 NOTHING_FAILS,
                 Status::Ran,
-                b""
+                text
             )?
         );
         bytes.push(b' ')?;

@@ -10,7 +10,7 @@ use Rattle.mpm_xdos.specs.Aborting.{waits_to_end, with_abort_due, behind_abort}
 sound_due : (kernel : Kernel) (p : ℕ) → IsSound kernel → Lives kernel.procs p → IsSound (with_abort_due kernel p)
 sound_due kernel p s h =
     let fit = s.fit p h in
-    sound_changed kernel p (record (process_in kernel.procs p) { abort_due = true }) s h (record { console = fit.console; some = fit.some; few = fit.few })
+    sound_changed kernel p (record (process_in kernel.procs p) { abort_due = true }) s h (record { console = fit.console; printer = fit.printer; some = fit.some; few = fit.few })
 
 sound_if : (b : Bool) (one other : Kernel) → IsSound one → IsSound other → IsSound (if b then one else other)
 sound_if true one other is was = is

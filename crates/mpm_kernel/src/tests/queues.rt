@@ -93,7 +93,12 @@ fn open(kernel: &mut Kernel, name: [u8; 8]) -> Placed
 }
 
 /// The process that runs reads or writes a byte by a pointer: the outcome and the value.
-pub(crate) fn pass(kernel: &mut Kernel, function: u8, pointer: u8, byte: u8) -> Option<(Outcome, u16)>
+pub(crate) fn pass(
+    kernel: &mut Kernel,
+    function: u8,
+    pointer: u8,
+    byte: u8,
+) -> Option<(Outcome, u16)>
     requires { IsSound kernel.old }
     ensures { IsSound kernel.new }
 {

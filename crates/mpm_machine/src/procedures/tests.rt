@@ -60,8 +60,7 @@ const GIVING: &[u8] = b"\x0E\x86\x11\x23\x41\xCD\x05\x40\
 \x09\x41";
 
 /// Calls the procedure with the parameter 1234h, and comes to HALT at 4108h. At 4109h stand INC DE; EX DE,HL; RET.
-const WAITING: &[u8] =
-    b"\x0E\x97\x11\x0C\x41\xCD\x05\x40\x76\x13\xEB\xC9\x10\x41\x34\x12PROC    ";
+const WAITING: &[u8] = b"\x0E\x97\x11\x0C\x41\xCD\x05\x40\x76\x13\xEB\xC9\x10\x41\x34\x12PROC    ";
 
 /// Puts INC C at BF09h, and goes there.
 const AT_NO_GATE: &[u8] = b"\x3E\x0C\x32\x09\xBF\xC3\x09\xBF";
@@ -148,6 +147,21 @@ t 53 1 157 00 009D 413F 0000
 t 53 2 137 00 0089 414C 0000
 ";
 
+/// And once the aborting process gave up the processor.
+const BEHIND_THE_READ: &[u8] = b"t 5 0 134 00 0086 4128 0000
+t 10 0 135 00 0087 4136 0000
+t 15 0 139 00 008B 4136 0000
+t 20 0 151 00 0097 1234 0000
+t 24 0 142 00 008E 1234 0000
+t 29 1 135 00 0087 414C 0000
+t 34 1 144 00 0090 412F 0000
+t 38 1 142 00 008E 412F 0000
+t 43 0 142 00 008E 1234 0000
+t 53 1 157 00 009D 413F 0000
+t 53 2 137 00 0089 414C 0000
+t 57 1 142 00 008E 413F 0000
+";
+
 #[test]
 fn an_abort_gives_the_message_of_a_procedure_back(rt: HostRuntime) -> Result<(), Fail> {
     let scene = Scene {
@@ -160,6 +174,8 @@ fn an_abort_gives_the_message_of_a_procedure_back(rt: HostRuntime) -> Result<(),
     assert!(rt; !lives_after(&rt, &scene, 53, 0, BEHIND_THE_ABORT)?);
     let regs = regs_after(&rt, &scene, 54, 2, BEHIND_THE_ABORT)?;
     assert_eq!(rt; (regs.pc, regs.h, regs.l), (0x412B, 0, 0));
+    let regs = regs_after(&rt, &scene, 58, 2, BEHIND_THE_READ)?;
+    assert_eq!(rt; (regs.pc, regs.h, regs.l), (0x412E, 0x41, 0x21));
     Ok(())
 }
 

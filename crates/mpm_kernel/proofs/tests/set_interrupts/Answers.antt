@@ -10,4 +10,4 @@ returns-in-Some c =
     let runs = sym c.running.ensures ∙ c.in-Some.is in
     let lives = runner_lives c.args.kernel.now _ c.requires runs in
     let fit = c.requires.fit _ lives in
-    sound_changed c.args.kernel.now _ _ c.requires lives (record { console = fit.console; some = fit.some; few = fit.few })
+    sound_changed c.args.kernel.now _ _ c.requires lives (record { console = fit.console; printer = fit.printer; some = fit.some; few = fit.few })

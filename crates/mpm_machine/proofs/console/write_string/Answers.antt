@@ -1,4 +1,4 @@
-use Rattle.std.proofs.Common.{◌≡◌, ◌∙◌, ℕ, ◌+◌, ◌-◌, true, false, List, [], ◌∷◌, ◌++◌, get_or, ap, sym, refl, subst, arith, rules}
+use Rattle.std.proofs.Common.{◌≡◌, ◌∙◌, ℕ, ◌+◌, ◌-◌, true, false, List, [], ◌∷◌, ◌++◌, ap, sym, refl, subst, arith, rules}
 use Rattle.std.proofs.lemmas.Bool.Decides.{nat_tests}
 use Rattle.z80_regs.specs.Words.{onward}
 use Rattle.mpm_banks.specs.Memory.{byte_at}
@@ -7,7 +7,9 @@ use Rattle.mpm_gate.specs.Texts.{text_from, ends}
 use Rattle.mpm_gate.specs.declared.take.TextEnd.TheVariants.{Dollar}
 use Rattle.mpm_gate.proofs.BytesLaws.{bytes_none, bytes_more}
 use Rattle.mpm_gate.proofs.TextLaws.{text_none, text_more, text_stops}
-use Rattle.mpm_kernel.specs.Columns.{spoke, expanded}
+use Rattle.mpm_kernel.specs.Kernel.{Kernel, HasConsole}
+use Rattle.mpm_kernel.proofs.SpokeLaws.{has_spoke}
+use Rattle.mpm_kernel.specs.Columns.{spoke, expanded, column_of}
 use Rattle.mpm_machine.specs.Writing.{spoken, Showed}
 use Rattle.mpm_machine.proofs.StringLaws.{WrittenTo, written_nothing, written_more, stopped_string, string_goes_on}
 use Rattle.mpm_machine.proofs.console.write_string.Goals as goal
@@ -21,6 +23,11 @@ loop-offset-init g c =
       written = subst W (sym (bytes_none memory c.args.address)) (written_nothing c.args.console _ _ _);
       faults = refl;
     }
+
+pub write_tabbed-requires-clause-exists : goal.write_tabbed-requires-clause-exists
+write_tabbed-requires-clause-exists g c =
+    let P : Kernel → Type 0 = λ kernel. HasConsole kernel c.args.console in
+    subst P (sym c.loop-offset.invariant.written.kernel_is) (has_spoke c.args.kernel.now c.args.console _ c.requires.exists)
 
 pub loop-offset-preserved : goal.loop-offset-preserved
 loop-offset-preserved g c =
@@ -36,7 +43,7 @@ loop-offset-preserved g c =
     record {
       goes_on = text_more Dollar memory c.args.address k byte c.loop-offset.invariant.goes_on here goes;
       written = subst W (sym more)
-          (written_more c.args.console byte _ _ c.args.kernel.now _ _ c.loop-offset.kernel _ _ _ part c.requires.columns c.requires.console
+          (written_more c.args.console byte _ _ c.args.kernel.now _ _ c.loop-offset.kernel _ _ _ part c.requires.exists
           c.loop-offset.invariant.written c.in_ok-write_tabbed.ensures.kernel c.in_ok-write_tabbed.ensures.ok c.in_ok-write_tabbed.ensures.trace);
       faults = c.in_ok-write_tabbed.ensures.cause.stays ∙ c.loop-offset.invariant.faults;
     }
@@ -53,7 +60,7 @@ returns-in_err-write_tabbed-clause-err g c =
     c.loop-offset.render (g.S.Sink.written c.loop-offset.sink) (g.S.Sink.written c.write_tabbed.new.sink) c.loop-offset.kernel
     part (text_from Dollar memory (onward c.args.address (k + 1)) (65535 - k)) (text_from Dollar memory c.args.address 65536)
     (string_goes_on memory c.args.address k byte c.loop-offset.invariant.goes_on here goes (omega arith))
-    c.requires.columns c.requires.console c.loop-offset.invariant.written c.in_err-write_tabbed.ensures.err in
+    c.requires.exists c.loop-offset.invariant.written c.in_err-write_tabbed.ensures.err in
     search rules
 
 pub returns-then-byte-eq36-clause-kernel : goal.returns-then-byte-eq36-clause-kernel
@@ -65,7 +72,7 @@ returns-then-byte-eq36-clause-kernel g c =
     let stops : ends Dollar byte ≡ true = grind (arith, nat_tests, c.if-byte-eq36.true) in
     let whole = text_stops Dollar memory c.args.address k 65536 byte c.loop-offset.invariant.goes_on (omega arith) here stops in
     c.loop-offset.invariant.written.kernel_is
-    ∙ ap (λ text. spoke c.args.kernel.now c.args.console (expanded (get_or c.args.kernel.now.columns c.args.console 0) text)) (sym whole)
+    ∙ ap (λ text. spoke c.args.kernel.now c.args.console (expanded (column_of c.args.kernel.now c.args.console) text)) (sym whole)
 
 pub returns-then-byte-eq36-clause-ok : goal.returns-then-byte-eq36-clause-ok
 returns-then-byte-eq36-clause-ok g c =
@@ -76,5 +83,5 @@ returns-then-byte-eq36-clause-ok g c =
     let stops : ends Dollar byte ≡ true = grind (arith, nat_tests, c.if-byte-eq36.true) in
     let whole = text_stops Dollar memory c.args.address k 65536 byte c.loop-offset.invariant.goes_on (omega arith) here stops in
     let P : List ℕ → Type 0 = λ text. Showed c.args.render.now (g.S.Sink.written c.args.sink.now) c.loop-offset.render (g.S.Sink.written c.loop-offset.sink)
-    (spoken c.args.console (expanded (get_or c.args.kernel.now.columns c.args.console 0) text)) in
+    (spoken c.args.console (expanded (column_of c.args.kernel.now c.args.console) text)) in
     subst P (sym whole) c.loop-offset.invariant.written.shown

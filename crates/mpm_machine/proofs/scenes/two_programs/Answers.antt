@@ -18,7 +18,7 @@ in_each file events seg size limits consoles segments bare below small =
     let spec : SegmentSpec = record { base = 64; pages = 16 } in
     let count : length file.segments ≡ 2 = ap (λ (specs : List SegmentSpec). length specs) segments ∙ length-replicate 2 spec in
     let at : get_or file.segments seg none ≡ spec = ap (λ (specs : List SegmentSpec). get_or specs seg none) segments ∙ get_or-replicate 2 seg spec none below in
-    may_place_booted file events seg 0 size limits.some_console limits.consoles (omega (arith, count)) bare.whole.script limits.each_segment
+    may_place_booted file events seg 0 size limits.some_console limits.consoles limits.printers (omega (arith, count)) bare.whole.script limits.each_segment
     (omega (arith, count, below)) (omega (arith, consoles)) (omega (arith, ap (λ (s : SegmentSpec). s.pages) at, small))
 
 greater_apart : (a b : ℕ) → b < a → a ≢ b

@@ -19,7 +19,7 @@ returns-in-Err-clause-missing g c script named missing =
 pub returns-in-Ok-boot-clause-begins : goal.returns-in-Ok-boot-clause-begins
 returns-in-Ok-boot-clause-begins g c =
     begins_of_file _ c.args.bytes.now c.in-Ok.file c.in-Ok-read_script_of.script c.in-Ok-boot.machine c.in-Ok.ensures.ok
-    c.in-Ok-read_script_of.ensures.scripted c.in-Ok-boot.ensures.booted
+    c.in-Ok-read_script_of.ensures.scripted c.in-Ok-boot.ensures.opening
 
 pub returns-in-Ok-boot-clause-missing : goal.returns-in-Ok-boot-clause-missing
 returns-in-Ok-boot-clause-missing g c script named missing =

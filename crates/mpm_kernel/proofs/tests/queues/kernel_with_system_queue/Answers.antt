@@ -20,5 +20,5 @@ begin-requires c =
     let R : Kernel → Type 0 = λ kernel. make_refusal kernel.queues (record { 0 = _ }) 130 15 ≡ None in
     let is = sym c.in_ok-kernel.ensures in
     subst P (sym c.system_queue.ensures)
-    (sound_system_queue c.in_ok-kernel.kernel _ 130 15 (subst P is (sound_new 1 0 _ (omega arith) (omega arith))) (subst OnlySystems is (only_systems_new _ _ _))
+    (sound_system_queue c.in_ok-kernel.kernel _ 130 15 (subst P is (sound_new 1 0 _ (omega arith) (omega arith) (omega arith))) (subst OnlySystems is (only_systems_new _ _ _))
     (subst R is (may_make_new 1 0 _ (record { 0 = _ }) 130 15 (omega arith) (omega arith))))

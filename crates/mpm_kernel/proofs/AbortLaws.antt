@@ -1,0 +1,94 @@
+-- Whom an event aborts: a process that lives.
+use Rattle.std.proofs.Common.{◌≡◌, ◌∙◌, ℕ, Bool, true, false, List, [], ◌∷◌, Option, Some, None, if◌then◌else◌, refl, sym, subst, arith}
+use Rattle.std.proofs.lemmas.Bool.Decides.{nat_tests}
+use Rattle.std.specs.Prelude.{nat_lt}
+use Rattle.mpm_ready.specs.Tables.{list_of}
+use Rattle.mpm_clock.specs.Delays.{woken_by_tick}
+use Rattle.mpm_flags.specs.States.{flag_at, set_answer}
+use Rattle.mpm_flags.specs.declared.flags.FlagSet.{FlagSet}
+use Rattle.mpm_flags.specs.declared.flags.FlagSet.TheVariants.{Set, Woke, Overrun}
+use Rattle.mpm_consoles.specs.Consoles.{owner_of}
+use Rattle.mpm_consoles.specs.Handling.{key_answer}
+use Rattle.mpm_consoles.specs.declared.unit.Unit.TheVariants.{Console as ConsoleUnit}
+use Rattle.mpm_consoles.specs.declared.keys.KeyDone.{KeyDone}
+use Rattle.mpm_consoles.specs.declared.keys.KeyDone.TheVariants.{Stored, Dropped, Wakes, Aborts, Passes, Nothing}
+use Rattle.mpm_script.specs.declared.event.Event.{Event}
+use Rattle.mpm_script.specs.declared.event.Event.TheVariants.{Tick, Key, Ready, Int}
+use Rattle.mpm_kernel.specs.Kernel.{Kernel, IsSound, afresh}
+use Rattle.mpm_kernel.specs.Columns.{spoke}
+use Rattle.mpm_kernel.specs.Dispatch.{is_ready, behind_equals, moved, all_ready, all_woken, runner_behind}
+use Rattle.mpm_kernel.specs.Waiting.{with_woken, signalled}
+use Rattle.mpm_kernel.specs.Consoling.{KeyNames, AbortLives, echoed, key_done, is_resident, key_came, abort_taken}
+use Rattle.mpm_kernel.specs.Events.{with_tick, clock_ticked, pollers, with_ready, device_ready, happens, happened}
+use Rattle.mpm_kernel.proofs.Soundness.{sound_afresh, sound_told}
+use Rattle.mpm_kernel.proofs.UnitLaws.{has_console, key_names}
+
+-- where nobody is aborted
+lives_if_none : (kernel : Kernel) → kernel.aborted ≡ None → AbortLives kernel
+lives_if_none kernel none =
+    let P : Option ℕ → Type 0 = λ o. AbortLives (record kernel { aborted = o }) in subst P (sym none) tt
+
+aborted_if : (b : Bool) (x y : Kernel) → x.aborted ≡ y.aborted → (if b then x else y).aborted ≡ y.aborted
+aborted_if true x y e = e
+aborted_if false x y e = refl
+
+aborted_all_ready : (ps : List ℕ) (kernel : Kernel) → (all_ready ps kernel).aborted ≡ kernel.aborted
+unfolding all_ready moved
+aborted_all_ready [] kernel = refl
+aborted_all_ready (p ∷ ps) kernel = aborted_all_ready ps (moved kernel 0 p)
+
+aborted_behind : (running : Option ℕ) (kernel : Kernel) → (runner_behind running kernel).aborted ≡ kernel.aborted
+unfolding runner_behind behind_equals
+aborted_behind None kernel = refl
+aborted_behind (Some p) kernel = aborted_if (is_ready (list_of kernel.lists p)) (behind_equals kernel p) kernel refl
+
+aborted_woken : (answer : FlagSet) (kernel : Kernel) → (with_woken answer kernel).aborted ≡ kernel.aborted
+unfolding with_woken
+aborted_woken Set kernel = refl
+aborted_woken Overrun kernel = refl
+aborted_woken (Woke p) kernel = aborted_all_ready (p ∷ []) kernel
+
+aborted_signalled : (flag : ℕ) (kernel : Kernel) → (signalled flag kernel).aborted ≡ kernel.aborted
+unfolding signalled
+aborted_signalled flag kernel = aborted_woken (set_answer (flag_at kernel.flags flag)) _
+
+-- a key aborts the owner of its console
+aborts_named : (key : KeyDone) (console : ℕ) (kernel : Kernel) → KeyNames kernel.procs key → AbortLives kernel → AbortLives (key_done key console kernel)
+unfolding key_done echoed spoke
+aborts_named Stored console kernel names lives = lives
+aborts_named Dropped console kernel names lives = lives
+aborts_named Nothing console kernel names lives = lives
+aborts_named (Wakes p) console kernel names lives = lives
+aborts_named (Aborts p) console kernel names lives = names
+aborts_named (Passes from to waited) console kernel names lives = lives
+
+aborts_if : (b : Bool) (x y : Kernel) → (b ≡ true → AbortLives x) → AbortLives y → AbortLives (if b then x else y)
+aborts_if true x y is else_is = is refl
+aborts_if false x y is else_is = else_is
+
+aborts_by_key : (console byte : ℕ) (kernel : Kernel) → IsSound kernel → AbortLives kernel → AbortLives (key_came console byte kernel)
+unfolding key_came
+aborts_by_key console byte kernel s lives =
+    let resident = is_resident kernel.procs (owner_of kernel.units (ConsoleUnit console)) in
+    let key = key_answer kernel.units console byte resident in
+    aborts_if (nat_lt console kernel.consoles) _ kernel
+    (λ fits. aborts_named key console _ (key_names kernel console byte resident key s (has_console kernel console s (grind (arith, nat_tests, fits))) refl) lives)
+    lives
+
+aborts_by : (event : Event) (kernel : Kernel) → IsSound kernel → kernel.aborted ≡ None → AbortLives (happens event kernel)
+unfolding happens clock_ticked device_ready
+aborts_by Tick kernel s none =
+    let woken = woken_by_tick kernel.clock.delays in
+    let behind = all_woken woken (with_tick kernel) in
+    lives_if_none (runner_behind kernel.running behind) (aborted_behind kernel.running behind ∙ aborted_all_ready woken (with_tick kernel) ∙ none)
+aborts_by (Key console byte) kernel s none = aborts_by_key console byte kernel s (lives_if_none kernel none)
+aborts_by (Ready device byte) kernel s none =
+    lives_if_none (all_woken (pollers kernel device) (with_ready kernel device byte)) (aborted_all_ready (pollers kernel device) (with_ready kernel device byte) ∙ none)
+aborts_by (Int flag) kernel s none = lives_if_none (signalled flag kernel) (aborted_signalled flag kernel ∙ none)
+
+pub abort_lives : (event : Event) (kernel : Kernel) → IsSound kernel → AbortLives (happened event kernel)
+abort_lives event kernel s = aborts_by event (afresh kernel) (sound_afresh kernel s) refl
+
+-- it is handed out
+pub sound_abort_taken : (kernel : Kernel) → IsSound kernel → IsSound (abort_taken kernel)
+sound_abort_taken kernel s = sound_told kernel kernel.echo None s

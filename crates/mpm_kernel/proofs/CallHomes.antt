@@ -1,0 +1,229 @@
+-- Where processes live, and which calls they keep, behind the calls that wait, those on queues and the others but those on units.
+use Rattle.std.proofs.Common.{◌≡◌, ◌≢◌, ◌∙◌, ℕ, Bool, true, false, ◌==◌, List, Option, Some, None, if◌then◌else◌, refl, sym, ap, subst, arith, get_or-set_other}
+use Rattle.mpm_base.specs.Calls.{Taken, no_call}
+use Rattle.mpm_procs.specs.Table.{Table, HasSlots, lives, Lives, process_in, call_of, with_call}
+use Rattle.mpm_procs.specs.declared.process.Process.{Process}
+use Rattle.mpm_procs.proofs.MapLaws.{call_behind}
+use Rattle.mpm_kernel.specs.Kernel.{Kernel, IsSound, with_changed}
+use Rattle.mpm_kernel.specs.Called.{Called, valued, low_parameter, name_at, word_at}
+use Rattle.mpm_kernel.specs.Waiting.{polled, is_flag, behind_flag_wait, waited, flag_waited, flag_set, slept}
+use Rattle.mpm_kernel.specs.Dates.{names_time, date_set, date_told, time_told}
+use Rattle.mpm_kernel.specs.Calls.{is_count, with_user, with_multi, called}
+use Rattle.mpm_kernel.specs.Procedures.{procedure_queue, inside, procedure_read, procedure_at, procedure_called}
+use Rattle.mpm_flags.specs.States.{flag_at, wait_answer}
+use Rattle.mpm_flags.specs.declared.flags.FlagWait.{FlagWait}
+use Rattle.mpm_flags.specs.declared.flags.FlagWait.TheVariants.{Passed, Waits, Underrun}
+use Rattle.std.specs.Prelude.{nat_lt, is_some, is_none, slice_index_or}
+use Rattle.mpm_kernel.proofs.SoundLaws.{procs_signalled}
+use Rattle.mpm_queues.specs.Queue.{with_given, is_full as is_full_queue}
+use Rattle.mpm_queues.specs.Queues.{waits, queue_in, refusal as make_refusal}
+use Rattle.mpm_queues.specs.Handling.{first_reader, written_by, told, read_outcome, write_outcome, procs_behind_write}
+use Rattle.mpm_queues.specs.declared.queues.QueueOutcome.{QueueOutcome}
+use Rattle.mpm_queues.specs.declared.queues.QueueOutcome.TheVariants.{Done as Handled, NotNow}
+use Rattle.mpm_queues.proofs.SoundLaws.{reader_waits}
+use Rattle.mpm_queues.proofs.WaitLaws.{waits_one}
+use Rattle.mpm_kernel.specs.Queueing.{with_queue, queue_made, opened, may_delete, deleted, queued, put_off, with_other, taken_from, was_read, read_at, given_to, was_written, write_at}
+use Rattle.mpm_kernel.specs.Dispatch.{unlisted, moved, behind_equals, with_priority}
+use Rattle.mpm_kernel.proofs.Homes.{SameHomes, homes_stay, homes_both, homes_changed, homes_call}
+
+-- the calls of the kernel: who lives, lives where somebody lived, and each process that waits at no queue keeps its call
+
+pub record KeepsHome (old : Kernel) (called : Called) : Type 0 where
+  pub homes : SameHomes old called.kernel
+  pub call : (q : ℕ) → waits old.queues q ≡ 0 → call_of called.kernel.procs q ≡ call_of old.procs q
+
+pub kept_if : (old : Kernel) (b : Bool) (x y : Called) → KeepsHome old x → KeepsHome old y → KeepsHome old (if b then x else y)
+kept_if old true x y s t = s
+kept_if old false x y s t = t
+
+pub kept_kernel_if : (old : Kernel) (b : Bool) (x y : Kernel) (value : ℕ) → KeepsHome old (valued value x) → KeepsHome old (valued value y)
+    → KeepsHome old (valued value (if b then x else y))
+kept_kernel_if old true x y value s t = s
+kept_kernel_if old false x y value s t = t
+
+pub kept_same : (kernel : Kernel) (called : Called) → called.kernel.procs ≡ kernel.procs → KeepsHome kernel called
+kept_same kernel called e = record { homes = homes_stay kernel called.kernel e; call = λ q _. ap (λ procs. call_of procs q) e }
+
+pub kept_changed : (p value : ℕ) (kernel : Kernel) (process : Process) → IsSound kernel → Lives kernel.procs p
+    → process.seg ≡ (process_in kernel.procs p).seg → process.abort_due ≡ (process_in kernel.procs p).abort_due
+    → KeepsHome kernel (valued value (with_changed kernel p process))
+kept_changed p value kernel process s h same due = record {
+  homes = homes_changed kernel p process s.slots h same due;
+  call = λ q _. call_behind kernel.procs p q process;
+}
+
+-- a part of a call behind another one
+pub kept_then : (old middle : Kernel) (called : Called) → KeepsHome old (valued 0 middle) → middle.queues ≡ old.queues → KeepsHome middle called → KeepsHome old called
+kept_then old middle called first e second = record {
+  homes = homes_both old middle called.kernel first.homes second.homes;
+  call = λ q none. second.call q (ap (λ t. waits t q) e ∙ none) ∙ first.call q none;
+}
+
+pub kept_procs : (old middle : Kernel) (called : Called) → KeepsHome old (valued 0 middle) → called.kernel.procs ≡ middle.procs → KeepsHome old called
+kept_procs old middle called first e = record {
+  homes = homes_both old middle called.kernel first.homes (homes_stay middle called.kernel e);
+  call = λ q none. ap (λ procs. call_of procs q) e ∙ first.call q none;
+}
+
+pub kept_user : (call : Taken) (p value : ℕ) (kernel : Kernel) → IsSound kernel → Lives kernel.procs p
+    → KeepsHome kernel (valued value (with_user call p (process_in kernel.procs p) kernel))
+unfolding with_user
+kept_user call p value kernel s h =
+    kept_kernel_if kernel (low_parameter call == 255) _ _ value (kept_same kernel _ refl) (kept_changed p value kernel _ s h refl refl)
+
+pub kept_multi : (call : Taken) (p value : ℕ) (kernel : Kernel) → IsSound kernel → Lives kernel.procs p
+    → KeepsHome kernel (valued value (with_multi call p (process_in kernel.procs p) kernel))
+unfolding with_multi
+kept_multi call p value kernel s h =
+    kept_kernel_if kernel (is_count (low_parameter call)) _ _ value (kept_changed p value kernel _ s h refl refl) (kept_same kernel _ refl)
+
+pub kept_behind : (p value : ℕ) (kernel : Kernel) → KeepsHome kernel (valued value (behind_equals kernel p))
+unfolding behind_equals
+kept_behind p value kernel = kept_same kernel _ refl
+
+pub kept_priority : (p value priority : ℕ) (kernel : Kernel) → IsSound kernel → Lives kernel.procs p
+    → KeepsHome kernel (valued value (with_priority kernel p priority))
+unfolding with_priority behind_equals
+kept_priority p value priority kernel s h =
+    let process = record (process_in kernel.procs p) { priority = priority } in
+    record {
+      homes = homes_both kernel (with_changed kernel p process) _ (homes_changed kernel p process s.slots h refl refl) (homes_stay _ _ refl);
+      call = λ q _. call_behind kernel.procs p q process;
+    }
+
+pub kept_polled : (call : Taken) (p : ℕ) (kernel : Kernel) → KeepsHome kernel (polled call p kernel)
+unfolding polled moved
+kept_polled call p kernel =
+    kept_if kernel (nat_lt 15 (low_parameter call)) _ _ (kept_same kernel _ refl)
+    (kept_if kernel (slice_index_or kernel.devices.ready (low_parameter call) false) _ _ (kept_same kernel _ refl) (kept_same kernel _ refl))
+
+kept_waited : (answer : FlagWait) (p : ℕ) (kernel : Kernel) → (waited answer p kernel).kernel.procs ≡ kernel.procs
+unfolding waited unlisted
+kept_waited Passed p kernel = refl
+kept_waited Waits p kernel = refl
+kept_waited Underrun p kernel = refl
+
+pub kept_flag_waited : (call : Taken) (p : ℕ) (kernel : Kernel) → KeepsHome kernel (flag_waited call p kernel)
+unfolding flag_waited
+kept_flag_waited call p kernel =
+    let flag = low_parameter call in
+    kept_if kernel (is_flag flag) _ _
+    (kept_same kernel _ (kept_waited (wait_answer p (flag_at kernel.flags flag)) p (behind_flag_wait kernel p flag))) (kept_same kernel _ refl)
+
+pub kept_flag_set : (call : Taken) (kernel : Kernel) → KeepsHome kernel (flag_set call kernel)
+unfolding flag_set
+kept_flag_set call kernel =
+    kept_if kernel (is_flag (low_parameter call)) _ _ (kept_same kernel _ (procs_signalled (low_parameter call) kernel)) (kept_same kernel _ refl)
+
+pub kept_slept : (call : Taken) (p : ℕ) (kernel : Kernel) → KeepsHome kernel (slept call p kernel)
+unfolding slept unlisted
+kept_slept call p kernel = kept_if kernel (call.word == 0) _ _ (kept_behind p 0 kernel) (kept_same kernel _ refl)
+
+-- queues
+pub kept_queue_made : (call : Taken) (kernel : Kernel) → KeepsHome kernel (queue_made call kernel)
+unfolding queue_made with_queue
+kept_queue_made call kernel =
+    kept_if kernel (is_none (make_refusal kernel.queues (name_at call 2) (word_at call 10) (word_at call 12))) _ _ (kept_same kernel _ refl) (kept_same kernel _ refl)
+
+pub kept_opened : (slot : Option ℕ) (call : Taken) (kernel : Kernel) → KeepsHome kernel (opened slot call kernel)
+unfolding opened
+kept_opened None call kernel = kept_same kernel _ refl
+kept_opened (Some q) call kernel = kept_same kernel _ refl
+
+pub kept_deleted : (slot : Option ℕ) (kernel : Kernel) → KeepsHome kernel (deleted slot kernel)
+unfolding deleted
+kept_deleted None kernel = kept_same kernel _ refl
+kept_deleted (Some q) kernel = kept_if kernel (may_delete kernel q) _ _ (kept_same kernel _ refl) (kept_same kernel _ refl)
+
+kept_put_off : (may_wait : Bool) (p q : ℕ) (reader : Bool) (kernel : Kernel) → KeepsHome kernel (put_off may_wait p q reader kernel)
+unfolding put_off queued unlisted
+kept_put_off may_wait p q reader kernel = kept_if kernel may_wait _ _ (kept_same kernel _ refl) (kept_same kernel _ refl)
+
+pub procs_with_other : (other : Option ℕ) (kernel : Kernel) → (with_other other kernel).procs ≡ kernel.procs
+unfolding with_other moved
+procs_with_other None kernel = refl
+procs_with_other (Some p) kernel = refl
+
+kept_was_read : (outcome : QueueOutcome) (may_wait : Bool) (call : Taken) (p q : ℕ) (kernel : Kernel) → KeepsHome kernel (was_read outcome may_wait call p q kernel)
+unfolding was_read
+kept_was_read (Handled other) may_wait call p q kernel = kept_same kernel _ (procs_with_other other (taken_from kernel p q))
+kept_was_read NotNow may_wait call p q kernel = kept_put_off may_wait p q true kernel
+
+pub kept_read_at : (slot : Option ℕ) (may_wait : Bool) (call : Taken) (p : ℕ) (kernel : Kernel) → KeepsHome kernel (read_at slot may_wait call p kernel)
+unfolding read_at
+kept_read_at None may_wait call p kernel = kept_same kernel _ refl
+kept_read_at (Some q) may_wait call p kernel = kept_was_read (read_outcome kernel.queues q) may_wait call p q kernel
+
+-- a message may come into the call of a process that waits for it
+call_else : (procs : Table) (r q : ℕ) (call : Taken) → q ≢ r → call_of (with_call procs r call) q ≡ call_of procs q
+unfolding with_call
+call_else procs r q call other = get_or-set_other procs.calls r q call no_call other
+
+pub kept_told : (b : Bool) (o : Option ℕ) (message : List ℕ) (kernel : Kernel) (called : Called)
+    → called.kernel.procs ≡ (if b then kernel.procs else (told o message kernel.procs)) → ((r : ℕ) → o ≡ Some r → waits kernel.queues r ≡ 1)
+    → KeepsHome kernel called
+kept_told true o message kernel called e one = kept_same kernel called e
+kept_told false None message kernel called e one = kept_same kernel called e
+kept_told false (Some r) message kernel called e one =
+    let call = with_given message (call_of kernel.procs r) in
+    let behind = record kernel { procs = with_call kernel.procs r call } in
+    record {
+      homes = homes_both kernel behind called.kernel (homes_call kernel r call) (homes_stay behind called.kernel e);
+      call = λ q none. ap (λ procs. call_of procs q) e ∙ call_else kernel.procs r q call (λ same. omega (arith, one r refl, none, ap (waits kernel.queues) same));
+    }
+
+kept_was_written : (outcome : QueueOutcome) (may_wait : Bool) (p q : ℕ) (kernel : Kernel) → IsSound kernel → KeepsHome kernel (was_written outcome may_wait p q kernel)
+unfolding was_written procs_behind_write
+kept_was_written (Handled other) may_wait p q kernel s =
+    let t = kernel.queues in
+    kept_told (is_full_queue (queue_in t q)) (first_reader t q) (written_by t q kernel.procs p) kernel _ (procs_with_other other (given_to kernel p q))
+    (λ r first. waits_one t q r s.queues (reader_waits t q r first))
+kept_was_written NotNow may_wait p q kernel s = kept_put_off may_wait p q false kernel
+
+pub kept_write_at : (slot : Option ℕ) (may_wait : Bool) (p : ℕ) (kernel : Kernel) → IsSound kernel → KeepsHome kernel (write_at slot may_wait p kernel)
+unfolding write_at
+kept_write_at None may_wait p kernel s = kept_same kernel _ refl
+kept_write_at (Some q) may_wait p kernel s = kept_was_written (write_outcome kernel.queues q) may_wait p q kernel s
+
+-- a process is in a resident procedure from now on
+kept_inside : (p q message value : ℕ) (old kernel : Kernel) → IsSound old → Lives old.procs p → kernel.procs ≡ old.procs
+    → KeepsHome old (valued value (inside p q message kernel))
+unfolding inside
+kept_inside p q message value old kernel s h same =
+    let process = record (process_in kernel.procs p) { procedure = Some q; kept = message } in
+    record {
+      homes = homes_both old kernel (with_changed kernel p process) (homes_stay old kernel same)
+          (homes_changed kernel p process (subst HasSlots (sym same) s.slots) (ap (λ procs. lives procs p) same ∙ h) refl refl);
+      call = λ k _. call_behind kernel.procs p k process ∙ ap (λ procs. call_of procs k) same;
+    }
+
+kept_procedure_read : (outcome : QueueOutcome) (p q : ℕ) (kernel : Kernel) → IsSound kernel → Lives kernel.procs p
+    → KeepsHome kernel (procedure_read outcome p q kernel)
+unfolding procedure_read
+kept_procedure_read (Handled other) p q kernel s h =
+    kept_inside p q _ 0 kernel (with_other other (taken_from kernel p q)) s h (procs_with_other other (taken_from kernel p q))
+kept_procedure_read NotNow p q kernel s h = kept_put_off true p q true kernel
+
+kept_procedure_at : (slot : Option ℕ) (p : ℕ) (kernel : Kernel) → IsSound kernel → Lives kernel.procs p → KeepsHome kernel (procedure_at slot p kernel)
+unfolding procedure_at
+kept_procedure_at None p kernel s h = kept_same kernel _ refl
+kept_procedure_at (Some q) p kernel s h = kept_procedure_read (read_outcome kernel.queues q) p q kernel s h
+
+pub kept_procedure_called : (call : Taken) (p : ℕ) (kernel : Kernel) → IsSound kernel → Lives kernel.procs p
+    → KeepsHome kernel (procedure_called call p kernel)
+unfolding procedure_called
+kept_procedure_called call p kernel s h =
+    kept_if kernel (is_some (process_in kernel.procs p).procedure) _ _ (kept_same kernel _ refl)
+    (kept_procedure_at (procedure_queue kernel.queues call) p kernel s h)
+
+pub kept_date_set : (call : Taken) (kernel : Kernel) → KeepsHome kernel (date_set call kernel)
+unfolding date_set
+kept_date_set call kernel = kept_if kernel (names_time call) _ _ (kept_same kernel _ refl) (kept_same kernel _ refl)
+
+pub procs_date_told : (call : Taken) (kernel : Kernel) → (date_told call kernel).kernel.procs ≡ kernel.procs
+unfolding date_told
+procs_date_told call kernel = refl
+
+pub procs_time_told : (call : Taken) (kernel : Kernel) → (time_told call kernel).kernel.procs ≡ kernel.procs
+unfolding time_told
+procs_time_told call kernel = refl

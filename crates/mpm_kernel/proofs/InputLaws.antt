@@ -1,0 +1,175 @@
+-- What the calls that read from a console and write to it need.
+use Rattle.std.proofs.Common.{◌≡◌, ◌∙◌, ℕ, ◌-◌, ◌%◌, ◌<◌, ◌≤◌, Bool, true, false, not, ◌||◌, ◌==◌, if◌then◌else◌, List, [], ◌∷◌, length, replicate, Option, Some, None, refl, sym, ap, arith}
+use Rattle.std.specs.Bool.{OnTrue}
+use Rattle.std.specs.Prelude.{nat_lt}
+use Rattle.std.proofs.lemmas.Bool.{false≢true}
+use Rattle.std.proofs.lemmas.Bool.Decides.{nat_tests}
+use Rattle.std.proofs.lemmas.List.{length-set}
+use Rattle.mpm_base.specs.Calls.{Taken}
+use Rattle.mpm_procs.specs.Table.{lives, Lives, process_in, call_of}
+use Rattle.mpm_procs.proofs.MapLaws.{lives_changed, call_behind}
+use Rattle.mpm_consoles.specs.Console.{is_owner, with_raw, without_first}
+use Rattle.mpm_consoles.specs.Consoles.{Consoles, console_at, HasUnit, owner_of, owns}
+use Rattle.mpm_consoles.specs.Handling.{listed, attaches, may_attach, attach_from, behind_attach, behind_raw, behind_take}
+use Rattle.mpm_consoles.specs.declared.unit.Unit.{Unit}
+use Rattle.mpm_consoles.specs.declared.unit.Unit.TheVariants.{Console as ConsoleUnit}
+use Rattle.mpm_kernel.specs.Kernel.{Kernel}
+use Rattle.mpm_kernel.specs.Columns.{column_of, tab_text, spoke, wrote, spaces_for}
+use Rattle.mpm_line_input.specs.Echoes.{is_echoed, key_echo}
+use Rattle.mpm_kernel.proofs.ColumnLaws.{first_spaces}
+use Rattle.mpm_kernel.proofs.SpokeLaws.{wrote_tabbed, spaces_most, tab_is_spaces, tab_is_itself}
+use Rattle.mpm_kernel.specs.Consoling.{attaching, echoed}
+use Rattle.mpm_kernel.specs.ConsoleInput.{raw_if, key_taken, key_joined}
+use Rattle.mpm_kernel.proofs.UnitWaits.{is_own, owner_given, owner_kept, consoles_given}
+
+-- there are as many consoles as before, and who attached one owns it
+consoles_listed : (t : Consoles) (p priority : ℕ) (unit : Unit) → length (listed t p priority unit).consoles ≡ length t.consoles
+unfolding listed
+consoles_listed t p priority unit = refl
+
+either_length : (b : Bool) (t x y : Consoles) → length x.consoles ≡ length t.consoles → length y.consoles ≡ length t.consoles
+    → length (if b then x else y).consoles ≡ length t.consoles
+either_length true t x y e f = e
+either_length false t x y e f = f
+
+consoles_from : (o : Option ℕ) (t : Consoles) (p priority : ℕ) (unit : Unit) (wait : Bool) → length (attach_from o t p priority unit wait).consoles ≡ length t.consoles
+consoles_from None t p priority unit wait = consoles_given t unit (Some p)
+consoles_from (Some owner) t p priority unit wait = either_length (owner == p || not wait) t t (listed t p priority unit) refl (consoles_listed t p priority unit)
+
+pub consoles_attached : (t : Consoles) (p priority : ℕ) (unit : Unit) (wait : Bool) → length (behind_attach t p priority unit wait).consoles ≡ length t.consoles
+unfolding behind_attach
+consoles_attached t p priority unit wait = consoles_from (owner_of t unit) t p priority unit wait
+
+pub has_attached : (kernel : Kernel) (p n : ℕ) (unit : Unit) (wait : Bool) → n < length kernel.units.consoles
+    → n < length (attaching p unit wait kernel).units.consoles
+has_attached kernel p n unit wait has = omega (arith, consoles_attached kernel.units p (process_in kernel.procs p).priority unit wait, has)
+
+owned_if : (b c : Bool) (t x : Consoles) (p : ℕ) (unit : Unit) → b ≡ true → owns t p unit ≡ true → owns (if b || c then t else x) p unit ≡ true
+owned_if true c t x p unit is own = own
+owned_if false c t x p unit is own = absurd (false≢true is)
+
+owns_from : (o : Option ℕ) (t : Consoles) (p priority : ℕ) (unit : Unit) (wait : Bool) → HasUnit t unit → owner_of t unit ≡ o → attaches o p ≡ true
+    → owns (attach_from o t p priority unit wait) p unit ≡ true
+owns_from None t p priority unit wait has is may = is_own _ p (owner_given t unit (Some p) has)
+owns_from (Some owner) t p priority unit wait has is may =
+    owned_if (owner == p) (not wait) t (listed t p priority unit) p unit may (ap (λ o. is_owner o p) is ∙ may)
+
+pub owns_attached : (kernel : Kernel) (p : ℕ) (unit : Unit) (wait : Bool) → HasUnit kernel.units unit → may_attach kernel.units p unit ≡ true
+    → owns (attaching p unit wait kernel).units p unit ≡ true
+unfolding may_attach behind_attach
+owns_attached kernel p unit wait has may =
+    owns_from (owner_of kernel.units unit) kernel.units p (process_in kernel.procs p).priority unit wait has refl may
+
+on_true : (b : Bool) (P : Type 0) → (b ≡ true → P) → OnTrue b P
+on_true true P h = h refl
+on_true false P h = tt
+
+pub owns_if_attached : (kernel : Kernel) (p : ℕ) (unit : Unit) (wait b : Bool) → HasUnit kernel.units unit → b ≡ may_attach kernel.units p unit
+    → OnTrue b (owns (attaching p unit wait kernel).units p unit ≡ true)
+owns_if_attached kernel p unit wait b has is = on_true b _ (λ may. owns_attached kernel p unit wait has (sym is ∙ may))
+
+-- and behind it was made raw, or not
+has_raw_if : (b raw : Bool) (t : Consoles) (n k : ℕ) → k < length t.consoles → k < length (if b then behind_raw t n raw else t).consoles
+unfolding behind_raw
+has_raw_if true raw t n k has = omega (arith, length-set t.consoles n (with_raw raw (console_at t n)), has)
+has_raw_if false raw t n k has = has
+
+pub has_raw : (kernel : Kernel) (b raw : Bool) (n k : ℕ) → k < length kernel.units.consoles → k < length (raw_if b n raw kernel).units.consoles
+has_raw kernel b raw n k has = has_raw_if b raw kernel.units n k has
+
+owns_raw_if : (b raw : Bool) (t : Consoles) (p n : ℕ) (unit : Unit) → n < length t.consoles → owns t p unit ≡ true → owns (if b then behind_raw t n raw else t) p unit ≡ true
+unfolding behind_raw with_raw
+owns_raw_if true raw t p n unit has own = ap (λ o. is_owner o p) (owner_kept t n (with_raw raw (console_at t n)) unit has refl) ∙ own
+owns_raw_if false raw t p n unit has own = own
+
+pub owns_raw : (kernel : Kernel) (b raw : Bool) (p n : ℕ) (unit : Unit) → n < length kernel.units.consoles → owns kernel.units p unit ≡ true
+    → owns (raw_if b n raw kernel).units p unit ≡ true
+owns_raw kernel b raw p n unit has own = owns_raw_if b raw kernel.units p n unit has own
+
+pub has_made_raw : (t new : Consoles) (n : ℕ) (raw : Bool) → new ≡ behind_raw t n raw → n < length t.consoles → n < length new.consoles
+has_made_raw t new n raw is has = omega (arith, ap (λ (u : Consoles). length u.consoles) is, has_raw_if true raw t n n has)
+
+pub owns_made_raw : (t new : Consoles) (p n : ℕ) (unit : Unit) (raw : Bool) → new ≡ behind_raw t n raw → n < length t.consoles → owns t p unit ≡ true
+    → owns new p unit ≡ true
+owns_made_raw t new p n unit raw is has own = ap (λ (u : Consoles). owns u p unit) is ∙ owns_raw_if true raw t p n unit has own
+
+-- and behind a key was taken
+pub has_taken : (kernel : Kernel) (n k : ℕ) → k < length kernel.units.consoles → k < length (key_taken n kernel).units.consoles
+unfolding behind_take
+has_taken kernel n k has = omega (arith, length-set kernel.units.consoles n (without_first (console_at kernel.units n)), has)
+
+pub has_behind_take : (t new : Consoles) (n : ℕ) → new ≡ behind_take t n → n < length t.consoles → n < length new.consoles
+unfolding behind_take
+has_behind_take t new n is has = omega (arith, ap (λ (u : Consoles). length u.consoles) is, length-set t.consoles n (without_first (console_at t n)), has)
+
+-- the same of a kernel that is equal
+pub has_then_attached : (kernel new : Kernel) (p n : ℕ) (unit : Unit) (wait : Bool) → new ≡ attaching p unit wait kernel → n < length kernel.units.consoles
+    → n < length new.units.consoles
+has_then_attached kernel new p n unit wait is has =
+    omega (arith, ap (λ (k : Kernel). length k.units.consoles) is, has_attached kernel p n unit wait has)
+
+pub owns_then_attached : (kernel new : Kernel) (p : ℕ) (unit : Unit) (wait b : Bool) → new ≡ attaching p unit wait kernel → HasUnit kernel.units unit
+    → b ≡ may_attach kernel.units p unit → OnTrue b (owns new.units p unit ≡ true)
+owns_then_attached kernel new p unit wait b same has is =
+    on_true b _ (λ may. ap (λ (k : Kernel). owns k.units p unit) same ∙ owns_attached kernel p unit wait has (sym is ∙ may))
+
+-- what the kernel writes by itself changes no process
+pub procs_echoed : (console : ℕ) (bytes : List ℕ) (kernel : Kernel) → (echoed console bytes kernel).procs ≡ kernel.procs
+unfolding echoed spoke
+procs_echoed console bytes kernel = refl
+
+pub lives_echoed : (console : ℕ) (bytes : List ℕ) (kernel : Kernel) (p : ℕ) → Lives kernel.procs p → Lives (echoed console bytes kernel).procs p
+lives_echoed console bytes kernel p h = ap (λ procs. lives procs p) (procs_echoed console bytes kernel) ∙ h
+
+-- a line that goes on leaves the call of its process
+pub call_joined : (call : Taken) (p console key : ℕ) (kernel : Kernel) → call_of (key_joined call p console key kernel).procs p ≡ call_of kernel.procs p
+unfolding key_joined
+call_joined call p console key kernel =
+    ap (λ procs. call_of procs p) (procs_echoed console _ _) ∙ call_behind kernel.procs p p _
+
+pub lives_joined : (call : Taken) (p console key : ℕ) (kernel : Kernel) → Lives kernel.procs p → Lives (key_joined call p console key kernel).procs p
+unfolding key_joined
+lives_joined call p console key kernel h =
+    lives_echoed console _ _ p (lives_changed kernel.procs p p _ ∙ h)
+
+-- a key that is shown
+echo_if : (b : Bool) (key column : ℕ) → is_echoed key ≡ b → b ≡ false → key_echo key column ≡ []
+unfolding key_echo
+echo_if b key column is off = none_shown (key == 9) (is_echoed key) key column (grind (arith, nat_tests, is, off)) (is ∙ off)
+  where
+    none_shown : (tab shown : Bool) (key column : ℕ) → tab ≡ false → shown ≡ false
+        → (if tab then replicate {A = ℕ} (8 - column % 8) 32 else (if shown then key ∷ [] else [])) ≡ []
+    none_shown true shown key column no_tab off = absurd (false≢true (sym no_tab))
+    none_shown false true key column no_tab off = absurd (false≢true (sym off))
+    none_shown false false key column no_tab off = refl
+
+pub echo_nothing : (key column : ℕ) → is_echoed key ≡ false → key_echo key column ≡ []
+echo_nothing key column off = echo_if (is_echoed key) key column refl off
+
+tab_or_itself : (tab shown : Bool) (key column : ℕ) → shown ≡ true
+    → (if tab then replicate {A = ℕ} (8 - column % 8) 32 else (key ∷ [])) ≡ (if tab then replicate {A = ℕ} (8 - column % 8) 32 else (if shown then key ∷ [] else []))
+tab_or_itself true shown key column is = refl
+tab_or_itself false true key column is = refl
+tab_or_itself false false key column is = absurd (false≢true is)
+
+text_is_echo : (key column : ℕ) → is_echoed key ≡ true → tab_text column key ≡ key_echo key column
+unfolding tab_text key_echo
+text_is_echo key column is = tab_or_itself (key == 9) (is_echoed key) key column is
+
+pub wrote_key : (kernel : Kernel) (console key : ℕ) → is_echoed key ≡ true
+    → wrote kernel (ConsoleUnit console) key true ≡ spoke kernel console (key_echo key (column_of kernel console))
+wrote_key kernel console key is = wrote_tabbed kernel console key ∙ ap (spoke kernel console) (text_is_echo key (column_of kernel console) is)
+
+pub spaces_few : (kernel : Kernel) (console key spaces : ℕ) → spaces ≡ spaces_for kernel (ConsoleUnit console) key true → spaces ≤ 8
+spaces_few kernel console key spaces is = spaces_most kernel console key spaces is
+
+by_spaces : (b : Bool) (kernel : Kernel) (console key spaces : ℕ) → nat_lt 0 spaces ≡ b → spaces ≡ spaces_for kernel (ConsoleUnit console) key true
+    → (if b then replicate {A = ℕ} spaces 32 else (key ∷ [])) ≡ tab_text (column_of kernel console) key
+by_spaces true kernel console key spaces some is =
+    sym (first_spaces spaces (spaces_most kernel console key spaces is)) ∙ tab_is_spaces kernel console key spaces is (grind (arith, nat_tests, some))
+by_spaces false kernel console key spaces none is = tab_is_itself kernel console key spaces is (grind (arith, nat_tests, none))
+
+pub text_by_spaces : (kernel : Kernel) (console key spaces : ℕ) (text : List ℕ) → is_echoed key ≡ true → spaces ≡ spaces_for kernel (ConsoleUnit console) key true
+    → text ≡ (if nat_lt 0 spaces then replicate spaces 32 else (key ∷ [])) → text ≡ key_echo key (column_of kernel console)
+text_by_spaces kernel console key spaces text shown is e =
+    e ∙ by_spaces (nat_lt 0 spaces) kernel console key spaces refl is ∙ text_is_echo key (column_of kernel console) shown

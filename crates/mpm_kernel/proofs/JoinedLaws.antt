@@ -1,0 +1,58 @@
+-- Laws of processes that begin and aren't ready, and of consoles that are given.
+use Rattle.std.proofs.Common.{◌≡◌, ℕ, ◌<◌, Bool, true, false, Option, Some, None, if◌then◌else◌, refl}
+use Rattle.mpm_procs.specs.Table.{lowest_free}
+use Rattle.mpm_procs.specs.declared.process.NewProcess.{NewProcess}
+use Rattle.mpm_consoles.specs.Consoles.{owner_of}
+use Rattle.mpm_consoles.specs.declared.unit.Unit.TheVariants.{Console as ConsoleUnit}
+use Rattle.mpm_kernel.specs.Kernel.{Kernel, IsSound}
+use Rattle.mpm_kernel.specs.Dispatch.{admitted, unit_left}
+use Rattle.mpm_kernel.specs.Joining.{joined}
+use Rattle.mpm_kernel.specs.Consoling.{is_from, handed_over, owner_made, given}
+use Rattle.mpm_kernel.proofs.Soundness.{sound_admitted}
+use Rattle.mpm_kernel.proofs.Homes.{IsLivedIn, SameHomes, homes_stay, homes_both, homes_admitted, lives_on}
+
+-- a process begins that isn't ready
+
+pub sound_joined : (kernel : Kernel) (p : ℕ) (new : NewProcess) → IsSound kernel → lowest_free kernel.procs ≡ Some p → new.console < kernel.consoles
+    → IsSound (joined kernel p new)
+unfolding admitted
+sound_joined kernel p new s free console =
+    let a = sound_admitted kernel p new s free console in
+    record {
+      some = s.some;
+      few = s.few;
+      units = a.units;
+      slots = a.slots;
+      table = s.table;
+      flags = s.flags;
+      queues = s.queues;
+      system = s.system;
+      fit = a.fit;
+      once = s.once;
+      live = λ q some. lives_on kernel new (Some p) q free (s.live q some);
+      runs = s.runs;
+    }
+
+pub homes_joined : (kernel : Kernel) (p : ℕ) (new : NewProcess) → IsSound kernel → lowest_free kernel.procs ≡ Some p
+    → ((seg : ℕ) → new.seg ≡ Some seg → IsLivedIn kernel seg) → SameHomes kernel (joined kernel p new)
+unfolding admitted
+homes_joined kernel p new s free home_of =
+    homes_both kernel (admitted kernel p new) (joined kernel p new) (homes_admitted kernel p new s.slots free home_of)
+    (homes_stay (admitted kernel p new) (joined kernel p new) refl)
+
+-- a console that is given is one of as many as before
+
+consoles_if : (b : Bool) (old new : Kernel) → new.consoles ≡ old.consoles → (if b then new else old).consoles ≡ old.consoles
+consoles_if true old new same = same
+consoles_if false old new same = refl
+
+consoles_handed : (console : ℕ) (from to : Option ℕ) (kernel : Kernel) → (handed_over console from to kernel).consoles ≡ kernel.consoles
+unfolding unit_left owner_made
+consoles_handed console None None kernel = refl
+consoles_handed console (Some p) None kernel = refl
+consoles_handed console from (Some to) kernel = refl
+
+pub consoles_gave : (console : ℕ) (from to : Option ℕ) (kernel : Kernel) → (given console from to kernel).consoles ≡ kernel.consoles
+unfolding given
+consoles_gave console from to kernel =
+    consoles_if (is_from (owner_of kernel.units (ConsoleUnit console)) from) kernel _ (consoles_handed console from to kernel)

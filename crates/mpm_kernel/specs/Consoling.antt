@@ -1,0 +1,207 @@
+-- Consoles and printers: attached, detached, changed and assigned by processes, and the keys that come to consoles. (MP/M II
+-- Programmer's Guide, "Function 146: Attach Console", "Function 147: Detach Console", "Function 148: Set Console", "Function
+-- 149: Assign Console", "Function 153: Get Console Number", "Function 158: Attach List", "Function 159: Detach List",
+-- "Function 160: Set List", "Function 161: Conditional Attach List", "Function 162: Conditional Attach Console", "Function 164:
+-- Get List Number"; User's Guide, control characters of a console.)
+use Rattle.std.specs.Prelude.{ℕ, Bool, true, false, not, [], ◌∷◌, List, Option, Some, None, ◌&&◌, ◌||◌, ◌==◌, nat_lt, bytes_eq, ⊤, IfSome, if◌then◌else◌}
+use Rattle.mpm_base.specs.Calls.{Taken, answering}
+use Rattle.mpm_base.specs.declared.number.Name8.{Name8}
+use Rattle.mpm_base.specs.declared.call.Outcome.TheVariants.{Retry}
+use Rattle.mpm_procs.specs.Table.{Table, lives, Lives, process_in}
+use Rattle.mpm_procs.specs.declared.process.Process.{Process}
+use Rattle.mpm_queues.specs.Queues.{lowest}
+use Rattle.mpm_consoles.specs.Consoles.{owner_of, waits_for}
+use Rattle.mpm_consoles.specs.Handling.{may_attach, behind_attach, behind_assign, behind_key, key_answer, behind_wait}
+use Rattle.mpm_consoles.specs.declared.keys.KeyDone.{KeyDone}
+use Rattle.mpm_consoles.specs.declared.keys.KeyDone.TheVariants.{Stored, Dropped, Wakes, Aborts, Passes, Nothing}
+use Rattle.mpm_consoles.specs.declared.unit.Unit.{Unit}
+use Rattle.mpm_consoles.specs.declared.unit.Unit.TheVariants.{Console as ConsoleUnit, Printer as PrinterUnit}
+use Rattle.mpm_kernel.specs.Kernel.{Kernel, with_changed}
+use Rattle.mpm_kernel.specs.Dispatch.{at_rest, unlisted, made_ready, unit_left}
+use Rattle.mpm_kernel.specs.Columns.{spoke}
+use Rattle.mpm_kernel.specs.Called.{Called, valued, done, low_parameter, refusal, byte_in, name_at}
+
+-- a call isn't done: its process is ready no more, and takes the step at its gate again once it is
+unfoldable pub retried : ℕ → Kernel → Called
+retried p kernel = record { kernel = at_rest (unlisted kernel p) p; outcome = Retry; reply = answering 0 }
+
+-- a process attaches a unit, or waits for it, if it may and another owns the unit
+abbrev pub attaching : ℕ → Unit → Bool → Kernel → Kernel
+attaching p unit wait kernel =
+    record kernel { units = behind_attach kernel.units p (process_in kernel.procs p).priority unit wait }
+
+-- functions 146 and 158
+unfoldable pub attached : ℕ → Unit → Kernel → Called
+attached p unit kernel =
+    if may_attach kernel.units p unit then done (attaching p unit true kernel) else (retried p (attaching p unit true kernel))
+
+-- functions 162 and 161, which don't wait
+unfoldable pub attached_now : ℕ → Unit → Kernel → Called
+attached_now p unit kernel =
+    if may_attach kernel.units p unit then done (attaching p unit false kernel) else (valued refusal kernel)
+
+-- functions 147 and 159
+abbrev pub detached : ℕ → Unit → Kernel → Called
+detached p unit kernel = done (unit_left p unit kernel)
+
+-- functions 148 and 160: a process has another console or printer from now on, and leaves the one that it had
+unfoldable pub console_changed : ℕ → ℕ → Kernel → Kernel
+console_changed p console kernel =
+    let process = process_in kernel.procs p in
+    if process.console == console then kernel
+    else (with_changed (unit_left p (ConsoleUnit process.console) kernel) p (record process { console = console }))
+
+unfoldable pub printer_changed : ℕ → ℕ → Kernel → Kernel
+printer_changed p printer kernel =
+    let process = process_in kernel.procs p in
+    if process.printer == printer then kernel
+    else (with_changed (unit_left p (PrinterUnit process.printer) kernel) p (record process { printer = printer }))
+
+unfoldable pub console_set : Taken → ℕ → Kernel → Called
+console_set call p kernel =
+    let console = low_parameter call in
+    if nat_lt console kernel.consoles then attached p (ConsoleUnit console) (console_changed p console kernel)
+    else (valued refusal kernel)
+
+unfoldable pub printer_set : Taken → ℕ → Kernel → Called
+printer_set call p kernel =
+    let printer = low_parameter call in
+    if nat_lt printer kernel.printers then attached p (PrinterUnit printer) (printer_changed p printer kernel)
+    else (valued refusal kernel)
+
+-- the lowest slot whose process has a name
+abbrev pub is_called : Table → Name8 → ℕ → Bool
+is_called procs name p = lives procs p && bytes_eq (process_in procs p).name.0 name.0
+
+abbrev pub named : Table → Name8 → Option ℕ
+named procs name = lowest (is_called procs name)
+
+-- a process becomes the owner of a console; where it waited for that one, it becomes ready
+abbrev pub if_it : Bool → ℕ → Option ℕ
+if_it b p = if b then Some p else None
+
+unfoldable pub owner_made : ℕ → ℕ → Kernel → Kernel
+owner_made console to kernel =
+    made_ready (if_it (waits_for kernel.units to (ConsoleUnit console)) to)
+    (record kernel { units = behind_assign kernel.units console to })
+
+-- function 149: where the flag is FFh, only a process whose console it is already is meant
+abbrev pub is_meant : Taken → Process → Bool
+is_meant call process = not (byte_in call 9 == 255) || process.console == byte_in call 0
+
+unfoldable pub assigned_to : Option ℕ → Taken → Kernel → Called
+assigned_to None call kernel = valued refusal kernel
+assigned_to (Some to) call kernel =
+    let process = process_in kernel.procs to in
+    if is_meant call process
+    then done (with_changed (owner_made (byte_in call 0) to kernel) to (record process { console = byte_in call 0 }))
+    else (valued refusal kernel)
+
+unfoldable pub assigned : Taken → ℕ → Kernel → Called
+assigned call p kernel =
+    let console = byte_in call 0 in
+    if nat_lt console kernel.consoles && may_attach kernel.units p (ConsoleUnit console)
+    then assigned_to (named kernel.procs (name_at call 1)) call kernel
+    else (valued refusal kernel)
+
+-- the calls on printers: 158 to 161, and 5, which attaches before a byte is written; a machine without printers refuses them
+unfoldable pub printer_called : Taken → ℕ → Kernel → Called
+printer_called call p kernel =
+    let own = PrinterUnit (process_in kernel.procs p).printer in
+    if kernel.printers == 0 then valued refusal kernel
+    else (if call.function == 159 then detached p own kernel
+    else (if call.function == 160 then printer_set call p kernel
+    else (if call.function == 161 then attached_now p own kernel
+    else (attached p own kernel))))
+
+-- the calls on consoles, 146 to 149 and 162, and the numbers that 153 and 164 tell
+unfoldable pub unit_called : Taken → ℕ → Kernel → Called
+unit_called call p kernel =
+    let process = process_in kernel.procs p in
+    let own = ConsoleUnit process.console in
+    if call.function == 146 then attached p own kernel
+    else (if call.function == 147 then detached p own kernel
+    else (if call.function == 148 then console_set call p kernel
+    else (if call.function == 149 then assigned call p kernel
+    else (if call.function == 153 then valued process.console kernel
+    else (if call.function == 162 then attached_now p own kernel
+    else (if call.function == 164 then valued process.printer kernel
+    else (printer_called call p kernel)))))))
+
+-- a console is given by its owner, or where nobody owns it, to a process, or else to the process that waits for it first
+abbrev pub is_from : Option ℕ → Option ℕ → Bool
+is_from None None = true
+is_from None (Some p) = false
+is_from (Some owner) None = false
+is_from (Some owner) (Some p) = owner == p
+
+abbrev pub passed_on : ℕ → Option ℕ → Kernel → Kernel
+passed_on console None kernel = kernel
+passed_on console (Some p) kernel = unit_left p (ConsoleUnit console) kernel
+
+abbrev pub handed_over : ℕ → Option ℕ → Option ℕ → Kernel → Kernel
+handed_over console from None kernel = passed_on console from kernel
+handed_over console from (Some to) kernel = owner_made console to kernel
+
+unfoldable pub given : ℕ → Option ℕ → Option ℕ → Kernel → Kernel
+given console from to kernel =
+    if is_from (owner_of kernel.units (ConsoleUnit console)) from then handed_over console from to kernel else kernel
+
+-- bytes are written to a console by the kernel itself
+unfoldable pub echoed : ℕ → List ℕ → Kernel → Kernel
+echoed console bytes kernel = record (spoke kernel console bytes) { echo = bytes }
+
+-- `^C`, CR and LF
+abbrev pub abort_text : List ℕ
+abort_text = 94 ∷ 67 ∷ 13 ∷ 10 ∷ []
+
+-- what becomes of the processes by a key: who was woken is ready, the heir of a console before its old owner
+unfoldable pub key_done : KeyDone → ℕ → Kernel → Kernel
+key_done Stored console kernel = kernel
+key_done Dropped console kernel = kernel
+key_done Nothing console kernel = kernel
+key_done (Wakes p) console kernel = made_ready (Some p) kernel
+key_done (Aborts p) console kernel = record (echoed console abort_text kernel) { aborted = Some p }
+key_done (Passes from to waited) console kernel = made_ready (if_it waited from) (made_ready to kernel)
+
+-- the processes that a key names live
+abbrev pub IfLives : Table → Option ℕ → Type 0
+IfLives procs o = IfSome o (λ p. Lives procs p)
+
+abbrev pub KeyNames : Table → KeyDone → Type 0
+KeyNames procs Stored = ⊤
+KeyNames procs Dropped = ⊤
+KeyNames procs Nothing = ⊤
+KeyNames procs (Wakes p) = Lives procs p
+KeyNames procs (Aborts p) = Lives procs p
+KeyNames procs (Passes from to waited) = Lives procs from × IfLives procs to
+
+-- whether the owner of a console is a resident: it lives in no segment
+abbrev pub is_homeless : Option ℕ → Bool
+is_homeless None = true
+is_homeless (Some seg) = false
+
+abbrev pub is_resident : Table → Option ℕ → Bool
+is_resident procs None = false
+is_resident procs (Some p) = is_homeless (process_in procs p).seg
+
+-- a key comes to a console; one of a console that isn't there is dropped
+unfoldable pub key_came : ℕ → ℕ → Kernel → Kernel
+key_came console byte kernel =
+    let resident = is_resident kernel.procs (owner_of kernel.units (ConsoleUnit console)) in
+    if nat_lt console kernel.consoles
+    then key_done (key_answer kernel.units console byte resident) console
+    (record kernel { units = behind_key kernel.units console byte resident })
+    else kernel
+
+-- the owner of a console waits at its gate: for a key, or until output goes on; its call is retried
+unfoldable pub awaited : ℕ → ℕ → Bool → Kernel → Called
+awaited p console key kernel = retried p (record kernel { units = behind_wait kernel.units console key })
+
+-- the process that the last event aborts lives
+abbrev pub AbortLives : Kernel → Type 0
+AbortLives kernel = IfLives kernel.procs kernel.aborted
+
+-- and is handed out
+abbrev pub abort_taken : Kernel → Kernel
+abort_taken kernel = record kernel { aborted = None }

@@ -1,0 +1,14 @@
+-- Processes that begin and aren't ready.
+use Rattle.std.specs.Prelude.{ℕ, Option, Some, None}
+use Rattle.mpm_procs.specs.Table.{added}
+use Rattle.mpm_procs.specs.declared.process.NewProcess.{NewProcess}
+use Rattle.mpm_kernel.specs.Kernel.{Kernel}
+
+-- a process begins in a slot, and isn't ready
+abbrev pub joined : Kernel → ℕ → NewProcess → Kernel
+joined kernel p new = record kernel { procs = added kernel.procs p new }
+
+-- in that slot, if there is one
+abbrev pub joined_in : Kernel → NewProcess → Option ℕ → Kernel
+joined_in kernel new None = kernel
+joined_in kernel new (Some p) = joined kernel p new

@@ -1,0 +1,348 @@
+ghost use Rattle.std.specs.Bool.{OnTrue};
+ghost use Rattle.std.specs.Prelude.{◌≡◌, ◌<◌, ◌≤◌, ◌∷◌, [], true, nat_lt, replicate, MatchOption, if◌then◌else◌};
+ghost use Rattle.mpm_kernel.specs.ConsoleInput.{is_cooked as does_cook, is_raw as makes_raw};
+
+use crate::Kernel;
+use crate::waiting::done;
+use mpm_base::{Outcome, Pid, Reply};
+use mpm_consoles::Unit;
+use mpm_line_input::{Echo, answer_line, edited, full_line, is_echoed, is_full};
+
+impl Kernel {
+    ghost use Rattle.mpm_procs.specs.Table.{Lives, call_of, process_in};
+    ghost use Rattle.mpm_consoles.specs.Consoles.{console_at, owns};
+    ghost use Rattle.mpm_consoles.specs.Handling.{may_attach};
+    ghost use Rattle.mpm_consoles.specs.declared.unit.Unit.TheVariants.{Console as ConsoleUnit};
+    ghost use Rattle.mpm_line_input.specs.Echoes.{key_echo, is_echoed as is_key_echoed};
+    ghost use Rattle.mpm_line_input.specs.Lines.{ends};
+    ghost use Rattle.mpm_kernel.specs.Kernel.{IsReady, IsSound, HasConsole};
+    ghost use Rattle.mpm_kernel.specs.Columns.{column_of, spoke};
+    ghost use Rattle.mpm_kernel.specs.Consoling.{attaching, awaited};
+    ghost use Rattle.mpm_kernel.specs.ConsoleInput.{writes as does_write, raw_if, key_taken, next_key, key_shown, shown_key, read_key, polled_key, direct, line_of, greatest, line_done, key_joined, line_with, line_read, console_served, unless_stopped, console_called};
+
+    /// The calls that read from the caller's console or write to it: it is attached first, or waited for. (MP/M II Programmer's
+    /// Guide, functions 1 to 4, 6 and 9 to 11.)
+    #[tactic(auto, using(crate::proofs::UnitLaws::has_own_console, crate::proofs::InputCalls::stays_console_called), unfolding(crate::specs::ConsoleInput::console_called))]
+    pub(crate) fn console_call(&mut self, p: Pid, reply: &mut Reply) -> Outcome
+        requires sound { IsSound self.old }
+        requires lives { Lives self.old.procs p }
+        requires ready { IsReady self.old p }
+        ensures kernel { self.new ≡ (console_called (call_of self.old.procs p) p self.old).kernel }
+        ensures outcome { result ≡ (console_called (call_of self.old.procs p) p self.old).outcome }
+        ensures reply { reply.new ≡ (console_called (call_of self.old.procs p) p self.old).reply }
+    {
+        let console = self.procs.get(p).console;
+        if !self.attach_console(p, console) {
+            return self.retry(p, reply);
+        }
+        let cooks = is_cooked(self.procs.call(p).function);
+        self.set_raw_if(cooks, p, console, false);
+        self.unless_stopped(p, console, reply)
+    }
+
+    /// Output waits until it isn't stopped any more.
+    #[tactic(auto, unfolding(crate::specs::ConsoleInput::unless_stopped))]
+    fn unless_stopped(&mut self, p: Pid, console: u8, reply: &mut Reply) -> Outcome
+        requires lives { Lives self.old.procs p }
+        requires has { HasConsole self.old console }
+        requires owner { owns self.old.units p (ConsoleUnit console) ≡ true }
+        ensures kernel { self.new ≡ (unless_stopped (call_of self.old.procs p) p console self.old).kernel }
+        ensures outcome { result ≡ (unless_stopped (call_of self.old.procs p) p console self.old).outcome }
+        ensures reply { reply.new ≡ (unless_stopped (call_of self.old.procs p) p console self.old).reply }
+    {
+        if self.writes(p) && self.units.stopped(console) {
+            return self.wait_at_gate(p, console, false, reply);
+        }
+        let raw = is_raw(self.procs.call(p).function);
+        self.set_raw_if(raw, p, console, true);
+        self.serve_console(p, console, reply)
+    }
+
+    /// Whether the call of a process writes to its console, and so waits while output is stopped.
+    #[tactic(auto, unfolding(crate::specs::ConsoleInput::writes))]
+    fn writes(&self, p: Pid) -> bool
+        requires { Lives self.now.procs p }
+        ensures { result ≡ does_write (call_of self.now.procs p) }
+    {
+        let call = self.procs.call(p);
+        match call.function {
+            2 | 4 | 9 => true,
+            6 => call.word % 256 < 0xFD,
+            _ => false,
+        }
+    }
+
+    /// The owner of a console is served, whose output isn't stopped where the call writes. What a call writes is put out behind
+    /// it.
+    #[tactic(auto, unfolding(crate::specs::ConsoleInput::console_served))]
+    fn serve_console(&mut self, p: Pid, console: u8, reply: &mut Reply) -> Outcome
+        requires lives { Lives self.old.procs p }
+        requires has { HasConsole self.old console }
+        requires owner { owns self.old.units p (ConsoleUnit console) ≡ true }
+        ensures kernel { self.new ≡ (console_served (call_of self.old.procs p) p console self.old).kernel }
+        ensures outcome { result ≡ (console_served (call_of self.old.procs p) p console self.old).outcome }
+        ensures reply { reply.new ≡ (console_served (call_of self.old.procs p) p console self.old).reply }
+    {
+        match self.procs.call(p).function {
+            1 => self.read_shown(p, console, reply),
+            3 => self.read_key(p, console, reply),
+            6 => self.direct(p, console, reply),
+            10 => self.read_line(p, console, reply),
+            11 => done(reply, u16::from(self.units.has_key(console))),
+            _ => done(reply, 0),
+        }
+    }
+
+    /// Function 1: a key is taken and shown. (MP/M II Programmer's Guide, "Function 1: Console Input".)
+    #[tactic(auto, unfolding(crate::specs::ConsoleInput::shown_key))]
+    fn read_shown(&mut self, p: Pid, console: u8, reply: &mut Reply) -> Outcome
+        requires has { HasConsole self.old console }
+        requires owner { owns self.old.units p (ConsoleUnit console) ≡ true }
+        ensures kernel { self.new ≡ (shown_key (next_key console self.old) p console self.old).kernel }
+        ensures outcome { result ≡ (shown_key (next_key console self.old) p console self.old).outcome }
+        ensures reply { reply.new ≡ (shown_key (next_key console self.old) p console self.old).reply }
+    {
+        match self.take_key(console) {
+            Some(key) => {
+                self.show_key(console, key);
+                done(reply, u16::from(key))
+            }
+            None => self.wait_at_gate(p, console, true, reply),
+        }
+    }
+
+    /// A key that was taken is shown, a tab as spaces.
+    #[tactic(auto, using(crate::proofs::InputLaws::echo_nothing), unfolding(crate::specs::Consoling::echoed))]
+    fn show_key(&mut self, console: u8, key: u8)
+        requires { HasConsole self.old console }
+        ensures { self.new ≡ key_shown key console self.old }
+    {
+        if !is_echoed(key) {
+            self.show(console, Echo::new());
+            return;
+        }
+        let shown = self.write_key(console, key);
+        self.set_echo(shown);
+    }
+
+    /// A key that is shown is written, a tab as spaces; answers what was written.
+    #[tactic(auto, using(crate::proofs::InputLaws::wrote_key, crate::proofs::InputLaws::spaces_few, crate::proofs::InputLaws::text_by_spaces))]
+    fn write_key(&mut self, console: u8, key: u8) -> Echo
+        requires has { HasConsole self.old console }
+        requires shown { is_key_echoed key ≡ true }
+        ensures kernel { self.new ≡ spoke self.old console (key_echo key (column_of self.old console)) }
+        ensures text { result ≡ key_echo key (column_of self.old console) }
+    {
+        let spaces = self.write(Unit::Console { n: console }, key, true);
+        text_of(key, spaces)
+    }
+
+    /// What was written by the last call is told.
+    fn set_echo(&mut self, shown: Echo)
+        ensures { self.new ≡ record self.old { echo = shown } }
+    {
+        self.echo = shown;
+    }
+
+    /// Function 3, and function 6 with FDh: a key is taken. (MP/M II Programmer's Guide, "Function 3: Raw Console Input".)
+    #[tactic(auto, unfolding(crate::specs::ConsoleInput::read_key))]
+    fn read_key(&mut self, p: Pid, console: u8, reply: &mut Reply) -> Outcome
+        requires has { HasConsole self.old console }
+        requires owner { owns self.old.units p (ConsoleUnit console) ≡ true }
+        ensures kernel { self.new ≡ (read_key (next_key console self.old) p console self.old).kernel }
+        ensures outcome { result ≡ (read_key (next_key console self.old) p console self.old).outcome }
+        ensures reply { reply.new ≡ (read_key (next_key console self.old) p console self.old).reply }
+    {
+        match self.take_key(console) {
+            Some(key) => done(reply, u16::from(key)),
+            None => self.wait_at_gate(p, console, true, reply),
+        }
+    }
+
+    /// Function 6: FFh asks for a key if there is one, FEh whether there is one, FDh for a key; other bytes are written. (MP/M II
+    /// Programmer's Guide, "Function 6: Direct Console I/O".)
+    #[tactic(auto, unfolding(crate::specs::ConsoleInput::direct))]
+    fn direct(&mut self, p: Pid, console: u8, reply: &mut Reply) -> Outcome
+        requires lives { Lives self.old.procs p }
+        requires has { HasConsole self.old console }
+        requires owner { owns self.old.units p (ConsoleUnit console) ≡ true }
+        ensures kernel { self.new ≡ (direct (call_of self.old.procs p) p console self.old).kernel }
+        ensures outcome { result ≡ (direct (call_of self.old.procs p) p console self.old).outcome }
+        ensures reply { reply.new ≡ (direct (call_of self.old.procs p) p console self.old).reply }
+    {
+        match self.procs.call(p).word % 256 {
+            0xFF => self.poll_key(console, reply),
+            0xFE => done(reply, if self.units.has_key(console) { 0xFF } else { 0 }),
+            0xFD => self.read_key(p, console, reply),
+            _ => done(reply, 0),
+        }
+    }
+
+    /// The next key, or 0 where there is none.
+    #[tactic(auto, unfolding(crate::specs::ConsoleInput::polled_key))]
+    fn poll_key(&mut self, console: u8, reply: &mut Reply) -> Outcome
+        requires { HasConsole self.old console }
+        ensures kernel { self.new ≡ (polled_key (next_key console self.old) console self.old).kernel }
+        ensures outcome { result ≡ (polled_key (next_key console self.old) console self.old).outcome }
+        ensures reply { reply.new ≡ (polled_key (next_key console self.old) console self.old).reply }
+    {
+        match self.take_key(console) {
+            Some(key) => done(reply, u16::from(key)),
+            None => done(reply, 0),
+        }
+    }
+
+    /// Function 10: a key of a line is taken, unless the line is full. (MP/M II Programmer's Guide, "Function 10: Read Console
+    /// Buffer".)
+    #[tactic(auto, using(crate::proofs::InputLaws::lives_echoed, crate::proofs::InputLaws::procs_echoed), unfolding(crate::specs::ConsoleInput::line_read))]
+    fn read_line(&mut self, p: Pid, console: u8, reply: &mut Reply) -> Outcome
+        requires lives { Lives self.old.procs p }
+        requires has { HasConsole self.old console }
+        requires owner { owns self.old.units p (ConsoleUnit console) ≡ true }
+        ensures kernel { self.new ≡ (line_read (call_of self.old.procs p) p console self.old).kernel }
+        ensures outcome { result ≡ (line_read (call_of self.old.procs p) p console self.old).outcome }
+        ensures reply { reply.new ≡ (line_read (call_of self.old.procs p) p console self.old).reply }
+    {
+        let greatest = self.procs.call(p).byte(0);
+        if is_full(self.procs.get(p).line_length, greatest) {
+            self.show(console, full_line().written);
+            return self.finish_line(p, reply);
+        }
+        match self.take_key(console) {
+            Some(key) => self.join_key(p, console, key, reply),
+            None => self.wait_at_gate(p, console, true, reply),
+        }
+    }
+
+    /// A key that was taken joins the line, or changes it; the line may end.
+    #[tactic(auto, using(crate::proofs::InputLaws::call_joined, crate::proofs::InputLaws::lives_joined), unfolding(crate::specs::ConsoleInput::line_with))]
+    fn join_key(&mut self, p: Pid, console: u8, key: u8, reply: &mut Reply) -> Outcome
+        requires lives { Lives self.old.procs p }
+        requires has { HasConsole self.old console }
+        requires room { (process_in self.old.procs p).line_length < greatest (call_of self.old.procs p) }
+        ensures kernel { self.new ≡ (line_with key (call_of self.old.procs p) p console self.old).kernel }
+        ensures outcome { result ≡ (line_with key (call_of self.old.procs p) p console self.old).outcome }
+        ensures reply { reply.new ≡ (line_with key (call_of self.old.procs p) p console self.old).reply }
+    {
+        if self.edit_line(p, console, key) {
+            return self.finish_line(p, reply);
+        }
+        reply.answer(0);
+        Outcome::Retry
+    }
+
+    /// What a key makes of the line that a process keeps; whether the line ends with it.
+    #[tactic(auto, unfolding(crate::specs::ConsoleInput::key_joined))]
+    fn edit_line(&mut self, p: Pid, console: u8, key: u8) -> bool
+        requires lives { Lives self.old.procs p }
+        requires has { HasConsole self.old console }
+        requires room { (process_in self.old.procs p).line_length < greatest (call_of self.old.procs p) }
+        ensures kernel { self.new ≡ key_joined (call_of self.old.procs p) p console key self.old }
+        ensures ends { result ≡ ends (line_of (process_in self.old.procs p)) (greatest (call_of self.old.procs p)) key }
+    {
+        let greatest = self.procs.call(p).byte(0);
+        let process = self.procs.get_mut(p);
+        let mut line = process.line;
+        let mut count = process.line_length;
+        let edit = edited(&mut line, &mut count, greatest, key);
+        process.line = line;
+        process.line_length = count;
+        self.show(console, edit.written);
+        edit.ends
+    }
+
+    /// A line ends: it is answered, and the process keeps none any more.
+    #[tactic(auto, unfolding(crate::specs::ConsoleInput::line_done))]
+    fn finish_line(&mut self, p: Pid, reply: &mut Reply) -> Outcome
+        requires { Lives self.old.procs p }
+        ensures kernel { self.new ≡ (line_done (call_of self.old.procs p) p self.old).kernel }
+        ensures outcome { result ≡ (line_done (call_of self.old.procs p) p self.old).outcome }
+        ensures reply { reply.new ≡ (line_done (call_of self.old.procs p) p self.old).reply }
+    {
+        let address = self.procs.call(p).word;
+        let process = self.procs.get_mut(p);
+        answer_line(&process.line, process.line_length, address, reply);
+        process.line_length = 0;
+        Outcome::Done
+    }
+
+    /// Takes the oldest key of a console, None where there is none.
+    #[tactic(auto, using(crate::proofs::UnitLaws::nothing_taken, crate::proofs::InputLaws::has_behind_take))]
+    fn take_key(&mut self, console: u8) -> Option<u8>
+        requires { HasConsole self.old console }
+        ensures key { result ≡ next_key console self.old }
+        ensures has { HasConsole self.new console }
+        ensures kernel { MatchOption result (self.new ≡ self.old) (λ key. self.new ≡ key_taken console self.old) }
+    {
+        self.units.take(console)
+    }
+
+    /// A process attaches a console, or waits for it.
+    #[tactic(auto, using(crate::proofs::InputLaws::has_then_attached, crate::proofs::InputLaws::owns_then_attached))]
+    fn attach_console(&mut self, p: Pid, console: u8) -> bool
+        requires sound { IsSound self.old }
+        requires lives { Lives self.old.procs p }
+        requires ready { IsReady self.old p }
+        requires has { HasConsole self.old console }
+        ensures answer { result ≡ may_attach self.old.units p (ConsoleUnit console) }
+        ensures kernel { self.new ≡ attaching p (ConsoleUnit console) true self.old }
+        ensures has { HasConsole self.new console }
+        ensures owner { OnTrue result (owns self.new.units p (ConsoleUnit console) ≡ true) }
+    {
+        self.attach(p, Unit::Console { n: console }, true)
+    }
+
+    /// A console is made raw, or not, if it is at all.
+    #[tactic(auto, using(crate::proofs::InputLaws::has_made_raw))]
+    fn set_raw_if(&mut self, changes: bool, p: Pid, console: u8, raw: bool)
+        requires has { HasConsole self.old console }
+        requires owner { owns self.old.units p (ConsoleUnit console) ≡ true }
+        ensures kernel { self.new ≡ raw_if changes console raw self.old }
+        ensures has { HasConsole self.new console }
+        ensures owner { owns self.new.units p (ConsoleUnit console) ≡ true }
+    {
+        let _owner = p.0;
+        if changes {
+            self.units.set_raw(console, raw);
+        }
+    }
+
+    /// The owner of a console waits at its gate, for a key or until output goes on.
+    #[tactic(auto, unfolding(crate::specs::Consoling::awaited))]
+    fn wait_at_gate(&mut self, p: Pid, console: u8, key: bool, reply: &mut Reply) -> Outcome
+        requires has { HasConsole self.old console }
+        requires owner { owns self.old.units p (ConsoleUnit console) ≡ true }
+        ensures kernel { self.new ≡ (awaited p console key self.old).kernel }
+        ensures outcome { result ≡ (awaited p console key self.old).outcome }
+        ensures reply { reply.new ≡ (awaited p console key self.old).reply }
+    {
+        self.units.wait(p, console, key);
+        self.retry(p, reply)
+    }
+}
+
+/// Whether a function makes its console not raw.
+fn is_cooked(function: u8) -> bool
+    ensures { result ≡ does_cook function }
+{
+    matches!(function, 1 | 2 | 9 | 10)
+}
+
+/// Whether a function makes its console raw.
+fn is_raw(function: u8) -> bool
+    ensures { result ≡ makes_raw function }
+{
+    matches!(function, 3 | 4 | 6)
+}
+
+/// A key, or so many spaces where any stand for it.
+fn text_of(key: u8, spaces: u8) -> Echo
+    requires { spaces ≤ 8 }
+    ensures { result ≡ (if nat_lt 0 spaces then replicate spaces 32 else (key ∷ [])) }
+{
+    if 0 < spaces {
+        Echo::of(&[b' '; 8][..usize::from(spaces)])
+    } else {
+        Echo::of(&[key])
+    }
+}

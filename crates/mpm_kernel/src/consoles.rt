@@ -1,0 +1,518 @@
+ghost use Rattle.std.specs.Prelude.{◌≡◌, ◌<◌, Some, true, ◌==◌, length, IfSome};
+ghost use Rattle.mpm_base.specs.Calls.{answering};
+ghost use Rattle.mpm_base.specs.declared.call.Outcome.TheVariants.{Done};
+ghost use Rattle.mpm_kernel.specs.Called.{byte_in};
+ghost use Rattle.mpm_consoles.specs.Consoles.{console_at, HasUnit};
+ghost use Rattle.mpm_consoles.specs.Console.{is_owner};
+ghost use Rattle.mpm_kernel.specs.Consoling.{is_homeless as has_no_segment};
+
+use crate::Kernel;
+use crate::kernel::READY;
+use crate::queueing::name_at;
+use crate::waiting::{REFUSED, done};
+use mpm_base::{Name8, Outcome, Pid, Reply, Seg};
+use mpm_consoles::{KeyDone, Unit};
+use mpm_line_input::Echo;
+
+/// How many processes there may be.
+const SLOTS: u8 = 32;
+
+impl Kernel {
+    ghost use Rattle.mpm_procs.specs.Table.{Lives, call_of, process_in};
+    ghost use Rattle.mpm_consoles.specs.Consoles.{owner_of};
+    ghost use Rattle.mpm_consoles.specs.Handling.{may_attach};
+    ghost use Rattle.mpm_consoles.specs.declared.unit.Unit.TheVariants.{Console as ConsoleUnit};
+    ghost use Rattle.mpm_kernel.specs.Kernel.{IsReady, IsSound, HasConsole};
+    ghost use Rattle.mpm_kernel.specs.Columns.{spoke, wrote, spaces_for};
+    ghost use Rattle.mpm_kernel.specs.Dispatch.{made_ready, unit_left};
+    ghost use Rattle.mpm_kernel.specs.Consoling.{retried, attaching, attached, attached_now, console_changed, printer_changed, console_set, printer_set, named as process_named, owner_made, is_meant, assigned_to, assigned, printer_called, unit_called, given, handed_over, echoed, key_done, KeyNames, is_resident, key_came, abort_taken};
+
+    /// A byte is written to a console or a printer: the column of a console moves. Answers the number of spaces that stand for a
+    /// tab that is expanded, 0 where the byte stands for itself. (MP/M II Programmer's Guide, "Function 2: Console Output".)
+    #[tactic(auto, unfolding(crate::specs::Columns::wrote))]
+    pub fn write(&mut self, unit: Unit, byte: u8, tabs: bool) -> u8
+        requires { HasUnit self.old.units unit }
+        ensures kernel { self.new ≡ wrote self.old unit byte tabs }
+        ensures spaces { result ≡ spaces_for self.old unit byte tabs }
+    {
+        self.units.output(unit, byte, tabs)
+    }
+
+    /// The bytes that the last call or event wrote to its console by itself: the echo of function 1 or 10, or `^C`, CR and LF of
+    /// a key that aborts.
+    pub fn echo(&self) -> Echo
+        ensures { result ≡ self.now.echo }
+    {
+        Echo::of(self.echo.written())
+    }
+
+    /// Hands out the process that the last event aborts; None where it aborts nobody, or its process was handed out already.
+    pub fn take_abort(&mut self) -> Option<Pid>
+        ensures process { result ≡ self.old.aborted }
+        ensures kernel { self.new ≡ abort_taken self.old }
+    {
+        let aborted = self.aborted;
+        self.aborted = None;
+        aborted
+    }
+
+    /// How many keys of a console were lost, as 64 were stored.
+    pub fn lost(&self, console: u8) -> u64
+        requires { HasConsole self.now console }
+        ensures { result ≡ (console_at self.now.units console).lost }
+    {
+        self.units.lost(console)
+    }
+
+    /// A console that `from` owns, or nobody where that is None, comes to `to`, or where that is None to the process that waits
+    /// for it first. Nothing changes where `from` isn't its owner.
+    #[tactic(auto, using(crate::proofs::UnitLaws::has_console), unfolding(crate::specs::Consoling::given))]
+    pub fn give(&mut self, console: u8, from: Option<Pid>, to: Option<Pid>)
+        requires sound { IsSound self.old }
+        requires console { console < self.old.consoles }
+        requires from { IfSome from (λ p. Lives self.old.procs p) }
+        requires to { IfSome to (λ p. Lives self.old.procs p) }
+        ensures { self.new ≡ given console from to self.old }
+    {
+        let owner = self.console_owner(console);
+        match from {
+            Some(p) => {
+                if owns(owner, p) {
+                    self.hand_over(console, Some(p), to);
+                }
+            }
+            None => {
+                if owner.is_none() {
+                    self.hand_over(console, None, to);
+                }
+            }
+        }
+    }
+
+    /// A console comes to a process, or passes on.
+    #[tactic(auto, using(crate::proofs::UnitLaws::has_console))]
+    fn hand_over(&mut self, console: u8, from: Option<Pid>, to: Option<Pid>)
+        requires sound { IsSound self.old }
+        requires console { console < self.old.consoles }
+        requires to { IfSome to (λ p. Lives self.old.procs p) }
+        ensures { self.new ≡ handed_over console from to self.old }
+    {
+        match to {
+            Some(to) => self.make_owner(console, to),
+            None => {
+                if let Some(p) = from {
+                    self.leave_unit(p, Unit::Console { n: console });
+                }
+            }
+        }
+    }
+
+    /// The calls on consoles and printers: they are attached, detached, changed or assigned, or their numbers are told.
+    #[tactic(auto, using(crate::proofs::UnitLaws::has_own_console, crate::proofs::UnitCalls::stays_unit_called), unfolding(crate::specs::Consoling::unit_called))]
+    pub(crate) fn unit_call(&mut self, p: Pid, reply: &mut Reply) -> Outcome
+        requires sound { IsSound self.old }
+        requires lives { Lives self.old.procs p }
+        requires ready { IsReady self.old p }
+        ensures kernel { self.new ≡ (unit_called (call_of self.old.procs p) p self.old).kernel }
+        ensures outcome { result ≡ (unit_called (call_of self.old.procs p) p self.old).outcome }
+        ensures reply { reply.new ≡ (unit_called (call_of self.old.procs p) p self.old).reply }
+    {
+        let function = self.procs.call(p).function;
+        let process = self.procs.get(p);
+        let console = process.console;
+        let printer = process.printer;
+        let own = Unit::Console { n: console };
+        match function {
+            146 => self.attach_unit(p, own, reply),
+            147 => self.detach_unit(p, own, reply),
+            148 => self.set_console(p, reply),
+            149 => self.assign(p, reply),
+            153 => done(reply, u16::from(console)),
+            162 => self.attach_now(p, own, reply),
+            164 => done(reply, u16::from(printer)),
+            _ => self.printer_call(p, reply),
+        }
+    }
+
+    /// The calls on printers, which a machine without printers refuses.
+    #[tactic(auto, using(crate::proofs::UnitLaws::has_own_printer), unfolding(crate::specs::Consoling::printer_called))]
+    fn printer_call(&mut self, p: Pid, reply: &mut Reply) -> Outcome
+        requires sound { IsSound self.old }
+        requires lives { Lives self.old.procs p }
+        requires ready { IsReady self.old p }
+        ensures kernel { self.new ≡ (printer_called (call_of self.old.procs p) p self.old).kernel }
+        ensures outcome { result ≡ (printer_called (call_of self.old.procs p) p self.old).outcome }
+        ensures reply { reply.new ≡ (printer_called (call_of self.old.procs p) p self.old).reply }
+    {
+        if self.printers == 0 {
+            return done(reply, REFUSED);
+        }
+        let own = Unit::Printer {
+            n: self.procs.get(p).printer,
+        };
+        match self.procs.call(p).function {
+            159 => self.detach_unit(p, own, reply),
+            160 => self.set_printer(p, reply),
+            161 => self.attach_now(p, own, reply),
+            _ => self.attach_unit(p, own, reply),
+        }
+    }
+
+    /// A process attaches a unit, or waits for it.
+    #[tactic(auto, unfolding(crate::specs::Consoling::attached))]
+    fn attach_unit(&mut self, p: Pid, unit: Unit, reply: &mut Reply) -> Outcome
+        requires sound { IsSound self.old }
+        requires lives { Lives self.old.procs p }
+        requires ready { IsReady self.old p }
+        requires unit { HasUnit self.old.units unit }
+        ensures kernel { self.new ≡ (attached p unit self.old).kernel }
+        ensures outcome { result ≡ (attached p unit self.old).outcome }
+        ensures reply { reply.new ≡ (attached p unit self.old).reply }
+    {
+        if self.attach(p, unit, true) {
+            done(reply, 0)
+        } else {
+            self.retry(p, reply)
+        }
+    }
+
+    /// A process attaches a unit, unless another owns it.
+    #[tactic(auto, using(crate::proofs::UnitLaws::attach_refused), unfolding(crate::specs::Consoling::attached_now))]
+    fn attach_now(&mut self, p: Pid, unit: Unit, reply: &mut Reply) -> Outcome
+        requires sound { IsSound self.old }
+        requires lives { Lives self.old.procs p }
+        requires ready { IsReady self.old p }
+        requires unit { HasUnit self.old.units unit }
+        ensures kernel { self.new ≡ (attached_now p unit self.old).kernel }
+        ensures outcome { result ≡ (attached_now p unit self.old).outcome }
+        ensures reply { reply.new ≡ (attached_now p unit self.old).reply }
+    {
+        if self.attach(p, unit, false) {
+            done(reply, 0)
+        } else {
+            done(reply, REFUSED)
+        }
+    }
+
+    /// A process detaches a unit.
+    fn detach_unit(&mut self, p: Pid, unit: Unit, reply: &mut Reply) -> Outcome
+        requires sound { IsSound self.old }
+        requires unit { HasUnit self.old.units unit }
+        ensures kernel { self.new ≡ unit_left p unit self.old }
+        ensures outcome { result ≡ Done }
+        ensures reply { reply.new ≡ answering 0 }
+    {
+        self.leave_unit(p, unit);
+        done(reply, 0)
+    }
+
+    /// A process attaches a unit; false where another owns it, and then the process waits for it if `wait` says so.
+    #[tactic(auto, using(crate::proofs::UnitLaws::waits_at_none))]
+    pub(crate) fn attach(&mut self, p: Pid, unit: Unit, wait: bool) -> bool
+        requires sound { IsSound self.old }
+        requires lives { Lives self.old.procs p }
+        requires ready { IsReady self.old p }
+        requires unit { HasUnit self.old.units unit }
+        ensures answer { result ≡ may_attach self.old.units p unit }
+        ensures kernel { self.new ≡ attaching p unit wait self.old }
+    {
+        let priority = self.procs.get(p).priority;
+        self.units.attach(p, priority, unit, wait)
+    }
+
+    /// A call isn't done: its process takes the step at its gate again once it is ready.
+    #[tactic(auto, unfolding(crate::specs::Consoling::retried))]
+    pub(crate) fn retry(&mut self, p: Pid, reply: &mut Reply) -> Outcome
+        ensures kernel { self.new ≡ (retried p self.old).kernel }
+        ensures outcome { result ≡ (retried p self.old).outcome }
+        ensures reply { reply.new ≡ (retried p self.old).reply }
+    {
+        self.unlist(p);
+        self.rest(p);
+        reply.answer(0);
+        Outcome::Retry
+    }
+
+    /// A unit that a process owns passes to the process that waits for it first, who becomes ready.
+    #[tactic(auto, using(crate::proofs::UnitLaws::heir_lives, crate::proofs::UnitLaws::lists_by_units), unfolding(crate::specs::Dispatch::unit_left))]
+    pub(crate) fn leave_unit(&mut self, p: Pid, unit: Unit)
+        requires sound { IsSound self.old }
+        requires unit { HasUnit self.old.units unit }
+        ensures { self.new ≡ unit_left p unit self.old }
+    {
+        let heir = self.units.detach(p, unit);
+        self.make_heir_ready(heir);
+    }
+
+    /// A process becomes ready, if there is one.
+    #[tactic(auto, unfolding(crate::specs::Dispatch::lists_ready, crate::specs::Dispatch::moved))]
+    fn make_heir_ready(&mut self, heir: Option<Pid>)
+        requires { IfSome heir (λ p. Lives self.old.procs p) }
+        ensures { self.new ≡ made_ready heir self.old }
+    {
+        if let Some(p) = heir {
+            self.move_to(p, READY);
+        }
+    }
+
+    /// A process has another console from now on, and attaches it.
+    #[tactic(auto, using(crate::proofs::ChangeLaws::sound_console_changed, crate::proofs::ChangeLaws::lives_console_changed, crate::proofs::ChangeLaws::ready_console_changed, crate::proofs::ChangeLaws::has_console_changed), unfolding(crate::specs::Consoling::console_set))]
+    fn set_console(&mut self, p: Pid, reply: &mut Reply) -> Outcome
+        requires sound { IsSound self.old }
+        requires lives { Lives self.old.procs p }
+        requires ready { IsReady self.old p }
+        ensures kernel { self.new ≡ (console_set (call_of self.old.procs p) p self.old).kernel }
+        ensures outcome { result ≡ (console_set (call_of self.old.procs p) p self.old).outcome }
+        ensures reply { reply.new ≡ (console_set (call_of self.old.procs p) p self.old).reply }
+    {
+        let console = (self.procs.call(p).word % 256) as u8;
+        if self.consoles <= console {
+            return done(reply, REFUSED);
+        }
+        self.change_console(p, console);
+        self.attach_unit(p, Unit::Console { n: console }, reply)
+    }
+
+    /// A process has another printer from now on, and attaches it.
+    #[tactic(auto, using(crate::proofs::ChangeLaws::sound_printer_changed, crate::proofs::ChangeLaws::lives_printer_changed, crate::proofs::ChangeLaws::ready_printer_changed, crate::proofs::ChangeLaws::has_printer_changed), unfolding(crate::specs::Consoling::printer_set))]
+    fn set_printer(&mut self, p: Pid, reply: &mut Reply) -> Outcome
+        requires sound { IsSound self.old }
+        requires lives { Lives self.old.procs p }
+        requires ready { IsReady self.old p }
+        ensures kernel { self.new ≡ (printer_set (call_of self.old.procs p) p self.old).kernel }
+        ensures outcome { result ≡ (printer_set (call_of self.old.procs p) p self.old).outcome }
+        ensures reply { reply.new ≡ (printer_set (call_of self.old.procs p) p self.old).reply }
+    {
+        let printer = (self.procs.call(p).word % 256) as u8;
+        if self.printers <= printer {
+            return done(reply, REFUSED);
+        }
+        self.change_printer(p, printer);
+        self.attach_unit(p, Unit::Printer { n: printer }, reply)
+    }
+
+    /// A process leaves its console for another one, unless it has that one already.
+    #[tactic(auto, using(crate::proofs::UnitLaws::has_own_console), unfolding(crate::specs::Consoling::console_changed, crate::specs::Dispatch::unit_left))]
+    fn change_console(&mut self, p: Pid, console: u8)
+        requires sound { IsSound self.old }
+        requires lives { Lives self.old.procs p }
+        requires ready { IsReady self.old p }
+        requires there { console < self.old.consoles }
+        ensures { self.new ≡ console_changed p console self.old }
+    {
+        let own = self.procs.get(p).console;
+        if own == console {
+            return;
+        }
+        self.leave_unit(p, Unit::Console { n: own });
+        let process = self.procs.get_mut(p);
+        process.console = console;
+    }
+
+    /// A process leaves its printer for another one, unless it has that one already.
+    #[tactic(auto, using(crate::proofs::UnitLaws::has_own_printer), unfolding(crate::specs::Consoling::printer_changed, crate::specs::Dispatch::unit_left))]
+    fn change_printer(&mut self, p: Pid, printer: u8)
+        requires sound { IsSound self.old }
+        requires lives { Lives self.old.procs p }
+        requires ready { IsReady self.old p }
+        requires there { printer < self.old.printers }
+        ensures { self.new ≡ printer_changed p printer self.old }
+    {
+        let own = self.procs.get(p).printer;
+        if own == printer {
+            return;
+        }
+        self.leave_unit(p, Unit::Printer { n: own });
+        let process = self.procs.get_mut(p);
+        process.printer = printer;
+    }
+
+    /// A process assigns a console to a process that it names. (MP/M II Programmer's Guide, "Function 149: Assign Console".)
+    #[tactic(auto, using(crate::proofs::UnitLaws::has_console), unfolding(crate::specs::Consoling::assigned, crate::specs::Consoling::assigned_to))]
+    fn assign(&mut self, p: Pid, reply: &mut Reply) -> Outcome
+        requires sound { IsSound self.old }
+        requires lives { Lives self.old.procs p }
+        ensures kernel { self.new ≡ (assigned (call_of self.old.procs p) p self.old).kernel }
+        ensures outcome { result ≡ (assigned (call_of self.old.procs p) p self.old).outcome }
+        ensures reply { reply.new ≡ (assigned (call_of self.old.procs p) p self.old).reply }
+    {
+        let call = self.procs.call(p);
+        let console = call.byte(0);
+        let name = name_at(call, 1);
+        let own_only = call.byte(9) == 0xFF;
+        if self.consoles <= console || !self.may_attach(p, Unit::Console { n: console }) {
+            return done(reply, REFUSED);
+        }
+        match self.named(name) {
+            Some(to) => self.assign_to(p, to, console, own_only, reply),
+            None => done(reply, REFUSED),
+        }
+    }
+
+    /// A console is assigned to a process, if its number may be changed.
+    #[tactic(auto, unfolding(crate::specs::Consoling::assigned_to, crate::specs::Consoling::owner_made))]
+    fn assign_to(
+        &mut self,
+        p: Pid,
+        to: Pid,
+        console: u8,
+        own_only: bool,
+        reply: &mut Reply,
+    ) -> Outcome
+        requires sound { IsSound self.old }
+        requires lives { Lives self.old.procs to }
+        requires caller { Lives self.old.procs p }
+        requires console { console ≡ byte_in (call_of self.old.procs p) 0 }
+        requires there { console < self.old.consoles }
+        requires own { own_only ≡ (byte_in (call_of self.old.procs p) 9 == 255) }
+        ensures kernel { self.new ≡ (assigned_to (Some to) (call_of self.old.procs p) self.old).kernel }
+        ensures outcome { result ≡ (assigned_to (Some to) (call_of self.old.procs p) self.old).outcome }
+        ensures reply { reply.new ≡ (assigned_to (Some to) (call_of self.old.procs p) self.old).reply }
+    {
+        if own_only && self.procs.get(to).console != console {
+            return done(reply, REFUSED);
+        }
+        self.make_owner(console, to);
+        let process = self.procs.get_mut(to);
+        process.console = console;
+        done(reply, 0)
+    }
+
+    /// A process becomes the owner of a console; where it waited for that one, it becomes ready.
+    #[tactic(auto, using(crate::proofs::UnitLaws::has_console), unfolding(crate::specs::Consoling::owner_made, crate::specs::Dispatch::lists_ready, crate::specs::Dispatch::moved))]
+    fn make_owner(&mut self, console: u8, to: Pid)
+        requires sound { IsSound self.old }
+        requires lives { Lives self.old.procs to }
+        requires console { console < self.old.consoles }
+        ensures { self.new ≡ owner_made console to self.old }
+    {
+        if self.units.assign(console, to) {
+            self.move_to(to, READY);
+        }
+    }
+
+    /// Whether a process may attach a unit: nobody owns it, or that process does.
+    #[tactic(auto, unfolding(mpm_consoles::specs::Handling::may_attach))]
+    fn may_attach(&self, p: Pid, unit: Unit) -> bool
+        requires { HasUnit self.now.units unit }
+        ensures { result ≡ may_attach self.now.units p unit }
+    {
+        match self.units.owner(unit) {
+            Some(owner) => owner.0 == p.0,
+            None => true,
+        }
+    }
+
+    /// The process of that name in the lowest slot.
+    #[tactic(auto, using(mpm_queues::proofs::Finding::failed_none, mpm_queues::proofs::Finding::failed_more, mpm_queues::proofs::Finding::found_lowest, mpm_queues::proofs::Finding::found_none))]
+    fn named(&self, name: Name8) -> Option<Pid>
+        ensures process { result ≡ process_named self.now.procs name }
+        ensures lives { IfSome result (λ p. Lives self.now.procs p) }
+    {
+        for slot in 0..SLOTS {
+            let p = Pid(slot);
+            if self.procs.lives(p) && self.procs.get(p).name == name {
+                return Some(p);
+            }
+        }
+        None
+    }
+
+    /// A key comes to a console; one of a console that isn't there is dropped. (MP/M II User's Guide, control characters of a
+    /// console.)
+    #[tactic(auto, using(crate::proofs::UnitLaws::has_console, crate::proofs::UnitLaws::key_names, crate::proofs::KeyLaws::has_behind_key), unfolding(crate::specs::Consoling::key_came))]
+    pub(crate) fn key(&mut self, console: u8, byte: u8)
+        requires { IsSound self.old }
+        ensures { self.new ≡ key_came console byte self.old }
+    {
+        if self.consoles <= console {
+            return;
+        }
+        let resident = self.is_resident(console);
+        let done = self.units.key(console, byte, resident);
+        self.finish_key(done, console);
+    }
+
+    /// The process that owns a console.
+    #[tactic(auto, using(crate::proofs::UnitLaws::has_console, crate::proofs::UnitLaws::owner_fits))]
+    fn console_owner(&self, console: u8) -> Option<Pid>
+        requires sound { IsSound self.now }
+        requires console { console < self.now.consoles }
+        ensures owner { result ≡ owner_of self.now.units (ConsoleUnit console) }
+        ensures lives { IfSome result (λ p. Lives self.now.procs p) }
+    {
+        self.units.owner(Unit::Console { n: console })
+    }
+
+    /// Whether the owner of a console is a resident process, which lives in no memory segment.
+    fn is_resident(&self, console: u8) -> bool
+        requires sound { IsSound self.now }
+        requires console { console < self.now.consoles }
+        ensures { result ≡ is_resident self.now.procs (owner_of self.now.units (ConsoleUnit console)) }
+    {
+        match self.console_owner(console) {
+            Some(p) => is_homeless(self.procs.get(p).seg),
+            None => false,
+        }
+    }
+
+    /// What becomes of the processes by a key.
+    #[tactic(auto, unfolding(crate::specs::Consoling::key_done, crate::specs::Dispatch::lists_ready, crate::specs::Dispatch::moved))]
+    fn finish_key(&mut self, key: KeyDone, console: u8)
+        requires names { KeyNames self.old.procs key }
+        requires console { HasConsole self.old console }
+        ensures { self.new ≡ key_done key console self.old }
+    {
+        match key {
+            KeyDone::Stored | KeyDone::Dropped | KeyDone::Nothing => {}
+            KeyDone::Wakes { p } => self.move_to(p, READY),
+            KeyDone::Aborts { p } => {
+                self.show(console, Echo::of(b"^C\r\n"));
+                self.aborted = Some(p);
+            }
+            KeyDone::Passes { from, to, waited } => {
+                self.make_heir_ready(to);
+                if waited {
+                    self.move_to(from, READY);
+                }
+            }
+        }
+    }
+
+    /// The kernel itself writes bytes to a console.
+    #[tactic(auto, unfolding(crate::specs::Consoling::echoed))]
+    pub(crate) fn show(&mut self, console: u8, shown: Echo)
+        requires { HasConsole self.old console }
+        ensures { self.new ≡ echoed console shown self.old }
+    {
+        self.speak(console, shown.written());
+        self.echo = shown;
+    }
+
+    /// Bytes come to a console as they are: its column moves.
+    fn speak(&mut self, console: u8, bytes: &[u8])
+        requires { HasConsole self.old console }
+        ensures { self.new ≡ spoke self.old console bytes.now }
+    {
+        for &byte in bytes {
+            let _itself = self.write(Unit::Console { n: console }, byte, false);
+        }
+    }
+}
+
+/// Whether a process is the owner of a unit.
+fn owns(owner: Option<Pid>, p: Pid) -> bool
+    ensures { result ≡ is_owner owner p }
+{
+    match owner {
+        Some(owner) => owner.0 == p.0,
+        None => false,
+    }
+}
+
+/// Whether a process that lives in that memory segment, if in any, is a resident.
+fn is_homeless(seg: Option<Seg>) -> bool
+    ensures { result ≡ has_no_segment seg }
+{
+    seg.is_none()
+}

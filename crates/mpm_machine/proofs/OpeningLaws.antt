@@ -1,0 +1,352 @@
+-- A machine as it is run: the command queue, the command line interpreter, the terminal message processors.
+use Rattle.std.proofs.Common.{◌≡◌, ◌∙◌, ℕ, zero, suc, ◌+◌, ◌<◌, ◌≤◌, false, List, [], ◌∷◌, ◌++◌, Option, Some, None, codes, refl, sym, ap, subst, arith, add-one}
+use Rattle.mpm_procs.specs.Table.{Lives, lives, process_in, lowest_free}
+use Rattle.mpm_procs.specs.declared.process.Process.{Process}
+use Rattle.mpm_procs.specs.declared.process.NewProcess.{NewProcess}
+use Rattle.mpm_procs.proofs.MapLaws.{lives_added, lives_changed, free_below}
+use Rattle.mpm_queues.specs.Queues.{refusal}
+use Rattle.mpm_kernel.specs.Kernel.{Kernel, IsSound, CompletedLive, with_changed}
+use Rattle.mpm_kernel.specs.Dispatch.{new_kernel, admitted, in_slot, picked}
+use Rattle.mpm_kernel.specs.Joining.{joined, joined_in}
+use Rattle.mpm_kernel.specs.Queueing.{OnlySystems, with_queue, with_system_queue}
+use Rattle.mpm_kernel.proofs.SoundLaws.{sound_changed, sound_admitted, sound_picked, live_kept}
+use Rattle.mpm_kernel.proofs.SystemQueues.{sound_system_queue, only_systems_new, may_make_new}
+use Rattle.mpm_kernel.proofs.HomeLaws.{SameHomes, homes_stay, homes_both, homes_changed, homes_admitted, lives_on, procs_picked}
+use Rattle.mpm_kernel.specs.Consoling.{given}
+use Rattle.mpm_kernel.proofs.GivingLaws.{sound_gave}
+use Rattle.mpm_kernel.proofs.JoinedLaws.{sound_joined, homes_joined}
+use Rattle.mpm_base.specs.declared.number.Name8.{Name8}
+use Rattle.mpm_residents.specs.Terminals.{opening}
+use Rattle.mpm_residents.specs.declared.native.Native.{Native}
+use Rattle.mpm_residents.specs.declared.native.Native.TheVariants.{Tmp}
+use Rattle.mpm_script.specs.declared.event.Timed.{Timed}
+use Rattle.mpm_machine_file.specs.declared.machine_file.MachineFile.{MachineFile}
+use Rattle.mpm_machine.specs.declared.system.System.{System}
+use Rattle.mpm_machine.specs.State.{IsWhole}
+use Rattle.mpm_machine.specs.Opening.{resident_process, with_interpreter, terminal_name, with_terminal, with_terminals, command_queue, with_command_queue, begun_by_interpreter, with_residents, moment_of, booted, opened}
+use Rattle.mpm_machine.proofs.WholeLaws.{whole_kernel, whole_residents, live_picked, same_picked}
+
+-- what is so of a kernel in which a resident begins, whose process is then another one of no segment
+record Begins (old new : Kernel) : Type 0 where
+  pub sound : IsSound new
+  pub homes : SameHomes old new
+  pub live : CompletedLive old → CompletedLive new
+  pub completed : new.completed ≡ old.completed
+  pub consoles : new.consoles ≡ old.consoles
+
+-- behind a process that has begun, its own process is changed
+begins_changed : (old begun : Kernel) (p : ℕ) (process : Process) → Begins old begun → Lives begun.procs p
+    → process.console ≡ (process_in begun.procs p).console → process.printer ≡ (process_in begun.procs p).printer
+    → 1 ≤ process.multi → process.multi ≤ 16
+    → process.seg ≡ (process_in begun.procs p).seg → process.abort_due ≡ (process_in begun.procs p).abort_due
+    → Begins old (with_changed begun p process)
+begins_changed old begun p process b h console printer some few seg due =
+    let fit = b.sound.fit p h in
+    record {
+      sound = sound_changed begun p process b.sound h (record {
+        console = omega (arith, console, fit.console);
+        printer = λ there. omega (arith, printer, fit.printer there);
+        some = some;
+        few = few;
+      });
+      homes = homes_both old begun _ b.homes (homes_changed begun p process b.sound.slots h seg due);
+      live = λ live. live_kept begun (with_changed begun p process) refl (λ q living. lives_changed begun.procs p q process ∙ living) (b.live live);
+      completed = b.completed;
+      consoles = b.consoles;
+    }
+
+homeless : (new : NewProcess) (seg : ℕ) (A : Type 0) → new.seg ≡ None → new.seg ≡ Some seg → A
+homeless new seg A none some = absurd (none_is_some (sym none ∙ some)) where
+  none_is_some : None ≡ Some seg → ⊥
+  none_is_some e = absurd (cc)
+
+begins_admitted : (kernel : Kernel) (p : ℕ) (new : NewProcess) → IsSound kernel → lowest_free kernel.procs ≡ Some p → new.console < kernel.consoles
+    → new.seg ≡ None → Begins kernel (admitted kernel p new)
+unfolding admitted
+begins_admitted kernel p new s free console none = record {
+  sound = sound_admitted kernel p new s free console;
+  homes = homes_admitted kernel p new s.slots free (λ seg some. homeless new seg _ none some);
+  live = λ live. live_kept kernel (admitted kernel p new) refl (λ q living. lives_on kernel new (Some p) q free living) live;
+  completed = refl;
+  consoles = refl;
+}
+
+begins_joined : (kernel : Kernel) (p : ℕ) (new : NewProcess) → IsSound kernel → lowest_free kernel.procs ≡ Some p → new.console < kernel.consoles
+    → new.seg ≡ None → Begins kernel (joined kernel p new)
+unfolding admitted
+begins_joined kernel p new s free console none = record {
+  sound = sound_joined kernel p new s free console;
+  homes = homes_joined kernel p new s free (λ seg some. homeless new seg _ none some);
+  live = λ live. live_kept kernel (joined kernel p new) refl (λ q living. lives_on kernel new (Some p) q free living) live;
+  completed = refl;
+  consoles = refl;
+}
+
+begins_nothing : (kernel : Kernel) → IsSound kernel → Begins kernel kernel
+begins_nothing kernel s = record { sound = s; homes = homes_stay kernel kernel refl; live = λ live. live; completed = refl; consoles = refl }
+
+lives_begun : (kernel : Kernel) (p : ℕ) (new : NewProcess) → IsSound kernel → lowest_free kernel.procs ≡ Some p → Lives (admitted kernel p new).procs p
+unfolding admitted
+lives_begun kernel p new s free = lives_added kernel.procs p new (free_below kernel.procs p free)
+
+lives_joined : (kernel : Kernel) (p : ℕ) (new : NewProcess) → IsSound kernel → lowest_free kernel.procs ≡ Some p → Lives (joined kernel p new).procs p
+lives_joined kernel p new s free = lives_added kernel.procs p new (free_below kernel.procs p free)
+
+-- the command line interpreter
+
+begins_interpreter : (slot : Option ℕ) (kernel : Kernel) → IsSound kernel → lowest_free kernel.procs ≡ slot → Begins kernel (with_interpreter slot kernel)
+unfolding with_interpreter resident_process
+begins_interpreter None kernel s free = begins_nothing kernel s
+begins_interpreter (Some p) kernel s free =
+    let new = resident_process (record { 0 = codes "cli     " }) 190 0 in
+    begins_changed kernel (joined kernel p new) p _ (begins_joined kernel p new s free (omega (arith, s.some)) refl)
+    (lives_joined kernel p new s free) refl refl (omega arith) (omega arith) refl refl
+
+begins_queue : (kernel : Kernel) → IsSound kernel → OnlySystems kernel → refusal kernel.queues command_queue 130 15 ≡ None
+    → Begins kernel (with_command_queue kernel)
+unfolding with_system_queue with_queue
+begins_queue kernel s only none = record {
+  sound = sound_system_queue kernel command_queue 130 15 s only none;
+  homes = homes_stay kernel (with_command_queue kernel) refl;
+  live = λ live. live;
+  completed = refl;
+  consoles = refl;
+}
+
+begins_both : (old middle new : Kernel) → Begins old middle → Begins middle new → Begins old new
+begins_both old middle new one other = record {
+  sound = other.sound;
+  homes = homes_both old middle new one.homes other.homes;
+  live = λ live. other.live (one.live live);
+  completed = other.completed ∙ one.completed;
+  consoles = other.consoles ∙ one.consoles;
+}
+
+begins_first : (kernel : Kernel) → IsSound kernel → OnlySystems kernel → refusal kernel.queues command_queue 130 15 ≡ None
+    → Begins kernel (with_interpreter (lowest_free (with_command_queue kernel).procs) (with_command_queue kernel))
+begins_first kernel s only none =
+    let queued = begins_queue kernel s only none in
+    begins_both kernel (with_command_queue kernel) _ queued (begins_interpreter _ (with_command_queue kernel) queued.sound refl)
+
+pub record Begun (old new : System) : Type 0 where
+  pub whole : IsWhole new
+  pub completed : new.kernel.completed ≡ old.kernel.completed
+  pub consoles : new.kernel.consoles ≡ old.kernel.consoles
+  pub steps : new.steps ≡ old.steps
+
+begun_kernel : (system : System) (kernel : Kernel) → IsWhole system → Begins system.kernel kernel → Begun system (record system { kernel = kernel })
+begun_kernel system kernel w b = record {
+  whole = whole_kernel system kernel w b.sound (b.live w.live) b.homes;
+  completed = b.completed;
+  consoles = b.consoles;
+  steps = refl;
+}
+
+pub first_begun : (system : System) → IsWhole system → OnlySystems system.kernel → refusal system.kernel.queues command_queue 130 15 ≡ None
+    → Begun system (begun_by_interpreter system)
+unfolding begun_by_interpreter
+first_begun system w only none = begun_kernel system _ w (begins_first system.kernel w.sound only none)
+
+-- a terminal message processor
+
+terminal_by : (slot : Option ℕ) (console : ℕ) (system : System) → IsWhole system → lowest_free system.kernel.procs ≡ slot → console < system.kernel.consoles
+    → Begun system (with_terminal slot console system)
+unfolding with_terminal resident_process
+terminal_by None console system w free below = record { whole = w; completed = refl; consoles = refl; steps = refl }
+terminal_by (Some p) console system w free below =
+    let new = resident_process (terminal_name console) 198 console in
+    let s = w.sound in
+    let begun = admitted system.kernel p new in
+    let lives_now = lives_begun system.kernel p new s free in
+    let fit = (begins_admitted system.kernel p new s free below refl).sound.fit p lives_now in
+    let b = begins_changed system.kernel begun p (record (process_in begun.procs p) { error_mode = 255 })
+    (begins_admitted system.kernel p new s free below refl) lives_now refl refl fit.some fit.few refl refl in
+    let changed = begun_kernel system _ w b in
+    record { whole = whole_residents _ _ changed.whole; completed = changed.completed; consoles = changed.consoles; steps = changed.steps }
+
+pub terminal_begun : (console : ℕ) (system : System) → IsWhole system → console < system.kernel.consoles
+    → Begun system (with_terminal (lowest_free system.kernel.procs) console system)
+terminal_begun console system w below = terminal_by (lowest_free system.kernel.procs) console system w refl below
+
+-- one for each console
+
+pub no_terminals : (system : System) → with_terminals 0 system ≡ system
+unfolding with_terminals
+no_terminals system = refl
+
+pub more_terminals : (n : ℕ) (system : System)
+    → with_terminals (n + 1) system ≡ with_terminal (lowest_free (with_terminals n system).kernel.procs) n (with_terminals n system)
+unfolding with_terminals
+more_terminals n system = ap (λ k. with_terminals k system) (add-one n)
+
+-- some have begun
+pub record BegunSo (start now : System) (n : ℕ) : Type 0 where
+  pub is : now ≡ with_terminals n start
+  pub whole : IsWhole now
+  pub completed : now.kernel.completed ≡ start.kernel.completed
+  pub consoles : now.kernel.consoles ≡ start.kernel.consoles
+  pub steps : now.steps ≡ start.steps
+
+pub begun_none : (start : System) → IsWhole start → BegunSo start start 0
+begun_none start w = record { is = sym (no_terminals start); whole = w; completed = refl; consoles = refl; steps = refl }
+
+pub begun_more : (start now next : System) (n : ℕ) → BegunSo start now n → n < start.kernel.consoles
+    → next ≡ with_terminal (lowest_free now.kernel.procs) n now → BegunSo start next (n + 1)
+begun_more start now next n so below is =
+    let P : System → Type 0 = λ s. Begun now s in
+    let b : Begun now next = subst P (sym is) (terminal_begun n now so.whole (omega (arith, below, so.consoles))) in
+    record {
+      is = is ∙ ap (λ (s : System). with_terminal (lowest_free s.kernel.procs) n s) so.is ∙ sym (more_terminals n start);
+      whole = b.whole;
+      completed = b.completed ∙ so.completed;
+      consoles = b.consoles ∙ so.consoles;
+      steps = b.steps ∙ so.steps;
+    }
+
+-- and it is picked who runs
+pub whole_picked : (behind : System) (kernel : Kernel) → IsWhole behind → kernel ≡ picked false behind.kernel → IsWhole (record behind { kernel = kernel })
+whole_picked behind kernel w is =
+    let P : Kernel → Type 0 = λ k. IsWhole (record behind { kernel = k }) in
+    subst P (sym is)
+    (whole_kernel behind _ w (sound_picked behind.kernel false w.sound) (live_picked false behind.kernel w.live) (homes_stay _ _ (procs_picked false behind.kernel)))
+
+pub handed_picked : (behind : Kernel) (kernel : Kernel) → kernel ≡ picked false behind → behind.completed ≡ [] → kernel.completed ≡ []
+handed_picked behind kernel is none = ap (λ (k : Kernel). k.completed) is ∙ same_picked false behind ∙ none
+
+-- a process that begins gets its console
+
+pub record AdmittedHere (kernel : Kernel) (p n : ℕ) : Type 0 where
+  pub sound : IsSound kernel
+  pub console : n < kernel.consoles
+  pub lives : Lives kernel.procs p
+
+pub admitted_here : (old now : Kernel) (p : ℕ) (new : NewProcess) → IsSound old → new.console < old.consoles → lowest_free old.procs ≡ Some p
+    → now ≡ in_slot old new (lowest_free old.procs) → AdmittedHere now p new.console
+unfolding admitted
+admitted_here old now p new s below free is =
+    let P : Kernel → Type 0 = λ kernel. AdmittedHere kernel p new.console in
+    subst P (sym (is ∙ ap (in_slot old new) free)) (record {
+      sound = sound_admitted old p new s free below;
+      console = below;
+      lives = lives_begun old p new s free;
+    })
+
+pub sound_begun : (old now : Kernel) (console p : ℕ) → AdmittedHere old p console → now ≡ given console None (Some p) old → IsSound now
+sound_begun old now console p a is = subst IsSound (sym is) (sound_gave console None (Some p) old a.sound a.console a.lives)
+
+-- the system as it is reached
+
+pub sound_queued : (kernel queued : Kernel) → IsSound kernel → OnlySystems kernel → refusal kernel.queues command_queue 130 15 ≡ None
+    → queued ≡ with_command_queue kernel → IsSound queued
+sound_queued kernel queued s only none is = subst IsSound (sym is) (begins_queue kernel s only none).sound
+
+pub joined_here : (old now : Kernel) (p : ℕ) (new : NewProcess) → IsSound old → lowest_free old.procs ≡ Some p
+    → now ≡ joined_in old new (lowest_free old.procs) → Lives now.procs p
+joined_here old now p new s free is =
+    let P : Kernel → Type 0 = λ kernel. Lives kernel.procs p in subst P (sym (is ∙ ap (joined_in old new) free)) (lives_joined old p new s free)
+
+interpreter : NewProcess
+interpreter = resident_process (record { 0 = codes "cli     " }) 190 0
+
+interpreter_at : (queued : Kernel) (p : ℕ) → with_interpreter (Some p) queued
+    ≡ with_changed (joined queued p interpreter) p (record (process_in (joined queued p interpreter).procs p) { error_mode = 255; multi = 16 })
+unfolding with_interpreter interpreter
+interpreter_at queued p = refl
+
+begun_is : (old : System) (queued : Kernel) → queued ≡ with_command_queue old.kernel
+    → record old { kernel = with_interpreter (lowest_free queued.procs) queued } ≡ begun_by_interpreter old
+unfolding begun_by_interpreter
+begun_is old queued is = ap (λ (k : Kernel). record old { kernel = with_interpreter (lowest_free k.procs) k }) is
+
+pub interpreter_here : (old : System) (queued now : Kernel) (p : ℕ) (new : NewProcess) (process : Process) → queued ≡ with_command_queue old.kernel
+    → now ≡ joined_in queued new (lowest_free queued.procs) → lowest_free queued.procs ≡ Some p → new ≡ resident_process (record { 0 = codes "cli     " }) 190 0
+    → process ≡ process_in now.procs p
+    → record old { kernel = with_changed now p (record process { error_mode = 255; multi = 16 }) } ≡ begun_by_interpreter old
+unfolding interpreter
+interpreter_here old queued now p new process queue is free made same =
+    let there : now ≡ joined queued p interpreter = is ∙ ap (joined_in queued new) free ∙ ap (joined queued p) made in
+    ap (λ x. record old { kernel = with_changed now p (record x { error_mode = 255; multi = 16 }) }) same
+    ∙ ap (λ (k : Kernel). record old { kernel = with_changed k p (record (process_in k.procs p) { error_mode = 255; multi = 16 }) }) there
+    ∙ ap (λ k. record old { kernel = k }) (sym (interpreter_at queued p))
+    ∙ ap (λ o. record old { kernel = with_interpreter o queued }) (sym free)
+    ∙ begun_is old queued queue
+
+pub no_interpreter : (old : System) (queued now : Kernel) (new : NewProcess) → queued ≡ with_command_queue old.kernel
+    → now ≡ joined_in queued new (lowest_free queued.procs) → lowest_free queued.procs ≡ None → record old { kernel = now } ≡ begun_by_interpreter old
+unfolding with_interpreter
+no_interpreter old queued now new queue is none =
+    ap (λ k. record old { kernel = k }) (is ∙ ap (joined_in queued new) none)
+    ∙ ap (λ o. record old { kernel = with_interpreter o queued }) (sym none)
+    ∙ begun_is old queued queue
+
+terminal : ℕ → NewProcess
+terminal console = resident_process (terminal_name console) 198 console
+
+terminal_at : (old : System) (p console : ℕ) → with_terminal (Some p) console old
+    ≡ record old {
+      kernel = with_changed (admitted old.kernel p (terminal console)) p (record (process_in (admitted old.kernel p (terminal console)).procs p) { error_mode = 255 });
+      residents = old.residents ++ Tmp (opening console) ∷ [];
+    }
+unfolding with_terminal terminal
+terminal_at old p console = refl
+
+pub terminal_here : (old : System) (now : Kernel) (residents : List Native) (p console : ℕ) (new : NewProcess) (name : Name8) (process : Process)
+    → now ≡ in_slot old.kernel new (lowest_free old.kernel.procs) → lowest_free old.kernel.procs ≡ Some p → name ≡ terminal_name console
+    → new ≡ resident_process name 198 console
+    → process ≡ process_in now.procs p → residents ≡ old.residents ++ Tmp (opening console) ∷ []
+    → record old { kernel = with_changed now p (record process { error_mode = 255 }); residents = residents }
+    ≡ with_terminal (lowest_free old.kernel.procs) console old
+unfolding terminal
+terminal_here old now residents p console new name process is free called made same more =
+    let there : now ≡ admitted old.kernel p (terminal console) =
+    is ∙ ap (in_slot old.kernel new) free ∙ ap (admitted old.kernel p) (made ∙ ap (λ n. resident_process n 198 console) called) in
+    ap (λ x. record old { kernel = with_changed now p (record x { error_mode = 255 }); residents = residents }) same
+    ∙ ap (λ (k : Kernel). record old { kernel = with_changed k p (record (process_in k.procs p) { error_mode = 255 }); residents = residents }) there
+    ∙ ap (λ r. record old {
+      kernel = with_changed (admitted old.kernel p (terminal console)) p (record (process_in (admitted old.kernel p (terminal console)).procs p) { error_mode = 255 });
+      residents = r;
+    }) more
+    ∙ sym (terminal_at old p console)
+    ∙ ap (λ o. with_terminal o console old) (sym free)
+
+pub no_terminal : (old : System) (now : Kernel) (console : ℕ) (new : NewProcess) → now ≡ in_slot old.kernel new (lowest_free old.kernel.procs)
+    → lowest_free old.kernel.procs ≡ None → record old { kernel = now } ≡ with_terminal (lowest_free old.kernel.procs) console old
+unfolding with_terminal
+no_terminal old now console new is none =
+    ap (λ k. record old { kernel = k }) (is ∙ ap (in_slot old.kernel new) none) ∙ ap (λ o. with_terminal o console old) (sym none)
+
+-- all of it
+
+pub first_here : (old behind : System) → IsWhole old → OnlySystems old.kernel → refusal old.kernel.queues command_queue 130 15 ≡ None
+    → behind ≡ begun_by_interpreter old → Begun old behind
+first_here old behind w only none is = subst (λ s. Begun old s) (sym is) (first_begun old w only none)
+
+pub residents_here : (old first behind : System) (kernel : Kernel) (consoles : ℕ) → first ≡ begun_by_interpreter old → behind ≡ with_terminals consoles first
+    → kernel ≡ picked false behind.kernel → record behind { kernel = kernel } ≡ with_residents consoles old
+unfolding with_residents
+residents_here old first behind kernel consoles is was picks =
+    ap (λ k. record behind { kernel = k }) picks
+    ∙ ap (λ (b : System). record b { kernel = picked false b.kernel }) (was ∙ ap (with_terminals consoles) is)
+
+-- the machine of a machine file, before that
+
+pub record Boots (file : MachineFile) (system : System) : Type 0 where
+  pub consoles : file.consoles ≡ system.kernel.consoles
+  pub queues : OnlySystems system.kernel
+  pub room : refusal system.kernel.queues command_queue 130 15 ≡ None
+
+booted_so : (file : MachineFile) (events : List Timed) → Boots file (booted file events)
+unfolding booted new_kernel
+booted_so file events = record {
+  consoles = refl;
+  queues = only_systems_new file.consoles file.printers (moment_of file);
+  room = may_make_new file.consoles file.printers (moment_of file) command_queue 130 15 (omega arith) (omega arith);
+}
+
+pub boots : (file : MachineFile) (events : List Timed) (system : System) → system ≡ booted file events → Boots file system
+boots file events system is = subst (Boots file) (sym is) (booted_so file events)
+
+pub opened_here : (file : MachineFile) (events : List Timed) (system behind : System) → system ≡ booted file events
+    → behind ≡ with_residents file.consoles system → behind ≡ opened file events
+unfolding opened
+opened_here file events system behind is was = was ∙ ap (with_residents file.consoles) is

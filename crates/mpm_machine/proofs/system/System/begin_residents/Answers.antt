@@ -1,0 +1,35 @@
+use Rattle.std.proofs.Common.{◌≡◌, ◌∙◌, sym}
+use Rattle.mpm_machine.proofs.OpeningLaws.{first_here, residents_here, whole_picked, handed_picked}
+use Rattle.mpm_machine.proofs.system.System.begin_residents.Goals as goal
+
+pub begin_terminals-requires-clause-whole : goal.begin_terminals-requires-clause-whole
+begin_terminals-requires-clause-whole c =
+    (first_here c.args.self.now c.begin_interpreter.new.self c.requires.whole c.requires.queues c.requires.room c.begin_interpreter.ensures).whole
+
+pub begin_terminals-requires-clause-consoles : goal.begin_terminals-requires-clause-consoles
+begin_terminals-requires-clause-consoles c =
+    c.requires.consoles
+    ∙ sym (first_here c.args.self.now c.begin_interpreter.new.self c.requires.whole c.requires.queues c.requires.room c.begin_interpreter.ensures).consoles
+
+pub pick-requires : goal.pick-requires
+pick-requires c = c.in_ok-begin_terminals.ensures.whole.sound
+
+pub returns-clause-system : goal.returns-clause-system
+returns-clause-system c =
+    residents_here c.args.self.now c.begin_interpreter.new.self c.begin_terminals.new.self c.pick.new.self c.args.consoles c.begin_interpreter.ensures
+    c.in_ok-begin_terminals.ensures.system c.pick.ensures
+
+pub returns-clause-whole : goal.returns-clause-whole
+returns-clause-whole c = whole_picked c.begin_terminals.new.self c.pick.new.self c.in_ok-begin_terminals.ensures.whole c.pick.ensures
+
+pub returns-clause-handed : goal.returns-clause-handed
+returns-clause-handed c =
+    handed_picked c.begin_terminals.new.self.kernel c.pick.new.self c.pick.ensures
+    (c.in_ok-begin_terminals.ensures.completed
+    ∙ (first_here c.args.self.now c.begin_interpreter.new.self c.requires.whole c.requires.queues c.requires.room c.begin_interpreter.ensures).completed
+    ∙ c.requires.handed)
+
+pub returns-clause-steps : goal.returns-clause-steps
+returns-clause-steps c =
+    c.in_ok-begin_terminals.ensures.steps
+    ∙ (first_here c.args.self.now c.begin_interpreter.new.self c.requires.whole c.requires.queues c.requires.room c.begin_interpreter.ensures).steps
