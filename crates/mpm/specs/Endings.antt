@@ -1,5 +1,5 @@
--- The exit statuses of the program.
-use Rattle.std.specs.Prelude.{ℕ}
+-- How the program ends: its exit status, and what it says on the standard error.
+use Rattle.std.specs.Prelude.{ℕ, List, [], ◌++◌, codes, decimal}
 use Rattle.mpm_top.specs.declared.status.Status.{Status}
 use Rattle.mpm_top.specs.declared.status.Status.TheVariants.{Ran, Usage, MachineFault, ScriptFault, TooLong, ReadFault, WriteFault, OutOfMemory}
 
@@ -12,3 +12,13 @@ number_of (TooLong what) = 5
 number_of ReadFault = 6
 number_of (WriteFault step) = 8
 number_of OutOfMemory = 9
+
+abbrev pub message_of : Status → List ℕ
+message_of Ran = []
+message_of Usage = codes "usage: mpm program FILE STEPS [--trace] or mpm run MACHINE STEPS [--trace]"
+message_of MachineFault = codes "bad machine file"
+message_of (ScriptFault line) = codes "bad script line " ++ decimal line
+message_of (TooLong what) = codes "input too long"
+message_of ReadFault = codes "cannot read"
+message_of (WriteFault step) = codes "output failed at step " ++ decimal step
+message_of OutOfMemory = codes "out of memory"

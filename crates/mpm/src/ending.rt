@@ -2,6 +2,7 @@ ghost use Rattle.std.specs.Prelude.{◌≡◌};
 ghost use Rattle.mpm.specs.Endings.{number_of};
 
 use mpm_top::Status;
+use std::fmt;
 
 /// The exit status that stands for an ending.
 pub fn number(status: Status) -> u8
@@ -19,21 +20,40 @@ pub fn number(status: Status) -> u8
     }
 }
 
+/// What is said of an ending on the standard error; nothing where all steps are done.
+#[derive(Clone, Copy, Drop)]
+pub struct Message(pub Status);
+
+impl fmt::Display for Message {
+    ghost use Rattle.std.specs.Prelude.{Some};
+    ghost use Rattle.mpm.specs.Endings.{message_of};
+
+    ghost output = { λ message. Some (message_of message.0) };
+
+    fn fmt<W: fmt::Write>(&self, f: &mut fmt::Formatter<W>) -> fmt::Result {
+        match self.0 {
+            Status::Ran => write!(f, ""),
+            Status::Usage => {
+                write!(
+                    f,
+                    "usage: mpm program FILE STEPS [--trace] or mpm run MACHINE STEPS [--trace]"
+                )
+            }
+            Status::MachineFault => write!(f, "bad machine file"),
+            Status::ScriptFault { line } => write!(f, "bad script line {line}"),
+            Status::TooLong { .. } => write!(f, "input too long"),
+            Status::ReadFault => write!(f, "cannot read"),
+            Status::WriteFault { step } => write!(f, "output failed at step {step}"),
+            Status::OutOfMemory => write!(f, "out of memory"),
+        }
+    }
+}
+
 /// Says on the standard error why the program ended, where it did not run to its end; a failure of the standard error
 /// goes unsaid.
 pub fn report(rt: &impl Eprint, status: Status) {
-    let _ = match status {
-        Status::Ran => Ok(()),
-        Status::Usage => {
-            eprintln!(rt;
-                "usage: mpm program FILE STEPS [--trace] or mpm run MACHINE STEPS [--trace]"
-            )
-        }
-        Status::MachineFault => eprintln!(rt; "bad machine file"),
-        Status::ScriptFault { line } => eprintln!(rt; "bad script line {line}"),
-        Status::TooLong { .. } => eprintln!(rt; "input too long"),
-        Status::ReadFault => eprintln!(rt; "cannot read"),
-        Status::WriteFault { step } => eprintln!(rt; "output failed at step {step}"),
-        Status::OutOfMemory => eprintln!(rt; "out of memory"),
-    };
+    if status != Status::Ran {
+        let message = Message(status);
+        let _ = eprintln!(rt; "{message}");
+    }
 }

@@ -9,34 +9,36 @@ use Rattle.mpm_banks.specs.Memory.{Memory, byte_at, with_byte, SameSegments}
 use Rattle.mpm_banks.specs.MemoryLaws.{byte_at_other_segment, byte_at_other_address, same_segments_with_byte, same_segments_both}
 use Rattle.mpm_banks.specs.Ports.{port_read}
 use Rattle.mpm_banks.specs.Actions.{memory_after, devices_after, writes_to}
-use Rattle.mpm_banks.specs.Bus.{SameSides, Wrote, TookInput, Acted}
-use Rattle.mpm_banks.specs.declared.bus.BankBus.{BankBus}
+use Rattle.mpm_banks.specs.SliceBus.{reached, SameSides, Wrote, TookInput, Acted}
+use Rattle.mpm_banks.specs.declared.slice_bus.SliceBus.{SliceBus}
 
-same_sides : (old middle new : BankBus) → SameSides old middle → SameSides middle new → SameSides old new
+same_sides : (old middle new : SliceBus) → SameSides old middle → SameSides middle new → SameSides old new
 same_sides old middle new first second = record {
-  banks = second.banks ∙ first.banks;
+  spec = second.spec ∙ first.spec;
+  segment = second.segment ∙ first.segment;
+  common = second.common ∙ first.common;
   devices = second.devices ∙ first.devices;
-  seg = second.seg ∙ first.seg;
 }
 
 -- what the two relations of the bus leave is what the changes make of memory and devices
-pub leaves_acted : (actions : List Action) (old new : BankBus) → Leaves Wrote TookInput actions old new → Acted actions old new
+pub leaves_acted : (actions : List Action) (old new : SliceBus) → Leaves Wrote TookInput actions old new → Acted actions old new
 unfolding Leaves memory_after devices_after
 leaves_acted [] old new same = record {
   sides = record {
-    banks = ap (λ (b : BankBus). b.banks.ghost_name) same;
-    devices = ap (λ (b : BankBus). b.devices.ghost_name) same;
-    seg = ap (λ (b : BankBus). b.seg) same;
+    spec = ap (λ (b : SliceBus). b.spec) same;
+    segment = ap (λ (b : SliceBus). b.segment.ghost_name) same;
+    common = ap (λ (b : SliceBus). b.common.ghost_name) same;
+    devices = ap (λ (b : SliceBus). b.devices.ghost_name) same;
   };
-  memory = ap (λ (b : BankBus). b.banks.now) same;
-  devices = ap (λ (b : BankBus). b.devices.now) same;
+  memory = ap reached same;
+  devices = ap (λ (b : SliceBus). b.devices.now) same;
 }
 leaves_acted (Write address byte ∷ rest) old new left =
     let wrote = left.1 in
     let later = leaves_acted rest left.0 new left.2 in
     record {
       sides = same_sides old left.0 new wrote.sides later.sides;
-      memory = later.memory ∙ ap (λ seg. memory_after rest seg left.0.banks.now) wrote.sides.seg ∙ ap (memory_after rest old.seg) wrote.memory;
+      memory = later.memory ∙ ap (memory_after rest 0) wrote.memory;
       devices = later.devices ∙ ap (devices_after rest) wrote.devices;
     }
 leaves_acted (Input port ∷ rest) old new left =
@@ -44,29 +46,30 @@ leaves_acted (Input port ∷ rest) old new left =
     let later = leaves_acted rest left.0 new left.2 in
     record {
       sides = same_sides old left.0 new took.sides later.sides;
-      memory = later.memory ∙ ap (λ seg. memory_after rest seg left.0.banks.now) took.sides.seg ∙ ap (memory_after rest old.seg) took.memory;
+      memory = later.memory ∙ ap (memory_after rest 0) took.memory;
       devices = later.devices ∙ ap (devices_after rest) took.devices;
     }
 
 -- the same where an answer tells whether the changes were made, or all stayed
-pub record ActedUnless (answer : Option ℕ) (actions : List Action) (old new : BankBus) : Type 0 where
+pub record ActedUnless (answer : Option ℕ) (actions : List Action) (old new : SliceBus) : Type 0 where
   pub sides : SameSides old new
-  pub memory : MatchOption answer (new.banks.now ≡ memory_after actions old.seg old.banks.now) (λ _. new.banks.now ≡ old.banks.now)
+  pub memory : MatchOption answer (reached new ≡ memory_after actions 0 (reached old)) (λ _. reached new ≡ reached old)
   pub devices : MatchOption answer (new.devices.now ≡ devices_after actions old.devices.now) (λ _. new.devices.now ≡ old.devices.now)
 
-pub leaves_acted_unless : (answer : Option ℕ) (actions : List Action) (old new : BankBus)
+pub leaves_acted_unless : (answer : Option ℕ) (actions : List Action) (old new : SliceBus)
     → MatchOption answer (Leaves Wrote TookInput actions old new) (λ _. new ≡ old) → ActedUnless answer actions old new
 leaves_acted_unless None actions old new left =
     let acted = leaves_acted actions old new left in
     record { sides = acted.sides; memory = acted.memory; devices = acted.devices }
 leaves_acted_unless (Some other) actions old new same = record {
   sides = record {
-    banks = ap (λ (b : BankBus). b.banks.ghost_name) same;
-    devices = ap (λ (b : BankBus). b.devices.ghost_name) same;
-    seg = ap (λ (b : BankBus). b.seg) same;
+    spec = ap (λ (b : SliceBus). b.spec) same;
+    segment = ap (λ (b : SliceBus). b.segment.ghost_name) same;
+    common = ap (λ (b : SliceBus). b.common.ghost_name) same;
+    devices = ap (λ (b : SliceBus). b.devices.ghost_name) same;
   };
-  memory = ap (λ (b : BankBus). b.banks.now) same;
-  devices = ap (λ (b : BankBus). b.devices.now) same;
+  memory = ap reached same;
+  devices = ap (λ (b : SliceBus). b.devices.now) same;
 }
 
 -- whatever an instruction of one process does, the segment of another stays

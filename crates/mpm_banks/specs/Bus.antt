@@ -1,9 +1,7 @@
 -- A process's view of memory and devices as a bus.
-use Rattle.std.specs.Prelude.{◌≡◌, ℕ, List}
-use Rattle.z80_regs.specs.Outcome.{Action}
+use Rattle.std.specs.Prelude.{◌≡◌, ℕ}
 use Rattle.mpm_banks.specs.Memory.{with_byte}
 use Rattle.mpm_banks.specs.Ports.{port_read}
-use Rattle.mpm_banks.specs.Actions.{memory_after, devices_after}
 use Rattle.mpm_banks.specs.declared.bus.BankBus.{BankBus}
 
 -- it is still the same memory, the same devices and the same segment
@@ -23,9 +21,3 @@ pub record TookInput (old : BankBus) (port : ℕ) (new : BankBus) : Type 0 where
   pub sides : SameSides old new
   pub memory : new.banks.now ≡ old.banks.now
   pub devices : new.devices.now ≡ port_read old.devices.now port
-
--- what the changes of an instruction leave
-pub record Acted (actions : List Action) (old new : BankBus) : Type 0 where
-  pub sides : SameSides old new
-  pub memory : new.banks.now ≡ memory_after actions old.seg old.banks.now
-  pub devices : new.devices.now ≡ devices_after actions old.devices.now

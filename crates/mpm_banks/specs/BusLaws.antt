@@ -16,7 +16,7 @@ same_writable m n s t address p q = (
   λ is. subst (λ x. IsWritable x s address) (sym p) (subst (λ x. IsWritable n x address) (sym q) is),
 )
 
-trans_iff : {A B C : Type 0} → A ↔ B → B ↔ C → A ↔ C
+pub trans_iff : {A B C : Type 0} → A ↔ B → B ↔ C → A ↔ C
 trans_iff f g = (λ a. g.0 (f.0 a), λ c. f.1 (g.1 c))
 
 pub reads_back_law : (old new : BankBus) (address value : ℕ) → address < 2 ^ 16 → value < 2 ^ 8

@@ -2,10 +2,13 @@ pub mod Stretches
 pub mod Memory
 pub mod Ranges
 pub mod Allocations
+pub mod Sides
 pub mod Ports
 pub mod Actions
 pub mod Lending
 pub mod Windows
 pub mod Bus
+pub mod SliceBus
 pub mod MemoryLaws
 pub mod BusLaws
+pub mod SliceLaws

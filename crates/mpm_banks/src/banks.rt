@@ -5,16 +5,15 @@ ghost use Rattle.mpm_banks.specs.Ranges.{range_from};
 ghost use Rattle.mpm_banks.specs.Allocations.{new_segment, fits, freed};
 
 use crate::OutOfMemory;
+use crate::burst::Burst;
 use crate::bytes::Bytes;
-use crate::range::{Range, Space};
+use crate::range::{COMMON_BASE, Range, Space};
 use crate::segment::{Allocation, Segment};
 use crate::window::Window;
-use mpm_base::{Pid, Seg, SegmentSpec};
+use mpm_base::{Devices, Pid, Seg, SegmentSpec};
 use std::alloc::Global;
 use std::marker::Model;
-
-/// The first address of common memory.
-const COMMON_BASE: u16 = 0xC000;
+use z80_regs::Regs;
 
 /// How many bytes it has.
 const COMMON_SIZE: usize = 16_384;
@@ -38,10 +37,11 @@ impl Model for Banks {
 
 impl Banks {
     ghost use Rattle.mpm_banks.specs.Stretches.{byte_among};
-    ghost use Rattle.mpm_banks.specs.Memory.{IsMemory, HasSegment, byte_at, with_byte};
+    ghost use Rattle.mpm_banks.specs.Memory.{IsMemory, HasSegment, segment_of, byte_at, with_byte};
     ghost use Rattle.mpm_banks.specs.Allocations.{FitsBelowCommon, new_memory, spec_of, lowest_free, allocated, reserved, is_reserved, released, all_released, occupied, vacated};
     ghost use Rattle.mpm_banks.specs.Ranges.{range_of, range_size, range_bytes, IsInside};
     ghost use Rattle.mpm_banks.specs.Windows.{LendsMemory, LendsWindow, IsWindow};
+    ghost use Rattle.mpm_banks.specs.Sides.{with_sides, reach_of};
 
     /// Memory of 1 to 16 segments, all of them free, each of at least one page and below page C0h. All bytes are 0.
     #[tactic(auto, using(crate::proofs::SegmentLaws::new_is_memory), unfolding(crate::specs::Allocations::new_memory))]
@@ -69,11 +69,7 @@ impl Banks {
         ensures value { result ≡ spec_of self.now seg }
         ensures whole { IsMemory self.now }
     {
-        let segment = &self.segments[usize::from(seg.0)];
-        SegmentSpec {
-            base: segment.base.page(),
-            pages: segment.pages,
-        }
+        self.segments[usize::from(seg.0)].spec()
     }
 
     /// Reserves the lowest free segment of at least `pages` pages, and of that base page where one is given. None comes
@@ -219,6 +215,26 @@ impl Banks {
     {
         let range = self.range(seg, address, size)?;
         Some(self.range_at(range))
+    }
+
+    /// Does a burst of what a process does, over its segment and common memory.
+    #[inline]
+    #[tactic(auto, using(crate::proofs::SideLaws::with_range_whole, crate::proofs::SideLaws::sides_are_memory))]
+    pub fn run<B: Burst>(
+        &mut self,
+        burst: &B,
+        seg: Seg,
+        regs: &mut Regs,
+        devices: &mut Devices,
+    ) -> u64
+        requires { HasSegment self.old seg }
+        ensures ran { B.ran burst.now regs.old (reach_of self.old seg) devices.old result regs.new (reach_of self.new seg) devices.new }
+        ensures others { self.new ≡ with_sides self.old seg (segment_of self.new seg).bytes self.new.common }
+    {
+        let segment = &mut self.segments[usize::from(seg.0)];
+        let spec = segment.spec();
+        let bytes = segment.bytes.all_mut();
+        burst.run(spec, regs, bytes, self.common.all_mut(), devices)
     }
 
     /// The range that `size` addresses from one on name for the process of a segment.

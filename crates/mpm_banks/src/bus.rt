@@ -1,4 +1,5 @@
 use crate::banks::Banks;
+use crate::ports::read_port;
 use mpm_base::{Devices, Seg};
 use z80_regs::Bus;
 
@@ -49,16 +50,8 @@ impl Bus for BankBus<'_, '_> {
         self.banks.put(self.seg, address, value);
     }
 
-    #[tactic(auto, unfolding(crate::specs::Ports::port_byte, crate::specs::Ports::port_read))]
     fn input(&mut self, port: u8) -> u8 {
-        match port {
-            0x80..=0x8F => {
-                let device = usize::from(port - 0x80);
-                self.devices.ready[device] = false;
-                self.devices.last[device]
-            }
-            _ => 0xFF,
-        }
+        read_port(self.devices, port)
     }
 
     fn output(&mut self, _port: u8, _value: u8) {}

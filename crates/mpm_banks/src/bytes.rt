@@ -90,4 +90,13 @@ impl Bytes {
     {
         self.items.slice_mut(from..to)
     }
+
+    /// Lends all of them.
+    pub fn all_mut(&mut self) -> &mut [u8]
+        ensures* lends { sem 𝓛 (LendsRange self.entry 0 result) }
+        ensures value { result.now ≡ self.old }
+    {
+        let end = self.items.len();
+        self.range_mut(0, end)
+    }
 }

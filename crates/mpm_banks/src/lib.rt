@@ -2,15 +2,20 @@
 #![tactic(auto)]
 
 mod banks;
+mod burst;
 mod bus;
 mod bytes;
 mod first_page;
+mod ports;
 mod range;
 mod segment;
+mod slice_bus;
 mod window;
 
 pub use banks::Banks;
+pub use burst::Burst;
 pub use bus::BankBus;
+pub use slice_bus::SliceBus;
 pub use window::Window;
 
 /// No memory was found: the allocator's own error.

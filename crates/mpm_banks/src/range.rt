@@ -1,5 +1,8 @@
 ghost use Rattle.std.specs.Prelude.{◌≡◌, ◌≤◌, ◌-◌};
 
+/// The first address of common memory.
+pub(crate) const COMMON_BASE: u16 = 0xC000;
+
 /// What an address reaches into.
 #[derive(Clone, Copy)]
 pub(crate) enum Space {

@@ -45,6 +45,17 @@ impl Segment {
         })
     }
 
+    /// Where it lies.
+    #[inline]
+    pub fn spec(&self) -> SegmentSpec
+        ensures { result ≡ record { base = self.now.base; pages = self.now.pages } }
+    {
+        SegmentSpec {
+            base: self.base.page(),
+            pages: self.pages,
+        }
+    }
+
     /// Whether it is free, of at least so many pages, and of that base page if one is given.
     pub fn fits(&self, base: Option<u8>, pages: u8) -> bool
         ensures { result ≡ fits base pages self.now }

@@ -1,6 +1,9 @@
+ghost use Rattle.std.specs.Prelude.{◌≡◌};
+
 use super::*;
 use mpm_base::{Devices, Pid, Seg, SegmentSpec};
-use z80_regs::Bus;
+use std::test::Fail;
+use z80_regs::{Bus, Regs};
 
 /// Two segments of 16 pages each, with the base pages 40h and 60h.
 const TWO: [SegmentSpec; 2] = [
@@ -99,6 +102,101 @@ fn a_process_reaches_its_segment_and_common_memory(rt: HostRuntime) -> Result<()
     assert_eq!(rt; banks.byte(Seg(0), 0x4000), 0);
     assert_eq!(rt; banks.byte(Seg(15), 0x6000), 0xFF);
     assert_eq!(rt; banks.byte(Seg(15), 0xC000), 4);
+    Ok(())
+}
+
+#[test]
+fn two_slices_are_reached_as_a_segment_and_common_memory(rt: HostRuntime) -> Result<(), Fail> {
+    let mut devices = Devices::new();
+    let mut segment = [0; 4096];
+    let mut common = [0; 2];
+    let mut bus = SliceBus {
+        spec: TWO[1],
+        segment: &mut segment,
+        common: &mut common,
+        devices: &mut devices,
+    };
+    bus.write(0x5FFF, 1);
+    bus.write(0x6000, 2);
+    bus.write(0x7000, 3);
+    bus.write(0xC000, 4);
+    bus.write(0xC002, 5);
+    assert_eq!(rt; bus.read(0x5FFF), 0xFF);
+    assert_eq!(rt; bus.read(0x6000), 2);
+    assert_eq!(rt; bus.read(0x6001), 0);
+    assert_eq!(rt; bus.read(0x7000), 0xFF);
+    assert_eq!(rt; bus.read(0xC000), 4);
+    assert_eq!(rt; bus.read(0xC002), 0xFF);
+    Ok(())
+}
+
+/// Registers that are all 0.
+fn blank_registers() -> Regs {
+    Regs {
+        a: 0,
+        f: 0,
+        b: 0,
+        c: 0,
+        d: 0,
+        e: 0,
+        h: 0,
+        l: 0,
+        a2: 0,
+        f2: 0,
+        b2: 0,
+        c2: 0,
+        d2: 0,
+        e2: 0,
+        h2: 0,
+        l2: 0,
+        ix: 0,
+        iy: 0,
+        sp: 0,
+        pc: 0,
+        i: 0,
+        r: 0,
+        iff1: false,
+        iff2: false,
+        mode: 0,
+        halted: false,
+        shadow: false,
+    }
+}
+
+/// A burst that fills the segment with 2 and common memory with 4.
+struct Filling;
+
+impl Burst for Filling {
+    ghost ran = { λ burst regs memory devices n new_regs new_memory new_devices. n ≡ 2 };
+
+    fn run(
+        &self,
+        spec: SegmentSpec,
+        regs: &mut Regs,
+        segment: &mut [u8],
+        common: &mut [u8],
+        devices: &mut Devices,
+    ) -> u64 {
+        segment.fill(2);
+        common.fill(4);
+        2
+    }
+}
+
+#[test]
+fn a_burst_leaves_other_segments(rt: HostRuntime) -> Result<(), OutOfMemory> {
+    let mut banks = Banks::new(rt.alloc(), &TWO)?;
+    let mut devices = Devices::new();
+    let mut regs = blank_registers();
+    assert_eq!(rt; banks.segments(), 2);
+    assert_eq!(rt; banks.run(&Filling, Seg(1), &mut regs, &mut devices), 2);
+    assert_eq!(rt; banks.byte(Seg(1), 0x5FFF), 0xFF);
+    assert_eq!(rt; banks.byte(Seg(1), 0x6000), 2);
+    assert_eq!(rt; banks.byte(Seg(1), 0x6FFF), 2);
+    assert_eq!(rt; banks.byte(Seg(0), 0xC000), 4);
+    assert_eq!(rt; banks.byte(Seg(0), 0x4000), 0);
+    assert_eq!(rt; banks.byte(Seg(15), 0x6000), 0xFF);
+    assert_eq!(rt; banks.byte(Seg(15), 0xFFFF), 4);
     Ok(())
 }
 

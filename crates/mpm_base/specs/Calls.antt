@@ -1,6 +1,7 @@
 -- A kernel call as it was taken, and its reply, as contracts see them: without what stands behind the bytes that count.
-use Rattle.std.specs.Prelude.{ℕ, List, [], Option, None}
+use Rattle.std.specs.Prelude.{ℕ, ◌+◌, ◌*◌, List, [], ◌++◌, Option, None, min, length, take, drop, replicate, slice_index_or}
 use Rattle.mpm_base.specs.Lists.{zeros}
+use Rattle.mpm_base.specs.declared.number.Name8.{Name8}
 
 -- a call: its function, its parameter, its caller's DMA address, the file control block at its parameter (zeros where
 -- it reads none), and the other bytes that it reads, in order
@@ -21,6 +22,24 @@ pub record Answer : Type 0 where
 -- the call with nothing in it
 abbrev pub no_call : Taken
 no_call = record { function = 0; word = 0; dma = 0; fcb = zeros 36; bytes = [] }
+
+-- one of the bytes that a call read, 0 where it lacks, and the word at a place, its low byte first
+abbrev pub byte_in : Taken → ℕ → ℕ
+byte_in call place = slice_index_or call.bytes place 0
+
+abbrev pub word_at : Taken → ℕ → ℕ
+word_at call place = byte_in call place + 256 * byte_in call (place + 1)
+
+-- the first eight bytes, those that lack as zeros
+unfoldable pub eight_of : List ℕ → List ℕ
+eight_of bytes = take (min (length bytes) 8) bytes ++ drop (min (length bytes) 8) (replicate 8 0)
+
+-- the eight bytes that a call read at a place, and the name that they are
+abbrev pub eight_at : Taken → ℕ → List ℕ
+eight_at call place = eight_of (drop place call.bytes)
+
+abbrev pub name_at : Taken → ℕ → Name8
+name_at call place = record { 0 = eight_at call place }
 
 -- the reply with nothing in it
 abbrev pub no_reply : Answer

@@ -1,5 +1,7 @@
-ghost use Rattle.std.specs.Prelude.{◌≡◌, ◌≤◌, ◌<◌, ◌+◌, ◌++◌, ◌∷◌, [], length, slice_index_or};
+ghost use Rattle.std.specs.Prelude.{◌≡◌, ◌≤◌, ◌<◌, ◌+◌, ◌++◌, ◌∷◌, [], length, drop};
+ghost use Rattle.mpm_base.specs.Calls.{eight_of};
 
+use crate::number::Name8;
 use std::marker::Model;
 
 /// A kernel call as it was taken in its gate step.
@@ -34,7 +36,7 @@ impl Model for Call {
 
 impl Call {
     ghost use Rattle.mpm_base.specs.Lists.{zeros};
-    ghost use Rattle.mpm_base.specs.Calls.{Taken, no_call};
+    ghost use Rattle.mpm_base.specs.Calls.{Taken, no_call, byte_in, word_at, eight_at, name_at};
 
     /// A call with all fields 0.
     #[tactic(auto, unfolding(crate::specs::Lists::zeros))]
@@ -104,10 +106,41 @@ impl Call {
 
     /// One of those bytes, by its place; 0 behind the last.
     pub fn byte(&self, place: usize) -> u8
-        ensures { result ≡ slice_index_or self.now.bytes place 0 }
+        ensures { result ≡ byte_in self.now place }
     {
         let taken = self.taken();
         if place < taken.len() { taken[place] } else { 0 }
+    }
+
+    /// The word at a place of those bytes, its low byte first; bytes behind the last are 0. The place is at most 4,096.
+    pub fn word(&self, place: usize) -> u16
+        requires { place ≤ 4096 }
+        ensures { result ≡ word_at self.now place }
+    {
+        u16::from_le_bytes([self.byte(place), self.byte(place + 1)])
+    }
+
+    /// Those bytes from a place on, at most 4,096.
+    pub fn from(&self, place: usize) -> &[u8]
+        ensures value { result.now ≡ drop place self.now.bytes }
+        ensures few { length result.now ≤ 4096 }
+    {
+        let taken = &self.bytes[..self.length as usize];
+        &taken[place.min(taken.len())..]
+    }
+
+    /// The eight bytes at a place of those bytes, those that lack as zeros.
+    pub fn eight(&self, place: usize) -> [u8; 8]
+        ensures { result ≡ eight_at self.now place }
+    {
+        first_eight(self.from(place))
+    }
+
+    /// The name of eight bytes at a place of those bytes.
+    pub fn name(&self, place: usize) -> Name8
+        ensures { result ≡ name_at self.now place }
+    {
+        Name8(self.eight(place))
     }
 
     /// The bytes that the call read, behind its file control block.
@@ -116,6 +149,17 @@ impl Call {
     {
         &self.bytes[..self.length as usize]
     }
+}
+
+/// The first eight bytes, those that lack as zeros.
+#[tactic(auto, unfolding(crate::specs::Calls::eight_of))]
+fn first_eight(bytes: &[u8]) -> [u8; 8]
+    ensures { result ≡ eight_of bytes.now }
+{
+    let mut eight = [0; 8];
+    let count = bytes.len().min(8);
+    eight[..count].copy_from_slice(&bytes[..count]);
+    eight
 }
 
 /// The answer of a kernel call, as it is placed in its caller's registers and memory.

@@ -11,15 +11,17 @@ fn a_cleared_call_is_a_new_one(rt: HostRuntime) {
     let mut call = Call::new();
     call.function = 137;
     call.word = 0x0200;
-    call.fcb[35] = 3;
+    call.dma = 0x0080;
+    call.fcb = [3; 36];
     call.length = 12;
-    call.bytes[4095] = 7;
+    call.bytes = [7; 4096];
     call.clear();
     assert_eq!(rt; call.function, 0);
     assert_eq!(rt; call.word, 0);
-    assert_eq!(rt; call.fcb[35], 0);
+    assert_eq!(rt; call.dma, 0);
+    assert_eq!(rt; call.fcb, [0; 36]);
     assert_eq!(rt; call.length, 0);
-    assert_eq!(rt; call.bytes[4095], 0);
+    assert_eq!(rt; call.bytes.as_slice(), [0; 4096].as_slice());
 }
 
 #[test]
@@ -27,13 +29,17 @@ fn a_cleared_reply_places_nothing(rt: HostRuntime) {
     let mut reply = Reply::new();
     reply.hl = 0xFFFF;
     reply.has_fcb = true;
+    reply.fcb = [3; 36];
     reply.at = 0x0080;
     reply.length = 128;
+    reply.bytes = [7; 4096];
     reply.clear();
     assert_eq!(rt; reply.hl, 0);
     assert!(rt; !reply.has_fcb);
+    assert_eq!(rt; reply.fcb, [0; 36]);
     assert_eq!(rt; reply.at, 0);
     assert_eq!(rt; reply.length, 0);
+    assert_eq!(rt; reply.bytes.as_slice(), [0; 4096].as_slice());
 }
 
 #[test]
@@ -48,6 +54,20 @@ fn a_call_keeps_what_it_read_in_order(rt: HostRuntime) {
     assert_eq!(rt; call.taken(), [0x53, 0x45].as_slice());
     call.begin(12, 0, 0);
     assert_eq!(rt; call.taken().len(), 0);
+}
+
+#[test]
+fn words_and_names_are_read_from_a_call(rt: HostRuntime) {
+    let mut call = Call::new();
+    call.begin(134, 0x0200, 0x0080);
+    call.append(b"\x00\x00MXDisk  \x00\x02\x01");
+    assert_eq!(rt; call.word(10), 0x0200);
+    assert_eq!(rt; call.word(12), 0x0001);
+    assert_eq!(rt; call.word(13), 0);
+    assert_eq!(rt; call.name(2), Name8(*b"MXDisk  "));
+    assert_eq!(rt; call.eight(8), *b"  \x00\x02\x01\x00\x00\x00");
+    assert_eq!(rt; call.from(10), b"\x00\x02\x01".as_slice());
+    assert_eq!(rt; call.from(14).len(), 0);
 }
 
 #[test]

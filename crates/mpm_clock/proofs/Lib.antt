@@ -1,2 +1,3 @@
 pub mod DelayLaws
 pub mod ClockLaws
+pub mod Examples

@@ -1,7 +1,7 @@
-ghost use Rattle.std.specs.Prelude.{◌≡◌, ◌<◌};
+ghost use Rattle.std.specs.Prelude.{◌≡◌, ◌<◌, ◌≤◌, length};
 
 use super::*;
-use mpm_base::Pid;
+use mpm_base::{Call, Pid};
 
 /// The clock ticks so often; how many are woken.
 fn ticks(clock: &mut Clock, count: usize) -> usize {
@@ -87,4 +87,31 @@ fn a_clock_that_is_set_begins_a_second(rt: HostRuntime) {
     assert_eq!(rt; clock.now(), moment(300, 12, 30, 0));
     let _woken = ticks(&mut clock, 1);
     assert_eq!(rt; clock.now(), moment(300, 12, 30, 1));
+}
+
+/// The moment that a call names which read these bytes.
+fn named(bytes: &[u8]) -> Option<Moment>
+    requires { length bytes.now ≤ 4 }
+{
+    let mut call = Call::new();
+    call.append(bytes);
+    moment_in(&call)
+}
+
+#[test]
+fn a_moment_is_named_in_packed_decimal(rt: HostRuntime) {
+    assert_eq!(rt; packed(59), 0x59);
+    assert_eq!(rt; packed(7), 0x07);
+    assert_eq!(rt; named(&[0x2C, 1, 0x23, 0x59]), Some(moment(300, 23, 59, 0)));
+    assert_eq!(rt; named(&[0x2C, 1, 0x25, 0x00]), None);
+    assert_eq!(rt; named(&[0x2C, 1, 0x12, 0x60]), None);
+    assert_eq!(rt; named(&[0x2C, 1, 0x12, 0x6A]), None);
+    assert_eq!(rt; named(&[0x2C, 1, 0x6A, 0x00]), None);
+    assert_eq!(rt; named(&[0x2C, 1, 0x12, 0x1A]), None);
+}
+
+#[test]
+fn a_stamp_is_a_date_and_a_time_in_packed_decimal(rt: HostRuntime) {
+    assert_eq!(rt; stamp(moment(1, 23, 59, 0)), [1, 0, 0x23, 0x59]);
+    assert_eq!(rt; stamp(moment(0x1234, 0, 10, 59)), [0x34, 0x12, 0, 0x10]);
 }

@@ -6,3 +6,4 @@ pub mod FateLaws
 pub mod RunLaws
 pub mod PlaceLaws
 pub mod SpokeLaws
+pub mod Examples

@@ -109,7 +109,7 @@ heir_in Stored = None
 heir_in Dropped = None
 heir_in (Wakes p) = None
 heir_in (Aborts p) = None
-heir_in (Passes from to waited) = to
+heir_in (Passes from to) = to
 heir_in Nothing = None
 
 heirless : (o : Option ℕ) (done : KeyDone) → heir_in done ≡ None → heir_in (wake_answer done o) ≡ None
@@ -152,7 +152,7 @@ assigned true b t p unit = refl
 assigned false true t p unit = waiters_given (unlisted t p) unit (Some p)
 assigned false false t p unit = waiters_given t unit (Some p)
 
-owner_is : (owner : Option ℕ) (p : ℕ) → is_owner owner p ≡ true → owner ≡ Some p
+pub owner_is : (owner : Option ℕ) (p : ℕ) → is_owner owner p ≡ true → owner ≡ Some p
 owner_is None p is = absurd (false≢true is)
 owner_is (Some q) p is = ap (λ (k : ℕ). Some k) (eqb-true q p is)
 
@@ -236,7 +236,7 @@ rests_given t (ConsoleUnit n) owner r has =
 rests_given t (PrinterUnit n) owner r has = rests_printers t (set t.printers n owner) r
 
 -- a change of the waiters or of the printers
-rests_unlisted : (t : Consoles) (p r : ℕ) → rests (unlisted t p) r ≡ rests t r
+pub rests_unlisted : (t : Consoles) (p r : ℕ) → rests (unlisted t p) r ≡ rests t r
 unfolding rests unlisted
 rests_unlisted t p r = refl
 
@@ -284,7 +284,7 @@ rests_detach t p unit r has none = by_test (owns t p unit) refl
     by_test true own = rests_quiet t (passed t unit) unit r has (λ q is. owner_rests q own is) (rests_passed t unit r has)
     by_test false own = refl
 
-rests_listed : (t : Consoles) (p priority : ℕ) (unit : Unit) (r : ℕ) → rests (listed t p priority unit) r ≡ rests t r
+pub rests_listed : (t : Consoles) (p priority : ℕ) (unit : Unit) (r : ℕ) → rests (listed t p priority unit) r ≡ rests t r
 unfolding rests listed
 rests_listed t p priority unit r = refl
 
@@ -374,18 +374,18 @@ pub rests_left_other : (t : Consoles) (p r : ℕ) → r ≢ p → rests (left t 
 unfolding rests left unlisted
 rests_left_other t p r apart = count_others t.consoles p r apart
 
--- who waits at its gate no more behind a key
-abbrev pub freed : KeyDone → Option ℕ
-freed Stored = None
-freed Dropped = None
-freed (Wakes p) = Some p
-freed (Aborts p) = None
-freed (Passes from to waited) = if waited then Some from else None
-freed Nothing = None
+-- who waits at its gate no more behind a key, where the owner waited there before, or didn't
+abbrev pub freed : KeyDone → Bool → Option ℕ
+freed Stored waited = None
+freed Dropped waited = None
+freed (Wakes p) waited = Some p
+freed (Aborts p) waited = None
+freed (Passes from to) waited = if waited then Some from else None
+freed Nothing waited = None
 
-freed_wake : (o : Option ℕ) (done : KeyDone) → freed done ≡ None → freed (wake_answer done o) ≡ o
-freed_wake None done is = is
-freed_wake (Some p) done is = refl
+freed_wake : (o : Option ℕ) (done : KeyDone) (waited : Bool) → freed done waited ≡ None → freed (wake_answer done o) waited ≡ o
+freed_wake None done waited is = is
+freed_wake (Some p) done waited is = refl
 
 is_for_some : (awaits : Option Awaited) (what : Awaited) → is_for awaits what ≡ true → is_some awaits ≡ true
 is_for_some None what is = absurd (false≢true is)
@@ -411,20 +411,20 @@ rests_with_key byte console r = either (λ c. rests_at c r ≡ rests_at console 
 woken_here : (t : Consoles) (n : ℕ) (console : Console) (r : ℕ) (o : Option ℕ) → HasConsole t n → one_if (rests_at console r) + one_if (is_owner o r) ≡ one_if (rests_at (console_at t n) r) → rests (with_console t n console) r + one_if (is_owner o r) ≡ rests t r
 woken_here t n console r o has is = let change = rests_console t n console r has in omega arith
 
-typed_rests : (console : Console) (byte r : ℕ) → one_if (rests_at (typed byte console) r) + one_if (is_owner (freed (typed_answer console)) r) ≡ one_if (rests_at console r)
+typed_rests : (console : Console) (byte r : ℕ) (waited : Bool) → one_if (rests_at (typed byte console) r) + one_if (is_owner (freed (typed_answer console) waited) r) ≡ one_if (rests_at console r)
 unfolding typed typed_answer
-typed_rests console byte r =
-    ap (λ (o : Option ℕ). one_if (rests_at (behind_wake Key (with_key byte console)) r) + one_if (is_owner o r)) (freed_wake (woken Key console) _ (stored_or_not (has_room console)) ∙ sym (woken_key Key byte console))
+typed_rests console byte r waited =
+    ap (λ (o : Option ℕ). one_if (rests_at (behind_wake Key (with_key byte console)) r) + one_if (is_owner o r)) (freed_wake (woken Key console) _ waited (stored_or_not (has_room console)) ∙ sym (woken_key Key byte console))
     ∙ rests_wake Key (with_key byte console) r ∙ ap one_if (rests_with_key byte console r)
   where
-    stored_or_not : (b : Bool) → freed (if b then Stored else Dropped) ≡ None
+    stored_or_not : (b : Bool) → freed (if b then Stored else Dropped) waited ≡ None
     stored_or_not true = refl
     stored_or_not false = refl
 
-resumed_rests : (console : Console) (r : ℕ) → one_if (rests_at (resumed console) r) + one_if (is_owner (freed (wake_answer Nothing (woken Output console))) r) ≡ one_if (rests_at console r)
+resumed_rests : (console : Console) (r : ℕ) (waited : Bool) → one_if (rests_at (resumed console) r) + one_if (is_owner (freed (wake_answer Nothing (woken Output console)) waited) r) ≡ one_if (rests_at console r)
 unfolding resumed woken
-resumed_rests console r =
-    ap (λ (o : Option ℕ). one_if (rests_at (behind_wake Output (record console { stopped = false })) r) + one_if (is_owner o r)) (freed_wake (woken Output console) Nothing refl)
+resumed_rests console r waited =
+    ap (λ (o : Option ℕ). one_if (rests_at (behind_wake Output (record console { stopped = false })) r) + one_if (is_owner o r)) (freed_wake (woken Output console) Nothing waited refl)
     ∙ rests_wake Output (record console { stopped = false }) r
 
 passed_gate : (owner : Option ℕ) (p r : ℕ) (waited : Bool) → owner ≡ Some p → one_if (is_owner (if waited then Some p else None) r) ≡ one_if (is_owner owner r && waited)
@@ -439,23 +439,27 @@ rests_stop : (t : Consoles) (n r : ℕ) → HasConsole t n → rests (with_conso
 unfolding with_output_stopped
 rests_stop t n r has = let same = rests_kept t n (record (console_at t n) { stopped = true }) r has refl in omega arith
 
-rests_by : (o : Option Control) (t : Consoles) (n byte : ℕ) (resident : Bool) (r : ℕ) → HasConsole t n → rests (key_by o t n byte resident) r + one_if (is_owner (freed (answer_by o t n resident)) r) ≡ rests t r
-rests_by None t n byte resident r has = woken_here t n (typed byte (console_at t n)) r _ has (typed_rests (console_at t n) byte r)
+-- whether the owner of a console waits at its gate
+abbrev waits_there : Consoles → ℕ → Bool
+waits_there t n = is_some (console_at t n).awaits
+
+rests_by : (o : Option Control) (t : Consoles) (n byte : ℕ) (resident : Bool) (r : ℕ) → HasConsole t n → rests (key_by o t n byte resident) r + one_if (is_owner (freed (answer_by o t n resident) (waits_there t n)) r) ≡ rests t r
+rests_by None t n byte resident r has = woken_here t n (typed byte (console_at t n)) r _ has (typed_rests (console_at t n) byte r (waits_there t n))
 rests_by (Some Stop) t n byte resident r has = rests_stop t n r has
-rests_by (Some Resume) t n byte resident r has = woken_here t n (resumed (console_at t n)) r _ has (resumed_rests (console_at t n) r)
+rests_by (Some Resume) t n byte resident r has = woken_here t n (resumed (console_at t n)) r _ has (resumed_rests (console_at t n) r (waits_there t n))
 rests_by (Some Abort) t n byte resident r has = on_subject (subject resident (console_at t n).owner)
   where
-    on_subject : (o : Option ℕ) → rests t r + one_if (is_owner (freed (abort_answer o)) r) ≡ rests t r
+    on_subject : (o : Option ℕ) → rests t r + one_if (is_owner (freed (abort_answer o) (waits_there t n)) r) ≡ rests t r
     on_subject None = omega arith
     on_subject (Some p) = omega arith
 rests_by (Some Detach) t n byte resident r has = on_subject (subject resident (console_at t n).owner) refl
   where
-    on_subject : (o : Option ℕ) → subject resident (console_at t n).owner ≡ o → rests (behind_pass o t n) r + one_if (is_owner (freed (pass_answer o t n)) r) ≡ rests t r
+    on_subject : (o : Option ℕ) → subject resident (console_at t n).owner ≡ o → rests (behind_pass o t n) r + one_if (is_owner (freed (pass_answer o t n) (waits_there t n)) r) ≡ rests t r
     on_subject None is = omega arith
     on_subject (Some p) is =
-        let gate = passed_gate (console_at t n).owner p r (is_some (console_at t n).awaits) (subject_is resident (console_at t n).owner p is) in
+        let gate = passed_gate (console_at t n).owner p r (waits_there t n) (subject_is resident (console_at t n).owner p is) in
         ap (λ (k : ℕ). rests (passed t (ConsoleUnit n)) r + k) gate ∙ rests_passed t (ConsoleUnit n) r has
 
-pub rests_key : (t : Consoles) (n byte : ℕ) (resident : Bool) (r : ℕ) → HasConsole t n → rests (behind_key t n byte resident) r + one_if (is_owner (freed (key_answer t n byte resident)) r) ≡ rests t r
+pub rests_key : (t : Consoles) (n byte : ℕ) (resident : Bool) (r : ℕ) → HasConsole t n → rests (behind_key t n byte resident) r + one_if (is_owner (freed (key_answer t n byte resident) (waits_there t n)) r) ≡ rests t r
 unfolding behind_key key_answer
 rests_key t n byte resident r has = rests_by (control_of (console_at t n).raw byte) t n byte resident r has

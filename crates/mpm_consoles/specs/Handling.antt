@@ -1,7 +1,7 @@
 -- Units attached, detached and assigned; keys typed and taken; bytes written. (MP/M II Programmer's Guide, "Function 146: Attach
 -- Console", "Function 147: Detach Console", "Function 149: Assign Console", "Function 158: Attach List", "Function 159: Detach
 -- List"; MP/M II User's Guide, control characters of a console.)
-use Rattle.std.specs.Prelude.{ℕ, Bool, true, not, List, Option, Some, None, ◌==◌, ◌||◌, map, slice_set, is_some, if◌then◌else◌}
+use Rattle.std.specs.Prelude.{ℕ, Bool, true, not, List, Option, Some, None, ◌==◌, ◌||◌, map, slice_set, if◌then◌else◌}
 use Rattle.mpm_ready.specs.Tables.{inserted, removed}
 use Rattle.mpm_consoles.specs.Columns.{spaces_for}
 use Rattle.mpm_consoles.specs.Console.{Console, passed_to, with_raw, with_output_stopped, awaited_for, awaiting, woken, left_by, resumed, has_room, typed, without_first, spoken, written}
@@ -82,7 +82,7 @@ behind_pass (Some p) t n = passed t (ConsoleUnit n)
 
 abbrev pub pass_answer : Option ℕ → Consoles → ℕ → KeyDone
 pass_answer None t n = Nothing
-pass_answer (Some p) t n = Passes p (first_waiter t (ConsoleUnit n)) (is_some (console_at t n).awaits)
+pass_answer (Some p) t n = Passes p (first_waiter t (ConsoleUnit n))
 
 -- a key that wakes the owner, or does else something
 abbrev pub wake_answer : KeyDone → Option ℕ → KeyDone

@@ -5,3 +5,4 @@ pub mod Keys
 pub mod Handling
 pub mod Fates
 pub mod Runs
+pub mod Modes

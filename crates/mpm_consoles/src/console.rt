@@ -229,6 +229,13 @@ impl Console {
         self.keys.pop_front()
     }
 
+    /// The column at which the next byte is written.
+    pub fn column(&self) -> u16
+        ensures { result ≡ self.now.column }
+    {
+        self.column
+    }
+
     /// A byte is written: its column moves. Answers how many spaces stand for a tab that is expanded, 0 where the byte stands
     /// for itself.
     #[tactic(auto, using(crate::proofs::ColumnLaws::columns_spaces, crate::proofs::ColumnLaws::columns_one), unfolding(crate::specs::Console::written, crate::specs::Console::spoken, crate::specs::Columns::spaces_for, crate::specs::Columns::tab_text))]

@@ -236,6 +236,14 @@ impl Consoles {
         self.consoles[usize::from(console)].raw()
     }
 
+    /// The column of a console, at which the next byte is written.
+    pub fn column(&self, console: u8) -> u16
+        requires { HasConsole self.now console }
+        ensures { result ≡ (console_at self.now console).column }
+    {
+        self.consoles[usize::from(console)].column()
+    }
+
     /// Whether the output of a console is stopped.
     pub fn stopped(&self, console: u8) -> bool
         requires { HasConsole self.now console }
@@ -325,6 +333,18 @@ impl Consoles {
         match self.owner(unit) {
             Some(owner) => owner.0 == p.0,
             None => false,
+        }
+    }
+
+    /// Whether a process may attach a unit: nobody owns it, or that process does.
+    #[tactic(auto, unfolding(crate::specs::Handling::may_attach))]
+    pub fn may_attach(&self, p: Pid, unit: Unit) -> bool
+        requires { HasUnit self.now unit }
+        ensures { result ≡ may_attach self.now p unit }
+    {
+        match self.owner(unit) {
+            Some(owner) => owner.0 == p.0,
+            None => true,
         }
     }
 
@@ -470,12 +490,11 @@ impl Consoles {
         let Some(from) = self.subject(console, resident) else {
             return KeyDone::Nothing;
         };
-        let waited = self.awaits(console);
         let to = self.pass(Unit::Console { n: console });
-        KeyDone::Passes { from, to, waited }
+        KeyDone::Passes { from, to }
     }
 
-    /// Whether the owner of a console waits at its gate.
+    /// Whether the owner of a console waits at its gate. A key that passes the console on ends that.
     pub fn awaits(&self, console: u8) -> bool
         requires { HasConsole self.now console }
         ensures { result ≡ is_some (console_at self.now console).awaits }

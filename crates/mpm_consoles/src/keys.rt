@@ -25,20 +25,12 @@ pub enum KeyDone {
     Dropped,
     /// The owner `p`, which waited at its gate, waits there no more: it is to become ready. A key that was typed is stored,
     /// or lost where 64 are stored.
-    Wakes {
-        p: Pid,
-    },
+    Wakes { p: Pid },
     /// The owner `p` is to be aborted; nothing changed.
-    Aborts {
-        p: Pid,
-    },
+    Aborts { p: Pid },
     /// The console passed from its owner `from` to the process `to` that waited for it first, or to nobody. Where `from`
-    /// waited at its gate (`waited`), it does no more: it is to become ready.
-    Passes {
-        from: Pid,
-        to: Option<Pid>,
-        waited: bool,
-    },
+    /// waited at its gate, it does no more: it is to become ready.
+    Passes { from: Pid, to: Option<Pid> },
     /// It was a control character that wakes, aborts and passes nothing.
     Nothing,
 }

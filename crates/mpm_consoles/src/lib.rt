@@ -5,10 +5,12 @@ mod columns;
 mod console;
 mod consoles;
 mod keys;
+mod modes;
 mod unit;
 
 pub use consoles::Consoles;
 pub use keys::KeyDone;
+pub use modes::{echoes, is_cooked, is_raw, writes};
 pub use std::alloc::AllocError as OutOfMemory;
 pub use unit::Unit;
 

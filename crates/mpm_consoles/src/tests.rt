@@ -115,6 +115,22 @@ fn wait(units: &mut Consoles, p: Pid, console: u8, for_key: bool) -> Result<(), 
     Ok(())
 }
 
+/// Whether the owner of a console waits at its gate.
+fn awaits(units: &Consoles, console: u8) -> Result<bool, Fail> {
+    if console >= units.consoles() {
+        return Err(Fail::from("there is no such console"));
+    }
+    Ok(units.awaits(console))
+}
+
+/// The column of a console.
+fn column(units: &Consoles, console: u8) -> Result<u16, Fail> {
+    if console >= units.consoles() {
+        return Err(Fail::from("there is no such console"));
+    }
+    Ok(units.column(console))
+}
+
 /// A text is written to a unit: answers how many spaces stood for its last byte.
 fn write(units: &mut Consoles, unit: Unit, text: &[u8], tabs: bool) -> Result<u8, Fail> {
     let mut spaces = 0;
@@ -202,20 +218,20 @@ fn control_c_and_d_spare_residents(rt: HostRuntime) -> Result<(), Fail> {
     assert_eq!(rt; owner(&units, FIRST)?, Some(Pid(7)));
     assert_eq!(rt; key(&mut units, 0, 0x03)?, KeyDone::Aborts { p: Pid(7) });
     wait(&mut units, Pid(7), 0, true)?;
+    assert!(rt; awaits(&units, 0)?);
     assert_eq!(rt;
         key(&mut units, 0, 0x04)?,
         KeyDone::Passes {
             from: Pid(7),
-            to: Some(Pid(8)),
-            waited: true
+            to: Some(Pid(8))
         }
     );
+    assert!(rt; !awaits(&units, 0)?);
     assert_eq!(rt;
         key(&mut units, 0, 0x04)?,
         KeyDone::Passes {
             from: Pid(8),
-            to: None,
-            waited: false
+            to: None
         }
     );
     assert_eq!(rt; take(&mut units, 0)?, None);
@@ -269,6 +285,7 @@ fn tabs_go_to_the_next_column_divisible_by_eight(rt: HostRuntime) -> Result<(), 
     assert_eq!(rt; write(&mut units, FIRST, b"abc\t", true)?, 5);
     assert_eq!(rt; write(&mut units, FIRST, b"\rab\x08\x07\t", true)?, 7);
     assert_eq!(rt; write(&mut units, FIRST, b"\r\x08\t", true)?, 8);
+    assert_eq!(rt; column(&units, 0)?, 8);
     assert_eq!(rt; write(&mut units, FIRST, b"a\t", false)?, 0);
     assert_eq!(rt; write(&mut units, FIRST, b"\t", true)?, 7);
     assert_eq!(rt; write(&mut units, LIST, b"a\t", true)?, 0);

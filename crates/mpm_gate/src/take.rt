@@ -71,11 +71,11 @@ pub fn call_of(regs: &Regs, banks: &Banks, seg: Seg, dma: u16, multi: u8, call: 
             );
         }
         Reads::File(size) => {
-            call.set_control_block(control_block(banks, seg, word));
+            take_control_block(banks, seg, word, call);
             take_bytes(banks, seg, dma, size, call);
         }
         Reads::Records(size) => {
-            call.set_control_block(control_block(banks, seg, word));
+            take_control_block(banks, seg, word, call);
             take_bytes(banks, seg, dma, u16::from(multi) * size, call);
         }
     }
@@ -144,6 +144,14 @@ fn take_descriptors(banks: &Banks, seg: Seg, first: u16, call: &mut Call)
             return;
         }
     }
+}
+
+/// Takes the file control block at an address, in code of its own: few calls read one.
+#[inline(never)]
+fn take_control_block(banks: &Banks, seg: Seg, address: u16, call: &mut Call)
+    ensures { call.new ≡ record call.old { fcb = bytes_from (byte_at banks.now seg) address 36 } }
+{
+    call.set_control_block(control_block(banks, seg, address));
 }
 
 /// The file control block at an address.

@@ -17,9 +17,9 @@ use Rattle.mpm_script.specs.declared.event.Event.TheVariants.{Tick, Key, Ready, 
 use Rattle.mpm_kernel.specs.Kernel.{Kernel, IsSound, afresh}
 use Rattle.mpm_kernel.specs.Columns.{spoke}
 use Rattle.mpm_kernel.specs.Dispatch.{is_ready, behind_equals, moved, all_ready, all_woken, runner_behind}
-use Rattle.mpm_kernel.specs.Waiting.{with_woken, signalled}
+use Rattle.mpm_kernel.specs.Waiting.{with_woken, signalled, is_flag}
 use Rattle.mpm_kernel.specs.Consoling.{KeyNames, AbortLives, echoed, key_done, is_resident, key_came, abort_taken}
-use Rattle.mpm_kernel.specs.Events.{with_tick, clock_ticked, pollers, with_ready, device_ready, happens, happened}
+use Rattle.mpm_kernel.specs.Events.{with_tick, clock_ticked, pollers, with_ready, device_ready, happens, happened, flag_came}
 use Rattle.mpm_kernel.proofs.Soundness.{sound_afresh, sound_told}
 use Rattle.mpm_kernel.proofs.UnitLaws.{has_console, key_names}
 
@@ -52,15 +52,19 @@ aborted_signalled : (flag : ℕ) (kernel : Kernel) → (signalled flag kernel).a
 unfolding signalled
 aborted_signalled flag kernel = aborted_woken (set_answer (flag_at kernel.flags flag)) _
 
+aborted_flag_came : (flag : ℕ) (kernel : Kernel) → (flag_came flag kernel).aborted ≡ kernel.aborted
+unfolding flag_came
+aborted_flag_came flag kernel = aborted_if (is_flag flag) (signalled flag kernel) kernel (aborted_signalled flag kernel)
+
 -- a key aborts the owner of its console
-aborts_named : (key : KeyDone) (console : ℕ) (kernel : Kernel) → KeyNames kernel.procs key → AbortLives kernel → AbortLives (key_done key console kernel)
+aborts_named : (key : KeyDone) (console : ℕ) (waited : Bool) (kernel : Kernel) → KeyNames kernel.procs key → AbortLives kernel → AbortLives (key_done key console waited kernel)
 unfolding key_done echoed spoke
-aborts_named Stored console kernel names lives = lives
-aborts_named Dropped console kernel names lives = lives
-aborts_named Nothing console kernel names lives = lives
-aborts_named (Wakes p) console kernel names lives = lives
-aborts_named (Aborts p) console kernel names lives = names
-aborts_named (Passes from to waited) console kernel names lives = lives
+aborts_named Stored console waited kernel names lives = lives
+aborts_named Dropped console waited kernel names lives = lives
+aborts_named Nothing console waited kernel names lives = lives
+aborts_named (Wakes p) console waited kernel names lives = lives
+aborts_named (Aborts p) console waited kernel names lives = names
+aborts_named (Passes from to) console waited kernel names lives = lives
 
 aborts_if : (b : Bool) (x y : Kernel) → (b ≡ true → AbortLives x) → AbortLives y → AbortLives (if b then x else y)
 aborts_if true x y is else_is = is refl
@@ -72,7 +76,7 @@ aborts_by_key console byte kernel s lives =
     let resident = is_resident kernel.procs (owner_of kernel.units (ConsoleUnit console)) in
     let key = key_answer kernel.units console byte resident in
     aborts_if (nat_lt console kernel.consoles) _ kernel
-    (λ fits. aborts_named key console _ (key_names kernel console byte resident key s (has_console kernel console s (grind (arith, nat_tests, fits))) refl) lives)
+    (λ fits. aborts_named key console _ _ (key_names kernel console byte resident key s (has_console kernel console s (grind (arith, nat_tests, fits))) refl) lives)
     lives
 
 aborts_by : (event : Event) (kernel : Kernel) → IsSound kernel → kernel.aborted ≡ None → AbortLives (happens event kernel)
@@ -84,7 +88,7 @@ aborts_by Tick kernel s none =
 aborts_by (Key console byte) kernel s none = aborts_by_key console byte kernel s (lives_if_none kernel none)
 aborts_by (Ready device byte) kernel s none =
     lives_if_none (all_woken (pollers kernel device) (with_ready kernel device byte)) (aborted_all_ready (pollers kernel device) (with_ready kernel device byte) ∙ none)
-aborts_by (Int flag) kernel s none = lives_if_none (signalled flag kernel) (aborted_signalled flag kernel ∙ none)
+aborts_by (Int flag) kernel s none = lives_if_none (flag_came flag kernel) (aborted_flag_came flag kernel ∙ none)
 
 pub abort_lives : (event : Event) (kernel : Kernel) → IsSound kernel → AbortLives (happened event kernel)
 abort_lives event kernel s = aborts_by event (afresh kernel) (sound_afresh kernel s) refl

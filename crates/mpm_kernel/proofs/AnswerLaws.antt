@@ -3,10 +3,9 @@ use Rattle.std.proofs.Common.{◌≡◌, ◌∙◌, ℕ, ◌-◌, ◌<◌, Bool,
 use Rattle.std.proofs.lemmas.Bool.{cases_lt}
 use Rattle.std.proofs.lemmas.Bool.Decides.{nat_tests}
 use Rattle.std.proofs.lemmas.List.{get_or_append_left, get_or-append_right, get_or-take, get_or-replicate, get_or_past, length-take, length-replicate, drop-append-le, drop_all}
-use Rattle.mpm_base.specs.Calls.{Taken, Answer, answering}
+use Rattle.mpm_base.specs.Calls.{Taken, Answer, answering, byte_in, word_at}
 use Rattle.mpm_queues.specs.Queue.{in_width, block_size, with_given}
 use Rattle.mpm_queues.proofs.MessageLaws.{length_in_width}
-use Rattle.mpm_kernel.specs.Called.{byte_in, word_at}
 use Rattle.mpm_kernel.specs.Waiting.{completion_of}
 
 -- the block of a call stays as it is given a message, and the message stands behind it

@@ -1,14 +1,15 @@
 -- Where processes live, and which calls they keep, behind the calls that wait, those on queues and the others but those on units.
 use Rattle.std.proofs.Common.{◌≡◌, ◌≢◌, ◌∙◌, ℕ, Bool, true, false, ◌==◌, List, Option, Some, None, if◌then◌else◌, refl, sym, ap, subst, arith, get_or-set_other}
-use Rattle.mpm_base.specs.Calls.{Taken, no_call}
+use Rattle.mpm_base.specs.Calls.{Taken, no_call, name_at, word_at}
 use Rattle.mpm_procs.specs.Table.{Table, HasSlots, lives, Lives, process_in, call_of, with_call}
 use Rattle.mpm_procs.specs.declared.process.Process.{Process}
 use Rattle.mpm_procs.proofs.MapLaws.{call_behind}
 use Rattle.mpm_kernel.specs.Kernel.{Kernel, IsSound, with_changed}
-use Rattle.mpm_kernel.specs.Called.{Called, valued, low_parameter, name_at, word_at}
+use Rattle.mpm_kernel.specs.Called.{Called, valued, low_parameter}
 use Rattle.mpm_kernel.specs.Waiting.{polled, is_flag, behind_flag_wait, waited, flag_waited, flag_set, slept}
-use Rattle.mpm_kernel.specs.Dates.{names_time, date_set, date_told, time_told}
-use Rattle.mpm_kernel.specs.Calls.{is_count, with_user, with_multi, called}
+use Rattle.mpm_clock.specs.PackedDecimal.{names_time}
+use Rattle.mpm_kernel.specs.Dates.{date_set, date_told, time_told}
+use Rattle.mpm_kernel.specs.Calls.{called}
 use Rattle.mpm_kernel.specs.Procedures.{procedure_queue, inside, procedure_read, procedure_at, procedure_called}
 use Rattle.mpm_flags.specs.States.{flag_at, wait_answer}
 use Rattle.mpm_flags.specs.declared.flags.FlagWait.{FlagWait}
@@ -23,7 +24,7 @@ use Rattle.mpm_queues.specs.declared.queues.QueueOutcome.TheVariants.{Done as Ha
 use Rattle.mpm_queues.proofs.SoundLaws.{reader_waits}
 use Rattle.mpm_queues.proofs.WaitLaws.{waits_one}
 use Rattle.mpm_kernel.specs.Queueing.{with_queue, queue_made, opened, may_delete, deleted, queued, put_off, with_other, taken_from, was_read, read_at, given_to, was_written, write_at}
-use Rattle.mpm_kernel.specs.Dispatch.{unlisted, moved, behind_equals, with_priority}
+use Rattle.mpm_kernel.specs.Dispatch.{unlisted, moved, lists_ready, also_completed, behind_equals, with_priority}
 use Rattle.mpm_kernel.proofs.Homes.{SameHomes, homes_stay, homes_both, homes_changed, homes_call}
 
 -- the calls of the kernel: who lives, lives where somebody lived, and each process that waits at no queue keeps its call
@@ -64,18 +65,6 @@ kept_procs old middle called first e = record {
   homes = homes_both old middle called.kernel first.homes (homes_stay middle called.kernel e);
   call = λ q none. ap (λ procs. call_of procs q) e ∙ first.call q none;
 }
-
-pub kept_user : (call : Taken) (p value : ℕ) (kernel : Kernel) → IsSound kernel → Lives kernel.procs p
-    → KeepsHome kernel (valued value (with_user call p (process_in kernel.procs p) kernel))
-unfolding with_user
-kept_user call p value kernel s h =
-    kept_kernel_if kernel (low_parameter call == 255) _ _ value (kept_same kernel _ refl) (kept_changed p value kernel _ s h refl refl)
-
-pub kept_multi : (call : Taken) (p value : ℕ) (kernel : Kernel) → IsSound kernel → Lives kernel.procs p
-    → KeepsHome kernel (valued value (with_multi call p (process_in kernel.procs p) kernel))
-unfolding with_multi
-kept_multi call p value kernel s h =
-    kept_kernel_if kernel (is_count (low_parameter call)) _ _ value (kept_changed p value kernel _ s h refl refl) (kept_same kernel _ refl)
 
 pub kept_behind : (p value : ℕ) (kernel : Kernel) → KeepsHome kernel (valued value (behind_equals kernel p))
 unfolding behind_equals
@@ -140,7 +129,7 @@ unfolding put_off queued unlisted
 kept_put_off may_wait p q reader kernel = kept_if kernel may_wait _ _ (kept_same kernel _ refl) (kept_same kernel _ refl)
 
 pub procs_with_other : (other : Option ℕ) (kernel : Kernel) → (with_other other kernel).procs ≡ kernel.procs
-unfolding with_other moved
+unfolding with_other lists_ready also_completed moved
 procs_with_other None kernel = refl
 procs_with_other (Some p) kernel = refl
 

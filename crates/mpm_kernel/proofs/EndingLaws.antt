@@ -20,7 +20,7 @@ use Rattle.mpm_consoles.specs.Consoles.{owns}
 use Rattle.mpm_consoles.specs.Handling.{left as without_units}
 use Rattle.mpm_consoles.proofs.SoundLaws.{sound_left as sound_units_left}
 use Rattle.mpm_kernel.specs.Kernel.{Kernel, ready, in_lists, places, IsReady, IsFit, AreUnits, IsSound, CompletedLive}
-use Rattle.mpm_kernel.specs.Dispatch.{moved}
+use Rattle.mpm_kernel.specs.Dispatch.{moved, lists_ready, also_completed}
 use Rattle.mpm_kernel.specs.Called.{valued}
 use Rattle.mpm_kernel.specs.Queueing.{with_other, given_to}
 use Rattle.mpm_kernel.specs.Procedures.{writing, outside, given_back_to, given_back}
@@ -111,7 +111,7 @@ leaves_outside p kernel s h none =
 -- the held call of another one is completed
 leaves_other : (other : Option ℕ) (p : ℕ) (kernel : Kernel) → Leaves p kernel → ((r : ℕ) → other ≡ Some r → MayBeReady kernel r × (r ≢ p))
     → Leaves p (with_other other kernel)
-unfolding with_other moved
+unfolding with_other lists_ready also_completed moved
 leaves_other None p kernel l may = l
 leaves_other (Some r) p kernel l may =
     let one = may r refl in
@@ -209,7 +209,7 @@ nothing_relieved p kernel s h = owns_none p _ (leaves_messages p kernel s h).sou
 
 -- how many calls are completed by that
 few_other : (other : Option ℕ) (kernel : Kernel) → length (with_other other kernel).completed ≤ length kernel.completed + 1
-unfolding with_other moved
+unfolding with_other lists_ready also_completed moved
 few_other None kernel = omega arith
 few_other (Some p) kernel = omega (arith, length-append kernel.completed (p ∷ []))
 
@@ -390,7 +390,7 @@ keeps_outside p q kernel other = record {
 }
 
 pub queues_with_other : (other : Option ℕ) (kernel : Kernel) → (with_other other kernel).queues ≡ kernel.queues
-unfolding with_other moved
+unfolding with_other lists_ready also_completed moved
 queues_with_other None kernel = refl
 queues_with_other (Some p) kernel = refl
 

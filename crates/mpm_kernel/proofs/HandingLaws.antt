@@ -4,10 +4,12 @@ use Rattle.std.specs.List.{AllByRecursion}
 use Rattle.mpm_queues.specs.Queue.{block_size}
 use Rattle.mpm_procs.specs.Table.{Table, lives, Lives, call_of}
 use Rattle.mpm_kernel.specs.Kernel.{Kernel, IsSound, CompletedLive, with_completed}
-use Rattle.mpm_kernel.specs.Called.{valued, word_at}
+use Rattle.mpm_kernel.specs.Called.{valued}
+use Rattle.mpm_base.specs.Calls.{word_at}
 use Rattle.mpm_kernel.specs.Procedures.{procedure_queue}
 use Rattle.mpm_kernel.specs.Events.{first_completed, inside_of, with_procedure, with_first, handed_out}
-use Rattle.mpm_kernel.proofs.Soundness.{none_and_some, some_same, sound_with_completed}
+use Rattle.mpm_dispatcher.proofs.CompletedLaws.{first_lives}
+use Rattle.mpm_kernel.proofs.Soundness.{sound_with_completed}
 use Rattle.mpm_kernel.proofs.Staying.{StaysSound, kernel_if}
 use Rattle.mpm_kernel.proofs.QueueCalls.{stays_inside}
 
@@ -15,10 +17,6 @@ use Rattle.mpm_kernel.proofs.QueueCalls.{stays_inside}
 dropped_live : (procs : Table) (ps : List ℕ) → AllByRecursion (λ p. Lives procs p) ps → AllByRecursion (λ p. Lives procs p) (drop 1 ps)
 dropped_live procs [] live = tt
 dropped_live procs (p ∷ ps) live = live.1
-
-first_lives : (procs : Table) (ps : List ℕ) (p : ℕ) → AllByRecursion (λ q. Lives procs q) ps → first_completed ps ≡ Some p → Lives procs p
-first_lives procs [] p live e = absurd (none_and_some None p refl e)
-first_lives procs (q ∷ ps) p live e = ap (lives procs) (sym (some_same q p e)) ∙ live.0
 
 pub completed_lives : (kernel : Kernel) (p : ℕ) → CompletedLive kernel → first_completed kernel.completed ≡ Some p → Lives kernel.procs p
 completed_lives kernel p live e = first_lives kernel.procs kernel.completed p live e

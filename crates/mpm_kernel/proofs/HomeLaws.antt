@@ -3,22 +3,22 @@
 use Rattle.std.proofs.Common.{◌≡◌, ◌∙◌, ℕ, ◌≤◌, Bool, true, false, ◌||◌, ◌==◌, List, length, Option, Some, None, if◌then◌else◌, inl, inr, drop, refl, sym, ap, arith}
 use Rattle.std.proofs.lemmas.Bool.{cases_eq, cases_lt}
 use Rattle.std.proofs.lemmas.List.{set_past}
-use Rattle.mpm_base.specs.Calls.{Taken}
+use Rattle.mpm_base.specs.Calls.{Taken, word_at}
 use Rattle.mpm_procs.specs.Table.{Table, HasSlots, lives, Lives, process_in, call_of, with_process}
 use Rattle.mpm_procs.specs.declared.process.Process.{Process}
 use Rattle.mpm_procs.proofs.MapLaws.{process_changed, process_kept, lives_changed, call_behind}
-use Rattle.mpm_kernel.specs.Kernel.{Kernel, ready, IsReady, IsSound, CompletedLive, with_completed, afresh}
-use Rattle.mpm_kernel.specs.Called.{Called, low_parameter, word_at}
-use Rattle.mpm_kernel.specs.Calls.{call_done, called, is_for_console, is_for_unit}
+use Rattle.mpm_kernel.specs.Kernel.{Kernel, ready, IsReady, IsSound, CompletedLive, with_completed, call_begun}
+use Rattle.mpm_kernel.specs.Called.{Called, low_parameter}
+use Rattle.mpm_kernel.specs.Calls.{call_done, called, does_echo, is_for_console, is_for_unit}
 use Rattle.mpm_kernel.specs.Events.{happened, first_completed, inside_of, with_procedure, with_first, handed_out}
 use Rattle.mpm_kernel.specs.Procedures.{procedure_queue, inside}
 use Rattle.mpm_script.specs.declared.event.Event.{Event}
-use Rattle.mpm_kernel.proofs.SoundLaws.{listed_once, completed_lives, procs_happened, sound_afresh}
+use Rattle.mpm_kernel.proofs.SoundLaws.{listed_once, completed_lives, procs_happened, sound_begun}
 use Rattle.mpm_queues.specs.Queue.{block_size}
 use Rattle.mpm_queues.specs.Queues.{waits}
 pub use Rattle.mpm_kernel.proofs.Homes.{IsLivedIn, SameHomes, homes_stay, homes_both, lived_in_changed, homes_changed, homes_call, homes_vacated, opening_home, aborts_admitted, homes_admitted, homes_in_slot, lives_on, keeps_call, keeps_process, procs_picked, procs_spoke}
 pub use Rattle.mpm_kernel.proofs.CallHomes.{KeepsHome, procs_with_other, kept_told}
-use Rattle.mpm_kernel.proofs.CallHomes.{kept_if, kept_same, kept_changed, kept_user, kept_multi, kept_behind, kept_priority, kept_polled, kept_flag_waited, kept_flag_set, kept_slept, kept_queue_made, kept_opened, kept_deleted, kept_read_at, kept_write_at, kept_procedure_called, kept_date_set, procs_date_told, procs_time_told}
+use Rattle.mpm_kernel.proofs.CallHomes.{kept_if, kept_same, kept_changed, kept_behind, kept_priority, kept_polled, kept_flag_waited, kept_flag_set, kept_slept, kept_queue_made, kept_opened, kept_deleted, kept_read_at, kept_write_at, kept_procedure_called, kept_date_set, procs_date_told, procs_time_told}
 use Rattle.mpm_kernel.proofs.UnitHomes.{kept_unit_called, kept_console_called}
 
 kept_call_done : (call : Taken) (p : ℕ) (kernel : Kernel) → IsSound kernel → Lives kernel.procs p
@@ -33,8 +33,8 @@ kept_call_done call p kernel s h =
     (kept_if kernel (f == 12 || f == 163) _ _ (same _ refl)
     (kept_if kernel (f == 25) _ _ (same _ refl)
     (kept_if kernel (f == 26) _ _ (kept_changed p 0 kernel _ s h refl refl)
-    (kept_if kernel (f == 32) _ _ (kept_user call p _ kernel s h)
-    (kept_if kernel (f == 44) _ _ (kept_multi call p _ kernel s h)
+    (kept_if kernel (f == 32) _ _ (kept_changed p _ kernel _ s h refl refl)
+    (kept_if kernel (f == 44) _ _ (kept_changed p _ kernel _ s h refl refl)
     (kept_if kernel (f == 45) _ _ (kept_changed p 0 kernel _ s h refl refl)
     (kept_if kernel (f == 104) _ _ (kept_date_set call kernel)
     (kept_if kernel (f == 105) _ _ (same _ (procs_date_told call kernel))
@@ -56,18 +56,22 @@ kept_call_done call p kernel s h =
     (kept_if kernel (f == 155) _ _ (same _ (procs_time_told call kernel))
     (same _ refl)))))))))))))))))))))))))))
 
-homes_through : (old new : Kernel) → SameHomes (afresh old) new → SameHomes old new
-homes_through old new homes = homes_both old (afresh old) new (homes_stay old (afresh old) refl) homes
+homes_through : (echoes : Bool) (old new : Kernel) → SameHomes (call_begun echoes old) new → SameHomes old new
+homes_through echoes old new homes = homes_both old (call_begun echoes old) new (homes_stay old (call_begun echoes old) refl) homes
+
+-- the kernel as the call of a process begins
+abbrev begun : ℕ → Kernel → Kernel
+begun p kernel = call_begun (does_echo (call_of kernel.procs p).function) kernel
 
 pub homes_called : (p : ℕ) (kernel : Kernel) → IsSound kernel → Lives kernel.procs p → SameHomes kernel (called p kernel).kernel
 homes_called p kernel s h =
-    homes_through kernel _ (kept_call_done (call_of kernel.procs p) p (afresh kernel) (sound_afresh kernel s) h).homes
+    homes_through _ kernel _ (kept_call_done (call_of kernel.procs p) p (begun p kernel) (sound_begun _ kernel s) h).homes
 
 -- a call changes its own call as little as another that is kept, but that of a reader to whom it hands a message
 pub calls_called : (p : ℕ) (kernel : Kernel) → IsSound kernel → Lives kernel.procs p
     → (q : ℕ) → waits kernel.queues q ≡ 0 → call_of (called p kernel).kernel.procs q ≡ call_of kernel.procs q
 calls_called p kernel s h q none =
-    (kept_call_done (call_of kernel.procs p) p (afresh kernel) (sound_afresh kernel s) h).call q none
+    (kept_call_done (call_of kernel.procs p) p (begun p kernel) (sound_begun _ kernel s) h).call q none
 
 pub call_called : (p : ℕ) (kernel : Kernel) → IsSound kernel → Lives kernel.procs p → IsReady kernel p
     → call_of (called p kernel).kernel.procs p ≡ call_of kernel.procs p

@@ -18,7 +18,8 @@ use Rattle.mpm_kernel.specs.Columns.{column_of, spoke}
 use Rattle.mpm_kernel.specs.Called.{Called, low_parameter}
 use Rattle.mpm_kernel.specs.Consoling.{attaching, awaited, echoed}
 use Rattle.mpm_kernel.specs.ConsoleInput.{is_cooked, is_raw, writes, raw_if, key_taken, next_key, shown_key, read_key, polled_key, direct, line_of, greatest, line_done, key_joined, line_with, line_by, line_read, console_served, unless_stopped, console_called}
-use Rattle.mpm_kernel.proofs.UnitWaits.{is_at_gate, gates_with, owner_is, waits_console}
+use Rattle.mpm_kernel.proofs.UnitWaits.{is_at_gate, waits_console}
+use Rattle.mpm_consoles.proofs.PlaceLaws.{owner_is, rests_console}
 use Rattle.mpm_kernel.proofs.UnitLaws.{has_own_console}
 use Rattle.mpm_kernel.proofs.InputLaws.{has_attached, owns_attached, has_raw, owns_raw}
 use Rattle.mpm_kernel.proofs.Soundness.{sound_changed, sound_units, sound_console, sound_spoke, sound_told, units_console, listed_once}
@@ -44,10 +45,10 @@ waits_at_gate p console key kernel v =
     let is = owner_is (console_at kernel.units console).owner p v.owner in
     record {
       are = units_console kernel console now s v.has refl (sound_wait kernel.units p console key s.units.sound v.has v.owner);
-      once = omega (arith, gates_with kernel.units console now p v.has, waits_console kernel.units console now p, at_most_one (is_at_gate p now), listed_once kernel p ready s v.calls.ready);
+      once = omega (arith, rests_console kernel.units console now p v.has, waits_console kernel.units console now p, at_most_one (is_at_gate p now), listed_once kernel p ready s v.calls.ready);
       others = λ q other.
           let not_its : is_at_gate q now ≡ false = ap (λ o. is_owner o q && true) is ∙ ap (λ b. b && true) (ne_eqb p q (λ e. other (sym e))) in
-          omega (arith, gates_with kernel.units console now q v.has, waits_console kernel.units console now q, one_if_false (is_at_gate q now) not_its);
+          omega (arith, rests_console kernel.units console now q v.has, waits_console kernel.units console now q, one_if_false (is_at_gate q now) not_its);
     }
 
 stays_awaited : (p console : ℕ) (key : Bool) (kernel : Kernel) → Serves p console kernel → StaysSound p (awaited p console key kernel)

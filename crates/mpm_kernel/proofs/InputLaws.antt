@@ -1,9 +1,7 @@
 -- What the calls that read from a console and write to it need.
-use Rattle.std.proofs.Common.{◌≡◌, ◌∙◌, ℕ, ◌-◌, ◌%◌, ◌<◌, ◌≤◌, Bool, true, false, not, ◌||◌, ◌==◌, if◌then◌else◌, List, [], ◌∷◌, length, replicate, Option, Some, None, refl, sym, ap, arith}
+use Rattle.std.proofs.Common.{◌≡◌, ◌∙◌, ℕ, ◌<◌, Bool, true, false, not, ◌||◌, ◌==◌, if◌then◌else◌, List, length, Option, Some, None, refl, sym, ap, arith}
 use Rattle.std.specs.Bool.{OnTrue}
-use Rattle.std.specs.Prelude.{nat_lt}
 use Rattle.std.proofs.lemmas.Bool.{false≢true}
-use Rattle.std.proofs.lemmas.Bool.Decides.{nat_tests}
 use Rattle.std.proofs.lemmas.List.{length-set}
 use Rattle.mpm_base.specs.Calls.{Taken}
 use Rattle.mpm_procs.specs.Table.{lives, Lives, process_in, call_of}
@@ -12,12 +10,8 @@ use Rattle.mpm_consoles.specs.Console.{is_owner, with_raw, without_first}
 use Rattle.mpm_consoles.specs.Consoles.{Consoles, console_at, HasUnit, owner_of, owns}
 use Rattle.mpm_consoles.specs.Handling.{listed, attaches, may_attach, attach_from, behind_attach, behind_raw, behind_take}
 use Rattle.mpm_consoles.specs.declared.unit.Unit.{Unit}
-use Rattle.mpm_consoles.specs.declared.unit.Unit.TheVariants.{Console as ConsoleUnit}
 use Rattle.mpm_kernel.specs.Kernel.{Kernel}
-use Rattle.mpm_kernel.specs.Columns.{column_of, tab_text, spoke, wrote, spaces_for}
-use Rattle.mpm_line_input.specs.Echoes.{is_echoed, key_echo}
-use Rattle.mpm_kernel.proofs.ColumnLaws.{first_spaces}
-use Rattle.mpm_kernel.proofs.SpokeLaws.{wrote_tabbed, spaces_most, tab_is_spaces, tab_is_itself}
+use Rattle.mpm_kernel.specs.Columns.{spoke}
 use Rattle.mpm_kernel.specs.Consoling.{attaching, echoed}
 use Rattle.mpm_kernel.specs.ConsoleInput.{raw_if, key_taken, key_joined}
 use Rattle.mpm_kernel.proofs.UnitWaits.{is_own, owner_given, owner_kept, consoles_given}
@@ -131,45 +125,3 @@ pub lives_joined : (call : Taken) (p console key : ℕ) (kernel : Kernel) → Li
 unfolding key_joined
 lives_joined call p console key kernel h =
     lives_echoed console _ _ p (lives_changed kernel.procs p p _ ∙ h)
-
--- a key that is shown
-echo_if : (b : Bool) (key column : ℕ) → is_echoed key ≡ b → b ≡ false → key_echo key column ≡ []
-unfolding key_echo
-echo_if b key column is off = none_shown (key == 9) (is_echoed key) key column (grind (arith, nat_tests, is, off)) (is ∙ off)
-  where
-    none_shown : (tab shown : Bool) (key column : ℕ) → tab ≡ false → shown ≡ false
-        → (if tab then replicate {A = ℕ} (8 - column % 8) 32 else (if shown then key ∷ [] else [])) ≡ []
-    none_shown true shown key column no_tab off = absurd (false≢true (sym no_tab))
-    none_shown false true key column no_tab off = absurd (false≢true (sym off))
-    none_shown false false key column no_tab off = refl
-
-pub echo_nothing : (key column : ℕ) → is_echoed key ≡ false → key_echo key column ≡ []
-echo_nothing key column off = echo_if (is_echoed key) key column refl off
-
-tab_or_itself : (tab shown : Bool) (key column : ℕ) → shown ≡ true
-    → (if tab then replicate {A = ℕ} (8 - column % 8) 32 else (key ∷ [])) ≡ (if tab then replicate {A = ℕ} (8 - column % 8) 32 else (if shown then key ∷ [] else []))
-tab_or_itself true shown key column is = refl
-tab_or_itself false true key column is = refl
-tab_or_itself false false key column is = absurd (false≢true is)
-
-text_is_echo : (key column : ℕ) → is_echoed key ≡ true → tab_text column key ≡ key_echo key column
-unfolding tab_text key_echo
-text_is_echo key column is = tab_or_itself (key == 9) (is_echoed key) key column is
-
-pub wrote_key : (kernel : Kernel) (console key : ℕ) → is_echoed key ≡ true
-    → wrote kernel (ConsoleUnit console) key true ≡ spoke kernel console (key_echo key (column_of kernel console))
-wrote_key kernel console key is = wrote_tabbed kernel console key ∙ ap (spoke kernel console) (text_is_echo key (column_of kernel console) is)
-
-pub spaces_few : (kernel : Kernel) (console key spaces : ℕ) → spaces ≡ spaces_for kernel (ConsoleUnit console) key true → spaces ≤ 8
-spaces_few kernel console key spaces is = spaces_most kernel console key spaces is
-
-by_spaces : (b : Bool) (kernel : Kernel) (console key spaces : ℕ) → nat_lt 0 spaces ≡ b → spaces ≡ spaces_for kernel (ConsoleUnit console) key true
-    → (if b then replicate {A = ℕ} spaces 32 else (key ∷ [])) ≡ tab_text (column_of kernel console) key
-by_spaces true kernel console key spaces some is =
-    sym (first_spaces spaces (spaces_most kernel console key spaces is)) ∙ tab_is_spaces kernel console key spaces is (grind (arith, nat_tests, some))
-by_spaces false kernel console key spaces none is = tab_is_itself kernel console key spaces is (grind (arith, nat_tests, none))
-
-pub text_by_spaces : (kernel : Kernel) (console key spaces : ℕ) (text : List ℕ) → is_echoed key ≡ true → spaces ≡ spaces_for kernel (ConsoleUnit console) key true
-    → text ≡ (if nat_lt 0 spaces then replicate spaces 32 else (key ∷ [])) → text ≡ key_echo key (column_of kernel console)
-text_by_spaces kernel console key spaces text shown is e =
-    e ∙ by_spaces (nat_lt 0 spaces) kernel console key spaces refl is ∙ text_is_echo key (column_of kernel console) shown

@@ -25,7 +25,8 @@ use Rattle.mpm_kernel.specs.Kernel.{Kernel, waits_of, HasConsole as HasConsoleIn
 use Rattle.mpm_kernel.specs.Columns.{spoke}
 use Rattle.mpm_kernel.specs.Dispatch.{moved, lists_ready, made_ready}
 use Rattle.mpm_kernel.specs.Consoling.{if_it, abort_text, echoed, key_done, is_resident, key_came}
-use Rattle.mpm_kernel.proofs.UnitWaits.{is_at_gate, consoles_given, gates_kept, gates_fewer, gates_unlisted, waits_console, owner_kept, is_own}
+use Rattle.mpm_consoles.proofs.PlaceLaws.{rests_unlisted}
+use Rattle.mpm_kernel.proofs.UnitWaits.{is_at_gate, consoles_given, gates_kept, gates_fewer, waits_console, owner_kept, is_own}
 use Rattle.mpm_kernel.proofs.UnitLaws.{has_console}
 use Rattle.mpm_kernel.proofs.Soundness.{sound_console, sound_spoke, sound_told, sound_ready}
 use Rattle.mpm_kernel.proofs.Passing.{HavePassed, passed_on, sound_passed}
@@ -143,27 +144,27 @@ resumed_as t n sound has =
     subst (λ (o : Option ℕ). HavePassed t (with_console t n (resumed (console_at t n))) o) (woken_output (console_at t n)) (resumed_passed t n sound has)
 
 -- who is woken, by the answer
-sound_wakes : (other : KeyDone) (heir : Option ℕ) (n : ℕ) (kernel : Kernel) (units : Consoles) → ((k : Kernel) → key_done other n k ≡ k)
-    → IsSound kernel → HavePassed kernel.units units heir → IsSound (key_done (wake_answer other heir) n (record kernel { units = units }))
+sound_wakes : (other : KeyDone) (heir : Option ℕ) (n : ℕ) (waited : Bool) (kernel : Kernel) (units : Consoles) → ((k : Kernel) → key_done other n waited k ≡ k)
+    → IsSound kernel → HavePassed kernel.units units heir → IsSound (key_done (wake_answer other heir) n waited (record kernel { units = units }))
 unfolding key_done lists_ready
-sound_wakes other None n kernel units nothing s are =
+sound_wakes other None n waited kernel units nothing s are =
     subst IsSound (sym (nothing (record kernel { units = units }))) (sound_made None kernel units (sound_passed kernel units None s are))
-sound_wakes other (Some h) n kernel units nothing s are = sound_made (Some h) kernel units (sound_passed kernel units (Some h) s are)
+sound_wakes other (Some h) n waited kernel units nothing s are = sound_made (Some h) kernel units (sound_passed kernel units (Some h) s are)
 
-not_passing : (b : Bool) (n : ℕ) (k : Kernel) → key_done (if b then Stored else Dropped) n k ≡ k
+not_passing : (b : Bool) (n : ℕ) (waited : Bool) (k : Kernel) → key_done (if b then Stored else Dropped) n waited k ≡ k
 unfolding key_done
-not_passing true n k = refl
-not_passing false n k = refl
+not_passing true n waited k = refl
+not_passing false n waited k = refl
 
-nothing_passing : (n : ℕ) (k : Kernel) → key_done Nothing n k ≡ k
+nothing_passing : (n : ℕ) (waited : Bool) (k : Kernel) → key_done Nothing n waited k ≡ k
 unfolding key_done
-nothing_passing n k = refl
+nothing_passing n waited k = refl
 
 -- ^C
-sound_abort : (o : Option ℕ) (n : ℕ) (kernel : Kernel) → IsSound kernel → IsSound (key_done (abort_answer o) n kernel)
+sound_abort : (o : Option ℕ) (n : ℕ) (waited : Bool) (kernel : Kernel) → IsSound kernel → IsSound (key_done (abort_answer o) n waited kernel)
 unfolding key_done echoed spoke
-sound_abort None n kernel s = s
-sound_abort (Some p) n kernel s = sound_told (spoke kernel n abort_text) abort_text (Some p) (sound_spoke kernel n abort_text s)
+sound_abort None n waited kernel s = s
+sound_abort (Some p) n waited kernel s = sound_told (spoke kernel n abort_text) abort_text (Some p) (sound_spoke kernel n abort_text s)
 
 -- ^D
 owner_at_gate : (t : Consoles) (n p : ℕ) → (console_at t n).owner ≡ Some p → is_some (console_at t n).awaits ≡ true → is_at_gate p (console_at t n) ≡ true
@@ -174,7 +175,7 @@ gates_passed_to : (o : Option ℕ) (t : Consoles) (n q : ℕ) → HasConsole t n
 unfolding given passed_to unlisted
 gates_passed_to None t n q has = gates_fewer t n (passed_to None (console_at t n)) q has refl
 gates_passed_to (Some h) t n q has =
-    omega (arith, gates_fewer (unlisted t h) n (passed_to (Some h) (console_at t n)) q has refl, gates_unlisted t h q)
+    omega (arith, gates_fewer (unlisted t h) n (passed_to (Some h) (console_at t n)) q has refl, rests_unlisted t h q)
 
 gates_passed : (t : Consoles) (n q : ℕ) → HasConsole t n → rests (passed t (ConsoleUnit n)) q + one_if (is_at_gate q (console_at t n)) ≡ rests t q
 unfolding passed
@@ -203,7 +204,7 @@ sound_old_owner waited n p kernel s has owner is =
     omega (arith, s.once p, are.waiters p, gates_passed t n p has, one_if_true (is_at_gate p (console_at t n)) (owner_at_gate t n p owner (is ∙ waits))))
 
 sound_pass : (o : Option ℕ) (n : ℕ) (kernel : Kernel) → IsSound kernel → HasConsoleIn kernel n → ((p : ℕ) → o ≡ Some p → (console_at kernel.units n).owner ≡ Some p)
-    → IsSound (key_done (pass_answer o kernel.units n) n (record kernel { units = behind_pass o kernel.units n }))
+    → IsSound (key_done (pass_answer o kernel.units n) n (is_some (console_at kernel.units n).awaits) (record kernel { units = behind_pass o kernel.units n }))
 unfolding key_done
 sound_pass None n kernel s has owner = s
 sound_pass (Some p) n kernel s has owner = sound_old_owner (is_some (console_at kernel.units n).awaits) n p kernel s has (owner p refl) refl
@@ -219,19 +220,20 @@ sound_stopped n kernel s has cooked = sound_console kernel n _ s has refl refl (
 
 sound_by : (control : Option Control) (n byte : ℕ) (resident : Bool) (kernel : Kernel) → IsSound kernel → HasConsoleIn kernel n
     → control_of (console_at kernel.units n).raw byte ≡ control
-    → IsSound (key_done (answer_by control kernel.units n resident) n (record kernel { units = key_by control kernel.units n byte resident }))
+    → IsSound (key_done (answer_by control kernel.units n resident) n (is_some (console_at kernel.units n).awaits) (record kernel { units = key_by control kernel.units n byte resident }))
 unfolding typed_answer
 sound_by None n byte resident kernel s has is =
     let console = console_at kernel.units n in
-    let P : Option ℕ → Type 0 = λ o. IsSound (key_done (wake_answer (if has_room console then Stored else Dropped) o) n (record kernel { units = with_console kernel.units n (typed byte console) })) in
+    let waited = is_some console.awaits in
+    let P : Option ℕ → Type 0 = λ o. IsSound (key_done (wake_answer (if has_room console then Stored else Dropped) o) n waited (record kernel { units = with_console kernel.units n (typed byte console) })) in
     subst P (woken_key Key byte console)
-    (sound_wakes (if has_room console then Stored else Dropped) (woken Key (with_key byte console)) n kernel _ (λ k. not_passing (has_room console) n k) s (typed_passed kernel.units n byte s.units.sound has))
+    (sound_wakes (if has_room console then Stored else Dropped) (woken Key (with_key byte console)) n waited kernel _ (λ k. not_passing (has_room console) n waited k) s (typed_passed kernel.units n byte s.units.sound has))
 sound_by (Some Stop) n byte resident kernel s has is =
-    subst IsSound (sym (nothing_passing n (record kernel { units = with_console kernel.units n (with_output_stopped (console_at kernel.units n)) })))
+    subst IsSound (sym (nothing_passing n (is_some (console_at kernel.units n).awaits) (record kernel { units = with_console kernel.units n (with_output_stopped (console_at kernel.units n)) })))
     (sound_stopped n kernel s has (cooked (console_at kernel.units n).raw byte Stop is))
 sound_by (Some Resume) n byte resident kernel s has is =
-    sound_wakes Nothing (woken Output (console_at kernel.units n)) n kernel _ (λ k. nothing_passing n k) s (resumed_as kernel.units n s.units.sound has)
-sound_by (Some Abort) n byte resident kernel s has is = sound_abort (subject resident (console_at kernel.units n).owner) n kernel s
+    sound_wakes Nothing (woken Output (console_at kernel.units n)) n _ kernel _ (λ k. nothing_passing n _ k) s (resumed_as kernel.units n s.units.sound has)
+sound_by (Some Abort) n byte resident kernel s has is = sound_abort (subject resident (console_at kernel.units n).owner) n _ kernel s
 sound_by (Some Detach) n byte resident kernel s has is =
     sound_pass (subject resident (console_at kernel.units n).owner) n kernel s has (λ p e. subject_owner resident (console_at kernel.units n).owner p e)
 
@@ -252,14 +254,14 @@ record Leaves (old new : Kernel) : Type 0 where
   pub procs : new.procs ≡ old.procs
   pub completed : new.completed ≡ old.completed
 
-leaves_done : (key : KeyDone) (console : ℕ) (kernel : Kernel) → Leaves kernel (key_done key console kernel)
+leaves_done : (key : KeyDone) (console : ℕ) (waited : Bool) (kernel : Kernel) → Leaves kernel (key_done key console waited kernel)
 unfolding key_done echoed spoke
-leaves_done Stored console kernel = record { procs = refl; completed = refl }
-leaves_done Dropped console kernel = record { procs = refl; completed = refl }
-leaves_done Nothing console kernel = record { procs = refl; completed = refl }
-leaves_done (Wakes p) console kernel = record { procs = refl; completed = refl }
-leaves_done (Aborts p) console kernel = record { procs = refl; completed = refl }
-leaves_done (Passes from to waited) console kernel = record { procs = refl; completed = refl }
+leaves_done Stored console waited kernel = record { procs = refl; completed = refl }
+leaves_done Dropped console waited kernel = record { procs = refl; completed = refl }
+leaves_done Nothing console waited kernel = record { procs = refl; completed = refl }
+leaves_done (Wakes p) console waited kernel = record { procs = refl; completed = refl }
+leaves_done (Aborts p) console waited kernel = record { procs = refl; completed = refl }
+leaves_done (Passes from to) console waited kernel = record { procs = refl; completed = refl }
 
 leaves_if : (b : Bool) (old x : Kernel) → Leaves old x → Leaves old (if b then x else old)
 leaves_if true old x l = l
@@ -269,7 +271,7 @@ leaves_key : (console byte : ℕ) (kernel : Kernel) → Leaves kernel (key_came 
 unfolding key_came
 leaves_key console byte kernel =
     leaves_if (nat_lt console kernel.consoles) kernel _
-    (let l = leaves_done (key_answer kernel.units console byte (is_resident kernel.procs (console_at kernel.units console).owner)) console _ in record { procs = l.procs; completed = l.completed })
+    (let l = leaves_done (key_answer kernel.units console byte (is_resident kernel.procs (console_at kernel.units console).owner)) console _ _ in record { procs = l.procs; completed = l.completed })
 
 pub procs_key_came : (console byte : ℕ) (kernel : Kernel) → (key_came console byte kernel).procs ≡ kernel.procs
 procs_key_came console byte kernel = (leaves_key console byte kernel).procs

@@ -1,5 +1,5 @@
-pub mod CompletedLaws
 pub mod ColumnLaws
+pub mod Dispatched
 pub mod PlaceLaws
 pub mod UnitWaits
 pub mod UnitLaws
@@ -20,7 +20,6 @@ pub mod HandingLaws
 pub mod SystemQueues
 pub mod AnswerLaws
 pub mod SoundLaws
-pub mod PollLaws
 pub mod SpokeLaws
 pub mod Homes
 pub mod CallHomes

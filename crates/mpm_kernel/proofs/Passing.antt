@@ -14,7 +14,8 @@ use Rattle.mpm_consoles.proofs.WaitLaws.{has_unlisted}
 use Rattle.mpm_kernel.specs.Kernel.{Kernel, ready, in_lists, waits_at_units, places, IsReady, AreUnits, IsSound}
 use Rattle.mpm_kernel.specs.Dispatch.{moved, lists_ready, unit_left}
 use Rattle.mpm_kernel.proofs.PlaceLaws.{list_moved, list_moved_other}
-use Rattle.mpm_kernel.proofs.UnitWaits.{waits_one, waits_unlisted, waits_unlisted_other, waits_given, gates_given, gates_unlisted, owner_is, owner_given, owner_from_given, owner_unlisted, consoles_given, printers_given}
+use Rattle.mpm_consoles.proofs.PlaceLaws.{owner_is, rests_unlisted}
+use Rattle.mpm_kernel.proofs.UnitWaits.{waits_one, waits_unlisted, waits_unlisted_other, waits_given, gates_given, owner_given, owner_from_given, owner_unlisted, consoles_given, printers_given}
 use Rattle.mpm_kernel.proofs.UnitLaws.{first_is_there}
 use Rattle.mpm_kernel.proofs.Soundness.{sound_units, sound_ready}
 
@@ -63,12 +64,12 @@ passed_waiter t unit at h sound has there =
         | inr new ↦ inr new
       ];
       waiters = λ q. omega (arith, waits_given (unlisted t h) unit (Some h) q, fewer_waits t h q sound);
-      at_gates = λ q. omega (arith, gates_given (unlisted t h) unit (Some h) q has_still, gates_unlisted t h q);
+      at_gates = λ q. omega (arith, gates_given (unlisted t h) unit (Some h) q has_still, rests_unlisted t h q);
       first = λ k is.
           let same : k ≡ h = sym (cc) in
           let new = given (unlisted t h) unit (Some h) in
           let P : ℕ → Type 0 = λ j. waits_at_units new j + 1 ≤ waits_at_units t j in
-          subst P (sym same) (omega (arith, waits_one t h at sound there, waits_given (unlisted t h) unit (Some h) h, waits_unlisted t h, gates_given (unlisted t h) unit (Some h) h has_still, gates_unlisted t h h));
+          subst P (sym same) (omega (arith, waits_one t h at sound there, waits_given (unlisted t h) unit (Some h) h, waits_unlisted t h, gates_given (unlisted t h) unit (Some h) h has_still, rests_unlisted t h h));
     }
 
 -- a unit for which nobody waits comes to nobody
@@ -123,7 +124,7 @@ units_passed kernel units heir s are = record {
 }
 
 pub sound_passed : (kernel : Kernel) (units : Consoles) (heir : Option ℕ) → IsSound kernel → HavePassed kernel.units units heir
-    → IsSound (record kernel { lists = lists_ready heir kernel; units = units })
+    → IsSound (record kernel { lists = lists_ready heir kernel.procs kernel.lists; units = units })
 unfolding lists_ready moved
 sound_passed kernel units None s are =
     sound_units kernel units s (units_passed kernel units None s are) (λ q. omega (arith, are.waiters q, are.at_gates q))
@@ -135,7 +136,7 @@ sound_passed kernel units (Some h) s are =
 
 -- who is ready stays so
 pub ready_passed : (kernel : Kernel) (heir : Option ℕ) (p : ℕ) → IsSound kernel → ((h : ℕ) → heir ≡ Some h → Lives kernel.procs h) → IsReady kernel p
-    → list_of (lists_ready heir kernel) p ≡ Some ready
+    → list_of (lists_ready heir kernel.procs kernel.lists) p ≡ Some ready
 unfolding lists_ready moved
 ready_passed kernel None p s live is_ready = is_ready
 ready_passed kernel (Some h) p s live is_ready =
@@ -148,7 +149,7 @@ ready_passed kernel (Some h) p s live is_ready =
 
 -- who stands nowhere and isn't the heir stands nowhere still
 nowhere_passed : (kernel : Kernel) (units : Consoles) (heir : Option ℕ) (p : ℕ) → IsSound kernel → HavePassed kernel.units units heir
-    → (heir ≡ Some p → ⊥) → places kernel p ≡ 0 → places (record kernel { lists = lists_ready heir kernel; units = units }) p ≡ 0
+    → (heir ≡ Some p → ⊥) → places kernel p ≡ 0 → places (record kernel { lists = lists_ready heir kernel.procs kernel.lists; units = units }) p ≡ 0
 unfolding lists_ready moved
 nowhere_passed kernel units None p s are other none = omega (arith, none, are.waiters p, are.at_gates p)
 nowhere_passed kernel units (Some h) p s are other none =

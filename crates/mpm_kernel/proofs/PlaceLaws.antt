@@ -1,5 +1,5 @@
 -- The places where a process stands: how a change of the lists, of the flags or of the clock changes their number.
-use Rattle.std.proofs.Common.{◌≡◌, ◌≢◌, ◌∙◌, ℕ, ◌+◌, ◌<◌, ◌≤◌, Bool, true, false, eqb, ◌==◌, ◌||◌, List, [], ◌∷◌, map, length, Option, Some, None, refl, sym, ap, arith}
+use Rattle.std.proofs.Common.{◌≡◌, ◌≢◌, ℕ, ◌+◌, ◌<◌, ◌≤◌, Bool, true, false, ◌==◌, ◌||◌, List, [], ◌∷◌, map, length, Option, Some, None, refl, ap, arith}
 use Rattle.std.specs.Prelude.{count_by}
 use Rattle.std.specs.List.{AllByRecursion}
 use Rattle.std.proofs.lemmas.Bool.Decides.{nat_tests}
@@ -10,8 +10,7 @@ use Rattle.mpm_flags.specs.declared.flags.Flag.{Flag}
 use Rattle.mpm_flags.specs.declared.flags.Flag.TheVariants.{Clear, Set, Waits}
 use Rattle.mpm_flags.specs.States.{no_flags, flag_at, with_flag, left_by, left}
 use Rattle.mpm_ready.specs.Order.{Member, in_list}
-use Rattle.mpm_ready.specs.Tables.{list_of, inserted, removed, IsTable}
-use Rattle.mpm_ready.proofs.TableLaws.{table_inserted, table_removed, list_of_inserted, list_of_inserted_other, list_of_removed, list_of_removed_other}
+pub use Rattle.mpm_dispatcher.proofs.ReadyLaws.{not_equal, moved_lists, table_moved, list_moved, list_moved_other}
 use Rattle.mpm_kernel.specs.Kernel.{in_lists, is_waiter, flags_of}
 
 -- the lists
@@ -30,29 +29,6 @@ pub in_at_most : (o : Option ℕ) → in_lists o ≤ 1
 unfolding in_lists
 in_at_most None = omega arith
 in_at_most (Some list) = omega arith
-
-pub not_equal : (p q : ℕ) → p ≢ q → eqb p q ≡ false
-not_equal p q h = grind (arith, nat_tests)
-
--- a process is taken out of its list, if it is in one, and put into another
-abbrev pub moved_lists : List (List Member) → ℕ → ℕ → ℕ → List (List Member)
-moved_lists lists list p priority = inserted (removed lists p) list (record { slot = p; priority = priority })
-
-pub table_moved : (lists : List (List Member)) (list p priority : ℕ) → IsTable lists → list < 96 → p < 32 → IsTable (moved_lists lists list p priority)
-table_moved lists list p priority table below slot =
-    table_inserted (removed lists p) list (record { slot = p; priority = priority }) (table_removed lists p table) below slot (list_of_removed lists p)
-
-pub list_moved : (lists : List (List Member)) (list p priority : ℕ) → IsTable lists → list < 96 → p < 32
-    → list_of (moved_lists lists list p priority) p ≡ Some list
-list_moved lists list p priority table below slot =
-    list_of_inserted (removed lists p) list (record { slot = p; priority = priority }) (table_removed lists p table) below slot (list_of_removed lists p)
-
-pub list_moved_other : (lists : List (List Member)) (list p priority q : ℕ) → IsTable lists → list < 96 → p < 32 → q ≢ p
-    → list_of (moved_lists lists list p priority) q ≡ list_of lists q
-list_moved_other lists list p priority q table below slot other =
-    let apart = not_equal p q (λ e. other (sym e)) in
-    list_of_inserted_other (removed lists p) list (record { slot = p; priority = priority }) q (table_removed lists p table) below slot (list_of_removed lists p) apart
-    ∙ list_of_removed_other lists p q table apart
 
 -- the flags
 

@@ -2,7 +2,7 @@
 use Rattle.std.proofs.Common.{◌≡◌, ◌∙◌, ℕ, Bool, true, false, ◌&&◌, [], ◌∷◌, ◌++◌, Option, Some, None, refl, ap, subst, arith}
 use Rattle.std.specs.Prelude.{is_some, is_none, nat_le}
 use Rattle.std.proofs.lemmas.Bool.Decides.{nat_tests}
-use Rattle.mpm_base.specs.Calls.{Taken}
+use Rattle.mpm_base.specs.Calls.{Taken, word_at, name_at}
 use Rattle.mpm_procs.specs.Table.{Lives, process_in}
 use Rattle.mpm_procs.proofs.MapLaws.{lives_below, lives_changed}
 use Rattle.mpm_queues.specs.Queues.{Queues, IsMade, found, width_of, behind_delete, refusal as make_refusal}
@@ -11,8 +11,8 @@ use Rattle.mpm_queues.specs.declared.queues.QueueOutcome.TheVariants.{Done as Pa
 use Rattle.mpm_queues.specs.Handling.{read_outcome, write_outcome, enlisted, may_wait, ended}
 use Rattle.mpm_queues.proofs.WaitLaws.{waits_enlisted, waits_enlisted_other}
 use Rattle.mpm_kernel.specs.Kernel.{Kernel, ready, IsSound, CompletedLive, with_changed}
-use Rattle.mpm_kernel.specs.Dispatch.{at_rest, unlisted, moved}
-use Rattle.mpm_kernel.specs.Called.{valued, done, refusal, word_at, name_at}
+use Rattle.mpm_kernel.specs.Dispatch.{at_rest, unlisted, moved, lists_ready, also_completed}
+use Rattle.mpm_kernel.specs.Called.{valued, done, refusal}
 use Rattle.mpm_kernel.specs.Queueing.{with_queue, queue_made, opened, queue_opened, may_delete, deleted, queue_deleted, pointed, queued, put_off, with_other, taken_from, was_read, read_at, queue_read, given_to, was_written, write_at, queue_written}
 use Rattle.mpm_kernel.specs.Procedures.{no_procedure, is_two, of_two_bytes, procedure_queue, inside, procedure_read, procedure_at, procedure_called}
 use Rattle.mpm_kernel.proofs.Soundness.{MayBeReady, none_and_some, listed_once, sound_changed, sound_ready, sound_unlisted, sound_with_completed}
@@ -85,7 +85,7 @@ stays_put_off waits p q reader kernel c is may =
 -- the call of another process is completed
 pub stays_other : (other : Option ℕ) (p value : ℕ) (kernel : Kernel) → IsSound kernel → Lives kernel.procs p → CompletedLive kernel
     → ((w : ℕ) → other ≡ Some w → MayBeReady kernel w) → StaysSound p (valued value (with_other other kernel))
-unfolding with_other moved
+unfolding with_other lists_ready also_completed moved
 stays_other None p value kernel s h live may = record { sound = s; lives = h; completed = live }
 stays_other (Some w) p value kernel s h live may = record {
   sound = sound_with_completed (moved kernel ready w) (kernel.completed ++ w ∷ []) (sound_ready kernel w s (may w refl).0 (may w refl).1);

@@ -22,20 +22,22 @@ use Rattle.mpm_clock.proofs.DelayLaws.{delays_ticked, delays_more_own, delays_mo
 use Rattle.mpm_procs.specs.Table.{Table, lives, Lives, process_in, call_of}
 use Rattle.mpm_procs.specs.declared.process.Process.{Process}
 use Rattle.mpm_procs.proofs.MapLaws.{lives_changed}
-use Rattle.mpm_kernel.specs.Kernel.{Kernel, ready, poll_list, is_waiter, flags_of, waits_of, IsReady, IsFit, IsSound, CompletedLive, with_changed, afresh}
-use Rattle.mpm_kernel.specs.Dispatch.{at_rest, stays, is_ready, behind_equals, with_priority, unlisted, moved, all_ready, all_woken, runner_behind}
-use Rattle.mpm_kernel.specs.Calls.{is_count, is_for_console, is_for_unit, with_user, with_multi, call_done, called}
+use Rattle.mpm_kernel.specs.Kernel.{Kernel, ready, poll_list, is_waiter, flags_of, waits_of, IsReady, IsFit, IsSound, CompletedLive, with_changed, call_begun, afresh}
+use Rattle.mpm_kernel.specs.Dispatch.{at_rest, stays, is_ready, behind_equals, with_priority, unlisted, moved, ready_in, all_ready, all_woken, runner_behind}
+use Rattle.mpm_procs.specs.Settings.{is_count, with_user, with_multi}
+use Rattle.mpm_kernel.specs.Calls.{is_for_console, is_for_unit, call_done, called}
 use Rattle.mpm_kernel.specs.Called.{Called, valued, low_parameter, refusal}
 use Rattle.mpm_kernel.specs.Waiting.{polled, is_flag, waited, flag_waited, with_woken, signalled, flag_set, slept}
-use Rattle.mpm_kernel.specs.Dates.{names_time, named_moment, date_set, date_told, time_told}
-use Rattle.mpm_kernel.specs.Events.{MayCome, with_tick, clock_ticked, pollers, with_ready, device_ready, happens, happened}
+use Rattle.mpm_clock.specs.PackedDecimal.{names_time, named_moment}
+use Rattle.mpm_kernel.specs.Dates.{date_set, date_told, time_told}
+use Rattle.mpm_kernel.specs.Events.{MayCome, with_tick, clock_ticked, pollers, with_ready, device_ready, happens, happened, flag_came}
 use Rattle.mpm_script.specs.Events.{IsEvent}
 use Rattle.mpm_script.specs.declared.event.Event.{Event}
 use Rattle.mpm_script.specs.declared.event.Event.TheVariants.{Tick, Key, Ready, Int}
 use Rattle.mpm_kernel.proofs.PlaceLaws.{flags_with, all_by_counts, all_members}
 pub use Rattle.mpm_kernel.proofs.Staying.{live_kept}
 pub use Rattle.mpm_kernel.proofs.HandingLaws.{sound_completed, live_handed_out, completed_lives}
-use Rattle.mpm_kernel.proofs.Staying.{StaysSound, Calls, nobody, called_if, kernel_if, same}
+use Rattle.mpm_kernel.proofs.Staying.{StaysSound, Calls, nobody, called_if, same}
 use Rattle.mpm_consoles.specs.Handling.{behind_output}
 use Rattle.mpm_consoles.specs.declared.unit.Unit.{Unit}
 use Rattle.mpm_consoles.specs.declared.unit.Unit.TheVariants.{Console as ConsoleUnit, Printer as PrinterUnit}
@@ -46,7 +48,7 @@ use Rattle.mpm_kernel.proofs.UnitCalls.{stays_unit_called}
 use Rattle.mpm_kernel.proofs.InputCalls.{stays_console_called}
 use Rattle.mpm_kernel.proofs.KeyLaws.{sound_key_came, procs_key_came, completed_key_came}
 use Rattle.mpm_kernel.proofs.QueueCalls.{stays_queue_made, stays_queue_opened, stays_queue_deleted, stays_queue_read, stays_queue_written, stays_procedure_called}
-pub use Rattle.mpm_kernel.proofs.Soundness.{none_and_some, sound_new, sound_changed, sound_call, sound_devices, sound_spoke, first_is_in, some_same, first_is_ready, listed, listed_once, not_delayed, runner_lives, sound_picked, free_is_unlisted, sound_afresh, sound_admitted, sound_in_slot, consoles_in_slot, completed_in_slot, sound_ready, sound_moved, sound_unlisted, sound_fewer, own_queues, sound_behind_equals, lives_behind_equals, sound_all_ready, procs_all_ready, running_all_ready, is_ready_true, sound_runner_behind, completed_if, procs_runner_behind, sound_with_completed, MayBeReady}
+pub use Rattle.mpm_kernel.proofs.Soundness.{none_and_some, sound_new, sound_changed, sound_call, sound_devices, sound_spoke, first_is_in, some_same, first_is_ready, listed, listed_once, not_delayed, runner_lives, sound_picked, free_is_unlisted, sound_begun, sound_afresh, sound_admitted, sound_in_slot, consoles_in_slot, completed_in_slot, sound_ready, sound_moved, sound_unlisted, sound_fewer, own_queues, sound_behind_equals, lives_behind_equals, sound_all_ready, procs_all_ready, running_all_ready, is_ready_true, sound_runner_behind, completed_if, procs_runner_behind, sound_with_completed, MayBeReady}
 
 -- a byte comes to a unit
 pub sound_wrote : (kernel : Kernel) (unit : Unit) (byte : ℕ) (tabs : Bool) → IsSound kernel → IsSound (wrote kernel unit byte tabs)
@@ -66,20 +68,20 @@ stays_changed p value kernel process c fit = record {
   completed = nobody (with_changed kernel p process) c.none;
 }
 
-stays_user : (call : Taken) (p value : ℕ) (kernel : Kernel) → Calls p kernel → StaysSound p (valued value (with_user call p (process_in kernel.procs p) kernel))
-unfolding with_user
-stays_user call p value kernel c =
+stays_user : (byte p value : ℕ) (kernel : Kernel) → Calls p kernel → StaysSound p (valued value (with_changed kernel p (with_user byte (process_in kernel.procs p))))
+stays_user byte p value kernel c =
     let fit = c.sound.fit p c.lives in
-    kernel_if p (low_parameter call == 255) _ _ value (λ _. same p value kernel c)
-    (λ _. stays_changed p value kernel _ c (record { console = fit.console; printer = fit.printer; some = fit.some; few = fit.few }))
+    stays_changed p value kernel _ c (record { console = fit.console; printer = fit.printer; some = fit.some; few = fit.few })
 
-stays_multi : (call : Taken) (p value : ℕ) (kernel : Kernel) → Calls p kernel → StaysSound p (valued value (with_multi call p (process_in kernel.procs p) kernel))
-unfolding with_multi
-stays_multi call p value kernel c =
+multi_fits : (b : Bool) (count old : ℕ) → is_count count ≡ b → 1 ≤ old → old ≤ 16 → (1 ≤ (if b then count else old)) × ((if b then count else old) ≤ 16)
+multi_fits true count old is some few = (grind (arith, nat_tests, is), grind (arith, nat_tests, is))
+multi_fits false count old is some few = (some, few)
+
+stays_multi : (count p value : ℕ) (kernel : Kernel) → Calls p kernel → StaysSound p (valued value (with_changed kernel p (with_multi count (process_in kernel.procs p))))
+stays_multi count p value kernel c =
     let fit = c.sound.fit p c.lives in
-    kernel_if p (is_count (low_parameter call)) _ _ value
-    (λ is. stays_changed p value kernel _ c (record { console = fit.console; printer = fit.printer; some = grind (arith, nat_tests, is); few = grind (arith, nat_tests, is) }))
-    (λ _. same p value kernel c)
+    let multi = multi_fits (is_count count) count (process_in kernel.procs p).multi refl fit.some fit.few in
+    stays_changed p value kernel _ c (record { console = fit.console; printer = fit.printer; some = multi.0; few = multi.1 })
 
 completed_behind_equals : (kernel : Kernel) (p : ℕ) → (behind_equals kernel p).completed ≡ kernel.completed
 unfolding behind_equals
@@ -195,7 +197,7 @@ waiter_lives kernel flag q s below is =
 
 woke_by : (state : Flag) (flag : ℕ) (kernel : Kernel) → IsSound kernel → CompletedLive kernel → flag < 32 → flag_at kernel.flags flag ≡ state
     → Woke (with_woken (set_answer state) (record kernel { flags = with_flag kernel.flags flag (behind_set state) }))
-unfolding with_woken all_ready moved
+unfolding with_woken all_ready ready_in moved
 woke_by Clear flag kernel s live below is = record { sound = sound_flag kernel flag Clear Set s below is (λ q. omega arith); completed = live }
 woke_by Set flag kernel s live below is = record { sound = sound_flag kernel flag Set Set s below is (λ q. omega arith); completed = live }
 woke_by (Waits p) flag kernel s live below is =
@@ -212,6 +214,15 @@ woke_signalled : (flag : ℕ) (kernel : Kernel) → IsSound kernel → Completed
 unfolding signalled
 woke_signalled flag kernel s live below = woke_by (flag_at kernel.flags flag) flag kernel s live below refl
 
+woke_if : (b : Bool) (one other : Kernel) → (b ≡ true → Woke one) → Woke other → Woke (if b then one else other)
+woke_if true one other is was = is refl
+woke_if false one other is was = was
+
+woke_flag_came : (flag : ℕ) (kernel : Kernel) → IsSound kernel → CompletedLive kernel → Woke (flag_came flag kernel)
+unfolding flag_came
+woke_flag_came flag kernel s live =
+    woke_if (is_flag flag) _ kernel (λ is. woke_signalled flag kernel s live (flag_below flag is)) (record { sound = s; completed = live })
+
 pub procs_with_woken : (answer : FlagSet) (kernel : Kernel) → (with_woken answer kernel).procs ≡ kernel.procs
 unfolding with_woken
 procs_with_woken IsSet kernel = refl
@@ -222,6 +233,14 @@ pub procs_signalled : (flag : ℕ) (kernel : Kernel) → (signalled flag kernel)
 unfolding signalled
 procs_signalled flag kernel =
     procs_with_woken (set_answer (flag_at kernel.flags flag)) (record kernel { flags = with_flag kernel.flags flag (behind_set (flag_at kernel.flags flag)) })
+
+procs_if : (b : Bool) (one other : Kernel) → one.procs ≡ other.procs → (if b then one else other).procs ≡ other.procs
+procs_if true one other e = e
+procs_if false one other e = refl
+
+procs_flag_came : (flag : ℕ) (kernel : Kernel) → (flag_came flag kernel).procs ≡ kernel.procs
+unfolding flag_came
+procs_flag_came flag kernel = procs_if (is_flag flag) (signalled flag kernel) kernel (procs_signalled flag kernel)
 
 stays_flag_set : (call : Taken) (p : ℕ) (kernel : Kernel) → Calls p kernel → StaysSound p (flag_set call kernel)
 unfolding flag_set
@@ -295,8 +314,8 @@ stays_call_done call p kernel c =
     (λ _. called_if p (f == 12 || f == 163) _ _ (λ _. same p _ kernel c)
     (λ _. called_if p (f == 25) _ _ (λ _. same p _ kernel c)
     (λ _. called_if p (f == 26) _ _ (λ _. stays_changed p 0 kernel _ c (record { console = fit.console; printer = fit.printer; some = fit.some; few = fit.few }))
-    (λ _. called_if p (f == 32) _ _ (λ _. stays_user call p _ kernel c)
-    (λ _. called_if p (f == 44) _ _ (λ _. stays_multi call p _ kernel c)
+    (λ _. called_if p (f == 32) _ _ (λ _. stays_user (low_parameter call) p _ kernel c)
+    (λ _. called_if p (f == 44) _ _ (λ _. stays_multi (low_parameter call) p _ kernel c)
     (λ _. called_if p (f == 45) _ _ (λ _. stays_changed p 0 kernel _ c (record { console = fit.console; printer = fit.printer; some = fit.some; few = fit.few }))
     (λ _. called_if p (f == 104) _ _ (λ _. stays_date_set call p kernel c)
     (λ _. called_if p (f == 105) _ _ (λ _. stays_told p kernel _ (kernel_date_told call kernel) c)
@@ -319,17 +338,17 @@ stays_call_done call p kernel c =
     (λ _. same p _ kernel c)))))))))))))))))))))))))))
 
 -- a process that is ready may call
-begun : (p : ℕ) (kernel : Kernel) → IsSound kernel → Lives kernel.procs p → IsReady kernel p → Calls p (afresh kernel)
-begun p kernel s h is_ready = record { sound = sound_afresh kernel s; lives = h; ready = is_ready; none = refl }
+begun : (p : ℕ) (echoes : Bool) (kernel : Kernel) → IsSound kernel → Lives kernel.procs p → IsReady kernel p → Calls p (call_begun echoes kernel)
+begun p echoes kernel s h is_ready = record { sound = sound_begun echoes kernel s; lives = h; ready = is_ready; none = refl }
 
 pub sound_called : (p : ℕ) (kernel : Kernel) → IsSound kernel → Lives kernel.procs p → IsReady kernel p → IsSound (called p kernel).kernel
-sound_called p kernel s h is_ready = (stays_call_done (call_of kernel.procs p) p _ (begun p kernel s h is_ready)).sound
+sound_called p kernel s h is_ready = (stays_call_done (call_of kernel.procs p) p _ (begun p _ kernel s h is_ready)).sound
 
 pub lives_called : (p : ℕ) (kernel : Kernel) → IsSound kernel → Lives kernel.procs p → IsReady kernel p → Lives (called p kernel).kernel.procs p
-lives_called p kernel s h is_ready = (stays_call_done (call_of kernel.procs p) p _ (begun p kernel s h is_ready)).lives
+lives_called p kernel s h is_ready = (stays_call_done (call_of kernel.procs p) p _ (begun p _ kernel s h is_ready)).lives
 
 pub live_called : (p : ℕ) (kernel : Kernel) → IsSound kernel → Lives kernel.procs p → IsReady kernel p → CompletedLive (called p kernel).kernel
-live_called p kernel s h is_ready = (stays_call_done (call_of kernel.procs p) p _ (begun p kernel s h is_ready)).completed
+live_called p kernel s h is_ready = (stays_call_done (call_of kernel.procs p) p _ (begun p _ kernel s h is_ready)).completed
 
 -- events
 
@@ -412,7 +431,7 @@ woke_happens Tick kernel may s live = woke_clock_ticked kernel s
 woke_happens (Key console byte) kernel may s live =
     record { sound = sound_key_came console byte kernel s; completed = live_same kernel (key_came console byte kernel) (procs_key_came console byte kernel) (completed_key_came console byte kernel) live }
 woke_happens (Ready device byte) kernel may s live = woke_device_ready kernel device byte s
-woke_happens (Int flag) kernel may s live = woke_signalled flag kernel s live may
+woke_happens (Int flag) kernel may s live = woke_flag_came flag kernel s live
 
 pub sound_happened : (event : Event) (kernel : Kernel) → MayCome event → IsSound kernel → IsSound (happened event kernel)
 sound_happened event kernel may s = (woke_happens event (afresh kernel) may (sound_afresh kernel s) tt).sound
@@ -427,7 +446,7 @@ procs_happens Tick kernel =
     procs_runner_behind kernel.running _ ∙ procs_all_ready (woken_by_tick kernel.clock.delays) (with_tick kernel)
 procs_happens (Key console byte) kernel = procs_key_came console byte kernel
 procs_happens (Ready device byte) kernel = procs_all_ready (pollers kernel device) (with_ready kernel device byte)
-procs_happens (Int flag) kernel = procs_signalled flag kernel
+procs_happens (Int flag) kernel = procs_flag_came flag kernel
 
 pub procs_happened : (event : Event) (kernel : Kernel) → (happened event kernel).procs ≡ kernel.procs
 procs_happened event kernel = procs_happens event (afresh kernel)

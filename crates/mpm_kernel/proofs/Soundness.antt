@@ -8,7 +8,7 @@ use Rattle.std.proofs.lemmas.List.{length-set, length-replicate, set_past, get_o
 use Rattle.mpm_base.proofs.CountLaws.{count_cons}
 use Rattle.mpm_base.specs.Calls.{Taken}
 use Rattle.mpm_base.specs.declared.devices.Devices.{Devices}
-use Rattle.mpm_ready.specs.Order.{Member, first_of, in_list}
+use Rattle.mpm_ready.specs.Order.{Member, first_of}
 use Rattle.mpm_ready.specs.Tables.{no_lists, list_at, list_of, inserted, removed, put_back}
 use Rattle.mpm_ready.proofs.TableLaws.{table_inserted, table_removed, list_of_inserted, list_of_inserted_other, list_of_removed, list_of_removed_other, list_of_known, list_of_none, table_none}
 use Rattle.mpm_flags.specs.declared.flags.Flag.{Flag}
@@ -25,16 +25,18 @@ use Rattle.mpm_procs.proofs.MapLaws.{lives_below, process_changed, process_kept,
 use Rattle.mpm_queues.specs.Queues.{Queues, no_queues, IsMade, waits, IsSound as AreSound}
 use Rattle.mpm_queues.proofs.SoundLaws.{sound_none}
 use Rattle.mpm_queues.proofs.WaitLaws.{waits_nowhere}
+use Rattle.mpm_consoles.proofs.PlaceLaws.{waits_nowhere as waits_for_none}
 use Rattle.mpm_consoles.specs.Console.{Console, new_console, is_owner, spoken}
 use Rattle.mpm_consoles.specs.Consoles.{Consoles, rests, no_owners, console_at, owner_of, with_console, IsSound as AreUnitsSound}
 use Rattle.mpm_consoles.specs.Handling.{spoke as spoke_units}
 use Rattle.mpm_consoles.specs.declared.unit.Unit.{Unit}
 use Rattle.mpm_consoles.specs.declared.unit.Unit.TheVariants.{Console as ConsoleUnit, Printer as PrinterUnit}
 use Rattle.mpm_consoles.proofs.SoundLaws.{sound_none as sound_units_new, sound_kept}
-use Rattle.mpm_kernel.proofs.UnitWaits.{is_at_gate, waits_nowhere as waits_for_none, gates_kept, waits_console, owner_kept, has_before, proper_spoken}
-use Rattle.mpm_kernel.specs.Kernel.{Kernel, ready, in_lists, flags_of, waits_in, waits_at_units, waits_of, places, IsReady, IsFit, AreUnits, HasConsole, IsSound, with_changed, with_completed, afresh}
+use Rattle.mpm_kernel.proofs.UnitWaits.{is_at_gate, gates_kept, waits_console, owner_kept, has_before, proper_spoken}
+use Rattle.mpm_kernel.specs.Kernel.{Kernel, ready, in_lists, flags_of, waits_in, waits_at_units, waits_of, places, IsReady, IsFit, AreUnits, HasConsole, IsSound, with_changed, with_completed, call_begun, afresh}
 use Rattle.mpm_kernel.specs.Columns.{spoke}
-use Rattle.mpm_kernel.specs.Dispatch.{new_kernel, admitted, in_slot, at_rest, runs_still, picked, stays, is_ready, behind_equals, moved, all_ready, runner_behind}
+use Rattle.mpm_kernel.specs.Dispatch.{new_kernel, admitted, in_slot, at_rest, runs_still, picked, stays, is_ready, behind_equals, moved, all_ready, ready_in, runner_behind}
+pub use Rattle.mpm_dispatcher.proofs.ReadyLaws.{some_same, first_is_in, is_ready_true}
 use Rattle.mpm_kernel.proofs.PlaceLaws.{in_some, in_none, in_at_most, not_equal, moved_lists, table_moved, list_moved, list_moved_other, flags_none}
 
 pub dead_and_alive : (b : Bool) → b ≡ false → b ≡ true → ⊥
@@ -245,11 +247,6 @@ sound_spoke kernel console bytes s = elim (cases_lt console (length kernel.units
       subst P (sym (set_past kernel.units.consoles console _ past)) s
 ]
 
-pub first_is_in : (ms : List Member) (p : ℕ) → first_of ms ≡ Some p → in_list p ms ≡ true
-unfolding first_of in_list
-first_is_in [] p e = absurd (cc)
-first_is_in (m ∷ ms) p e = grind (arith, nat_tests, e)
-
 sound_if : (b : Bool) (x y : Kernel) → IsSound x → IsSound y → IsSound (if b then x else y)
 sound_if true x y s t = s
 sound_if false x y s t = t
@@ -257,9 +254,6 @@ sound_if false x y s t = t
 unlisted_if_dead : (o : Option ℕ) → ((list : ℕ) → o ≡ Some list → ⊥) → o ≡ None
 unlisted_if_dead None h = refl
 unlisted_if_dead (Some list) h = absurd (h list refl)
-
-pub some_same : (a b : ℕ) → Some a ≡ Some b → a ≡ b
-some_same a b e = grind (e, arith)
 
 pub runs_other : (p q : ℕ) (running : Option ℕ) → runs_still p running ≡ Some q → (q ≢ p) × (running ≡ Some q)
 runs_other p q None e = absurd (cc)
@@ -540,28 +534,22 @@ abbrev pub MayBeReady : Kernel → ℕ → Type 0
 MayBeReady kernel p = Lives kernel.procs p × (waits_of kernel p ≡ 0)
 
 pub sound_all_ready : (ps : List ℕ) (kernel : Kernel) → IsSound kernel → AllByRecursion (MayBeReady kernel) ps → IsSound (all_ready ps kernel)
-unfolding all_ready moved
+unfolding all_ready ready_in moved
 sound_all_ready [] kernel s may = s
 sound_all_ready (p ∷ ps) kernel s may = sound_all_ready ps (moved kernel ready p) (sound_ready kernel p s may.0.0 may.0.1) may.1
 
 pub procs_all_ready : (ps : List ℕ) (kernel : Kernel) → (all_ready ps kernel).procs ≡ kernel.procs
-unfolding all_ready moved
-procs_all_ready [] kernel = refl
-procs_all_ready (p ∷ ps) kernel = procs_all_ready ps (moved kernel ready p)
+unfolding all_ready
+procs_all_ready ps kernel = refl
 
 pub running_all_ready : (ps : List ℕ) (kernel : Kernel) → (all_ready ps kernel).running ≡ kernel.running
-unfolding all_ready moved
-running_all_ready [] kernel = refl
-running_all_ready (p ∷ ps) kernel = running_all_ready ps (moved kernel ready p)
+unfolding all_ready
+running_all_ready ps kernel = refl
 
 -- who runs is put behind its equals
 behind_if : (b : Bool) (kernel : Kernel) (p : ℕ) → IsSound kernel → (b ≡ true → IsReady kernel p) → IsSound (if b then behind_equals kernel p else kernel)
 behind_if true kernel p s h = sound_behind_equals kernel p s (listed kernel p ready s (h refl)) (h refl)
 behind_if false kernel p s h = s
-
-pub is_ready_true : (o : Option ℕ) → is_ready o ≡ true → o ≡ Some ready
-is_ready_true None e = absurd (cc)
-is_ready_true (Some list) e = grind (arith, nat_tests, e)
 
 pub sound_runner_behind : (running : Option ℕ) (kernel : Kernel) → IsSound kernel → IsSound (runner_behind running kernel)
 unfolding runner_behind
@@ -581,7 +569,23 @@ unfolding runner_behind behind_equals
 procs_runner_behind None kernel = refl
 procs_runner_behind (Some p) kernel = procs_if (is_ready (list_of kernel.lists p)) (behind_equals kernel p) kernel refl
 
--- a call or an event begins
+-- a call begins, or an event
+pub sound_begun : (echoes : Bool) (kernel : Kernel) → IsSound kernel → IsSound (call_begun echoes kernel)
+sound_begun echoes kernel s = record {
+  some = s.some;
+  few = s.few;
+  units = s.units;
+  slots = s.slots;
+  table = s.table;
+  flags = s.flags;
+  queues = s.queues;
+  system = s.system;
+  fit = s.fit;
+  once = s.once;
+  live = s.live;
+  runs = s.runs;
+}
+
 pub sound_afresh : (kernel : Kernel) → IsSound kernel → IsSound (afresh kernel)
 sound_afresh kernel s = record {
   some = s.some;

@@ -1,9 +1,9 @@
 -- What stays so behind the calls on consoles and printers.
-use Rattle.std.proofs.Common.{◌≡◌, ◌≢◌, ◌∙◌, ℕ, ◌+◌, ◌<◌, ◌≤◌, Bool, true, false, not, ◌&&◌, ◌||◌, ◌==◌, if◌then◌else◌, inl, inr, length, Option, Some, None, refl, sym, ap, subst, arith}
+use Rattle.std.proofs.Common.{◌≡◌, ◌≢◌, ◌∙◌, ℕ, ◌+◌, ◌<◌, ◌≤◌, Bool, true, false, not, ◌&&◌, ◌||◌, ◌==◌, if◌then◌else◌, inl, inr, length, Option, Some, None, refl, sym, ap, arith}
 use Rattle.std.specs.Prelude.{nat_lt}
 use Rattle.std.proofs.lemmas.Bool.{false≢true, cases_eq}
 use Rattle.std.proofs.lemmas.Bool.Decides.{nat_tests}
-use Rattle.mpm_base.specs.Calls.{Taken}
+use Rattle.mpm_base.specs.Calls.{Taken, byte_in, name_at}
 use Rattle.mpm_ready.specs.Tables.{list_of, removed}
 use Rattle.mpm_ready.proofs.TableLaws.{list_of_removed}
 use Rattle.mpm_procs.specs.Table.{lives, Lives, process_in}
@@ -17,11 +17,12 @@ use Rattle.mpm_consoles.specs.declared.unit.Unit.TheVariants.{Console as Console
 use Rattle.mpm_consoles.proofs.SoundLaws.{sound_given, sound_listed, for_free, for_absent}
 use Rattle.mpm_kernel.specs.Kernel.{Kernel, ready, in_lists, waits_at_units, waits_of, AreUnits, IsSound, with_changed}
 use Rattle.mpm_kernel.specs.Dispatch.{at_rest, runs_still, lists_ready, made_ready, unit_left, unlisted as unlisted_in}
-use Rattle.mpm_kernel.specs.Called.{valued, refusal, low_parameter, byte_in, name_at}
+use Rattle.mpm_kernel.specs.Called.{valued, refusal, low_parameter}
 use Rattle.mpm_kernel.specs.Consoling.{retried, attached, attached_now, detached, console_changed, printer_changed, console_set, printer_set, is_called, named, owner_made, is_meant, assigned_to, assigned, printer_called, unit_called}
 use Rattle.mpm_kernel.proofs.PlaceLaws.{in_none}
-use Rattle.mpm_kernel.proofs.UnitWaits.{waits_listed, waits_listed_other, waits_given, gates_given, gates_listed, owner_is, owner_from_given, owner_listed, consoles_given, printers_given}
-use Rattle.mpm_kernel.proofs.UnitLaws.{waits_at_no_unit, lists_by_units, has_own_console, has_own_printer, has_console, has_printer}
+use Rattle.mpm_consoles.proofs.PlaceLaws.{waits_listed, waits_listed_other, rests_listed, owner_is}
+use Rattle.mpm_kernel.proofs.UnitWaits.{waits_given, gates_given, owner_from_given, owner_listed, consoles_given, printers_given}
+use Rattle.mpm_kernel.proofs.UnitLaws.{waits_at_no_unit, has_own_console, has_own_printer, has_console, has_printer}
 use Rattle.mpm_kernel.proofs.Soundness.{sound_changed, sound_units, sound_with_units, sound_unlisted, own_queues, listed_once}
 use Rattle.mpm_kernel.proofs.Passing.{passed_waiter, sound_passed, sound_unit_left}
 use Rattle.mpm_kernel.proofs.ChangeLaws.{MayCall, may_console_changed, may_printer_changed, consoles_changed, printers_changed}
@@ -139,8 +140,8 @@ waits_listed_at kernel p unit c has some other =
         owners = λ u q there is.
             s.units.owners u q (has_listed t p priority unit u there) (sym (ap (λ o. is_owner o q) (owner_listed t p priority unit u)) ∙ is);
       };
-      once = omega (arith, waits_listed t p priority unit s.units.sound has below nowhere, gates_listed t p priority p unit, listed_once kernel p ready s c.ready);
-      others = λ q apart. omega (arith, waits_listed_other t p priority q unit s.units.sound has below nowhere apart, gates_listed t p priority q unit);
+      once = omega (arith, waits_listed t p priority unit s.units.sound has below nowhere, rests_listed t p priority unit p, listed_once kernel p ready s c.ready);
+      others = λ q apart. omega (arith, waits_listed_other t p priority unit q s.units.sound has below nowhere apart, rests_listed t p priority unit q);
     }
 
 waits_either : (b : Bool) (kernel : Kernel) (p : ℕ) (x : Consoles) → b ≡ false → WaitsAt kernel p x → WaitsAt kernel p (if b || not true then kernel.units else x)
@@ -233,10 +234,9 @@ stays_printer_set call p kernel c =
     (λ _. same p refusal kernel c)
 
 -- a console is assigned
-pub sound_made : (heir : Option ℕ) (kernel : Kernel) (units : Consoles) → IsSound (record kernel { lists = lists_ready heir kernel; units = units })
+pub sound_made : (heir : Option ℕ) (kernel : Kernel) (units : Consoles) → IsSound (record kernel { lists = lists_ready heir kernel.procs kernel.lists; units = units })
     → IsSound (made_ready heir (record kernel { units = units }))
-sound_made heir kernel units s =
-    subst (λ lists. IsSound (record kernel { lists = lists; units = units })) (sym (lists_by_units heir kernel units)) s
+sound_made heir kernel units s = s
 
 owner_by : (own waiting : Bool) (console to : ℕ) (kernel : Kernel) → IsSound kernel → Lives kernel.procs to → console < length kernel.units.consoles
     → owns kernel.units to (ConsoleUnit console) ≡ own → waits_for kernel.units to (ConsoleUnit console) ≡ waiting

@@ -1,13 +1,13 @@
 -- Where processes live, and which calls they keep, behind the calls on consoles and printers.
 use Rattle.std.proofs.Common.{◌≡◌, ◌∙◌, ℕ, Bool, true, false, ◌&&◌, ◌==◌, Option, Some, None, if◌then◌else◌, refl, ap}
 use Rattle.std.proofs.lemmas.Bool.{false≢true}
-use Rattle.mpm_base.specs.Calls.{Taken}
+use Rattle.mpm_base.specs.Calls.{Taken, byte_in, name_at}
 use Rattle.mpm_procs.specs.Table.{HasSlots, lives, Lives, process_in, call_of, with_process}
 use Rattle.mpm_procs.specs.declared.process.Process.{Process}
 use Rattle.mpm_procs.proofs.MapLaws.{lives_changed, call_behind, slots_changed}
 use Rattle.mpm_kernel.specs.Kernel.{Kernel, IsSound, with_changed}
 use Rattle.mpm_kernel.specs.Columns.{spoke}
-use Rattle.mpm_kernel.specs.Called.{Called, valued, low_parameter, byte_in, name_at}
+use Rattle.mpm_kernel.specs.Called.{Called, valued, low_parameter}
 use Rattle.mpm_kernel.specs.Calls.{called}
 use Rattle.std.specs.Prelude.{nat_lt}
 use Rattle.mpm_queues.proofs.Finding.{lowest_passes}

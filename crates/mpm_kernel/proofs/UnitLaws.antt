@@ -19,7 +19,6 @@ use Rattle.mpm_consoles.specs.declared.keys.KeyDone.TheVariants.{Stored, Dropped
 use Rattle.mpm_consoles.specs.declared.unit.Unit.{Unit}
 use Rattle.mpm_consoles.specs.declared.unit.Unit.TheVariants.{Console as ConsoleUnit}
 use Rattle.mpm_kernel.specs.Kernel.{Kernel, ready, IsReady, IsSound, HasConsole}
-use Rattle.mpm_kernel.specs.Dispatch.{moved, lists_ready}
 use Rattle.mpm_kernel.specs.Consoling.{IfLives, KeyNames}
 use Rattle.mpm_kernel.proofs.PlaceLaws.{in_some}
 use Rattle.mpm_kernel.proofs.UnitWaits.{nowhere_waits, waits_one, is_own}
@@ -84,12 +83,6 @@ unfolding heir_of
 heir_lives kernel p unit heir s is =
     let P : Option ℕ → Type 0 = λ o. IfLives kernel.procs o in
     subst P (sym is) (only_if kernel.procs (owns kernel.units p unit) (first_waiter kernel.units unit) (first_lives kernel unit s))
-
--- who becomes ready doesn't look at the units
-pub lists_by_units : (o : Option ℕ) (kernel : Kernel) (units : Consoles) → lists_ready o (record kernel { units = units }) ≡ lists_ready o kernel
-unfolding lists_ready moved
-lists_by_units None kernel units = refl
-lists_by_units (Some p) kernel units = refl
 
 -- where a unit can't be attached, and isn't waited for, nothing changes
 refused_from : (o : Option ℕ) (t : Consoles) (p priority : ℕ) (unit : Unit) → attaches o p ≡ false → attach_from o t p priority unit false ≡ t

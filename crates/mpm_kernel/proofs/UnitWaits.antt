@@ -1,14 +1,13 @@
 -- Who waits at consoles and printers, and who owns them, behind each change of them; and what is so of them stays so.
-use Rattle.std.proofs.Common.{◌≡◌, ◌≢◌, ◌∙◌, ℕ, ◌+◌, ◌<◌, ◌≤◌, Bool, true, false, ◌&&◌, ◌⊎◌, List, [], ◌∷◌, map, length, set, get_or, Option, Some, None, if◌then◌else◌, inl, inr, refl, sym, ap, arith}
-use Rattle.std.specs.Prelude.{count_by, is_some}
+use Rattle.std.proofs.Common.{◌≡◌, ◌≢◌, ◌∙◌, ℕ, ◌+◌, ◌≤◌, Bool, true, false, ◌&&◌, ◌⊎◌, List, map, length, set, get_or, Option, Some, None, inl, inr, refl, sym, ap, arith}
+use Rattle.std.specs.Prelude.{is_some}
 use Rattle.std.specs.Option.{option_map_or}
-use Rattle.std.proofs.lemmas.Bool.{false≢true, cases_eq, eq-eqb, eqb-true, ne_eqb}
+use Rattle.std.proofs.lemmas.Bool.{cases_eq, eq-eqb, ne_eqb}
 use Rattle.std.proofs.lemmas.List.{length-set, length-map, get_or-set_same, get_or-set_other}
-use Rattle.std.proofs.lemmas.List.Sums.{sum_by-set}
 use Rattle.std.proofs.Math.ListN.{get_or-map}
-use Rattle.mpm_base.proofs.CountLaws.{one_if, one_if_false, count_cons}
+use Rattle.mpm_base.proofs.CountLaws.{one_if, one_if_false}
 use Rattle.mpm_ready.specs.Tables.{list_of}
-use Rattle.mpm_ready.proofs.TableLaws.{list_of_known, list_of_removed, list_of_removed_other, list_of_inserted, list_of_inserted_other}
+use Rattle.mpm_ready.proofs.TableLaws.{list_of_known, list_of_removed, list_of_removed_other}
 use Rattle.mpm_consoles.specs.Console.{Console, new_console, is_owner, passed_to, left_by, IsProper}
 use Rattle.mpm_consoles.specs.Consoles.{Consoles, rests_at, rests, console_at, HasConsole, HasUnit, owner_of, owns, place_of, waits_for, waits, WaitsNowhere, with_console, IsSound}
 use Rattle.mpm_consoles.specs.Handling.{given, unlisted, listed, left}
@@ -16,6 +15,7 @@ use Rattle.mpm_consoles.specs.declared.unit.Unit.{Unit}
 use Rattle.mpm_consoles.specs.declared.unit.Unit.TheVariants.{Console as ConsoleUnit, Printer as PrinterUnit}
 use Rattle.mpm_consoles.specs.Columns.{columns_after}
 use Rattle.mpm_consoles.proofs.ConsoleLaws.{columns_within, owner_left}
+use Rattle.mpm_consoles.proofs.PlaceLaws.{owner_is, rests_console, waiters_left, waits_released, waits_released_other, rests_left, rests_left_other}
 use Rattle.mpm_kernel.specs.Kernel.{waits_at_units}
 
 -- a process waits for one unit, or for none
@@ -25,10 +25,6 @@ one_at o = option_map_or (λ _. 1) o 0
 none_of : (o : Option ℕ) → one_at o ≡ 0 → o ≡ None
 none_of None is = refl
 none_of (Some list) is = absurd (omega (arith, is))
-
-pub waits_nowhere : (t : Consoles) (p : ℕ) → WaitsNowhere t p → waits t p ≡ 0
-unfolding waits
-waits_nowhere t p none = ap one_at none
 
 pub nowhere_waits : (t : Consoles) (p : ℕ) → waits t p ≡ 0 → WaitsNowhere t p
 unfolding waits
@@ -51,31 +47,9 @@ unfolding unlisted
 waits_unlisted_other t p q sound other =
     waits_of_lists t (unlisted t p) q (list_of_removed_other t.waiters p q sound.table (ne_eqb p q (λ e. other (sym e))))
 
-line_small : (t : Consoles) (unit : Unit) → IsSound t → HasUnit t unit → place_of unit < 96
-line_small t (ConsoleUnit n) sound has = let few = sound.consoles in omega arith
-line_small t (PrinterUnit n) sound has = let few = sound.printers in omega arith
-
-pub waits_listed : (t : Consoles) (p priority : ℕ) (unit : Unit) → IsSound t → HasUnit t unit → p < 32 → WaitsNowhere t p → waits (listed t p priority unit) p ≡ 1
-unfolding waits listed
-waits_listed t p priority unit sound has small nowhere =
-    ap one_at (list_of_inserted t.waiters (place_of unit) (record { slot = p; priority = priority }) sound.table (line_small t unit sound has) small nowhere)
-
-pub waits_listed_other : (t : Consoles) (p priority q : ℕ) (unit : Unit) → IsSound t → HasUnit t unit → p < 32 → WaitsNowhere t p → q ≢ p
-    → waits (listed t p priority unit) q ≡ waits t q
-unfolding listed
-waits_listed_other t p priority q unit sound has small nowhere other =
-    waits_of_lists t (listed t p priority unit) q
-    (list_of_inserted_other t.waiters (place_of unit) (record { slot = p; priority = priority }) q sound.table (line_small t unit sound has) small nowhere (ne_eqb p q (λ e. other (sym e))))
-
 -- whether a process waits at the gate of a console
 abbrev pub is_at_gate : ℕ → Console → Bool
 is_at_gate p console = rests_at console p
-
--- the gates
-pub gates_with : (t : Consoles) (n : ℕ) (console : Console) (q : ℕ) → HasConsole t n
-    → rests (with_console t n console) q + one_if (is_at_gate q (console_at t n)) ≡ rests t q + one_if (is_at_gate q console)
-unfolding rests
-gates_with t n console q h = sum_by-set (λ c. one_if (is_at_gate q c)) t.consoles n console new_console h
 
 -- a console that is changed, but not who waits at its gate
 pub gates_kept : (t : Consoles) (n : ℕ) (console : Console) (q : ℕ) → HasConsole t n
@@ -83,7 +57,7 @@ pub gates_kept : (t : Consoles) (n : ℕ) (console : Console) (q : ℕ) → HasC
 gates_kept t n console q h owner awaits =
     let same : is_at_gate q console ≡ is_at_gate q (console_at t n) =
     ap (λ o. is_owner o q && is_some console.awaits) owner ∙ ap (λ a. is_owner (console_at t n).owner q && is_some a) awaits in
-    omega (arith, gates_with t n console q h, ap one_if same)
+    omega (arith, rests_console t n console q h, ap one_if same)
 
 no_gate : (b : Bool) → (b && false) ≡ false
 no_gate true = refl
@@ -94,12 +68,7 @@ pub gates_fewer : (t : Consoles) (n : ℕ) (console : Console) (q : ℕ) → Has
     → rests (with_console t n console) q + one_if (is_at_gate q (console_at t n)) ≡ rests t q
 gates_fewer t n console q h none =
     let off : is_at_gate q console ≡ false = ap (λ a. is_owner console.owner q && is_some a) none ∙ no_gate (is_owner console.owner q) in
-    omega (arith, gates_with t n console q h, one_if_false (is_at_gate q console) off)
-
--- who waits at no gate
-not_at_gate : (q : ℕ) (console : Console) → console.awaits ≡ None → one_if (is_at_gate q console) ≡ 0
-not_at_gate q console none =
-    one_if_false (is_at_gate q console) (ap (λ a. is_owner console.owner q && is_some a) none ∙ no_gate (is_owner console.owner q))
+    omega (arith, rests_console t n console q h, one_if_false (is_at_gate q console) off)
 
 gates_printer : (t new : Consoles) (q : ℕ) → new.consoles ≡ t.consoles → rests new q ≡ rests t q
 unfolding rests
@@ -116,19 +85,7 @@ unfolding given waits
 waits_given t (ConsoleUnit n) owner q = refl
 waits_given t (PrinterUnit n) owner q = refl
 
-pub gates_unlisted : (t : Consoles) (p q : ℕ) → rests (unlisted t p) q ≡ rests t q
-unfolding unlisted rests
-gates_unlisted t p q = refl
-
-pub gates_listed : (t : Consoles) (p priority q : ℕ) (unit : Unit) → rests (listed t p priority unit) q ≡ rests t q
-unfolding listed rests
-gates_listed t p priority q unit = refl
-
 -- who owns what
-
-pub owner_is : (o : Option ℕ) (p : ℕ) → is_owner o p ≡ true → o ≡ Some p
-owner_is None p is = absurd (false≢true is)
-owner_is (Some owner) p is = ap (λ x. Some x) (eqb-true owner p is)
 
 pub is_own : (o : Option ℕ) (p : ℕ) → o ≡ Some p → is_owner o p ≡ true
 is_own o p is = ap (λ x. is_owner x p) is ∙ eq-eqb p p refl
@@ -250,46 +207,10 @@ unfolding left unlisted
 has_units_left t p (ConsoleUnit n) there = omega (arith, length-map t.consoles (left_by p), there)
 has_units_left t p (PrinterUnit n) there = there
 
-gate_left_if : (b : Bool) (p : ℕ) (console : Console) → is_owner console.owner p ≡ b
-    → is_at_gate p (if b then record console { awaits = None } else console) ≡ false
-gate_left_if true p console is = no_gate (is_owner console.owner p)
-gate_left_if false p console is = ap (λ b. b && is_some console.awaits) is
-
-gate_left_own : (p : ℕ) (console : Console) → is_at_gate p (left_by p console) ≡ false
-unfolding left_by
-gate_left_own p console = gate_left_if (is_owner console.owner p) p console refl
-
-gate_other_if : (b : Bool) (p q : ℕ) (console : Console) → is_owner console.owner p ≡ b → q ≢ p
-    → is_at_gate q (if b then record console { awaits = None } else console) ≡ is_at_gate q console
-gate_other_if true p q console is other =
-    let not_its : is_owner console.owner q ≡ false = ap (λ o. is_owner o q) (owner_is console.owner p is) ∙ ne_eqb p q (λ e. other (sym e)) in
-    no_gate (is_owner console.owner q) ∙ sym (ap (λ b. b && is_some console.awaits) not_its)
-gate_other_if false p q console is other = refl
-
-gate_left_other : (p q : ℕ) (console : Console) → q ≢ p → is_at_gate q (left_by p console) ≡ is_at_gate q console
-unfolding left_by
-gate_left_other p q console other = gate_other_if (is_owner console.owner p) p q console refl other
-
-gates_of : List Console → ℕ → ℕ
-gates_of consoles q = count_by (is_at_gate q) consoles
-
-gates_map_own : (consoles : List Console) (p : ℕ) → gates_of (map (left_by p) consoles) p ≡ 0
-unfolding gates_of
-gates_map_own [] p = refl
-gates_map_own (c ∷ cs) p =
-    omega (arith, count_cons (is_at_gate p) (left_by p c) (map (left_by p) cs), one_if_false _ (gate_left_own p c), gates_map_own cs p)
-
-gates_map_other : (consoles : List Console) (p q : ℕ) → q ≢ p → gates_of (map (left_by p) consoles) q ≡ gates_of consoles q
-unfolding gates_of
-gates_map_other [] p q other = refl
-gates_map_other (c ∷ cs) p q other =
-    omega (arith, count_cons (is_at_gate q) (left_by p c) (map (left_by p) cs), count_cons (is_at_gate q) c cs, ap (λ b. one_if b) (gate_left_other p q c other), gates_map_other cs p q other)
-
 pub units_left_own : (t : Consoles) (p : ℕ) → waits_at_units (left t p) p ≡ 0
-unfolding left rests gates_of waits unlisted
-units_left_own t p = omega (arith, ap one_at (list_of_removed t.waiters p), gates_map_own t.consoles p)
+units_left_own t p = omega (arith, waits_released (Some p) t (left t p) p (waiters_left t p) refl, rests_left t p)
 
 pub units_left_other : (t : Consoles) (p q : ℕ) → IsSound t → q ≢ p → waits_at_units (left t p) q ≡ waits_at_units t q
-unfolding left rests gates_of waits unlisted
 units_left_other t p q sound other =
-    omega (arith, ap one_at (list_of_removed_other t.waiters p q sound.table (ne_eqb p q (λ e. other (sym e)))), gates_map_other t.consoles p q other)
+    let apart : Some p ≢ Some q = λ e. other (let same : p ≡ q = cc in sym same) in
+    omega (arith, waits_released_other (Some p) t (left t p) q sound (waiters_left t p) apart, rests_left_other t p q other)

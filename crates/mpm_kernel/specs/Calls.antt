@@ -1,11 +1,13 @@
 -- What the kernel's calls do and answer, by the call that the process keeps. (MP/M II Programmer's Guide, the functions
 -- named.)
-use Rattle.std.specs.Prelude.{ℕ, ◌%◌, Bool, true, false, ◌&&◌, ◌||◌, ◌==◌, nat_le, if◌then◌else◌}
+use Rattle.std.specs.Prelude.{ℕ, Bool, true, false, ◌&&◌, ◌||◌, ◌==◌, nat_le, if◌then◌else◌}
 use Rattle.mpm_base.specs.Calls.{Taken, answering}
 use Rattle.mpm_base.specs.declared.call.Outcome.TheVariants.{Ended}
 use Rattle.mpm_procs.specs.Table.{process_in, call_of}
 use Rattle.mpm_procs.specs.declared.process.Process.{Process}
-use Rattle.mpm_kernel.specs.Kernel.{Kernel, with_changed, afresh}
+use Rattle.mpm_procs.specs.Settings.{user_value, with_user, multi_value, with_multi}
+pub use Rattle.mpm_consoles.specs.Modes.{does_echo}
+use Rattle.mpm_kernel.specs.Kernel.{Kernel, with_changed, call_begun}
 use Rattle.mpm_kernel.specs.Dispatch.{behind_equals, with_priority}
 use Rattle.mpm_kernel.specs.Waiting.{polled, flag_waited, flag_set, slept}
 use Rattle.mpm_kernel.specs.Dates.{date_set, date_told, time_told}
@@ -13,31 +15,12 @@ use Rattle.mpm_kernel.specs.Consoling.{unit_called}
 use Rattle.mpm_kernel.specs.ConsoleInput.{console_called}
 use Rattle.mpm_kernel.specs.Queueing.{queue_made, queue_opened, queue_deleted, queue_read, queue_written}
 use Rattle.mpm_kernel.specs.Procedures.{procedure_called}
-pub use Rattle.mpm_kernel.specs.Called.{Called, valued, done, low_parameter, refusal, eight_of}
+pub use Rattle.mpm_kernel.specs.Called.{Called, valued, done, low_parameter, refusal}
+pub use Rattle.mpm_base.specs.Calls.{eight_at}
 
 -- the version: MP/M II, whose file system is that of CP/M 3
 abbrev pub version : ℕ
 version = 304
-
--- function 32: FFh asks for the user, another byte sets it modulo 16
-unfoldable pub user_value : Taken → Process → ℕ
-user_value call process = if low_parameter call == 255 then process.user else 0
-
-unfoldable pub with_user : Taken → ℕ → Process → Kernel → Kernel
-with_user call p process kernel =
-    if low_parameter call == 255 then kernel
-    else (with_changed kernel p (record process { user = low_parameter call % 16 }))
-
--- function 44: the multi-sector count is 1 to 16
-abbrev pub is_count : ℕ → Bool
-is_count n = nat_le 1 n && nat_le n 16
-
-unfoldable pub multi_value : Taken → ℕ
-multi_value call = if is_count (low_parameter call) then 0 else refusal
-
-unfoldable pub with_multi : Taken → ℕ → Process → Kernel → Kernel
-with_multi call p process kernel =
-    if is_count (low_parameter call) then with_changed kernel p (record process { multi = low_parameter call }) else kernel
 
 -- the functions that read from a console or write to it, and those that attach, detach, change or tell a console or a printer
 abbrev pub is_for_console : ℕ → Bool
@@ -60,12 +43,12 @@ call_done call p process kernel =
     else (if function == 12 || function == 163 then valued version kernel
     else (if function == 25 then valued process.drive kernel
     else (if function == 26 then done (with_changed kernel p (record process { dma = call.word }))
-    else (if function == 32 then valued (user_value call process) (with_user call p process kernel)
-    else (if function == 44 then valued (multi_value call) (with_multi call p process kernel)
+    else (if function == 32 then valued (user_value (low_parameter call) process) (with_changed kernel p (with_user (low_parameter call) process))
+    else (if function == 44 then valued (multi_value (low_parameter call)) (with_changed kernel p (with_multi (low_parameter call) process))
     else (if function == 45 then done (with_changed kernel p (record process { error_mode = low_parameter call }))
     else (if function == 104 then date_set call kernel
     else (if function == 105 then date_told call kernel
-    else (if function == 106 then done (with_changed kernel p (record process { password = eight_of call.bytes }))
+    else (if function == 106 then done (with_changed kernel p (record process { password = eight_at call 0 }))
     else (if function == 131 then polled call p kernel
     else (if function == 132 then flag_waited call p kernel
     else (if function == 133 then flag_set call kernel
@@ -85,4 +68,6 @@ call_done call p process kernel =
 
 -- the call that a process keeps is done
 abbrev pub called : ℕ → Kernel → Called
-called p kernel = call_done (call_of kernel.procs p) p (process_in kernel.procs p) (afresh kernel)
+called p kernel =
+    call_done (call_of kernel.procs p) p (process_in kernel.procs p)
+    (call_begun (does_echo (call_of kernel.procs p).function) kernel)

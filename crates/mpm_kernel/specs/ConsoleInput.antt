@@ -3,7 +3,7 @@
 -- Output", "Function 6: Direct Console I/O", "Function 9: Print String", "Function 10: Read Console Buffer", "Function 11: Get
 -- Console Status".)
 use Rattle.std.specs.Prelude.{ℕ, Bool, true, false, List, length, Option, Some, None, ◌&&◌, ◌||◌, ◌==◌, nat_lt, if◌then◌else◌}
-use Rattle.mpm_base.specs.Calls.{Taken, answering}
+use Rattle.mpm_base.specs.Calls.{Taken, answering, byte_in}
 use Rattle.mpm_base.specs.declared.call.Outcome.TheVariants.{Done, Retry}
 use Rattle.mpm_procs.specs.Table.{process_in}
 use Rattle.mpm_procs.specs.declared.process.Process.{Process}
@@ -11,25 +11,15 @@ use Rattle.mpm_consoles.specs.Console.{first_key}
 use Rattle.mpm_consoles.specs.Consoles.{console_at}
 use Rattle.mpm_consoles.specs.Handling.{may_attach, behind_raw, behind_take}
 use Rattle.mpm_consoles.specs.declared.unit.Unit.TheVariants.{Console as ConsoleUnit}
+pub use Rattle.mpm_consoles.specs.Modes.{is_cooked, is_raw}
+unfoldable pub use Rattle.mpm_consoles.specs.Modes.{writes}
 use Rattle.mpm_line_input.specs.Echoes.{key_echo}
 use Rattle.mpm_line_input.specs.Keys.{line_behind}
 use Rattle.mpm_line_input.specs.Lines.{so_far, stored, is_full, ends, written_by, line_end, line_answer}
 use Rattle.mpm_kernel.specs.Kernel.{Kernel, with_changed}
 use Rattle.mpm_kernel.specs.Columns.{column_of}
-use Rattle.mpm_kernel.specs.Called.{Called, valued, done, low_parameter, byte_in}
+use Rattle.mpm_kernel.specs.Called.{Called, valued, done, low_parameter}
 use Rattle.mpm_kernel.specs.Consoling.{attaching, retried, awaited, echoed}
-
--- the functions that make a console not raw, those that make it raw, and the calls that write and therefore wait while output is
--- stopped: function 6 writes a byte below FDh
-abbrev pub is_cooked : ℕ → Bool
-is_cooked function = function == 1 || (function == 2 || (function == 9 || function == 10))
-
-abbrev pub is_raw : ℕ → Bool
-is_raw function = function == 3 || (function == 4 || function == 6)
-
-unfoldable pub writes : Taken → Bool
-writes call =
-    call.function == 2 || (call.function == 4 || (call.function == 9 || (call.function == 6 && nat_lt (low_parameter call) 253)))
 
 -- a console is made raw, or not, if it is at all
 abbrev pub raw_if : Bool → ℕ → Bool → Kernel → Kernel

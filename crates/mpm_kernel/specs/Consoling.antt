@@ -3,14 +3,14 @@
 -- 149: Assign Console", "Function 153: Get Console Number", "Function 158: Attach List", "Function 159: Detach List",
 -- "Function 160: Set List", "Function 161: Conditional Attach List", "Function 162: Conditional Attach Console", "Function 164:
 -- Get List Number"; User's Guide, control characters of a console.)
-use Rattle.std.specs.Prelude.{ℕ, Bool, true, false, not, [], ◌∷◌, List, Option, Some, None, ◌&&◌, ◌||◌, ◌==◌, nat_lt, bytes_eq, ⊤, IfSome, if◌then◌else◌}
-use Rattle.mpm_base.specs.Calls.{Taken, answering}
+use Rattle.std.specs.Prelude.{ℕ, Bool, true, false, not, [], ◌∷◌, List, Option, Some, None, ◌&&◌, ◌||◌, ◌==◌, nat_lt, bytes_eq, is_some, ⊤, IfSome, if◌then◌else◌}
+use Rattle.mpm_base.specs.Calls.{Taken, answering, byte_in, name_at}
 use Rattle.mpm_base.specs.declared.number.Name8.{Name8}
 use Rattle.mpm_base.specs.declared.call.Outcome.TheVariants.{Retry}
 use Rattle.mpm_procs.specs.Table.{Table, lives, Lives, process_in}
 use Rattle.mpm_procs.specs.declared.process.Process.{Process}
-use Rattle.mpm_queues.specs.Queues.{lowest}
-use Rattle.mpm_consoles.specs.Consoles.{owner_of, waits_for}
+pub use Rattle.mpm_procs.specs.Finding.{is_called, named}
+use Rattle.mpm_consoles.specs.Consoles.{console_at, owner_of, waits_for}
 use Rattle.mpm_consoles.specs.Handling.{may_attach, behind_attach, behind_assign, behind_key, key_answer, behind_wait}
 use Rattle.mpm_consoles.specs.declared.keys.KeyDone.{KeyDone}
 use Rattle.mpm_consoles.specs.declared.keys.KeyDone.TheVariants.{Stored, Dropped, Wakes, Aborts, Passes, Nothing}
@@ -19,7 +19,7 @@ use Rattle.mpm_consoles.specs.declared.unit.Unit.TheVariants.{Console as Console
 use Rattle.mpm_kernel.specs.Kernel.{Kernel, with_changed}
 use Rattle.mpm_kernel.specs.Dispatch.{at_rest, unlisted, made_ready, unit_left}
 use Rattle.mpm_kernel.specs.Columns.{spoke}
-use Rattle.mpm_kernel.specs.Called.{Called, valued, done, low_parameter, refusal, byte_in, name_at}
+use Rattle.mpm_kernel.specs.Called.{Called, valued, done, low_parameter, refusal}
 
 -- a call isn't done: its process is ready no more, and takes the step at its gate again once it is
 unfoldable pub retried : ℕ → Kernel → Called
@@ -68,13 +68,6 @@ printer_set call p kernel =
     let printer = low_parameter call in
     if nat_lt printer kernel.printers then attached p (PrinterUnit printer) (printer_changed p printer kernel)
     else (valued refusal kernel)
-
--- the lowest slot whose process has a name
-abbrev pub is_called : Table → Name8 → ℕ → Bool
-is_called procs name p = lives procs p && bytes_eq (process_in procs p).name.0 name.0
-
-abbrev pub named : Table → Name8 → Option ℕ
-named procs name = lowest (is_called procs name)
 
 -- a process becomes the owner of a console; where it waited for that one, it becomes ready
 abbrev pub if_it : Bool → ℕ → Option ℕ
@@ -155,14 +148,15 @@ echoed console bytes kernel = record (spoke kernel console bytes) { echo = bytes
 abbrev pub abort_text : List ℕ
 abort_text = 94 ∷ 67 ∷ 13 ∷ 10 ∷ []
 
--- what becomes of the processes by a key: who was woken is ready, the heir of a console before its old owner
-unfoldable pub key_done : KeyDone → ℕ → Kernel → Kernel
-key_done Stored console kernel = kernel
-key_done Dropped console kernel = kernel
-key_done Nothing console kernel = kernel
-key_done (Wakes p) console kernel = made_ready (Some p) kernel
-key_done (Aborts p) console kernel = record (echoed console abort_text kernel) { aborted = Some p }
-key_done (Passes from to waited) console kernel = made_ready (if_it waited from) (made_ready to kernel)
+-- what becomes of the processes by a key: who was woken is ready, the heir of a console before its old owner, which is ready
+-- where it waited at its gate
+unfoldable pub key_done : KeyDone → ℕ → Bool → Kernel → Kernel
+key_done Stored console waited kernel = kernel
+key_done Dropped console waited kernel = kernel
+key_done Nothing console waited kernel = kernel
+key_done (Wakes p) console waited kernel = made_ready (Some p) kernel
+key_done (Aborts p) console waited kernel = record (echoed console abort_text kernel) { aborted = Some p }
+key_done (Passes from to) console waited kernel = made_ready (if_it waited from) (made_ready to kernel)
 
 -- the processes that a key names live
 abbrev pub IfLives : Table → Option ℕ → Type 0
@@ -174,7 +168,7 @@ KeyNames procs Dropped = ⊤
 KeyNames procs Nothing = ⊤
 KeyNames procs (Wakes p) = Lives procs p
 KeyNames procs (Aborts p) = Lives procs p
-KeyNames procs (Passes from to waited) = Lives procs from × IfLives procs to
+KeyNames procs (Passes from to) = Lives procs from × IfLives procs to
 
 -- whether the owner of a console is a resident: it lives in no segment
 abbrev pub is_homeless : Option ℕ → Bool
@@ -190,7 +184,7 @@ unfoldable pub key_came : ℕ → ℕ → Kernel → Kernel
 key_came console byte kernel =
     let resident = is_resident kernel.procs (owner_of kernel.units (ConsoleUnit console)) in
     if nat_lt console kernel.consoles
-    then key_done (key_answer kernel.units console byte resident) console
+    then key_done (key_answer kernel.units console byte resident) console (is_some (console_at kernel.units console).awaits)
     (record kernel { units = behind_key kernel.units console byte resident })
     else kernel
 

@@ -1,8 +1,7 @@
 -- Which process runs: the first of the ready list. (MP/M II System Guide, "Dispatcher"; Programmer's Guide, functions 142,
 -- 144 and 145.)
-use Rattle.std.specs.Prelude.{ℕ, Bool, false, not, Option, Some, None, List, [], ◌∷◌, ◌&&◌, ◌||◌, ◌==◌, replicate, if◌then◌else◌}
-use Rattle.z80_regs.specs.declared.regs.Regs.{Regs}
-use Rattle.mpm_ready.specs.Order.{Member, first_of}
+use Rattle.std.specs.Prelude.{ℕ, Bool, false, Option, Some, None, List, [], ◌&&◌, replicate, if◌then◌else◌}
+use Rattle.mpm_ready.specs.Order.{first_of}
 use Rattle.mpm_ready.specs.Tables.{no_lists, list_at, list_of, inserted, removed, rotated}
 use Rattle.mpm_flags.specs.States.{no_flags}
 use Rattle.mpm_clock.specs.declared.moment.Moment.{Moment}
@@ -14,6 +13,8 @@ use Rattle.mpm_consoles.specs.declared.unit.Unit.{Unit}
 use Rattle.mpm_procs.specs.Table.{no_processes, process_in, added}
 use Rattle.mpm_procs.specs.declared.process.NewProcess.{NewProcess}
 use Rattle.mpm_kernel.specs.Kernel.{Kernel, ready, with_changed, with_completed}
+pub use Rattle.mpm_dispatcher.specs.Dispatch.{runs_still, moved_in, is_held_off, is_ready}
+unfoldable pub use Rattle.mpm_dispatcher.specs.Dispatch.{lists_ready, ready_in, also_completed}
 
 -- the kernel of a machine as it begins at a moment: no process lives
 unfoldable pub new_kernel : ℕ → ℕ → Moment → Kernel
@@ -46,11 +47,6 @@ abbrev pub in_slot : Kernel → NewProcess → Option ℕ → Kernel
 in_slot kernel new None = kernel
 in_slot kernel new (Some p) = admitted kernel p new
 
--- a process keeps the processor if it is another one
-abbrev pub runs_still : ℕ → Option ℕ → Option ℕ
-runs_still p None = None
-runs_still p (Some other) = if other == p then None else Some other
-
 -- a process that doesn't run any more
 abbrev pub at_rest : Kernel → ℕ → Kernel
 at_rest kernel p = record kernel { running = runs_still p kernel.running }
@@ -61,42 +57,26 @@ unlisted kernel p = record kernel { lists = removed kernel.lists p }
 
 -- a process stands in another list, or in one now, where its priority puts it
 unfoldable pub moved : Kernel → ℕ → ℕ → Kernel
-moved kernel list p = record kernel {
-  lists = inserted (removed kernel.lists p) list (record { slot = p; priority = (process_in kernel.procs p).priority });
-}
+moved kernel list p = record kernel { lists = moved_in kernel.procs kernel.lists list p }
 
--- a process becomes ready, if there is one: the lists, and the kernel
-unfoldable pub lists_ready : Option ℕ → Kernel → List (List Member)
-lists_ready None kernel = kernel.lists
-lists_ready (Some p) kernel = (moved kernel ready p).lists
-
+-- a process becomes ready, if there is one
 abbrev pub made_ready : Option ℕ → Kernel → Kernel
-made_ready o kernel = record kernel { lists = lists_ready o kernel }
+made_ready o kernel = record kernel { lists = lists_ready o kernel.procs kernel.lists }
 
 -- a unit that a process owns passes to the process that waits for it first, who becomes ready
 unfoldable pub unit_left : ℕ → Unit → Kernel → Kernel
 unit_left p unit kernel = record kernel {
-  lists = lists_ready (heir_of kernel.units p unit) kernel;
+  lists = lists_ready (heir_of kernel.units p unit) kernel.procs kernel.lists;
   units = behind_detach kernel.units p unit;
 }
 
 -- processes become ready, one after the other
 unfoldable pub all_ready : List ℕ → Kernel → Kernel
-all_ready [] kernel = kernel
-all_ready (p ∷ ps) kernel = all_ready ps (moved kernel ready p)
+all_ready ps kernel = record kernel { lists = ready_in kernel.procs ps kernel.lists }
 
 -- the held calls of processes are completed: they become ready, in that order
 abbrev pub all_woken : List ℕ → Kernel → Kernel
 all_woken ps kernel = with_completed (all_ready ps kernel) ps
-
--- interrupts are off, or an EI has not taken effect yet
-abbrev pub is_held_off : Regs → Bool
-is_held_off regs = not regs.iff1 || regs.shadow
-
--- the list that a process is in is the ready list
-abbrev pub is_ready : Option ℕ → Bool
-is_ready None = false
-is_ready (Some list) = list == ready
 
 -- the running process keeps the processor behind its instruction: it is ready, and no interrupt may come
 abbrev pub stays : Kernel → Option ℕ → Bool

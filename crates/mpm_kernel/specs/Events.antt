@@ -1,16 +1,17 @@
 -- What events do. (MP/M II System Guide, "Polled devices", "Interrupt service routines", "Tick".)
-use Rattle.std.specs.Prelude.{ℕ, ◌<◌, ⊤, true, List, [], ◌∷◌, Option, Some, None, ◌==◌, drop, map, slice_set, if◌then◌else◌}
+use Rattle.std.specs.Prelude.{ℕ, ◌<◌, ⊤, true, List, Option, Some, None, ◌==◌, drop, slice_set, if◌then◌else◌}
 use Rattle.mpm_clock.specs.Delays.{woken_by_tick}
 use Rattle.mpm_clock.specs.Times.{ticked}
-use Rattle.mpm_ready.specs.Tables.{list_at}
+use Rattle.mpm_dispatcher.specs.Dispatch.{slots_in}
 use Rattle.mpm_procs.specs.Table.{call_of}
 use Rattle.mpm_queues.specs.Queue.{block_size}
 use Rattle.mpm_script.specs.declared.event.Event.{Event}
 use Rattle.mpm_script.specs.declared.event.Event.TheVariants.{Tick, Key, Ready, Int}
 use Rattle.mpm_kernel.specs.Kernel.{Kernel, poll_list, with_completed, afresh}
 use Rattle.mpm_kernel.specs.Dispatch.{all_woken, runner_behind}
-use Rattle.mpm_kernel.specs.Called.{word_at}
-use Rattle.mpm_kernel.specs.Waiting.{signalled}
+pub use Rattle.mpm_dispatcher.specs.Dispatch.{first_completed}
+use Rattle.mpm_base.specs.Calls.{word_at}
+use Rattle.mpm_kernel.specs.Waiting.{is_flag, signalled}
 use Rattle.mpm_kernel.specs.Procedures.{inside, procedure_queue}
 use Rattle.mpm_kernel.specs.Consoling.{key_came}
 
@@ -33,7 +34,7 @@ clock_ticked kernel =
 
 -- those who poll a device, in the order in which they stand
 unfoldable pub pollers : Kernel → ℕ → List ℕ
-pollers kernel device = map (λ m. m.slot) (list_at kernel.lists (poll_list device))
+pollers kernel device = slots_in kernel.lists (poll_list device)
 
 -- a device is ready, with the byte that it sent last
 abbrev pub with_ready : Kernel → ℕ → ℕ → Kernel
@@ -45,21 +46,21 @@ with_ready kernel device byte = record kernel {
 unfoldable pub device_ready : Kernel → ℕ → ℕ → Kernel
 device_ready kernel device byte = all_woken (pollers kernel device) (with_ready kernel device byte)
 
+-- a flag is set as by function 133, where there is such a flag; one that is set already stays so
+unfoldable pub flag_came : ℕ → Kernel → Kernel
+flag_came flag kernel = if is_flag flag then signalled flag kernel else kernel
+
 -- an event
 unfoldable pub happens : Event → Kernel → Kernel
 happens Tick kernel = clock_ticked kernel
 happens (Key console byte) kernel = key_came console byte kernel
 happens (Ready device byte) kernel = device_ready kernel device byte
-happens (Int flag) kernel = signalled flag kernel
+happens (Int flag) kernel = flag_came flag kernel
 
 abbrev pub happened : Event → Kernel → Kernel
 happened event kernel = happens event (afresh kernel)
 
--- whose held call was completed first, and the kernel once it is handed out
-abbrev pub first_completed : List ℕ → Option ℕ
-first_completed [] = None
-first_completed (p ∷ ps) = Some p
-
+-- the kernel once the process whose held call was completed first is handed out
 -- a call 151 that was held got the message of its queue, which stands behind its block
 abbrev pub inside_of : Option ℕ → ℕ → ℕ → Kernel → Kernel
 inside_of None p message kernel = kernel

@@ -1,5 +1,5 @@
 -- The kernel as the record of its parts, each the value of the crate that keeps it.
-use Rattle.std.specs.Prelude.{◌≡◌, ℕ, ◌+◌, ◌<◌, ◌≤◌, Bool, true, false, List, [], Option, Some, None, ◌==◌, ◌&&◌, count_by, length}
+use Rattle.std.specs.Prelude.{◌≡◌, ℕ, ◌+◌, ◌<◌, ◌≤◌, Bool, true, false, List, [], Option, Some, None, ◌==◌, ◌&&◌, count_by, length, if◌then◌else◌}
 use Rattle.std.specs.List.{AllByRecursion}
 use Rattle.mpm_base.specs.declared.devices.Devices.{Devices}
 use Rattle.mpm_ready.specs.Order.{Member}
@@ -13,11 +13,13 @@ use Rattle.mpm_consoles.specs.Consoles.{Consoles, HasUnit, owns, waits as waits_
 use Rattle.mpm_consoles.specs.declared.unit.Unit.{Unit}
 use Rattle.mpm_procs.specs.Table.{Table, HasSlots, lives, Lives, process_in, with_process}
 use Rattle.mpm_procs.specs.declared.process.Process.{Process}
+pub use Rattle.mpm_dispatcher.specs.Dispatch.{ready}
 
 -- the processes, the lists in which they stand, the process that runs, the flags, the clock, the polled devices, how many
 -- consoles and printers there are, the consoles and printers with those who wait for them, the queues, how many of them are
--- the system's, which have the lowest numbers, and what the last call or event left to be handed out: the processes whose held
--- calls it completed, in order, what it wrote to its console by itself, and the process that it aborts
+-- the system's, which have the lowest numbers, and what is left to be handed out: the processes whose held calls the last call
+-- or event completed, in order, what the last call that echoes or the last event wrote to its console by itself, and the
+-- process that the last event aborts
 pub record Kernel : Type 0 where
   pub procs : Table
   pub lists : List (List Member)
@@ -33,10 +35,6 @@ pub record Kernel : Type 0 where
   pub completed : List ℕ
   pub echo : List ℕ
   pub aborted : Option ℕ
-
--- the number of the ready list
-abbrev pub ready : ℕ
-ready = 0
 
 -- the number of the list of those who poll a device
 abbrev pub poll_list : ℕ → ℕ
@@ -54,7 +52,11 @@ with_changed kernel p process = record kernel { procs = with_process kernel.proc
 abbrev pub with_completed : Kernel → List ℕ → Kernel
 with_completed kernel ps = record kernel { completed = ps }
 
--- the kernel as a call or an event begins: nothing is left to be handed out
+-- the kernel as a call begins: it has completed no held call yet, and one that echoes has echoed nothing
+abbrev pub call_begun : Bool → Kernel → Kernel
+call_begun echoes kernel = record kernel { completed = []; echo = if echoes then [] else kernel.echo }
+
+-- the kernel as an event begins: nothing is left to be handed out
 abbrev pub afresh : Kernel → Kernel
 afresh kernel = record kernel { completed = []; echo = []; aborted = None }
 

@@ -1,16 +1,16 @@
 -- Resident procedures: a process that calls one reads the message of its queue, which is the procedure's address, and keeps it
 -- until it is written back. (MP/M II Programmer's Guide, "Function 151: Call Resident System Procedure".)
-use Rattle.std.specs.Prelude.{ℕ, Bool, true, false, List, ◌++◌, [], ◌∷◌, Option, Some, None, is_some, ◌==◌, if◌then◌else◌}
-use Rattle.z80_regs.specs.Words.{low, high, word_of}
-use Rattle.mpm_base.specs.Lists.{zeros}
-use Rattle.mpm_base.specs.Calls.{Taken, answering}
+use Rattle.std.specs.Prelude.{ℕ, Bool, true, false, [], Option, Some, None, is_some, ◌==◌, if◌then◌else◌}
+use Rattle.mpm_base.specs.Calls.{Taken, answering, name_at}
 use Rattle.mpm_procs.specs.Table.{process_in, with_process, with_call}
 use Rattle.mpm_queues.specs.Queues.{Queues, is_made, found, width_of}
+use Rattle.mpm_queues.specs.Blocks.{address_of}
+unfoldable pub use Rattle.mpm_queues.specs.Blocks.{writing}
 use Rattle.mpm_queues.specs.Handling.{read_outcome, read_reply, write_outcome, ended}
 use Rattle.mpm_queues.specs.declared.queues.QueueOutcome.{QueueOutcome}
 use Rattle.mpm_queues.specs.declared.queues.QueueOutcome.TheVariants.{Done as Passed, NotNow}
 use Rattle.mpm_kernel.specs.Kernel.{Kernel, with_changed}
-use Rattle.mpm_kernel.specs.Called.{Called, valued, done, name_at}
+use Rattle.mpm_kernel.specs.Called.{Called, valued, done}
 use Rattle.mpm_kernel.specs.Queueing.{with_other, taken_from, given_to, put_off}
 
 -- what a call 151 answers that is refused
@@ -29,12 +29,6 @@ of_two_bytes (Some q) t = if is_two (width_of t q) then Some q else None
 
 abbrev pub procedure_queue : Queues → Taken → Option ℕ
 procedure_queue t call = of_two_bytes (found t (name_at call 4)) t
-
--- the address that a message is
-abbrev pub address_of : List ℕ → ℕ
-address_of [] = 0
-address_of (l ∷ []) = 0
-address_of (l ∷ h ∷ rest) = word_of l h
 
 -- a process is in the procedure of a queue from now on, whose message it keeps
 unfoldable pub inside : ℕ → ℕ → ℕ → Kernel → Kernel
@@ -55,11 +49,6 @@ unfoldable pub procedure_called : Taken → ℕ → Kernel → Called
 procedure_called call p kernel =
     if is_some (process_in kernel.procs p).procedure then valued no_procedure kernel
     else (procedure_at (procedure_queue kernel.queues call) p kernel)
-
--- a call that writes a message of two bytes to a queue
-unfoldable pub writing : ℕ → Taken
-writing message =
-    record { function = 139; word = 0; dma = 0; fcb = zeros 36; bytes = zeros 12 ++ (low message ∷ high message ∷ []) }
 
 -- a process is in no procedure any more, and keeps the call that writes the message of the one that it was in
 unfoldable pub outside : ℕ → Kernel → Kernel

@@ -4,18 +4,20 @@
 -- A queue control block has the queue's name at 2, the length of its messages at 10 and their number at 12. A user queue
 -- control block has the queue's pointer, which is its number and 1, the message's address at 2 and the queue's name at 4; the
 -- message that a call writes stands behind its twelve bytes.
-use Rattle.std.specs.Prelude.{ℕ, ◌+◌, ◌-◌, ◌<◌, Bool, true, false, not, [], ◌∷◌, ◌++◌, ⊤, Option, Some, None, ◌&&◌, ◌==◌, is_some, is_none, nat_le, if◌then◌else◌}
-use Rattle.mpm_base.specs.Calls.{Taken, answering}
+use Rattle.std.specs.Prelude.{ℕ, ◌+◌, ◌<◌, Bool, true, false, not, [], ◌∷◌, ⊤, Option, Some, None, ◌&&◌, ◌==◌, is_some, is_none, nat_le, if◌then◌else◌}
+use Rattle.mpm_base.specs.Calls.{Taken, answering, word_at, name_at}
 use Rattle.mpm_base.specs.declared.number.Name8.{Name8}
 use Rattle.mpm_base.specs.declared.call.Outcome.TheVariants.{Done}
-use Rattle.mpm_procs.specs.Table.{Table, lives, process_in}
-use Rattle.mpm_queues.specs.Queues.{Queues, IsMade, is_made, found, lowest, lowest_free, made, may_end, behind_delete, refusal as make_refusal}
+use Rattle.mpm_procs.specs.Table.{process_in}
+use Rattle.mpm_procs.specs.Finding.{is_entered}
+use Rattle.mpm_queues.specs.Queues.{Queues, IsMade, found, lowest_free, made, may_end, behind_delete, refusal as make_refusal}
+unfoldable pub use Rattle.mpm_queues.specs.Blocks.{pointed}
 use Rattle.mpm_queues.specs.Handling.{behind_read, read_outcome, read_reply, behind_write, write_outcome, procs_behind_write, enlisted}
 use Rattle.mpm_queues.specs.declared.queues.QueueOutcome.{QueueOutcome}
 use Rattle.mpm_queues.specs.declared.queues.QueueOutcome.TheVariants.{Done as Passed, NotNow}
-use Rattle.mpm_kernel.specs.Kernel.{Kernel, ready, with_completed}
-use Rattle.mpm_kernel.specs.Dispatch.{unlisted, moved}
-use Rattle.mpm_kernel.specs.Called.{Called, valued, done, held, refusal, word_at, name_at}
+use Rattle.mpm_kernel.specs.Kernel.{Kernel, with_completed}
+use Rattle.mpm_kernel.specs.Dispatch.{unlisted, made_ready, also_completed}
+use Rattle.mpm_kernel.specs.Called.{Called, valued, done, held, refusal}
 
 -- a queue more, with that number
 abbrev pub made_at : Option ℕ → Queues → Name8 → ℕ → ℕ → Queues
@@ -52,18 +54,6 @@ opened (Some q) call kernel =
 abbrev pub queue_opened : Taken → Kernel → Called
 queue_opened call kernel = opened (found kernel.queues (name_at call 4)) call kernel
 
--- a process is in the resident procedure of a queue
-abbrev pub is_queue : ℕ → Option ℕ → Bool
-is_queue q None = false
-is_queue q (Some other) = other == q
-
-abbrev pub is_inside_of : Table → ℕ → ℕ → Bool
-is_inside_of procs q p = lives procs p && is_queue q (process_in procs p).procedure
-
--- and some process is
-unfoldable pub is_entered : Table → ℕ → Bool
-is_entered procs q = is_some (lowest (is_inside_of procs q))
-
 -- function 136: a queue is deleted that isn't the system's, in whose resident procedure nobody is, at which nobody waits and
 -- whose message nobody holds
 abbrev pub may_delete : Kernel → ℕ → Bool
@@ -76,11 +66,6 @@ deleted (Some q) kernel =
 
 abbrev pub queue_deleted : Taken → Kernel → Called
 queue_deleted call kernel = deleted (found kernel.queues (name_at call 2)) kernel
-
--- the queue that a pointer names
-unfoldable pub pointed : Queues → ℕ → Option ℕ
-pointed t pointer =
-    if nat_le 1 pointer && (nat_le pointer 32 && is_made t (pointer - 1)) then Some (pointer - 1) else None
 
 -- a process waits at a queue, to read from it or to write to it, and stands in no list
 unfoldable pub queued : Kernel → ℕ → ℕ → Bool → Kernel
@@ -98,8 +83,7 @@ IfNotNow NotNow Fact = Fact
 
 -- the held call of another process, if any, is completed, behind those that were
 unfoldable pub with_other : Option ℕ → Kernel → Kernel
-with_other None kernel = kernel
-with_other (Some p) kernel = with_completed (moved kernel ready p) (kernel.completed ++ p ∷ [])
+with_other other kernel = with_completed (made_ready other kernel) (also_completed other kernel.completed)
 
 -- functions 137, which may wait, and 138, which may not: the message comes to its address
 abbrev pub taken_from : Kernel → ℕ → ℕ → Kernel

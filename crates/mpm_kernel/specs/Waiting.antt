@@ -1,18 +1,18 @@
 -- Waiting for devices, for flags and for the clock. (MP/M II Programmer's Guide, "Function 131: Poll", "Function 132: Flag
 -- Wait", "Function 133: Flag Set", "Function 141: Delay".)
 use Rattle.std.specs.Prelude.{ℕ, Bool, false, [], ◌∷◌, ◌==◌, ◌&&◌, ◌||◌, nat_le, nat_lt, drop, slice_index_or, if◌then◌else◌}
-use Rattle.mpm_base.specs.Calls.{Taken, Answer, answering}
+use Rattle.mpm_base.specs.Calls.{Taken, Answer, answering, word_at}
 use Rattle.mpm_flags.specs.States.{flag_at, with_flag, behind_wait, wait_answer, behind_set, set_answer}
 use Rattle.mpm_flags.specs.declared.flags.FlagWait.{FlagWait}
 use Rattle.mpm_flags.specs.declared.flags.FlagWait.TheVariants.{Passed, Waits, Underrun}
 use Rattle.mpm_flags.specs.declared.flags.FlagSet.{FlagSet}
 use Rattle.mpm_flags.specs.declared.flags.FlagSet.TheVariants.{Set, Woke, Overrun}
 use Rattle.mpm_clock.specs.Times.{delayed}
-use Rattle.mpm_queues.specs.Queue.{block_size}
 use Rattle.mpm_procs.specs.Table.{call_of}
+unfoldable pub use Rattle.mpm_dispatcher.specs.Completion.{completion_of}
 use Rattle.mpm_kernel.specs.Kernel.{Kernel, poll_list}
 use Rattle.mpm_kernel.specs.Dispatch.{unlisted, moved, all_woken, behind_equals}
-use Rattle.mpm_kernel.specs.Called.{Called, valued, done, held, low_parameter, refusal, word_at}
+use Rattle.mpm_kernel.specs.Called.{Called, valued, done, held, low_parameter, refusal}
 
 -- function 131: a process waits for one of sixteen devices, unless it is ready; a poll keeps it ready
 unfoldable pub polled : Taken → ℕ → Kernel → Called
@@ -74,16 +74,6 @@ slept call p kernel =
     if call.word == 0 then done (behind_equals kernel p)
     else (held p (record (unlisted kernel p) { clock = delayed kernel.clock p call.word }))
 
--- what a held call answers as it is completed, by its function
-abbrev pub completion_value : ℕ → ℕ
-completion_value function =
-    if function == 131 || (function == 132 || (function == 139 || (function == 141 || function == 151))) then 0 else 65535
-
--- the reply of the held call of a process as it is completed: a reader's message stands behind the block that it read
-unfoldable pub completion_of : Taken → Answer
-completion_of call =
-    if call.function == 137 then record (answering 0) { at = word_at call 2; bytes = drop block_size call.bytes }
-    else (answering (completion_value call.function))
-
+-- the reply of the held call of a process as it is completed
 abbrev pub completion_reply : Kernel → ℕ → Answer
 completion_reply kernel p = completion_of (call_of kernel.procs p)

@@ -1,28 +1,25 @@
 ghost use Rattle.std.specs.Bool.{OnTrue};
-ghost use Rattle.std.specs.Prelude.{◌≡◌, ◌<◌, ◌≤◌, ◌∷◌, [], true, nat_lt, replicate, MatchOption, if◌then◌else◌};
-ghost use Rattle.mpm_kernel.specs.ConsoleInput.{is_cooked as does_cook, is_raw as makes_raw};
+ghost use Rattle.std.specs.Prelude.{◌≡◌, ◌<◌, true, MatchOption};
 
 use crate::Kernel;
-use crate::waiting::done;
 use mpm_base::{Outcome, Pid, Reply};
-use mpm_consoles::Unit;
-use mpm_line_input::{Echo, answer_line, edited, full_line, is_echoed, is_full};
+use mpm_consoles::{Unit, is_cooked, is_raw, writes};
+use mpm_dispatcher::done;
+use mpm_line_input::{answer_line, edited, full_line, is_full, key_echo};
 
 impl Kernel {
     ghost use Rattle.mpm_procs.specs.Table.{Lives, call_of, process_in};
     ghost use Rattle.mpm_consoles.specs.Consoles.{console_at, owns};
     ghost use Rattle.mpm_consoles.specs.Handling.{may_attach};
     ghost use Rattle.mpm_consoles.specs.declared.unit.Unit.TheVariants.{Console as ConsoleUnit};
-    ghost use Rattle.mpm_line_input.specs.Echoes.{key_echo, is_echoed as is_key_echoed};
     ghost use Rattle.mpm_line_input.specs.Lines.{ends};
     ghost use Rattle.mpm_kernel.specs.Kernel.{IsReady, IsSound, HasConsole};
-    ghost use Rattle.mpm_kernel.specs.Columns.{column_of, spoke};
     ghost use Rattle.mpm_kernel.specs.Consoling.{attaching, awaited};
-    ghost use Rattle.mpm_kernel.specs.ConsoleInput.{writes as does_write, raw_if, key_taken, next_key, key_shown, shown_key, read_key, polled_key, direct, line_of, greatest, line_done, key_joined, line_with, line_read, console_served, unless_stopped, console_called};
+    ghost use Rattle.mpm_kernel.specs.ConsoleInput.{raw_if, key_taken, next_key, key_shown, shown_key, read_key, polled_key, direct, line_of, greatest, line_done, key_joined, line_with, line_read, console_served, unless_stopped, console_called};
 
     /// The calls that read from the caller's console or write to it: it is attached first, or waited for. (MP/M II Programmer's
     /// Guide, functions 1 to 4, 6 and 9 to 11.)
-    #[tactic(auto, using(crate::proofs::UnitLaws::has_own_console, crate::proofs::InputCalls::stays_console_called), unfolding(crate::specs::ConsoleInput::console_called))]
+    #[tactic(auto, using(crate::proofs::UnitLaws::has_own_console, crate::proofs::InputCalls::stays_console_called), unfolding(crate::specs::ConsoleInput::console_called, crate::specs::Consoling::retried, crate::specs::Dispatch::unlisted))]
     pub(crate) fn console_call(&mut self, p: Pid, reply: &mut Reply) -> Outcome
         requires sound { IsSound self.old }
         requires lives { Lives self.old.procs p }
@@ -31,11 +28,11 @@ impl Kernel {
         ensures outcome { result ≡ (console_called (call_of self.old.procs p) p self.old).outcome }
         ensures reply { reply.new ≡ (console_called (call_of self.old.procs p) p self.old).reply }
     {
-        let console = self.procs.get(p).console;
+        let console = self.dispatcher.procs.get(p).console;
         if !self.attach_console(p, console) {
-            return self.retry(p, reply);
+            return self.dispatcher.retry(p, reply);
         }
-        let cooks = is_cooked(self.procs.call(p).function);
+        let cooks = is_cooked(self.dispatcher.procs.call(p).function);
         self.set_raw_if(cooks, p, console, false);
         self.unless_stopped(p, console, reply)
     }
@@ -50,26 +47,12 @@ impl Kernel {
         ensures outcome { result ≡ (unless_stopped (call_of self.old.procs p) p console self.old).outcome }
         ensures reply { reply.new ≡ (unless_stopped (call_of self.old.procs p) p console self.old).reply }
     {
-        if self.writes(p) && self.units.stopped(console) {
+        if writes(self.dispatcher.procs.call(p)) && self.units.stopped(console) {
             return self.wait_at_gate(p, console, false, reply);
         }
-        let raw = is_raw(self.procs.call(p).function);
+        let raw = is_raw(self.dispatcher.procs.call(p).function);
         self.set_raw_if(raw, p, console, true);
         self.serve_console(p, console, reply)
-    }
-
-    /// Whether the call of a process writes to its console, and so waits while output is stopped.
-    #[tactic(auto, unfolding(crate::specs::ConsoleInput::writes))]
-    fn writes(&self, p: Pid) -> bool
-        requires { Lives self.now.procs p }
-        ensures { result ≡ does_write (call_of self.now.procs p) }
-    {
-        let call = self.procs.call(p);
-        match call.function {
-            2 | 4 | 9 => true,
-            6 => call.word % 256 < 0xFD,
-            _ => false,
-        }
     }
 
     /// The owner of a console is served, whose output isn't stopped where the call writes. What a call writes is put out behind
@@ -83,7 +66,7 @@ impl Kernel {
         ensures outcome { result ≡ (console_served (call_of self.old.procs p) p console self.old).outcome }
         ensures reply { reply.new ≡ (console_served (call_of self.old.procs p) p console self.old).reply }
     {
-        match self.procs.call(p).function {
+        match self.dispatcher.procs.call(p).function {
             1 => self.read_shown(p, console, reply),
             3 => self.read_key(p, console, reply),
             6 => self.direct(p, console, reply),
@@ -112,36 +95,12 @@ impl Kernel {
     }
 
     /// A key that was taken is shown, a tab as spaces.
-    #[tactic(auto, using(crate::proofs::InputLaws::echo_nothing), unfolding(crate::specs::Consoling::echoed))]
     fn show_key(&mut self, console: u8, key: u8)
         requires { HasConsole self.old console }
         ensures { self.new ≡ key_shown key console self.old }
     {
-        if !is_echoed(key) {
-            self.show(console, Echo::new());
-            return;
-        }
-        let shown = self.write_key(console, key);
-        self.set_echo(shown);
-    }
-
-    /// A key that is shown is written, a tab as spaces; answers what was written.
-    #[tactic(auto, using(crate::proofs::InputLaws::wrote_key, crate::proofs::InputLaws::spaces_few, crate::proofs::InputLaws::text_by_spaces))]
-    fn write_key(&mut self, console: u8, key: u8) -> Echo
-        requires has { HasConsole self.old console }
-        requires shown { is_key_echoed key ≡ true }
-        ensures kernel { self.new ≡ spoke self.old console (key_echo key (column_of self.old console)) }
-        ensures text { result ≡ key_echo key (column_of self.old console) }
-    {
-        let spaces = self.write(Unit::Console { n: console }, key, true);
-        text_of(key, spaces)
-    }
-
-    /// What was written by the last call is told.
-    fn set_echo(&mut self, shown: Echo)
-        ensures { self.new ≡ record self.old { echo = shown } }
-    {
-        self.echo = shown;
+        let column = self.units.column(console);
+        self.show(console, key_echo(key, column));
     }
 
     /// Function 3, and function 6 with FDh: a key is taken. (MP/M II Programmer's Guide, "Function 3: Raw Console Input".)
@@ -170,7 +129,7 @@ impl Kernel {
         ensures outcome { result ≡ (direct (call_of self.old.procs p) p console self.old).outcome }
         ensures reply { reply.new ≡ (direct (call_of self.old.procs p) p console self.old).reply }
     {
-        match self.procs.call(p).word % 256 {
+        match self.dispatcher.procs.call(p).word % 256 {
             0xFF => self.poll_key(console, reply),
             0xFE => done(reply, if self.units.has_key(console) { 0xFF } else { 0 }),
             0xFD => self.read_key(p, console, reply),
@@ -203,8 +162,8 @@ impl Kernel {
         ensures outcome { result ≡ (line_read (call_of self.old.procs p) p console self.old).outcome }
         ensures reply { reply.new ≡ (line_read (call_of self.old.procs p) p console self.old).reply }
     {
-        let greatest = self.procs.call(p).byte(0);
-        if is_full(self.procs.get(p).line_length, greatest) {
+        let greatest = self.dispatcher.procs.call(p).byte(0);
+        if is_full(self.dispatcher.procs.get(p).line_length, greatest) {
             self.show(console, full_line().written);
             return self.finish_line(p, reply);
         }
@@ -240,8 +199,8 @@ impl Kernel {
         ensures kernel { self.new ≡ key_joined (call_of self.old.procs p) p console key self.old }
         ensures ends { result ≡ ends (line_of (process_in self.old.procs p)) (greatest (call_of self.old.procs p)) key }
     {
-        let greatest = self.procs.call(p).byte(0);
-        let process = self.procs.get_mut(p);
+        let greatest = self.dispatcher.procs.call(p).byte(0);
+        let process = self.dispatcher.procs.get_mut(p);
         let mut line = process.line;
         let mut count = process.line_length;
         let edit = edited(&mut line, &mut count, greatest, key);
@@ -259,8 +218,8 @@ impl Kernel {
         ensures outcome { result ≡ (line_done (call_of self.old.procs p) p self.old).outcome }
         ensures reply { reply.new ≡ (line_done (call_of self.old.procs p) p self.old).reply }
     {
-        let address = self.procs.call(p).word;
-        let process = self.procs.get_mut(p);
+        let address = self.dispatcher.procs.call(p).word;
+        let process = self.dispatcher.procs.get_mut(p);
         answer_line(&process.line, process.line_length, address, reply);
         process.line_length = 0;
         Outcome::Done
@@ -308,7 +267,7 @@ impl Kernel {
     }
 
     /// The owner of a console waits at its gate, for a key or until output goes on.
-    #[tactic(auto, unfolding(crate::specs::Consoling::awaited))]
+    #[tactic(auto, unfolding(crate::specs::Consoling::awaited, crate::specs::Consoling::retried, crate::specs::Dispatch::unlisted))]
     fn wait_at_gate(&mut self, p: Pid, console: u8, key: bool, reply: &mut Reply) -> Outcome
         requires has { HasConsole self.old console }
         requires owner { owns self.old.units p (ConsoleUnit console) ≡ true }
@@ -317,32 +276,6 @@ impl Kernel {
         ensures reply { reply.new ≡ (awaited p console key self.old).reply }
     {
         self.units.wait(p, console, key);
-        self.retry(p, reply)
-    }
-}
-
-/// Whether a function makes its console not raw.
-fn is_cooked(function: u8) -> bool
-    ensures { result ≡ does_cook function }
-{
-    matches!(function, 1 | 2 | 9 | 10)
-}
-
-/// Whether a function makes its console raw.
-fn is_raw(function: u8) -> bool
-    ensures { result ≡ makes_raw function }
-{
-    matches!(function, 3 | 4 | 6)
-}
-
-/// A key, or so many spaces where any stand for it.
-fn text_of(key: u8, spaces: u8) -> Echo
-    requires { spaces ≤ 8 }
-    ensures { result ≡ (if nat_lt 0 spaces then replicate spaces 32 else (key ∷ [])) }
-{
-    if 0 < spaces {
-        Echo::of(&[b' '; 8][..usize::from(spaces)])
-    } else {
-        Echo::of(&[key])
+        self.dispatcher.retry(p, reply)
     }
 }

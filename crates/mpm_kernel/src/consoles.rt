@@ -1,21 +1,14 @@
 ghost use Rattle.std.specs.Prelude.{◌≡◌, ◌<◌, Some, true, ◌==◌, length, IfSome};
-ghost use Rattle.mpm_base.specs.Calls.{answering};
+ghost use Rattle.mpm_base.specs.Calls.{answering, byte_in};
 ghost use Rattle.mpm_base.specs.declared.call.Outcome.TheVariants.{Done};
-ghost use Rattle.mpm_kernel.specs.Called.{byte_in};
 ghost use Rattle.mpm_consoles.specs.Consoles.{console_at, HasUnit};
-ghost use Rattle.mpm_consoles.specs.Console.{is_owner};
-ghost use Rattle.mpm_kernel.specs.Consoling.{is_homeless as has_no_segment};
 
 use crate::Kernel;
-use crate::kernel::READY;
-use crate::queueing::name_at;
-use crate::waiting::{REFUSED, done};
-use mpm_base::{Name8, Outcome, Pid, Reply, Seg};
+use crate::waiting::REFUSED;
+use mpm_base::{Outcome, Pid, Reply};
 use mpm_consoles::{KeyDone, Unit};
+use mpm_dispatcher::{READY, done};
 use mpm_line_input::Echo;
-
-/// How many processes there may be.
-const SLOTS: u8 = 32;
 
 impl Kernel {
     ghost use Rattle.mpm_procs.specs.Table.{Lives, call_of, process_in};
@@ -25,7 +18,7 @@ impl Kernel {
     ghost use Rattle.mpm_kernel.specs.Kernel.{IsReady, IsSound, HasConsole};
     ghost use Rattle.mpm_kernel.specs.Columns.{spoke, wrote, spaces_for};
     ghost use Rattle.mpm_kernel.specs.Dispatch.{made_ready, unit_left};
-    ghost use Rattle.mpm_kernel.specs.Consoling.{retried, attaching, attached, attached_now, console_changed, printer_changed, console_set, printer_set, named as process_named, owner_made, is_meant, assigned_to, assigned, printer_called, unit_called, given, handed_over, echoed, key_done, KeyNames, is_resident, key_came, abort_taken};
+    ghost use Rattle.mpm_kernel.specs.Consoling.{attaching, attached, attached_now, console_changed, printer_changed, console_set, printer_set, owner_made, is_meant, assigned_to, assigned, printer_called, unit_called, given, handed_over, echoed, key_done, KeyNames, is_resident, key_came, abort_taken};
 
     /// A byte is written to a console or a printer: the column of a console moves. Answers the number of spaces that stand for a
     /// tab that is expanded, 0 where the byte stands for itself. (MP/M II Programmer's Guide, "Function 2: Console Output".)
@@ -38,8 +31,8 @@ impl Kernel {
         self.units.output(unit, byte, tabs)
     }
 
-    /// The bytes that the last call or event wrote to its console by itself: the echo of function 1 or 10, or `^C`, CR and LF of
-    /// a key that aborts.
+    /// The bytes that the last call of function 1 or 10, or the last event, wrote to its console by itself: the echo of a key,
+    /// or `^C`, CR and LF of a key that aborts. Other calls leave them.
     pub fn echo(&self) -> Echo
         ensures { result ≡ self.now.echo }
     {
@@ -77,7 +70,7 @@ impl Kernel {
         let owner = self.console_owner(console);
         match from {
             Some(p) => {
-                if owns(owner, p) {
+                if owner == Some(p) {
                     self.hand_over(console, Some(p), to);
                 }
             }
@@ -117,8 +110,8 @@ impl Kernel {
         ensures outcome { result ≡ (unit_called (call_of self.old.procs p) p self.old).outcome }
         ensures reply { reply.new ≡ (unit_called (call_of self.old.procs p) p self.old).reply }
     {
-        let function = self.procs.call(p).function;
-        let process = self.procs.get(p);
+        let function = self.dispatcher.procs.call(p).function;
+        let process = self.dispatcher.procs.get(p);
         let console = process.console;
         let printer = process.printer;
         let own = Unit::Console { n: console };
@@ -148,9 +141,9 @@ impl Kernel {
             return done(reply, REFUSED);
         }
         let own = Unit::Printer {
-            n: self.procs.get(p).printer,
+            n: self.dispatcher.procs.get(p).printer,
         };
-        match self.procs.call(p).function {
+        match self.dispatcher.procs.call(p).function {
             159 => self.detach_unit(p, own, reply),
             160 => self.set_printer(p, reply),
             161 => self.attach_now(p, own, reply),
@@ -159,7 +152,7 @@ impl Kernel {
     }
 
     /// A process attaches a unit, or waits for it.
-    #[tactic(auto, unfolding(crate::specs::Consoling::attached))]
+    #[tactic(auto, unfolding(crate::specs::Consoling::attached, crate::specs::Consoling::retried, crate::specs::Dispatch::unlisted))]
     fn attach_unit(&mut self, p: Pid, unit: Unit, reply: &mut Reply) -> Outcome
         requires sound { IsSound self.old }
         requires lives { Lives self.old.procs p }
@@ -172,7 +165,7 @@ impl Kernel {
         if self.attach(p, unit, true) {
             done(reply, 0)
         } else {
-            self.retry(p, reply)
+            self.dispatcher.retry(p, reply)
         }
     }
 
@@ -216,43 +209,19 @@ impl Kernel {
         ensures answer { result ≡ may_attach self.old.units p unit }
         ensures kernel { self.new ≡ attaching p unit wait self.old }
     {
-        let priority = self.procs.get(p).priority;
+        let priority = self.dispatcher.procs.get(p).priority;
         self.units.attach(p, priority, unit, wait)
     }
 
-    /// A call isn't done: its process takes the step at its gate again once it is ready.
-    #[tactic(auto, unfolding(crate::specs::Consoling::retried))]
-    pub(crate) fn retry(&mut self, p: Pid, reply: &mut Reply) -> Outcome
-        ensures kernel { self.new ≡ (retried p self.old).kernel }
-        ensures outcome { result ≡ (retried p self.old).outcome }
-        ensures reply { reply.new ≡ (retried p self.old).reply }
-    {
-        self.unlist(p);
-        self.rest(p);
-        reply.answer(0);
-        Outcome::Retry
-    }
-
     /// A unit that a process owns passes to the process that waits for it first, who becomes ready.
-    #[tactic(auto, using(crate::proofs::UnitLaws::heir_lives, crate::proofs::UnitLaws::lists_by_units), unfolding(crate::specs::Dispatch::unit_left))]
+    #[tactic(auto, using(crate::proofs::UnitLaws::heir_lives), unfolding(crate::specs::Dispatch::unit_left))]
     pub(crate) fn leave_unit(&mut self, p: Pid, unit: Unit)
         requires sound { IsSound self.old }
         requires unit { HasUnit self.old.units unit }
         ensures { self.new ≡ unit_left p unit self.old }
     {
         let heir = self.units.detach(p, unit);
-        self.make_heir_ready(heir);
-    }
-
-    /// A process becomes ready, if there is one.
-    #[tactic(auto, unfolding(crate::specs::Dispatch::lists_ready, crate::specs::Dispatch::moved))]
-    fn make_heir_ready(&mut self, heir: Option<Pid>)
-        requires { IfSome heir (λ p. Lives self.old.procs p) }
-        ensures { self.new ≡ made_ready heir self.old }
-    {
-        if let Some(p) = heir {
-            self.move_to(p, READY);
-        }
+        self.dispatcher.make_one_ready(heir);
     }
 
     /// A process has another console from now on, and attaches it.
@@ -265,7 +234,7 @@ impl Kernel {
         ensures outcome { result ≡ (console_set (call_of self.old.procs p) p self.old).outcome }
         ensures reply { reply.new ≡ (console_set (call_of self.old.procs p) p self.old).reply }
     {
-        let console = (self.procs.call(p).word % 256) as u8;
+        let console = (self.dispatcher.procs.call(p).word % 256) as u8;
         if self.consoles <= console {
             return done(reply, REFUSED);
         }
@@ -283,7 +252,7 @@ impl Kernel {
         ensures outcome { result ≡ (printer_set (call_of self.old.procs p) p self.old).outcome }
         ensures reply { reply.new ≡ (printer_set (call_of self.old.procs p) p self.old).reply }
     {
-        let printer = (self.procs.call(p).word % 256) as u8;
+        let printer = (self.dispatcher.procs.call(p).word % 256) as u8;
         if self.printers <= printer {
             return done(reply, REFUSED);
         }
@@ -300,12 +269,12 @@ impl Kernel {
         requires there { console < self.old.consoles }
         ensures { self.new ≡ console_changed p console self.old }
     {
-        let own = self.procs.get(p).console;
+        let own = self.dispatcher.procs.get(p).console;
         if own == console {
             return;
         }
         self.leave_unit(p, Unit::Console { n: own });
-        let process = self.procs.get_mut(p);
+        let process = self.dispatcher.procs.get_mut(p);
         process.console = console;
     }
 
@@ -318,12 +287,12 @@ impl Kernel {
         requires there { printer < self.old.printers }
         ensures { self.new ≡ printer_changed p printer self.old }
     {
-        let own = self.procs.get(p).printer;
+        let own = self.dispatcher.procs.get(p).printer;
         if own == printer {
             return;
         }
         self.leave_unit(p, Unit::Printer { n: own });
-        let process = self.procs.get_mut(p);
+        let process = self.dispatcher.procs.get_mut(p);
         process.printer = printer;
     }
 
@@ -336,14 +305,14 @@ impl Kernel {
         ensures outcome { result ≡ (assigned (call_of self.old.procs p) p self.old).outcome }
         ensures reply { reply.new ≡ (assigned (call_of self.old.procs p) p self.old).reply }
     {
-        let call = self.procs.call(p);
+        let call = self.dispatcher.procs.call(p);
         let console = call.byte(0);
-        let name = name_at(call, 1);
+        let name = call.name(1);
         let own_only = call.byte(9) == 0xFF;
-        if self.consoles <= console || !self.may_attach(p, Unit::Console { n: console }) {
+        if self.consoles <= console || !self.units.may_attach(p, Unit::Console { n: console }) {
             return done(reply, REFUSED);
         }
-        match self.named(name) {
+        match self.dispatcher.procs.named(name) {
             Some(to) => self.assign_to(p, to, console, own_only, reply),
             None => done(reply, REFUSED),
         }
@@ -369,11 +338,11 @@ impl Kernel {
         ensures outcome { result ≡ (assigned_to (Some to) (call_of self.old.procs p) self.old).outcome }
         ensures reply { reply.new ≡ (assigned_to (Some to) (call_of self.old.procs p) self.old).reply }
     {
-        if own_only && self.procs.get(to).console != console {
+        if own_only && self.dispatcher.procs.get(to).console != console {
             return done(reply, REFUSED);
         }
         self.make_owner(console, to);
-        let process = self.procs.get_mut(to);
+        let process = self.dispatcher.procs.get_mut(to);
         process.console = console;
         done(reply, 0)
     }
@@ -387,35 +356,8 @@ impl Kernel {
         ensures { self.new ≡ owner_made console to self.old }
     {
         if self.units.assign(console, to) {
-            self.move_to(to, READY);
+            self.dispatcher.move_to(to, READY);
         }
-    }
-
-    /// Whether a process may attach a unit: nobody owns it, or that process does.
-    #[tactic(auto, unfolding(mpm_consoles::specs::Handling::may_attach))]
-    fn may_attach(&self, p: Pid, unit: Unit) -> bool
-        requires { HasUnit self.now.units unit }
-        ensures { result ≡ may_attach self.now.units p unit }
-    {
-        match self.units.owner(unit) {
-            Some(owner) => owner.0 == p.0,
-            None => true,
-        }
-    }
-
-    /// The process of that name in the lowest slot.
-    #[tactic(auto, using(mpm_queues::proofs::Finding::failed_none, mpm_queues::proofs::Finding::failed_more, mpm_queues::proofs::Finding::found_lowest, mpm_queues::proofs::Finding::found_none))]
-    fn named(&self, name: Name8) -> Option<Pid>
-        ensures process { result ≡ process_named self.now.procs name }
-        ensures lives { IfSome result (λ p. Lives self.now.procs p) }
-    {
-        for slot in 0..SLOTS {
-            let p = Pid(slot);
-            if self.procs.lives(p) && self.procs.get(p).name == name {
-                return Some(p);
-            }
-        }
-        None
     }
 
     /// A key comes to a console; one of a console that isn't there is dropped. (MP/M II User's Guide, control characters of a
@@ -429,8 +371,9 @@ impl Kernel {
             return;
         }
         let resident = self.is_resident(console);
+        let waited = self.units.awaits(console);
         let done = self.units.key(console, byte, resident);
-        self.finish_key(done, console);
+        self.finish_key(done, console, waited);
     }
 
     /// The process that owns a console.
@@ -451,29 +394,29 @@ impl Kernel {
         ensures { result ≡ is_resident self.now.procs (owner_of self.now.units (ConsoleUnit console)) }
     {
         match self.console_owner(console) {
-            Some(p) => is_homeless(self.procs.get(p).seg),
+            Some(p) => self.dispatcher.procs.get(p).seg.is_none(),
             None => false,
         }
     }
 
-    /// What becomes of the processes by a key.
+    /// What becomes of the processes by a key; `waited` tells that the owner of its console waited at its gate before.
     #[tactic(auto, unfolding(crate::specs::Consoling::key_done, crate::specs::Dispatch::lists_ready, crate::specs::Dispatch::moved))]
-    fn finish_key(&mut self, key: KeyDone, console: u8)
+    fn finish_key(&mut self, key: KeyDone, console: u8, waited: bool)
         requires names { KeyNames self.old.procs key }
         requires console { HasConsole self.old console }
-        ensures { self.new ≡ key_done key console self.old }
+        ensures { self.new ≡ key_done key console waited self.old }
     {
         match key {
             KeyDone::Stored | KeyDone::Dropped | KeyDone::Nothing => {}
-            KeyDone::Wakes { p } => self.move_to(p, READY),
+            KeyDone::Wakes { p } => self.dispatcher.move_to(p, READY),
             KeyDone::Aborts { p } => {
                 self.show(console, Echo::of(b"^C\r\n"));
                 self.aborted = Some(p);
             }
-            KeyDone::Passes { from, to, waited } => {
-                self.make_heir_ready(to);
+            KeyDone::Passes { from, to } => {
+                self.dispatcher.make_one_ready(to);
                 if waited {
-                    self.move_to(from, READY);
+                    self.dispatcher.move_to(from, READY);
                 }
             }
         }
@@ -498,21 +441,4 @@ impl Kernel {
             let _itself = self.write(Unit::Console { n: console }, byte, false);
         }
     }
-}
-
-/// Whether a process is the owner of a unit.
-fn owns(owner: Option<Pid>, p: Pid) -> bool
-    ensures { result ≡ is_owner owner p }
-{
-    match owner {
-        Some(owner) => owner.0 == p.0,
-        None => false,
-    }
-}
-
-/// Whether a process that lives in that memory segment, if in any, is a resident.
-fn is_homeless(seg: Option<Seg>) -> bool
-    ensures { result ≡ has_no_segment seg }
-{
-    seg.is_none()
 }

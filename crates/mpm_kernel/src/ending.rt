@@ -43,7 +43,7 @@ impl Kernel {
         requires { Lives self.old.procs p }
         ensures { self.new ≡ vacated p self.old }
     {
-        self.procs.end(p);
+        self.dispatcher.procs.end(p);
     }
 
     /// A process stands in no list any more and waits for nothing.
@@ -51,12 +51,12 @@ impl Kernel {
     fn drop_out(&mut self, p: Pid)
         ensures { self.new ≡ dropped_out p self.old }
     {
-        let _list = self.lists.remove(p);
+        let _list = self.dispatcher.lists.remove(p);
         self.flags.leave(p);
         self.clock.leave(p);
         self.queues.leave(p);
         self.units.leave(p);
-        self.rest(p);
+        self.dispatcher.rest(p);
     }
 
     /// The messages of mutual exclusion queues that a process holds go back, by rising number.

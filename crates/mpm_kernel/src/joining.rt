@@ -26,6 +26,6 @@ impl Kernel {
         ensures refused { OnErr result (lowest_free self.old.procs ≡ None) }
         ensures kernel { self.new ≡ joined_in self.old new (lowest_free self.old.procs) }
     {
-        self.procs.add(new)
+        self.dispatcher.procs.add(new)
     }
 }

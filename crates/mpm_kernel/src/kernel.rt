@@ -1,32 +1,23 @@
-ghost use Rattle.std.specs.Prelude.{◌≡◌, ℕ, ◌<◌, ◌≤◌, Some, None, true, IfOk, OnErr, MatchOption};
+ghost use Rattle.std.specs.Prelude.{◌≡◌, ◌↔◌, ℕ, ◌<◌, ◌≤◌, [], Some, None, true, false, IfOk, OnErr, MatchOption};
 ghost use Rattle.std.specs.Borrow.{sem};
-ghost use Rattle.mpm_kernel.specs.Dispatch.{is_held_off};
 ghost use Rattle.mpm_clock.specs.Times.{IsTime};
-ghost use Rattle.mpm_kernel.specs.Waiting.{completion_of, completion_value as value_of_completion};
 
-use crate::completed::Completed;
-use crate::queueing::{given_message, word_at};
 use mpm_base::{Call, Devices, Pid, Reply, Seg};
 use mpm_clock::{Clock, Moment};
 use mpm_consoles::Consoles;
+use mpm_dispatcher::Dispatcher;
 use mpm_flags::Flags;
 use mpm_line_input::Echo;
-use mpm_procs::{NewProcess, NoSlot, Process, Procs};
+use mpm_procs::{NewProcess, NoSlot, Process};
 use mpm_queues::Queues;
-use mpm_ready::Lists;
 use std::alloc::{AllocError, Global};
 use std::marker::Model;
 use z80_regs::Regs;
 
-/// The number of the ready list.
-pub(crate) const READY: u8 = 0;
-
 /// The kernel of a machine.
 #[derive(Drop)]
 pub struct Kernel {
-    pub(crate) procs: Procs,
-    pub(crate) lists: Lists,
-    pub(crate) running: Option<Pid>,
+    pub(crate) dispatcher: Dispatcher,
     pub(crate) flags: Flags,
     pub(crate) clock: Clock,
     pub(crate) devices: Devices,
@@ -35,7 +26,6 @@ pub struct Kernel {
     pub(crate) units: Consoles,
     pub(crate) queues: Queues,
     pub(crate) system_queues: u8,
-    pub(crate) completed: Completed,
     pub(crate) echo: Echo,
     pub(crate) aborted: Option<Pid>,
 }
@@ -45,7 +35,7 @@ impl Model for Kernel {
 
     ghost Value = { Kernel };
 
-    ghost view = { λ k. record { procs = k.procs; lists = k.lists; running = k.running; flags = k.flags; clock = k.clock; devices = k.devices; consoles = k.consoles; printers = k.printers; units = k.units; queues = k.queues; system_queues = k.system_queues; completed = k.completed; echo = k.echo; aborted = k.aborted } };
+    ghost view = { λ k. record { procs = k.dispatcher.procs; lists = k.dispatcher.lists; running = k.dispatcher.running; flags = k.flags; clock = k.clock; devices = k.devices; consoles = k.consoles; printers = k.printers; units = k.units; queues = k.queues; system_queues = k.system_queues; completed = k.dispatcher.completed; echo = k.echo; aborted = k.aborted } };
 }
 
 impl Kernel {
@@ -54,8 +44,8 @@ impl Kernel {
     ghost use Rattle.std.specs.Prelude.{is_some};
     ghost use Rattle.mpm_ready.specs.Tables.{list_at};
     ghost use Rattle.mpm_queues.specs.Queues.{held as held_queue};
-    ghost use Rattle.mpm_kernel.specs.Kernel.{ready, IsReady, IsSound, CompletedLive, afresh};
-    ghost use Rattle.mpm_kernel.specs.Dispatch.{new_kernel, in_slot, at_rest, stays, picked, behind_equals};
+    ghost use Rattle.mpm_kernel.specs.Kernel.{ready, IsSound, CompletedLive, call_begun, afresh};
+    ghost use Rattle.mpm_kernel.specs.Dispatch.{new_kernel, in_slot, picked};
     ghost use Rattle.mpm_kernel.specs.Waiting.{completion_reply};
     ghost use Rattle.mpm_kernel.specs.Events.{first_completed, handed_out};
     ghost use Rattle.mpm_clock.specs.Times.{moment_of};
@@ -65,7 +55,7 @@ impl Kernel {
     ///
     /// # Errors
     /// Where no memory is found. All that it will need is taken here.
-    #[tactic(auto, unfolding(crate::specs::Dispatch::new_kernel))]
+    #[tactic(auto, unfolding(crate::specs::Dispatch::new_kernel, mpm_dispatcher::specs::Dispatch::new_dispatcher))]
     pub fn new(alloc: Global, consoles: u8, printers: u8, now: Moment) -> Result<Kernel, AllocError>
         requires some { 1 ≤ consoles }
         requires few { consoles ≤ 8 }
@@ -74,9 +64,7 @@ impl Kernel {
         ensures { IfOk result (λ kernel. kernel ≡ new_kernel consoles printers now) }
     {
         Ok(Kernel {
-            procs: Procs::new(alloc)?,
-            lists: Lists::new(),
-            running: None,
+            dispatcher: Dispatcher::new(alloc)?,
             flags: Flags::new(),
             clock: Clock::new(now.date, now.hour, now.minute, now.second),
             devices: Devices::new(),
@@ -85,7 +73,6 @@ impl Kernel {
             units: Consoles::new(alloc, consoles, printers)?,
             queues: Queues::new(alloc)?,
             system_queues: 0,
-            completed: Completed::new(),
             echo: Echo::new(),
             aborted: None,
         })
@@ -102,7 +89,7 @@ impl Kernel {
     pub fn running(&self) -> Option<Pid>
         ensures { result ≡ self.now.running }
     {
-        self.running
+        self.dispatcher.running
     }
 
     /// Whether a process holds the message of a mutual exclusion queue. (MP/M II Programmer's Guide, "Mutual Exclusion
@@ -117,29 +104,29 @@ impl Kernel {
     pub fn first_ready(&self) -> Option<Pid>
         ensures { result ≡ first_of (list_at self.now.lists ready) }
     {
-        self.lists.first(READY)
+        self.dispatcher.first_ready()
     }
 
     /// Whether a process of that number lives.
     pub fn lives(&self, p: Pid) -> bool
         ensures { result ≡ lives self.now.procs p }
     {
-        self.procs.lives(p)
+        self.dispatcher.procs.lives(p)
     }
 
     /// How many more processes may live.
     pub fn free_slots(&self) -> usize
         ensures { result ≡ free_slots self.now.procs }
     {
-        self.procs.free_slots()
+        self.dispatcher.procs.free_slots()
     }
 
     /// The process of that number, None where it doesn't live.
     pub fn process(&self, p: Pid) -> Option<&Process>
         ensures { MatchOption result (process_at self.now.procs p ≡ None) (λ process. process_at self.now.procs p ≡ Some process.now) }
     {
-        if self.procs.lives(p) {
-            Some(self.procs.get(p))
+        if self.dispatcher.procs.lives(p) {
+            Some(self.dispatcher.procs.get(p))
         } else {
             None
         }
@@ -150,7 +137,7 @@ impl Kernel {
         requires { Lives self.now.procs p }
         ensures { result.now ≡ process_in self.now.procs p }
     {
-        self.procs.get(p)
+        self.dispatcher.procs.get(p)
     }
 
     /// A living process's registers.
@@ -158,7 +145,7 @@ impl Kernel {
         requires { Lives self.now.procs p }
         ensures { result.now ≡ (process_in self.now.procs p).regs }
     {
-        &self.procs.get(p).regs
+        &self.dispatcher.procs.get(p).regs
     }
 
     /// The memory segment that a living process has.
@@ -166,7 +153,7 @@ impl Kernel {
         requires { Lives self.now.procs p }
         ensures { result ≡ (process_in self.now.procs p).seg }
     {
-        self.procs.get(p).seg
+        self.dispatcher.procs.get(p).seg
     }
 
     /// A living process, to be changed.
@@ -175,7 +162,7 @@ impl Kernel {
         ensures* lends { sem 𝓛 (LendsProcess self.entry p result) }
         ensures value { result.now ≡ process_in self.old.procs p }
     {
-        self.procs.get_mut(p)
+        self.dispatcher.procs.get_mut(p)
     }
 
     /// A living process's registers, to be changed.
@@ -184,7 +171,7 @@ impl Kernel {
         ensures* lends { sem 𝓛 (LendsRegs self.entry p result) }
         ensures value { result.now ≡ (process_in self.old.procs p).regs }
     {
-        let process = self.procs.get_mut(p);
+        let process = self.dispatcher.procs.get_mut(p);
         &mut process.regs
     }
 
@@ -193,7 +180,7 @@ impl Kernel {
         requires { Lives self.now.procs p }
         ensures { result.now ≡ call_of self.now.procs p }
     {
-        self.procs.call(p)
+        self.dispatcher.procs.call(p)
     }
 
     /// The call that a living process keeps, to be changed.
@@ -202,7 +189,7 @@ impl Kernel {
         ensures* lends { sem 𝓛 (LendsCall self.entry p result) }
         ensures value { result.now ≡ call_of self.old.procs p }
     {
-        self.procs.call_mut(p)
+        self.dispatcher.procs.call_mut(p)
     }
 
     /// The polled devices.
@@ -224,31 +211,26 @@ impl Kernel {
         ensures refused { OnErr result (lowest_free self.old.procs ≡ None) }
         ensures kernel { self.new ≡ in_slot self.old new (lowest_free self.old.procs) }
     {
-        let priority = new.priority;
-        let p = match self.procs.add(new) {
-            Ok(p) => p,
-            Err(NoSlot) => return Err(NoSlot),
-        };
-        self.lists.insert(READY, p, priority);
-        Ok(p)
+        self.dispatcher.admit(new)
     }
 
-    /// A call or an event begins: nothing is left to be handed out.
-    pub(crate) fn begin(&mut self)
+    /// A call begins: it has completed no held call yet, and one that echoes has echoed nothing.
+    pub(crate) fn begin_call(&mut self, echoes: bool)
+        ensures { self.new ≡ call_begun echoes self.old }
+    {
+        self.dispatcher.completed.clear();
+        if echoes {
+            self.echo = Echo::new();
+        }
+    }
+
+    /// An event begins: nothing is left to be handed out.
+    pub(crate) fn begin_event(&mut self)
         ensures { self.new ≡ afresh self.old }
     {
-        self.completed.clear();
+        self.dispatcher.completed.clear();
         self.echo = Echo::new();
         self.aborted = None;
-    }
-
-    /// A process doesn't run any more.
-    pub(crate) fn rest(&mut self, p: Pid)
-        ensures { self.new ≡ at_rest self.old p }
-    {
-        if self.running == Some(p) {
-            self.running = None;
-        }
     }
 
     /// The date and the time.
@@ -259,6 +241,14 @@ impl Kernel {
         self.clock.now()
     }
 
+    /// Whether held calls were completed by the last call or event that were not handed out yet.
+    #[inline]
+    pub fn has_completed(&self) -> bool
+        ensures { (result ≡ false) ↔ (self.now.completed ≡ []) }
+    {
+        self.dispatcher.completed.has_some()
+    }
+
     /// Hands out the process whose held call was completed first by the last call or event, with that call's reply.
     #[tactic(auto, using(crate::proofs::SoundLaws::completed_lives), unfolding(crate::specs::Events::handed_out))]
     pub fn completed(&mut self, reply: &mut Reply) -> Option<Pid>
@@ -267,8 +257,7 @@ impl Kernel {
         ensures kernel { self.new ≡ handed_out self.old }
         ensures reply { MatchOption result (reply.new ≡ reply.old) (λ p. reply.new ≡ completion_reply self.old p) }
     {
-        let p = self.completed.take()?;
-        complete(self.procs.call(p), reply);
+        let p = self.dispatcher.hand_out(reply)?;
         self.enter_where_held(p);
         Some(p)
     }
@@ -280,61 +269,6 @@ impl Kernel {
         requires { IsSound self.old }
         ensures { self.new ≡ picked instruction self.old }
     {
-        if instruction && self.stays() {
-            return;
-        }
-        self.running = self.lists.first(READY);
-    }
-
-    /// Whether the running process keeps the processor behind its instruction: it is ready, and no interrupt may come.
-    #[tactic(auto, using(crate::proofs::SoundLaws::runner_lives))]
-    fn stays(&self) -> bool
-        requires { IsSound self.now }
-        ensures { result ≡ stays self.now self.now.running }
-    {
-        match self.running {
-            Some(p) => self.lists.list_of(p) == Some(READY) && holds_off(&self.procs.get(p).regs),
-            None => false,
-        }
-    }
-
-    /// A ready process is put behind those of its priority.
-    #[tactic(auto, unfolding(crate::specs::Dispatch::behind_equals))]
-    pub(crate) fn rotate(&mut self, p: Pid)
-        requires lives { Lives self.old.procs p }
-        requires ready { IsReady self.old p }
-        ensures { self.new ≡ behind_equals self.old p }
-    {
-        let priority = self.procs.get(p).priority;
-        self.lists.rotate(p, priority);
-    }
-}
-
-/// Whether interrupts are off, or an EI has not taken effect yet.
-fn holds_off(regs: &Regs) -> bool
-    ensures { result ≡ is_held_off regs.now }
-{
-    !regs.iff1 || regs.shadow
-}
-
-/// Answers a held call as it is completed: a read with the message that was put behind its user queue control block.
-#[tactic(auto, unfolding(crate::specs::Waiting::completion_of))]
-fn complete(call: &Call, reply: &mut Reply)
-    ensures { reply.new ≡ completion_of call.now }
-{
-    if call.function == 137 {
-        reply.answer_with(0, word_at(call, 2), given_message(call));
-    } else {
-        reply.answer(completion_value(call.function));
-    }
-}
-
-/// What a held call answers as it is completed, by its function.
-fn completion_value(function: u8) -> u16
-    ensures { result ≡ value_of_completion function }
-{
-    match function {
-        131 | 132 | 139 | 141 | 151 => 0,
-        _ => 0xFFFF,
+        self.dispatcher.pick(instruction);
     }
 }

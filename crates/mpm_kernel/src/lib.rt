@@ -3,7 +3,6 @@
 #![tactic(auto)]
 
 mod call;
-mod completed;
 mod console_input;
 mod consoles;
 mod dates;
@@ -16,6 +15,7 @@ mod queueing;
 mod waiting;
 
 pub use kernel::Kernel;
+pub use mpm_line_input::Echo;
 pub use mpm_procs::NoSlot;
 pub use std::alloc::AllocError as OutOfMemory;
 

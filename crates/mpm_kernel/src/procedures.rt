@@ -1,12 +1,10 @@
 ghost use Rattle.std.specs.Prelude.{◌≡◌, ◌<◌, Some, None, IfSome, length};
-ghost use Rattle.mpm_kernel.specs.Procedures.{writing, address_of as address_in};
 
 use crate::Kernel;
 use crate::call::NO_FUNCTION;
-use crate::queueing::{BLOCK_SIZE, name_at, word_at};
-use crate::waiting::done;
-use mpm_base::{Call, Outcome, Pid, Reply};
-use mpm_queues::QueueOutcome;
+use mpm_base::{Outcome, Pid, Reply};
+use mpm_dispatcher::done;
+use mpm_queues::{BLOCK_SIZE, QueueOutcome, address_of, write_call};
 
 /// The length of the message of a resident procedure's queue, which is the procedure's address.
 const ADDRESS: u16 = 2;
@@ -16,12 +14,12 @@ impl Kernel {
     ghost use Rattle.mpm_queues.specs.Queues.{IsMade};
     ghost use Rattle.mpm_kernel.specs.Kernel.{IsReady, IsSound};
     ghost use Rattle.mpm_kernel.specs.Events.{with_procedure};
-    ghost use Rattle.mpm_kernel.specs.Procedures.{procedure_called, procedure_queue, inside, outside, given_back_to, given_back};
+    ghost use Rattle.mpm_kernel.specs.Procedures.{procedure_called, procedure_queue, outside, given_back_to, given_back};
 
     /// A process calls a resident procedure: it reads the message of the queue that it names, and waits for one where there is
     /// none. It is refused by FFFFh where the process is in a procedure, and where there is no such queue of two bytes. (MP/M II
     /// Programmer's Guide, "Function 151: Call Resident System Procedure".)
-    #[tactic(auto, using(crate::proofs::ProcedureLaws::lives_other, crate::proofs::ProcedureLaws::procedure_made), unfolding(crate::specs::Procedures::procedure_called, crate::specs::Procedures::procedure_at, crate::specs::Procedures::procedure_read))]
+    #[tactic(auto, using(crate::proofs::ProcedureLaws::lives_other, crate::proofs::ProcedureLaws::procedure_made), unfolding(crate::specs::Procedures::procedure_called, crate::specs::Procedures::procedure_at, crate::specs::Procedures::procedure_read, crate::specs::Procedures::inside, crate::specs::Queueing::with_other))]
     pub(crate) fn call_procedure(&mut self, p: Pid, reply: &mut Reply) -> Outcome
         requires sound { IsSound self.old }
         requires lives { Lives self.old.procs p }
@@ -31,7 +29,7 @@ impl Kernel {
         ensures outcome { result ≡ (procedure_called (call_of self.old.procs p) p self.old).outcome }
         ensures reply { reply.new ≡ (procedure_called (call_of self.old.procs p) p self.old).reply }
     {
-        if self.procs.get(p).procedure.is_some() {
+        if self.dispatcher.procs.get(p).procedure.is_some() {
             return done(reply, NO_FUNCTION);
         }
         let Some(q) = self.procedure_queue(p) else {
@@ -41,8 +39,8 @@ impl Kernel {
         match self.take_from(p, q, reply) {
             QueueOutcome::Done { other } => {
                 let address = address_of(reply.placed());
-                self.wake_other(other);
-                self.enter(p, q, address);
+                self.dispatcher.wake_other(other);
+                self.dispatcher.procs.get_mut(p).enter(q, address);
                 done(reply, 0)
             }
             QueueOutcome::NotNow => self.put_off(p, q, true, true, reply),
@@ -56,7 +54,7 @@ impl Kernel {
         ensures number { result ≡ procedure_queue self.now.queues (call_of self.now.procs p) }
         ensures made { IfSome result (λ q. IsMade self.now.queues q) }
     {
-        let Some(q) = self.queues.find(name_at(self.procs.call(p), 4)) else {
+        let Some(q) = self.queues.find(self.dispatcher.procs.call(p).name(4)) else {
             return None;
         };
         if self.queues.length(q) == Some(ADDRESS) {
@@ -66,29 +64,18 @@ impl Kernel {
         }
     }
 
-    /// A process is in the resident procedure of a queue from now on, whose message it keeps.
-    #[tactic(auto, unfolding(crate::specs::Procedures::inside))]
-    fn enter(&mut self, p: Pid, q: u8, message: u16)
-        requires { Lives self.old.procs p }
-        ensures { self.new ≡ inside p q message self.old }
-    {
-        let process = self.procs.get_mut(p);
-        process.procedure = Some(q);
-        process.kept = message;
-    }
-
     /// A process whose held call is handed out is in a resident procedure, where it is a call 151: it got the message, which
     /// stands behind its block.
-    #[tactic(auto, unfolding(crate::specs::Events::with_procedure))]
+    #[tactic(auto, unfolding(crate::specs::Events::with_procedure, crate::specs::Procedures::inside))]
     pub(crate) fn enter_where_held(&mut self, p: Pid)
         requires { Lives self.old.procs p }
         ensures { self.new ≡ with_procedure p self.old }
     {
-        let call = self.procs.call(p);
+        let call = self.dispatcher.procs.call(p);
         if call.function == 151 {
-            let message = word_at(call, BLOCK_SIZE);
+            let message = call.word(BLOCK_SIZE);
             if let Some(q) = self.procedure_queue(p) {
-                self.enter(p, q, message);
+                self.dispatcher.procs.get_mut(p).enter(q, message);
             }
         }
     }
@@ -118,17 +105,17 @@ impl Kernel {
         ensures queue { result ≡ (process_in self.old.procs p).procedure }
         ensures nobody { length self.new.completed < 64 }
     {
-        self.completed.clear();
-        let process = self.procs.get_mut(p);
+        self.dispatcher.completed.clear();
+        let process = self.dispatcher.procs.get_mut(p);
         let queue = process.procedure;
         let message = process.kept;
         process.procedure = None;
-        write_call(self.procs.call_mut(p), message);
+        write_call(self.dispatcher.procs.call_mut(p), message);
         queue
     }
 
     /// A process writes the message of its call to a queue that is there, where there is room.
-    #[tactic(auto, unfolding(crate::specs::Procedures::given_back_to, crate::specs::Queueing::with_other))]
+    #[tactic(auto, unfolding(crate::specs::Procedures::given_back_to, crate::specs::Queueing::with_other, crate::specs::Dispatch::lists_ready, crate::specs::Dispatch::also_completed))]
     pub(crate) fn write_back(&mut self, p: Pid, q: u8)
         requires sound { IsSound self.old }
         requires lives { Lives self.old.procs p }
@@ -137,28 +124,8 @@ impl Kernel {
         ensures { self.new ≡ given_back_to (Some q) p self.old }
     {
         match self.give_to(p, q) {
-            QueueOutcome::Done { other } => self.wake_other(other),
+            QueueOutcome::Done { other } => self.dispatcher.wake_other(other),
             QueueOutcome::NotNow => {}
         }
     }
-}
-
-/// The address that a message is.
-fn address_of(message: &[u8]) -> u16
-    ensures { result ≡ address_in message.now }
-{
-    match message {
-        [low, high, ..] => u16::from_le_bytes([*low, *high]),
-        _ => 0,
-    }
-}
-
-/// A call that writes a message of two bytes to a queue.
-#[tactic(auto, unfolding(crate::specs::Procedures::writing, mpm_base::specs::Lists::zeros))]
-fn write_call(call: &mut Call, message: u16)
-    ensures { call.new ≡ writing message }
-{
-    call.begin(139, 0, 0);
-    call.append(&[0; 12]);
-    call.append(&message.to_le_bytes());
 }

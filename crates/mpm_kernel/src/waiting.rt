@@ -4,9 +4,8 @@ ghost use Rattle.mpm_base.specs.Calls.{answering};
 ghost use Rattle.mpm_base.specs.declared.call.Outcome.TheVariants.{Done, Held as IsHeld};
 
 use crate::Kernel;
-use crate::kernel::READY;
 use mpm_base::{Outcome, Pid, Reply};
-use mpm_clock::Woken;
+use mpm_dispatcher::done;
 use mpm_flags::{FlagSet, FlagWait};
 
 /// The answer of a call that is refused.
@@ -19,9 +18,9 @@ pub(crate) const POLLERS: u8 = 1;
 const DEVICES: u8 = 16;
 
 /// The flags of processes: those below 4 are the system's.
-const FIRST_FLAG: u8 = 4;
+pub(crate) const FIRST_FLAG: u8 = 4;
 
-const LAST_FLAG: u8 = 31;
+pub(crate) const LAST_FLAG: u8 = 31;
 
 impl Kernel {
     ghost use Rattle.mpm_procs.specs.Table.{Lives, call_of};
@@ -32,7 +31,7 @@ impl Kernel {
     ghost use Rattle.mpm_kernel.specs.Waiting.{polled, flag_waited, flag_set as flag_set_by, slept, signalled};
 
     /// A process waits until a device is ready, unless it is. (MP/M II Programmer's Guide, function 131.)
-    #[tactic(auto, unfolding(crate::specs::Waiting::polled))]
+    #[tactic(auto, unfolding(crate::specs::Waiting::polled, crate::specs::Dispatch::moved))]
     pub(crate) fn poll(&mut self, p: Pid, device: u8, reply: &mut Reply) -> Outcome
         requires lives { Lives self.old.procs p }
         requires device { device ≡ low_parameter (call_of self.old.procs p) }
@@ -46,12 +45,12 @@ impl Kernel {
         if self.devices.ready[usize::from(device)] {
             return done(reply, 0);
         }
-        self.move_to(p, POLLERS + device);
-        self.hold(p, reply)
+        self.dispatcher.move_to(p, POLLERS + device);
+        self.dispatcher.hold(p, reply)
     }
 
     /// A process waits for a flag, unless it is set. (MP/M II Programmer's Guide, function 132.)
-    #[tactic(auto, unfolding(crate::specs::Waiting::flag_waited, crate::specs::Waiting::waited))]
+    #[tactic(auto, unfolding(crate::specs::Waiting::flag_waited, crate::specs::Waiting::waited, crate::specs::Dispatch::unlisted))]
     pub(crate) fn wait_flag(&mut self, p: Pid, flag: u8, reply: &mut Reply) -> Outcome
         requires flag { flag ≡ low_parameter (call_of self.old.procs p) }
         ensures kernel { self.new ≡ (flag_waited (call_of self.old.procs p) p self.old).kernel }
@@ -65,8 +64,8 @@ impl Kernel {
             FlagWait::Passed => done(reply, 0),
             FlagWait::Underrun => done(reply, REFUSED),
             FlagWait::Waits => {
-                self.unlist(p);
-                self.hold(p, reply)
+                self.dispatcher.unlist(p);
+                self.dispatcher.hold(p, reply)
             }
         }
     }
@@ -90,7 +89,7 @@ impl Kernel {
     }
 
     /// A process waits for so many ticks; for none, it is put behind its equals. (MP/M II Programmer's Guide, function 141.)
-    #[tactic(auto, using(crate::proofs::SoundLaws::not_delayed), unfolding(crate::specs::Waiting::slept, crate::specs::Dispatch::unlisted))]
+    #[tactic(auto, using(crate::proofs::SoundLaws::not_delayed), unfolding(crate::specs::Waiting::slept, crate::specs::Dispatch::unlisted, crate::specs::Dispatch::behind_equals))]
     pub(crate) fn sleep(&mut self, p: Pid, ticks: u16, reply: &mut Reply) -> Outcome
         requires sound { IsSound self.old }
         requires lives { Lives self.old.procs p }
@@ -101,16 +100,16 @@ impl Kernel {
         ensures reply { reply.new ≡ (slept (call_of self.old.procs p) p self.old).reply }
     {
         if ticks == 0 {
-            self.rotate(p);
+            self.dispatcher.rotate(p);
             return done(reply, 0);
         }
-        self.unlist(p);
+        self.dispatcher.unlist(p);
         self.clock.delay(p, ticks);
-        self.hold(p, reply)
+        self.dispatcher.hold(p, reply)
     }
 
     /// A flag is set; who waits for it is woken.
-    #[tactic(auto, using(crate::proofs::SoundLaws::waiter_lives), unfolding(crate::specs::Waiting::signalled, crate::specs::Waiting::with_woken))]
+    #[tactic(auto, using(crate::proofs::SoundLaws::waiter_lives), unfolding(crate::specs::Waiting::signalled, crate::specs::Waiting::with_woken, crate::specs::Dispatch::all_ready))]
     pub(crate) fn signal(&mut self, flag: u8) -> FlagSet
         requires sound { IsSound self.old }
         requires below { flag < 32 }
@@ -119,84 +118,8 @@ impl Kernel {
     {
         let answer = self.flags.set(flag);
         if let FlagSet::Woke { p } = answer {
-            self.wake_one(p);
+            self.dispatcher.wake_one(p);
         }
         answer
     }
-
-    /// The held call of a process is completed.
-    pub(crate) fn wake_one(&mut self, p: Pid)
-        requires { Lives self.old.procs p }
-        ensures { self.new ≡ all_woken (p ∷ []) self.old }
-    {
-        let mut woken = Woken::new();
-        woken.push(p);
-        self.wake(woken);
-    }
-
-    /// The held calls of processes are completed: they become ready, in that order.
-    pub(crate) fn wake(&mut self, woken: Woken)
-        requires { AllByRecursion (λ p. Lives self.old.procs p) woken }
-        ensures { self.new ≡ all_woken woken self.old }
-    {
-        self.make_ready(woken.as_slice());
-        self.complete(woken);
-    }
-
-    /// The held calls of processes are completed.
-    pub(crate) fn complete(&mut self, woken: Woken)
-        ensures { self.new ≡ with_completed self.old woken }
-    {
-        self.completed.set(woken);
-    }
-
-    /// Processes become ready, one after the other.
-    fn make_ready(&mut self, ps: &[Pid])
-        requires { AllByRecursion (λ p. Lives self.old.procs p) ps.now }
-        ensures { self.new ≡ all_ready ps.now self.old }
-    {
-        for &p in ps {
-            self.move_to(p, READY);
-        }
-    }
-
-    /// A living process stands in that list from now on, where its priority puts it.
-    #[tactic(auto, using(mpm_ready::proofs::TableLaws::list_of_removed), unfolding(crate::specs::Dispatch::moved))]
-    pub(crate) fn move_to(&mut self, p: Pid, list: u8)
-        requires lives { Lives self.old.procs p }
-        requires list { list < 96 }
-        ensures { self.new ≡ moved self.old list p }
-    {
-        let priority = self.procs.get(p).priority;
-        let _list = self.lists.remove(p);
-        self.lists.insert(list, p, priority);
-    }
-
-    /// A process stands in no list any more.
-    #[tactic(auto, unfolding(crate::specs::Dispatch::unlisted))]
-    pub(crate) fn unlist(&mut self, p: Pid)
-        ensures { self.new ≡ unlisted self.old p }
-    {
-        let _list = self.lists.remove(p);
-    }
-
-    /// The call of a process is held: the process doesn't run any more.
-    pub(crate) fn hold(&mut self, p: Pid, reply: &mut Reply) -> Outcome
-        ensures kernel { self.new ≡ at_rest self.old p }
-        ensures outcome { result ≡ IsHeld }
-        ensures reply { reply.new ≡ answering 0 }
-    {
-        self.rest(p);
-        reply.answer(0);
-        Outcome::Held
-    }
-}
-
-/// A call is done and answers a value.
-pub(crate) fn done(reply: &mut Reply, value: u16) -> Outcome
-    ensures outcome { result ≡ Done }
-    ensures reply { reply.new ≡ answering value }
-{
-    reply.answer(value);
-    Outcome::Done
 }

@@ -29,3 +29,9 @@ written_for_cancel = refl
 pub written_for_last : written_by (codes "ab") 3 27 ≡ codes "^[" ++ 13 ∷ []
 unfolding key_of line_behind echo_of ends_at
 written_for_last = refl
+
+-- what is written in the five steps of the line `ab`, BS, `c` and CR
+pub written_for_line : written_by [] 127 97 ++ (written_by (codes "a") 127 98 ++ (written_by (codes "ab") 127 8 ++ (written_by (codes "a") 127 99 ++ written_by (codes "ac") 127 13)))
+    ≡ codes "ab" ++ (8 ∷ 32 ∷ 8 ∷ (codes "c" ++ 13 ∷ []))
+unfolding key_of line_behind echo_of ends_at
+written_for_line = refl

@@ -68,7 +68,7 @@ impl Echo {
 
 /// Whether a key that is read by itself is echoed: a printed character, CR, LF, BS and a tab are. (MP/M II Programmer's
 /// Guide, "Function 1: Console Input".)
-pub fn is_echoed(key: u8) -> bool
+fn is_echoed(key: u8) -> bool
     ensures { result ≡ is_key_echoed key }
 {
     matches!(key, 0x20..=0x7E | b'\r' | b'\n' | 0x08 | b'\t')

@@ -4,7 +4,7 @@
 mod echo;
 mod line;
 
-pub use echo::{Echo, is_echoed, key_echo};
+pub use echo::{Echo, key_echo};
 pub use line::{Edit, LineKey, answer_line, edited, full_line, is_full, key_of};
 
 #[cfg(test)]

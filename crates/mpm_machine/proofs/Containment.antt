@@ -1,6 +1,6 @@
 -- What a step leaves of memory: each byte of a segment that is written neither by the instruction of a process that lives there
 -- nor by the reply to a call of one, and each byte of common memory that no instruction and no reply writes.
-use Rattle.std.proofs.Common.{◌≡◌, ◌≢◌, ◌∙◌, ℕ, ◌<◌, ◌≤◌, Bool, true, false, not, ◌&&◌, List, [], ◌∷◌, Option, Some, None, ◌==◌, if◌then◌else◌, inl, inr, refl, sym, ap, subst}
+use Rattle.std.proofs.Common.{◌≡◌, ◌≢◌, ◌∙◌, ℕ, ◌<◌, ◌≤◌, Bool, true, false, not, ◌&&◌, List, [], ◌∷◌, Option, Some, None, ◌==◌, if◌then◌else◌, inl, inr, refl, sym, ap, subst, ◌||◌}
 use Rattle.std.specs.List.{range_with_len}
 use Rattle.std.proofs.lemmas.Bool.{cases_eq}
 use Rattle.z80_regs.specs.Outcome.{Outcome}
@@ -23,10 +23,10 @@ use Rattle.mpm_kernel.specs.Events.{first_completed}
 use Rattle.mpm_kernel.specs.Waiting.{completion_reply}
 use Rattle.mpm_kernel.proofs.SoundLaws.{runner_lives, completed_lives}
 use Rattle.mpm_xdos.specs.Ending.{is_home, left_by, memory_without}
-use Rattle.mpm_xdos.specs.Aborting.{waits_to_end, target, memory_behind_abort}
+use Rattle.mpm_xdos.specs.Aborting.{is_resident, waits_to_end, target, memory_behind_abort}
 use Rattle.mpm_machine.specs.declared.system.System.{System}
-use Rattle.mpm_machine.specs.declared.gate.Gate.{Gate}
-use Rattle.mpm_machine.specs.declared.gate.Gate.TheVariants.{End, Call, Return}
+use Rattle.mpm_processor.specs.declared.gate.Gate.{Gate}
+use Rattle.mpm_processor.specs.declared.gate.Gate.TheVariants.{End, Call, Return}
 use Rattle.mpm_machine.specs.State.{Change, IsWhole, speaking}
 use Rattle.mpm_machine.specs.Ending.{ended}
 use Rattle.mpm_machine.specs.Serving.{asked, keeping, Served, served, reserving, releasing, creating, aborted, aborting_this, aborting, said_by, popped, replied, with_entry, reply_at_entry, fulfilling, answering_call, completing, returning, outcome_of, gate_step}
@@ -34,13 +34,13 @@ use Rattle.mpm_residents.specs.Natives.{native_call}
 use Rattle.mpm_residents.specs.declared.native.Native.{Native}
 use Rattle.mpm_kernel.specs.Consoling.{abort_taken}
 use Rattle.mpm_machine.specs.Residing.{native_in, native_outcome, native_step, resided}
-use Rattle.mpm_machine.specs.Interrupts.{behind_due}
+use Rattle.mpm_interrupts.specs.Interrupts.{behind_due}
 use Rattle.mpm_machine.specs.Finishing.{finished, handed, finishing, all_finished}
 use Rattle.mpm_machine.specs.Due.{is_due, ended_if_due, due_ended, with_ends, settled}
 use Rattle.mpm_machine.specs.Step.{ran, illegal, instructed, instruction_at, acted_at, gate_before, acted_by, acted, running_segment, coming, key_aborted, happened_to, event_come, interrupted, begun_by, with_settled, counted, step_of}
 use Rattle.mpm_machine.specs.Contained.{placed_reply, PlacesAt, WritesAt, IsWritten, behind_begun, Answers, AnswersAmong, AnswersOne, AnswersAtEnd, AnswersAtEnds, IsAnswered, IsContained}
 use Rattle.mpm_machine.proofs.FinishLaws.{first_finished, left_completed, handed_lives, home_handed}
-use Rattle.mpm_machine.proofs.WholeLaws.{whole_counted, whole_behind_begun, whole_answered, whole_first, whole_if_due, whole_due_end}
+use Rattle.mpm_machine.proofs.WholeStepLaws.{whole_counted, whole_behind_begun, whole_answered, whole_first, whole_if_due, whole_due_end}
 
 -- an end, and a call before its reply, change no byte
 
@@ -60,7 +60,7 @@ alike_if memory false one other is was = was
 
 aborted_alike : (p : ℕ) (system : System) → SameBytes system.memory (aborted p system).memory
 unfolding aborted memory_behind_abort ended
-aborted_alike p system = same_bytes_if system.memory (waits_to_end system.kernel p false) _ _ (same_bytes_itself system.memory) (ended_alike p system)
+aborted_alike p system = same_bytes_if system.memory (is_resident system.kernel p || waits_to_end system.kernel p false) _ _ (same_bytes_itself system.memory) (ended_alike p system)
 
 aborting_alike : (named : Option ℕ) (p : ℕ) (system : System) → SameBytes system.memory (aborting_this named p system).system.memory
 aborting_alike None p system = same_bytes_itself system.memory

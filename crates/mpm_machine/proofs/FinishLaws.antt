@@ -98,6 +98,14 @@ nothing_said : (system : System) → system.kernel.completed ≡ [] → (all_fin
 unfolding finishing
 nothing_said system e = ap (λ qs. (finishing qs system).news) e
 
+pub finished_nobody : (system : System) → system.kernel.completed ≡ [] → system ≡ (all_finished system).system
+finished_nobody system e = sym (nothing_left system e)
+
+pub shown_nobody : (system : System) (kept : Kept) (told : Option (List ℕ)) → system.kernel.completed ≡ [] → Showed kept told kept told (all_finished system).news
+shown_nobody system kept told e =
+    let P : List Output → Type 0 = λ news. Showed kept told kept told news in
+    subst P (sym (nothing_said system e)) (showed_nothing kept told)
+
 pub finished_system : (start now : System) (k0 : Kept) (t0 : Option (List ℕ)) (k1 : Kept) (t1 : Option (List ℕ)) → FinishedSo start now k0 t0 k1 t1
     → now.kernel.completed ≡ [] → now ≡ (all_finished start).system
 finished_system start now k0 t0 k1 t1 so e = sym (so.system ∙ nothing_left now e)

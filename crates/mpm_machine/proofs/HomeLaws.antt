@@ -20,7 +20,8 @@ use Rattle.mpm_procs.specs.Table.{Table, process_in}
 use Rattle.mpm_kernel.specs.Kernel.{Kernel}
 use Rattle.mpm_kernel.specs.Ending.{discharged}
 use Rattle.mpm_xdos.specs.Ending.{is_home, left_by, memory_without}
-use Rattle.mpm_machine.specs.State.{IsHome, IsOccupied}
+use Rattle.mpm_processor.specs.Gates.{IsHome}
+use Rattle.mpm_machine.specs.State.{IsOccupied}
 
 -- what was a home, is one, and what was lived in, is
 pub record KeepsHomes (old new : Memory) : Type 0 where

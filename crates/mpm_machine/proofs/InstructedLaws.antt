@@ -8,7 +8,7 @@ use Rattle.mpm_banks.specs.Actions.{memory_after, devices_after}
 use Rattle.mpm_banks.proofs.ActionLaws.{same_segments_after, last_bytes_stay}
 use Rattle.mpm_procs.specs.Table.{process_in}
 use Rattle.mpm_machine.specs.declared.system.System.{System}
-use Rattle.mpm_machine.specs.declared.gate.Gate.{Gate}
+use Rattle.mpm_processor.specs.declared.gate.Gate.{Gate}
 use Rattle.mpm_machine.specs.State.{Change, silent}
 use Rattle.mpm_machine.specs.Due.{with_ends}
 use Rattle.mpm_machine.specs.Serving.{with_regs}

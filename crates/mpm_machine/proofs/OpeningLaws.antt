@@ -1,5 +1,5 @@
 -- A machine as it is run: the command queue, the command line interpreter, the terminal message processors.
-use Rattle.std.proofs.Common.{◌≡◌, ◌∙◌, ℕ, zero, suc, ◌+◌, ◌<◌, ◌≤◌, false, List, [], ◌∷◌, ◌++◌, Option, Some, None, codes, refl, sym, ap, subst, arith, add-one}
+use Rattle.std.proofs.Common.{◌≡◌, ◌∙◌, ℕ, ◌+◌, ◌<◌, ◌≤◌, false, List, [], ◌∷◌, ◌++◌, Option, Some, None, codes, refl, sym, ap, subst, arith, add-one}
 use Rattle.mpm_procs.specs.Table.{Lives, lives, process_in, lowest_free}
 use Rattle.mpm_procs.specs.declared.process.Process.{Process}
 use Rattle.mpm_procs.specs.declared.process.NewProcess.{NewProcess}
@@ -24,7 +24,8 @@ use Rattle.mpm_machine_file.specs.declared.machine_file.MachineFile.{MachineFile
 use Rattle.mpm_machine.specs.declared.system.System.{System}
 use Rattle.mpm_machine.specs.State.{IsWhole}
 use Rattle.mpm_machine.specs.Opening.{resident_process, with_interpreter, terminal_name, with_terminal, with_terminals, command_queue, with_command_queue, begun_by_interpreter, with_residents, moment_of, booted, opened}
-use Rattle.mpm_machine.proofs.WholeLaws.{whole_kernel, whole_residents, live_picked, same_picked}
+use Rattle.mpm_machine.proofs.WholeLaws.{whole_kernel, whole_residents}
+use Rattle.mpm_machine.proofs.WholeStepLaws.{live_picked, same_picked}
 
 -- what is so of a kernel in which a resident begins, whose process is then another one of no segment
 record Begins (old new : Kernel) : Type 0 where

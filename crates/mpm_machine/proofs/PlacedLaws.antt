@@ -32,12 +32,13 @@ use Rattle.mpm_script.specs.Events.{IsTimed}
 use Rattle.mpm_residents.specs.declared.native.Native.{Native}
 use Rattle.mpm_machine_file.specs.MachineFiles.{IsSegment}
 use Rattle.mpm_machine_file.specs.declared.machine_file.MachineFile.{MachineFile}
-use Rattle.mpm_machine.specs.Gates.{last_page}
+use Rattle.mpm_processor.specs.Gates.{IsHome, last_page}
 use Rattle.mpm_machine.specs.declared.system.System.{System}
-use Rattle.mpm_machine.specs.declared.interrupts.Interrupts.{Interrupts}
-use Rattle.mpm_machine.specs.State.{IsHome, IsOccupied, IsWhole}
+use Rattle.mpm_interrupts.specs.declared.interrupts.Interrupts.{Interrupts}
+use Rattle.mpm_machine.specs.State.{IsOccupied, IsWhole}
 use Rattle.mpm_machine.specs.Opening.{base_page, laid_out, placed_process, moment_of, booted, program_file, is_lived_in, is_occupied, IsBare, MayPlace, with_placed, opening_system}
-use Rattle.mpm_machine.proofs.WholeLaws.{nobody_more, same_picked}
+use Rattle.mpm_machine.proofs.WholeLaws.{nobody_more}
+use Rattle.mpm_machine.proofs.WholeStepLaws.{same_picked}
 use Rattle.mpm_machine.proofs.HomeLaws.{KeepsHomes, keeps_same, keeps_both, keeps_occupied}
 
 -- a program that is laid out changes bytes alone

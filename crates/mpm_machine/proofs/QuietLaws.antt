@@ -1,12 +1,24 @@
 -- A step in which no event comes, and in which nobody's held call is completed.
-use Rattle.std.proofs.Common.{◌≡◌, ◌∙◌, false, [], ◌++◌, None, ap}
+use Rattle.std.proofs.Common.{◌≡◌, ◌∙◌, Bool, true, false, [], ◌++◌, Option, None, if◌then◌else◌, refl, ap}
 use Rattle.std.proofs.lemmas.List.{append-nil}
+use Rattle.mpm_script.specs.declared.event.Event.{Event}
+use Rattle.mpm_interrupts.specs.Interrupts.{due}
 use Rattle.mpm_machine.specs.declared.system.System.{System}
 use Rattle.mpm_machine.specs.State.{Change, silent, NobodyAborted}
 use Rattle.mpm_machine.specs.Finishing.{finishing, all_finished}
 use Rattle.mpm_machine.specs.Due.{with_ends, settled}
-use Rattle.mpm_machine.specs.Step.{acted, at_instruction, coming, begun_by, instruction_unless, with_settled, counted, dispatched, step_of}
+use Rattle.mpm_machine.specs.Step.{acted, at_instruction, lets_in, coming, begun_by, instruction_unless, with_settled, counted, dispatched, step_of}
 use Rattle.mpm_machine.proofs.DueLaws.{no_ends}
+
+-- no interrupt comes where none is due
+
+comes_not : (lets : Bool) (event : Option Event) → event ≡ None → (if lets then event else None) ≡ None
+comes_not true event e = e
+comes_not false event e = refl
+
+pub none_comes : (system : System) → due system.steps system.interrupts ≡ None → coming system ≡ None
+unfolding coming
+none_comes system none = comes_not (lets_in system.kernel.running system.kernel) (due system.steps system.interrupts) none
 
 -- nothing is to be finished where nobody was completed
 finished_silent : (system : System) → system.kernel.completed ≡ [] → all_finished system ≡ silent system

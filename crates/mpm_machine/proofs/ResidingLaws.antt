@@ -1,15 +1,15 @@
 -- The step of a resident: its call is asked, done, and what its outcome brings about follows.
-use Rattle.std.proofs.Common.{◌≡◌, ◌∙◌, ℕ, true, false, List, Option, Some, None, is_some, ◌++◌, refl, sym, ap, subst}
+use Rattle.std.proofs.Common.{◌≡◌, ◌∙◌, ℕ, true, false, List, Option, Some, None, is_some, refl, sym, ap, subst}
 use Rattle.std.proofs.lemmas.Bool.{false≢true}
 use Rattle.mpm_base.specs.Calls.{Taken, Answer}
 use Rattle.mpm_base.specs.declared.call.Outcome.{Outcome}
-use Rattle.mpm_procs.specs.Table.{Lives, process_in, call_of}
+use Rattle.mpm_procs.specs.Table.{Lives, call_of}
 use Rattle.mpm_kernel.specs.Kernel.{Kernel, IsReady}
 use Rattle.mpm_kernel.specs.Calls.{called}
 use Rattle.mpm_residents.specs.Natives.{native_call}
 use Rattle.mpm_residents.specs.declared.native.Native.{Native}
 use Rattle.mpm_machine.specs.declared.system.System.{System}
-use Rattle.mpm_machine.specs.State.{Change, IsWhole, silent, speaking}
+use Rattle.mpm_machine.specs.State.{IsWhole, silent, speaking}
 use Rattle.mpm_machine.specs.Serving.{Served, calling, said_by, behind_echo}
 use Rattle.mpm_machine.specs.Residing.{native_in, asking, asked_by, native_outcome, native_step, resided}
 use Rattle.mpm_machine.proofs.WholeLaws.{StaysWhole, Keeps, keeps_asked, whole_calling}

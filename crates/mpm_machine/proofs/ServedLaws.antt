@@ -1,9 +1,9 @@
 -- A call is served by what it took and by who has which segment, and never by the bytes of memory.
-use Rattle.std.proofs.Common.{◌≡◌, ◌∙◌, ℕ, suc, cond, not, ◌+◌, Bool, true, false, List, [], ◌∷◌, Option, Some, None, ◌&&◌, ◌==◌, nat_le, nat_lt, length, get_or, if◌then◌else◌, inl, inr, refl, sym, ap, subst, arith}
+use Rattle.std.proofs.Common.{◌≡◌, ◌∙◌, ℕ, suc, cond, not, ◌+◌, Bool, true, false, List, [], ◌∷◌, Option, Some, None, ◌&&◌, ◌==◌, nat_le, nat_lt, length, get_or, if◌then◌else◌, inl, inr, refl, sym, ap, subst, arith, ◌||◌}
 use Rattle.std.specs.List.{position_or_len}
 use Rattle.std.proofs.lemmas.Bool.{cases_eq, cases_lt}
 use Rattle.std.proofs.Math.ListN.{get_or-eq_default, get_or-map as map_at}
-use Rattle.mpm_base.specs.Calls.{Taken}
+use Rattle.mpm_base.specs.Calls.{Taken, byte_in}
 use Rattle.mpm_banks.specs.Memory.{Memory, no_segment, SameSegments, segment_of}
 use Rattle.mpm_banks.specs.MemoryLaws.{field_stays}
 use Rattle.mpm_banks.specs.declared.segment.Segment.{Segment}
@@ -16,9 +16,9 @@ use Rattle.mpm_kernel.specs.Kernel.{Kernel}
 use Rattle.mpm_kernel.specs.Calls.{called}
 use Rattle.mpm_xdos.specs.Creating.{home_base, created, create_answer}
 use Rattle.mpm_xdos.specs.Ending.{is_home, left_by, memory_without}
-use Rattle.mpm_xdos.specs.Aborting.{waits_to_end, target, memory_behind_abort}
+use Rattle.mpm_xdos.specs.Aborting.{is_resident, waits_to_end, target, memory_behind_abort}
 use Rattle.mpm_machine.specs.declared.system.System.{System}
-use Rattle.mpm_machine.specs.Serving.{asked, keeping, byte_of, Served, reserve_reply, descriptor_of, base_asked, reserving, releasing, creating, aborted, aborting_this, aborting, calling, served}
+use Rattle.mpm_machine.specs.Serving.{asked, keeping, Served, reserve_reply, descriptor_of, base_asked, reserving, releasing, creating, aborted, aborting_this, aborting, calling, served}
 use Rattle.mpm_machine.specs.Contained.{DiffersInBytes, ServedAlike, IsServedByValue}
 
 -- the same segment is the lowest that is free
@@ -121,7 +121,7 @@ reserving_alike : (base : Option ℕ) (call : Taken) (p : ℕ) (one other : Syst
     → ServedAlike (reserving base call p one) (reserving base call p other)
 unfolding reserving
 reserving_alike base call p one other d =
-    let found = lowest_alike one.memory other.memory base (byte_of call 1) d.segments in
+    let found = lowest_alike one.memory other.memory base (byte_in call 1) d.segments in
     record {
       kernel = d.kernel;
       segments = reserved_by one.memory other.memory p _ _ found d.segments;
@@ -133,9 +133,9 @@ releasing_alike : (call : Taken) (p : ℕ) (one other : System) → DiffersInByt
 unfolding releasing
 releasing_alike call p one other d = record {
   kernel = d.kernel;
-  segments = released_alike one.memory other.memory p (byte_of call 3) d.segments;
+  segments = released_alike one.memory other.memory p (byte_in call 3) d.segments;
   outcome = refl;
-  reply = ap (λ (b : Bool). record { hl = if b then 0 else 255; fcb = None; at = 0; bytes = [] }) (owner_alike one.memory other.memory p (byte_of call 3) d.segments);
+  reply = ap (λ (b : Bool). record { hl = if b then 0 else 255; fcb = None; at = 0; bytes = [] }) (owner_alike one.memory other.memory p (byte_in call 3) d.segments);
 }
 
 home_base_alike : (one other : Memory) (seg : Option ℕ) → SameSegments one other → home_base other seg ≡ home_base one seg
@@ -217,7 +217,7 @@ without_alike one other kernel p same = left_alike _ _ _ _ (all_released_alike o
 aborted_alike : (one other : Memory) (kernel : Kernel) (p : ℕ) → SameSegments one other
     → SameSegments (memory_behind_abort one kernel p false) (memory_behind_abort other kernel p false)
 unfolding memory_behind_abort
-aborted_alike one other kernel p same = same_if (waits_to_end kernel p false) _ _ _ _ same (without_alike one other kernel p same)
+aborted_alike one other kernel p same = same_if (is_resident kernel p || waits_to_end kernel p false) _ _ _ _ same (without_alike one other kernel p same)
 
 aborting_with : (named : Option ℕ) (p : ℕ) (one other : System) → SameSegments one.memory other.memory
     → ServedAlike (aborting_this named p one) (aborting_this named p (record other { kernel = one.kernel }))

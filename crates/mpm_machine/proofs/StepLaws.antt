@@ -13,8 +13,8 @@ use Rattle.mpm_procs.specs.Table.{process_in}
 use Rattle.mpm_xdos.specs.Aborting.{waits_to_end, target}
 use Rattle.mpm_machine.specs.declared.system.System.{System}
 use Rattle.mpm_machine.proofs.FinishLaws.{first_finished}
-use Rattle.mpm_machine.specs.declared.gate.Gate.{Gate}
-use Rattle.mpm_machine.specs.declared.gate.Gate.TheVariants.{End, Call, Return}
+use Rattle.mpm_processor.specs.declared.gate.Gate.{Gate}
+use Rattle.mpm_processor.specs.declared.gate.Gate.TheVariants.{End, Call, Return}
 use Rattle.mpm_machine.specs.Writing.{Showed, Stopped}
 use Rattle.mpm_machine.specs.State.{State, Change, speaking, StandsFor}
 use Rattle.mpm_machine.specs.Ending.{ended}
@@ -22,7 +22,7 @@ use Rattle.mpm_machine.specs.Serving.{asked, keeping, Served, reserving, releasi
 use Rattle.mpm_residents.specs.Natives.{native_call}
 use Rattle.mpm_residents.specs.declared.native.Native.{Native}
 use Rattle.mpm_machine.specs.Residing.{native_in, native_outcome, native_step, resided}
-use Rattle.mpm_machine.specs.Interrupts.{behind_due}
+use Rattle.mpm_interrupts.specs.Interrupts.{behind_due}
 use Rattle.mpm_machine.specs.Finishing.{finished, handed, finishing, all_finished}
 use Rattle.mpm_machine.specs.Due.{is_due, ended_if_due, due_ended, with_ends, settled}
 use Rattle.mpm_machine.proofs.WritingLaws.{stopped_before, stopped_behind}

@@ -1,6 +1,5 @@
 -- How far a string is written to a console, tabs expanded.
-use Rattle.std.proofs.Common.{◌≡◌, ◌≢◌, ◌∙◌, ℕ, ◌%◌, ◌==◌, if◌then◌else◌, ◌+◌, ◌-◌, ◌<◌, false, length, arith, List, [], ◌∷◌, ◌++◌, Option, get_or, refl, ap, sym, subst, append_assoc}
-use Rattle.std.proofs.lemmas.Bool.Decides.{nat_tests}
+use Rattle.std.proofs.Common.{◌≡◌, ◌∙◌, ℕ, ◌+◌, ◌-◌, ◌<◌, false, length, arith, List, [], ◌∷◌, ◌++◌, Option, refl, ap, sym, subst, append_assoc}
 use Rattle.z80_regs.specs.Words.{onward}
 use Rattle.mpm_render.specs.Shown.{Kept}
 use Rattle.mpm_gate.specs.Bytes.{bytes_from}
@@ -12,11 +11,6 @@ use Rattle.mpm_kernel.specs.Kernel.{Kernel, HasConsole}
 use Rattle.mpm_kernel.specs.Columns.{columns_after, tab_text, column_of, expanded, spoke}
 use Rattle.mpm_kernel.proofs.ColumnLaws.{expanded_nil, expanded_cons, expanded_byte, expanded_append}
 use Rattle.mpm_kernel.proofs.SpokeLaws.{column_spoke, spoke_none, spoke_both}
-use Rattle.mpm_base.specs.Calls.{Taken}
-use Rattle.mpm_procs.specs.Table.{process_in}
-use Rattle.mpm_machine.specs.declared.system.System.{System}
-use Rattle.mpm_machine.specs.State.{speaking}
-use Rattle.mpm_machine.specs.Serving.{call_text, said_by}
 use Rattle.mpm_machine.specs.Writing.{spoken, Showed, Stopped}
 use Rattle.mpm_machine.proofs.WritingLaws.{spoke_nothing, spoke_more, stopped_more}
 

@@ -1,9 +1,7 @@
--- A whole system stays whole through each part of a step.
-use Rattle.std.proofs.Common.{◌≡◌, ◌≢◌, ◌∙◌, ℕ, ◌+◌, ◌&&◌, ◌||◌, Bool, true, false, not, List, [], ◌∷◌, Option, Some, None, ◌==◌, if◌then◌else◌, inl, inr, refl, sym, ap, subst, IsNone, IfSome, All, arith}
-use Rattle.std.proofs.lemmas.Bool.{and_parts, false≢true, or_right, eq-eqb}
+-- A whole system stays whole through what a process does: its instruction, its call, its end.
+use Rattle.std.proofs.Common.{◌≡◌, ◌≢◌, ◌∙◌, ℕ, ◌&&◌, ◌||◌, Bool, true, false, not, List, [], ◌∷◌, Option, Some, None, ◌==◌, if◌then◌else◌, refl, sym, ap, subst, IsNone, arith}
+use Rattle.std.proofs.lemmas.Bool.{false≢true, or_right, eq-eqb}
 use Rattle.std.proofs.lemmas.Bool.Decides.{nat_tests}
-use Rattle.std.specs.List.{range_with_len}
-use Rattle.std.specs.Prelude.{is_some, nat_lt, ◌⊎◌}
 use Rattle.std.proofs.lemmas.List.{set-get_or}
 use Rattle.z80_regs.specs.Outcome.{Outcome}
 use Rattle.z80_regs.specs.declared.regs.Regs.{Regs}
@@ -18,47 +16,35 @@ use Rattle.mpm_gate.specs.Replies.{answered, returned}
 use Rattle.mpm_procs.specs.Table.{Table, lives, Lives, process_in, call_of, with_process, with_call}
 use Rattle.mpm_procs.specs.Opening.{blank}
 use Rattle.mpm_procs.proofs.MapLaws.{lives_below, lives_changed, process_changed, process_behind, call_behind, call_changed, lives_behind}
-use Rattle.mpm_queues.specs.Queues.{lowest}
-use Rattle.mpm_queues.proofs.Finding.{lowest_none}
 use Rattle.mpm_kernel.specs.Kernel.{Kernel, IsSound, IsReady, CompletedLive, is_aborted, with_changed}
 use Rattle.mpm_kernel.specs.Columns.{spoke}
-use Rattle.mpm_script.specs.declared.event.Event.{Event}
-use Rattle.mpm_script.specs.Events.{IsTimed}
-use Rattle.mpm_kernel.specs.Dispatch.{stays, picked}
+use Rattle.mpm_kernel.specs.Dispatch.{stays}
 use Rattle.mpm_kernel.specs.Ending.{discharged}
 use Rattle.mpm_queues.specs.Queues.{waits as waits_at_queues}
-use Rattle.mpm_kernel.specs.Events.{MayCome, first_completed, happened}
-use Rattle.mpm_kernel.proofs.SoundLaws.{sound_changed, sound_call, sound_devices, sound_spoke, sound_picked, sound_called, lives_called, live_called, sound_happened, live_happened, sound_completed, live_handed_out, completed_lives, live_kept, runner_lives}
-use Rattle.mpm_kernel.proofs.HomeLaws.{SameHomes, homes_stay, lived_in_changed, homes_changed, homes_call, homes_called, homes_happened, call_called, procs_picked, procs_spoke, homes_handed_out, lives_handed_out}
+use Rattle.mpm_kernel.proofs.SoundLaws.{sound_changed, sound_call, sound_devices, sound_spoke, sound_called, lives_called, live_called, live_kept, runner_lives}
+use Rattle.mpm_kernel.proofs.HomeLaws.{SameHomes, homes_stay, lived_in_changed, homes_changed, homes_call, homes_called, call_called, procs_spoke}
 use Rattle.mpm_kernel.proofs.EndingLaws.{ready_waits_at_none, sound_discharged, live_discharged, homes_discharged, lives_discharged, call_discharged}
 use Rattle.mpm_kernel.specs.Procedures.{given_back}
 use Rattle.mpm_kernel.proofs.ProcedureLaws.{stays_given_back, homes_given_back}
 use Rattle.mpm_xdos.specs.Creating.{home_base, created}
 use Rattle.mpm_xdos.specs.Ending.{is_segment, lives_in, memory_without}
-use Rattle.mpm_xdos.specs.Aborting.{waits_to_end, with_abort_due, target, behind_abort, memory_behind_abort}
+use Rattle.mpm_xdos.specs.Aborting.{is_resident, waits_to_end, with_abort_due, target, behind_abort, memory_behind_abort}
 use Rattle.mpm_xdos.specs.Procedures.{entering, entered, leaving, left}
 use Rattle.mpm_xdos.proofs.TargetLaws.{target_lives}
 use Rattle.mpm_xdos.proofs.Homes.{home_here}
 use Rattle.mpm_xdos.proofs.CreatedLaws.{made_created}
 use Rattle.mpm_machine.specs.declared.system.System.{System}
-use Rattle.mpm_machine.specs.declared.gate.Gate.{Gate}
-use Rattle.mpm_machine.specs.declared.gate.Gate.TheVariants.{End, Call, Return}
-use Rattle.mpm_machine.specs.State.{Change, IsHome, IsWhole, NobodyAborted, speaking}
+use Rattle.mpm_processor.specs.declared.gate.Gate.{Gate}
+use Rattle.mpm_processor.specs.declared.gate.Gate.TheVariants.{End, Call, Return}
+use Rattle.mpm_processor.specs.Gates.{IsHome}
+use Rattle.mpm_machine.specs.State.{IsWhole, NobodyAborted, speaking}
 use Rattle.mpm_machine.specs.Ending.{ended}
 use Rattle.mpm_machine.specs.Serving.{with_regs, asked, keeping, Served, reserving, releasing, creating, aborted, aborting_this, aborting, calling, served, string_of, said_by, popped, replied, completion, is_entry, with_entry, reply_at_entry, fulfilling, answering_call, completing, returning, outcome_of, gate_step}
 use Rattle.mpm_residents.specs.Natives.{native_call}
 use Rattle.mpm_residents.specs.declared.native.Native.{Native}
-use Rattle.mpm_kernel.specs.Consoling.{abort_taken}
-use Rattle.mpm_kernel.proofs.AbortLaws.{abort_lives, sound_abort_taken}
 use Rattle.mpm_machine.specs.Residing.{native_in, asking, native_outcome, native_step, resided}
-use Rattle.mpm_machine.specs.Interrupts.{due, behind_due}
-use Rattle.mpm_machine.specs.declared.interrupts.Interrupts.{Interrupts}
-use Rattle.mpm_machine.specs.Finishing.{finished, handed, finishing, all_finished}
-use Rattle.mpm_machine.specs.Due.{is_due, ended_if_due, due_ended, is_any_aborted, noted, with_ends, settled}
-use Rattle.mpm_machine.specs.Step.{counted, illegal, illegal_text, instructed, ran, instruction_at, acted_at, gate_before, acted_by, acted, lets_in, coming, roused, key_aborted, happened_to, event_come, interrupted, begun_by, instruction_unless, with_settled, step_of}
-use Rattle.mpm_machine.proofs.InterruptLaws.{due_may, script_behind_due}
-use Rattle.mpm_machine.proofs.FinishLaws.{first_finished, left_completed}
-use Rattle.mpm_machine.proofs.DueLaws.{handed_settled}
+use Rattle.mpm_machine.specs.Due.{settled}
+use Rattle.mpm_machine.specs.Step.{illegal, illegal_text, instructed, ran, instruction_at, acted_at, gate_before, acted_by, acted}
 use Rattle.mpm_machine.proofs.HomeLaws.{KeepsHomes, keeps_placed, keeps_acted, keeps_reserved, keeps_released, leaves_without, free_or_lived, found_is_free}
 
 -- the segment of a process is a home
@@ -176,7 +162,7 @@ same_number n = grind (arith, nat_tests)
 lives_there : (procs : Table) (seg q : ℕ) → Lives procs q → (process_in procs q).seg ≡ Some seg → lives_in procs seg q ≡ true
 lives_there procs seg q living there = ap (λ b. b && is_segment seg (process_in procs q).seg) living ∙ ap (is_segment seg) there ∙ same_number seg
 
-whole_ended : (p : ℕ) (system : System) → IsWhole system → Lives system.kernel.procs p → IsWhole (ended p system)
+pub whole_ended : (p : ℕ) (system : System) → IsWhole system → Lives system.kernel.procs p → IsWhole (ended p system)
 unfolding ended
 whole_ended p system w h =
     let gone = record system { kernel = discharged system.kernel p } in
@@ -290,7 +276,7 @@ unfolding with_entry
 whole_entry reply call p system w h =
     entry_if (is_entry call reply) p (entered p system.kernel) system (whole_entered p system w h) (record { whole = w; lives = h; call = refl })
 
-whole_fulfilling : (reply : Answer) (call : Taken) (p seg : ℕ) (system : System) → IsWhole system → Lives system.kernel.procs p
+pub whole_fulfilling : (reply : Answer) (call : Taken) (p seg : ℕ) (system : System) → IsWhole system → Lives system.kernel.procs p
     → IsWhole (fulfilling reply call p seg system).system
 unfolding fulfilling
 whole_fulfilling reply call p seg system w h =
@@ -344,26 +330,42 @@ or_off : (b : Bool) → (b || false) ≡ b
 or_off true = refl
 or_off false = refl
 
--- its end is put off, or it ends
-abbrev aborted_by : Bool → ℕ → System → System
-aborted_by waits p system = record system {
-  kernel = if waits then with_abort_due system.kernel p else (discharged system.kernel p);
-  memory = if waits then system.memory else (memory_without system.memory system.kernel p);
+-- a resident stays, the end of another process is put off, or it ends
+abbrev pub aborted_by : Bool → Bool → ℕ → System → System
+aborted_by stays waits p system = record system {
+  kernel = if stays then system.kernel else (if waits then with_abort_due system.kernel p else (discharged system.kernel p));
+  memory = if stays || waits then system.memory else (memory_without system.memory system.kernel p);
   put_off = system.put_off || waits;
 }
 
-aborted_is : (waits : Bool) (p : ℕ) (system : System) → waits_to_end system.kernel p false ≡ waits → aborted p system ≡ aborted_by waits p system
+pub aborted_is : (stays waits : Bool) (p : ℕ) (system : System) → is_resident system.kernel p ≡ stays → waits_to_end system.kernel p false ≡ waits
+    → aborted p system ≡ aborted_by stays waits p system
 unfolding aborted behind_abort memory_behind_abort
-aborted_is waits p system e = ap (λ b. aborted_by b p system) e
+aborted_is stays waits p system resident e =
+    ap (λ b. aborted_by b (waits_to_end system.kernel p false) p system) resident ∙ ap (λ b. aborted_by stays b p system) e
 
-ends_at_once : (p : ℕ) (system : System) → aborted_by false p system ≡ ended p system
+pub ends_at_once : (p : ℕ) (system : System) → aborted_by false false p system ≡ ended p system
 unfolding ended
 ends_at_once p system = ap (λ b. record (ended p system) { put_off = b }) (or_off system.put_off)
 
-put_off_is : (p : ℕ) (system : System) → aborted_by true p system ≡ record system { kernel = with_abort_due system.kernel p; put_off = true }
+pub put_off_is : (p : ℕ) (system : System) → aborted_by false true p system ≡ record system { kernel = with_abort_due system.kernel p; put_off = true }
 put_off_is p system = ap (λ b. record system { kernel = with_abort_due system.kernel p; put_off = b }) (or_on system.put_off)
 
-whole_put_off : (p : ℕ) (system : System) → IsWhole system → Lives system.kernel.procs p
+or_neither : (b c : Bool) → (b || c) ≡ false → b ≡ false
+or_neither true c e = e
+or_neither false c e = refl
+
+pub whole_resident : (waits : Bool) (p : ℕ) (system : System) → IsWhole system → IsWhole (aborted_by true waits p system)
+whole_resident waits p system w = record {
+  sound = w.sound;
+  live = w.live;
+  homes = w.homes;
+  lived = w.lived;
+  script = w.script;
+  settled = λ off. w.settled (or_neither system.put_off waits off);
+}
+
+pub whole_put_off : (p : ℕ) (system : System) → IsWhole system → Lives system.kernel.procs p
     → IsWhole (record system { kernel = with_abort_due system.kernel p; put_off = true })
 whole_put_off p system w h =
     let process = record (process_in system.kernel.procs p) { abort_due = true } in
@@ -379,16 +381,18 @@ whole_put_off p system w h =
       lived = λ q seg living home. let lived = there q seg living home in w.lived lived.who seg lived.lives lived.home;
     }
 
-stays_aborted : (waits : Bool) (other p : ℕ) (system : System) → IsWhole system → Lives system.kernel.procs p → Lives system.kernel.procs other
-    → (waits ≡ false → p ≢ other) → waits_at_queues system.kernel.queues p ≡ 0 → StaysWhole p system (aborted_by waits other system)
-stays_aborted true other p system w h living apart none =
+stays_aborted : (stays waits : Bool) (other p : ℕ) (system : System) → IsWhole system → Lives system.kernel.procs p → Lives system.kernel.procs other
+    → (waits ≡ false → p ≢ other) → waits_at_queues system.kernel.queues p ≡ 0 → StaysWhole p system (aborted_by stays waits other system)
+stays_aborted true waits other p system w h living apart none =
+    record { whole = whole_resident waits other system w; lives = h; call = refl }
+stays_aborted false true other p system w h living apart none =
     let process = record (process_in system.kernel.procs other) { abort_due = true } in
     record {
       whole = subst IsWhole (sym (put_off_is other system)) (whole_put_off other system w living);
       lives = lives_changed system.kernel.procs other p process ∙ h;
       call = call_behind system.kernel.procs other p process;
     }
-stays_aborted false other p system w h living apart none = record {
+stays_aborted false false other p system w h living apart none = record {
   whole = subst IsWhole (sym (ends_at_once other system)) (whole_ended other system w living);
   lives = lives_discharged system.kernel other p w.sound living (apart refl) ∙ h;
   call = call_discharged system.kernel other p w.sound living (apart refl) none;
@@ -409,10 +413,11 @@ whole_aborting_this : (named : Option ℕ) (p : ℕ) (system : System) → IsWho
     → StaysWhole p system (aborting_this named p system).system
 whole_aborting_this None p system w h living none = record { whole = w; lives = h; call = refl }
 whole_aborting_this (Some other) p system w h living none =
+    let stays = is_resident system.kernel other in
     let waits = waits_to_end system.kernel other false in
     served_unless p system (other == p && not (waits_to_end system.kernel p false)) _ _ (record { whole = w; lives = h; call = refl }) (λ e.
-    subst (StaysWhole p system) (sym (aborted_is waits other system refl))
-    (stays_aborted waits other p system w h (living other refl) (apart other p system e) none))
+    subst (StaysWhole p system) (sym (aborted_is stays waits other system refl refl))
+    (stays_aborted stays waits other p system w h (living other refl) (apart other p system e) none))
   where
     apart : (other p : ℕ) (system : System) → (other == p && not (waits_to_end system.kernel p false)) ≡ false
         → waits_to_end system.kernel other false ≡ false → p ≢ other
@@ -543,258 +548,6 @@ whole_acted_by (Some p) None system w e =
 whole_acted_by (Some p) (Some seg) system w e =
     whole_acted_at (gate_before p seg system) p seg system w (runner_lives system.kernel p w.sound e) (w.sound.runs p e)
 
-whole_acted : (system : System) → IsWhole system → IsWhole (acted system).system
+pub whole_acted : (system : System) → IsWhole system → IsWhole (acted system).system
 unfolding acted
 whole_acted system w = whole_acted_by system.kernel.running _ system w refl
-
--- an event comes
-
-whole_roused : (running : Option ℕ) (system : System) → IsWhole system → system.kernel.running ≡ running
-    → IsWhole (record system { kernel = roused running system.kernel })
-whole_roused None system w e = w
-whole_roused (Some p) system w e =
-    (whole_regs p (record (process_in system.kernel.procs p).regs { halted = false }) system w (runner_lives system.kernel p w.sound e)).whole
-
-whole_interrupts : (system : System) (interrupts : Interrupts) → IsWhole system → All IsTimed interrupts.script
-    → IsWhole (record system { interrupts = interrupts })
-whole_interrupts system interrupts w script = record { sound = w.sound; live = w.live; homes = w.homes; lived = w.lived; script = script; settled = w.settled }
-
-pub whole_due : (system : System) (interrupts : Interrupts) → IsWhole system → interrupts ≡ behind_due system.steps system.interrupts
-    → IsWhole (record system { interrupts = interrupts })
-whole_due system interrupts w is =
-    let P : Interrupts → Type 0 = λ i. All IsTimed i.script in
-    whole_interrupts system interrupts w (subst P (sym is) (script_behind_due system.steps system.interrupts w.script))
-
-pub sound_roused : (system behind : System) → IsWhole system → behind ≡ record system { kernel = roused system.kernel.running system.kernel }
-    → IsSound behind.kernel
-sound_roused system behind w is =
-    let P : System → Type 0 = λ s. IsSound s.kernel in
-    subst P (sym is) (whole_roused system.kernel.running system w refl).sound
-
--- an event, behind which the process that it aborts lives
-pub whole_happened : (event : Event) (system behind : System) (kernel : Kernel) → MayCome event → IsWhole system
-    → behind ≡ record system { kernel = roused system.kernel.running system.kernel } → kernel ≡ happened event behind.kernel
-    → IsWhole (record behind { kernel = kernel })
-whole_happened event system behind kernel may w is was =
-    let before : IsWhole behind = subst IsWhole (sym is) (whole_roused system.kernel.running system w refl) in
-    let P : Kernel → Type 0 = λ k. IsWhole (record behind { kernel = k }) in
-    subst P (sym was)
-    (whole_kernel behind (happened event behind.kernel) before (sound_happened event behind.kernel may before.sound)
-    (live_happened event behind.kernel may before.sound) (homes_happened event behind.kernel))
-
-pub aborted_lives : (event : Event) (system behind : System) (kernel : Kernel) → IsWhole system
-    → behind ≡ record system { kernel = roused system.kernel.running system.kernel } → kernel ≡ happened event behind.kernel
-    → IfSome kernel.aborted (λ p. Lives kernel.procs p)
-aborted_lives event system behind kernel w is was =
-    let before : IsWhole behind = subst IsWhole (sym is) (whole_roused system.kernel.running system w refl) in
-    let P : Kernel → Type 0 = λ k. IfSome k.aborted (λ p. Lives k.procs p) in
-    subst P (sym was) (abort_lives event behind.kernel before.sound)
-
-whole_aborted_by : (waits : Bool) (p : ℕ) (system : System) → IsWhole system → Lives system.kernel.procs p → IsWhole (aborted_by waits p system)
-whole_aborted_by true p system w h = subst IsWhole (sym (put_off_is p system)) (whole_put_off p system w h)
-whole_aborted_by false p system w h = subst IsWhole (sym (ends_at_once p system)) (whole_ended p system w h)
-
-pub whole_abort_taken : (system : System) → IsWhole system → IsWhole (record system { kernel = abort_taken system.kernel })
-whole_abort_taken system w =
-    whole_kernel system _ w (sound_abort_taken system.kernel w.sound) w.live (homes_stay system.kernel _ refl)
-
-pub whole_taken : (system : System) (kernel : Kernel) → IsWhole system → kernel ≡ abort_taken system.kernel → IsWhole (record system { kernel = kernel })
-whole_taken system kernel w is =
-    let P : Kernel → Type 0 = λ k. IsWhole (record system { kernel = k }) in subst P (sym is) (whole_abort_taken system w)
-
-whole_key_aborted : (aborts : Option ℕ) (system : System) → IsWhole system → IfSome aborts (λ p. Lives system.kernel.procs p)
-    → IsWhole (key_aborted aborts system)
-whole_key_aborted None system w lives = w
-whole_key_aborted (Some p) system w lives =
-    let taken = record system { kernel = abort_taken system.kernel } in
-    let waits = waits_to_end taken.kernel p false in
-    subst IsWhole (sym (aborted_is waits p taken refl)) (whole_aborted_by waits p taken (whole_abort_taken system w) lives)
-
-whole_event_come : (event : Event) (system : System) → MayCome event → IsWhole system → IsWhole (event_come event system).system
-unfolding event_come
-whole_event_come event system may w =
-    let roused_system = record system { kernel = roused system.kernel.running system.kernel } in
-    whole_key_aborted (happened_to event system).kernel.aborted (happened_to event system)
-    (whole_happened event system roused_system (happened event roused_system.kernel) may w refl refl)
-    (aborted_lives event system roused_system (happened event roused_system.kernel) w refl refl)
-
-whole_interrupted : (event : Event) (system : System) → MayCome event → IsWhole system → IsWhole (interrupted event system).system
-unfolding interrupted
-whole_interrupted event system may w =
-    whole_event_come event (record system { interrupts = behind_due system.steps system.interrupts }) may
-    (whole_interrupts system (behind_due system.steps system.interrupts) w (script_behind_due system.steps system.interrupts w.script))
-
-whole_begun : (event : Option Event) (system : System) → IfSome event MayCome → IsWhole system → IsWhole (begun_by event system).system
-whole_begun None system may w = whole_acted system w
-whole_begun (Some event) system may w = whole_interrupted event system may w
-
--- the held calls that were completed are answered
-
-whole_finished : (seg : Option ℕ) (p : ℕ) (system : System) → IsWhole system → Lives system.kernel.procs p → IsWhole (finished seg p system).system
-whole_finished None p system w h = w
-whole_finished (Some seg) p system w h = whole_fulfilling _ _ p seg system w h
-
-pub whole_handed : (system : System) → IsWhole system → IsWhole (handed system)
-whole_handed system w =
-    whole_kernel system _ w (sound_completed system.kernel w.sound w.live) (live_handed_out system.kernel w.sound w.live)
-    (homes_handed_out system.kernel w.sound w.live)
-
--- the first of them is answered
-pub whole_first : (p : ℕ) (system : System) → IsWhole system → first_completed system.kernel.completed ≡ Some p → IsWhole (first_finished p system)
-whole_first p system w first =
-    let same = lives_handed_out system.kernel p ∙ completed_lives system.kernel p w.live first in
-    whole_finished (process_in system.kernel.procs p).seg p (handed system) (whole_handed system w) same
-
-pub whole_left : (now new : System) (p : ℕ) → IsWhole now → first_completed now.kernel.completed ≡ Some p → new ≡ first_finished p now → IsWhole new
-whole_left now new p w first is = subst IsWhole (sym is) (whole_first p now w first)
-
-whole_finishing : (ps : List ℕ) (system : System) → IsWhole system → system.kernel.completed ≡ ps → IsWhole (finishing ps system).system
-unfolding finishing
-whole_finishing [] system w e = w
-whole_finishing (p ∷ ps) system w e =
-    whole_finishing ps (first_finished p system) (whole_first p system w (ap first_completed e)) (left_completed p ps system e)
-
--- where they all were
-pub whole_answered : (system behind : System) → IsWhole system → behind ≡ (all_finished system).system → IsWhole behind
-whole_answered system behind w is = subst IsWhole (sym is) (whole_finishing system.kernel.completed system w refl)
-
--- the ends that are due come
-
-whole_change : (b : Bool) (one other : Change) → (b ≡ true → IsWhole one.system) → IsWhole other.system → IsWhole (if b then one else other).system
-whole_change true one other is was = is refl
-whole_change false one other is was = was
-
-pub whole_if_due : (p : ℕ) (system : System) → IsWhole system → IsWhole (ended_if_due p system).system
-unfolding ended_if_due
-whole_if_due p system w =
-    whole_change (is_due system.kernel p) _ _ (λ due.
-    let aborted = (and_parts (is_aborted system.kernel.procs p) _ due).0 in
-    whole_finishing _ (ended p system) (whole_ended p system w (and_parts (lives system.kernel.procs p) _ aborted).0) refl) w
-
-whole_due_ended : (ps : List ℕ) (system : System) → IsWhole system → IsWhole (due_ended ps system).system
-unfolding due_ended
-whole_due_ended [] system w = w
-whole_due_ended (p ∷ ps) system w = whole_due_ended ps (ended_if_due p system).system (whole_if_due p system w)
-
--- a process whose end is due lives, and all is whole behind its end
-pub due_lives : (kernel : Kernel) (p : ℕ) → is_due kernel p ≡ true → Lives kernel.procs p
-due_lives kernel p due = (and_parts (lives kernel.procs p) _ (and_parts (is_aborted kernel.procs p) _ due).0).0
-
-pub whole_due_end : (system behind : System) (p : ℕ) → IsWhole system → is_due system.kernel p ≡ true → behind ≡ ended p system → IsWhole behind
-whole_due_end system behind p w due is = subst IsWhole (sym is) (whole_ended p system w (due_lives system.kernel p due))
-
--- nobody is aborted where none of the slots has one who is
-
-none_found : (found : Option ℕ) → is_some found ≡ false → found ≡ None
-none_found None e = refl
-none_found (Some p) e = absurd (false≢true (sym e))
-
-no_slot : (b below : Bool) → (b ≡ true → below ≡ true) → (below ≡ true → b ≡ false) → b ≡ false
-no_slot true below there none = none (there refl)
-no_slot false below there none = refl
-
-none_aborted : (system : System) → IsWhole system → is_any_aborted system.kernel.procs ≡ false → NobodyAborted system.kernel
-none_aborted system w none = λ p.
-    let each = lowest_none (is_aborted system.kernel.procs) (none_found (lowest (is_aborted system.kernel.procs)) none) in
-    no_slot (is_aborted system.kernel.procs p) (nat_lt p 32)
-    (λ due. below p system w (and_parts (lives system.kernel.procs p) _ due).0)
-    (λ less. each p (grind (arith, nat_tests, less)))
-  where
-    below : (p : ℕ) (system : System) → IsWhole system → Lives system.kernel.procs p → nat_lt p 32 ≡ true
-    below p system w living = grind (arith, nat_tests, lives_below system.kernel.procs p w.sound.slots living)
-
-either_off : (a b : Bool) → (a && b) ≡ false → (a ≡ false) ⊎ (b ≡ false)
-either_off true b e = inr e
-either_off false b e = inl refl
-
-whole_noted : (system : System) → IsWhole system → IsWhole (noted system)
-whole_noted system w = record {
-  sound = w.sound;
-  live = w.live;
-  homes = w.homes;
-  lived = w.lived;
-  script = w.script;
-  settled = λ off. elim (either_off system.put_off _ off) [
-    | inl was ↦ w.settled was
-    | inr none ↦ none_aborted system w none
-  ];
-}
-
-whole_with_ends : (system : System) → IsWhole system → IsWhole (with_ends system).system
-unfolding with_ends
-whole_with_ends system w = whole_noted _ (whole_due_ended (range_with_len 0 32) system w)
-
-whole_settled : (system : System) → IsWhole system → IsWhole (settled system).system
-unfolding settled
-whole_settled system w = whole_with_ends _ (whole_finishing system.kernel.completed system w refl)
-
--- a step
-pub whole_counted : (system : System) → IsWhole system → IsWhole (counted system)
-whole_counted system w = whole_steps system (system.steps + 1) w
-
-whole_settled_all : (event : Option Event) (system : System) → IfSome event MayCome → IsWhole system
-    → IsWhole (with_settled (begun_by event system)).system
-unfolding with_settled
-whole_settled_all event system may w = whole_settled (begun_by event system).system (whole_begun event system may w)
-
--- the event that comes may come
-
-coming_if : (b : Bool) (event : Option Event) → IfSome event MayCome → IfSome (if b then event else None) MayCome
-coming_if true event may = may
-coming_if false event may = tt
-
-coming_may : (system : System) → IsWhole system → IfSome (coming system) MayCome
-unfolding coming
-coming_may system w =
-    coming_if (lets_in system.kernel.running system.kernel) (due system.steps system.interrupts) (due_may system.steps system.interrupts w.script)
-
--- who is picked leaves whose calls were completed
-live_if : (b : Bool) (one other : Kernel) → CompletedLive one → CompletedLive other → CompletedLive (if b then one else other)
-live_if true one other is was = is
-live_if false one other is was = was
-
-pub live_picked : (instruction : Bool) (kernel : Kernel) → CompletedLive kernel → CompletedLive (picked instruction kernel)
-unfolding picked
-live_picked instruction kernel live = live_if (instruction && stays kernel kernel.running) kernel _ live live
-
--- behind the beginning of a step, and behind its answers
-
-pub whole_behind_begun : (system behind : System) → IsWhole system → behind ≡ (begun_by (coming system) system).system → IsWhole behind
-whole_behind_begun system behind w is = subst IsWhole (sym is) (whole_begun (coming system) system (coming_may system w) w)
-
-pub live_begun : (system behind : System) → IsWhole system → behind ≡ (begun_by (coming system) system).system → CompletedLive behind.kernel
-live_begun system behind w is =
-    let P : System → Type 0 = λ s. CompletedLive s.kernel in
-    subst P (sym is) (whole_begun (coming system) system (coming_may system w) w).live
-
-pub sound_settled : (system begun behind : System) → IsWhole system → begun ≡ (begun_by (coming system) system).system
-    → behind ≡ (settled begun).system → IsSound behind.kernel
-sound_settled system begun behind w is was =
-    let P : System → Type 0 = λ s. IsSound s.kernel in
-    subst P (sym was) (whole_settled begun (whole_behind_begun system begun w is)).sound
-
--- nobody is left to be handed out behind a step
-
-same_if : (b : Bool) (one other : Kernel) → other.completed ≡ one.completed → (if b then one else other).completed ≡ one.completed
-same_if true one other e = refl
-same_if false one other e = e
-
-pub same_picked : (instruction : Bool) (kernel : Kernel) → (picked instruction kernel).completed ≡ kernel.completed
-unfolding picked
-same_picked instruction kernel = same_if (instruction && stays kernel kernel.running) kernel _ refl
-
-pub handed_step : (begun behind : System) (kernel : Kernel) (instruction : Bool) → behind ≡ (settled begun).system
-    → kernel ≡ picked instruction behind.kernel → kernel.completed ≡ []
-handed_step begun behind kernel instruction is was =
-    ap (λ (k : Kernel). k.completed) was ∙ same_picked instruction behind.kernel ∙ ap (λ (s : System). s.kernel.completed) is
-    ∙ handed_settled begun
-
-pub whole_step : (system : System) → IsWhole system → IsWhole (step_of system).system
-unfolding step_of
-whole_step system w =
-    let begun = counted system in
-    let event = coming begun in
-    let counts = whole_counted system w in
-    let instruction = instruction_unless event begun in
-    let behind = whole_settled_all event begun (coming_may begun counts) counts in
-    whole_kernel _ _ behind (sound_picked _ instruction behind.sound) (live_picked instruction _ behind.live) (homes_stay _ _ (procs_picked instruction _))

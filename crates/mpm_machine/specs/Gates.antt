@@ -1,26 +1,7 @@
--- The gates of a segment, in its last page: where the kernel acts in the place of what stands there. (MP/M II System
--- Guide, "Memory Segment Base Page Initialization"; Programmer's Guide, "Function 151: Call Resident System Procedure".)
-use Rattle.std.specs.Prelude.{ℕ, ◌+◌, ◌-◌, ◌*◌, Bool, Option, Some, None, is_some, ◌==◌, ◌&&◌, if◌then◌else◌}
+-- Which of the gates of its segment a process has.
+use Rattle.std.specs.Prelude.{ℕ, Bool, is_some}
 use Rattle.mpm_procs.specs.Table.{Table, process_in}
-use Rattle.mpm_machine.specs.declared.gate.Gate.{Gate}
-use Rattle.mpm_machine.specs.declared.gate.Gate.TheVariants.{End, Call, Return}
-use Rattle.mpm_banks.specs.Memory.{Memory, segment_of}
-
--- the last page of a segment
-abbrev pub last_page : Memory → ℕ → ℕ
-last_page memory seg = (segment_of memory seg).base + (segment_of memory seg).pages - 1
 
 -- a process is in a resident procedure
 abbrev pub is_inside : Table → ℕ → Bool
 is_inside procs p = is_some (process_in procs p).procedure
-
--- the gate at an address, by the last page: 03h in it ends the process, 06h calls the kernel; for a process that is in a
--- resident procedure 09h ends that one, for others nothing is there
-unfoldable pub gate_in : Bool → ℕ → ℕ → Option Gate
-gate_in inside page address =
-    if address == 256 * page + 3 then Some End
-    else (if address == 256 * page + 6 then Some Call
-    else (if inside && address == 256 * page + 9 then Some Return else None))
-
-abbrev pub gate_of : Bool → Memory → ℕ → ℕ → Option Gate
-gate_of inside memory seg address = gate_in inside (last_page memory seg) address

@@ -1,11 +1,11 @@
 pub mod Gates
-pub mod Interrupts
 pub mod Writing
 pub mod State
 pub mod Opening
 pub mod Ending
 pub mod Serving
 pub mod Residing
+pub mod Slots
 pub mod Finishing
 pub mod Due
 pub mod Step

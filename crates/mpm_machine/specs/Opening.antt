@@ -21,9 +21,9 @@ use Rattle.mpm_residents.specs.declared.native.Native.TheVariants.{Tmp}
 use Rattle.mpm_clock.specs.declared.moment.Moment.{Moment}
 use Rattle.mpm_script.specs.declared.event.Timed.{Timed}
 use Rattle.mpm_machine_file.specs.declared.machine_file.MachineFile.{MachineFile}
-use Rattle.mpm_machine.specs.Gates.{last_page}
+use Rattle.mpm_processor.specs.Gates.{IsHome, last_page}
 use Rattle.mpm_machine.specs.declared.system.System.{System}
-use Rattle.mpm_machine.specs.State.{IsWhole, IsHome}
+use Rattle.mpm_machine.specs.State.{IsWhole}
 
 -- the jumps to the gates of a last page: at 00h to the one that ends the process, at 05h to the one that calls the kernel
 abbrev pub gate_jumps : ℕ → List ℕ

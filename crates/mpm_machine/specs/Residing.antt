@@ -1,7 +1,7 @@
 -- Residents: processes of the system that run no instructions. In its step each makes one call, whose bytes it has itself, and
 -- goes on by the answer; it reads and writes no memory. (MP/M II System Guide, "Resident System Processes"; User's Guide,
 -- "Terminal Message Processor".)
-use Rattle.std.specs.Prelude.{ℕ, ◌-◌, List, [], ◌∷◌, Option, Some, None, ◌==◌, slice_get, slice_set, if◌then◌else◌}
+use Rattle.std.specs.Prelude.{ℕ, ◌-◌, List, [], Option, Some, None, ◌==◌, slice_get, slice_set, if◌then◌else◌}
 use Rattle.mpm_base.specs.Calls.{Taken, Answer}
 use Rattle.mpm_base.specs.declared.call.Outcome.{Outcome}
 use Rattle.mpm_base.specs.declared.call.Outcome.TheVariants.{Done, Held, Retry, Ended}

@@ -1,10 +1,10 @@
 -- The gate step of a kernel call: what it reads is taken, it is done, and its reply is placed. (MP/M II Programmer's Guide,
 -- "BDOS Calling Conventions"; functions 128 to 130, memory segments; 144, create process; 151, call resident system
 -- procedure; 157, abort specified process.)
-use Rattle.std.specs.Prelude.{ℕ, ◌%◌, ◌≤◌, length, Bool, true, false, not, List, [], ◌∷◌, ◌++◌, Option, Some, None, ◌==◌, ◌&&◌, ◌||◌, slice_index_or, nat_lt, if◌then◌else◌}
+use Rattle.std.specs.Prelude.{ℕ, ◌≤◌, length, Bool, true, false, not, List, [], ◌∷◌, ◌++◌, Option, Some, None, ◌==◌, ◌&&◌, ◌||◌, nat_lt, if◌then◌else◌}
 use Rattle.z80_regs.specs.declared.regs.Regs.{Regs}
 use Rattle.z80_regs.specs.Words.{word_of}
-use Rattle.mpm_base.specs.Calls.{Taken, Answer, answering}
+use Rattle.mpm_base.specs.Calls.{Taken, Answer, answering, byte_in}
 use Rattle.mpm_base.specs.declared.call.Outcome.{Outcome}
 use Rattle.mpm_base.specs.declared.call.Outcome.TheVariants.{Done, Held, Retry, Ended}
 use Rattle.mpm_banks.specs.Memory.{Memory, segment_of, byte_at}
@@ -51,10 +51,6 @@ keeping p call system =
     let kernel = with_regs system.kernel p (record process.regs { shadow = false }) in
     record system { kernel = record kernel { procs = with_call kernel.procs p call } }
 
--- a byte that a call read
-abbrev pub byte_of : Taken → ℕ → ℕ
-byte_of call place = slice_index_or call.bytes place 0
-
 -- what becomes of the system and of the call, and the reply
 pub record Served : Type 0 where
   pub system : System
@@ -73,7 +69,7 @@ reserve_reply memory call (Some seg) = record (answering 0) { at = call.word; by
 -- a segment is reserved, of the base page that is given
 unfoldable pub reserving : Option ℕ → Taken → ℕ → System → Served
 reserving base call p system =
-    let seg = lowest_free system.memory base (byte_of call 1) in
+    let seg = lowest_free system.memory base (byte_in call 1) in
     record {
       system = record system { memory = reserved system.memory p seg };
       outcome = Done;
@@ -83,7 +79,7 @@ reserving base call p system =
 -- a reserved segment is freed, by its bank
 unfoldable pub releasing : Taken → ℕ → System → Served
 releasing call p system =
-    let seg = byte_of call 3 in
+    let seg = byte_in call 3 in
     record {
       system = record system { memory = released system.memory p seg };
       outcome = Done;
@@ -126,7 +122,7 @@ calling p system =
 
 -- the base page that a call asks for: function 128 one of its own, 129 any
 abbrev pub base_asked : Bool → Taken → Option ℕ
-base_asked absolute call = if absolute then Some (byte_of call 0) else None
+base_asked absolute call = if absolute then Some (byte_in call 0) else None
 
 -- the call is done
 unfoldable pub served : Taken → ℕ → System → Served

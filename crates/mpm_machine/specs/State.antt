@@ -1,8 +1,9 @@
 -- The machine as a kernel model: its state, and when a machine stands for a state.
-use Rattle.std.specs.Prelude.{◌≡◌, ℕ, ◌+◌, ◌≤◌, false, List, [], All, Option, Some}
-use Rattle.mpm_banks.specs.Memory.{Memory, HasSegment, segment_of}
+use Rattle.std.specs.Prelude.{◌≡◌, ℕ, false, List, [], All, Option, Some}
+use Rattle.mpm_banks.specs.Memory.{Memory, segment_of}
 use Rattle.mpm_banks.specs.declared.segment.Allocation.TheVariants.{Occupied}
 use Rattle.mpm_procs.specs.Table.{Lives, process_in}
+use Rattle.mpm_processor.specs.Gates.{IsHome}
 use Rattle.mpm_script.specs.Events.{IsTimed}
 use Rattle.mpm_kernel.specs.Kernel.{Kernel, IsSound, CompletedLive, is_aborted}
 use Rattle.mpm_kernel.specs.Columns.{spoke}
@@ -34,12 +35,6 @@ speaking console bytes system =
 pub record StandsFor (system : System) (kept : Kept) (told : Option (List ℕ)) (s : State) (first : Option (List ℕ)) : Type 0 where
   pub parts : system ≡ s.system
   pub shown : Shows kept told s.outputs first
-
--- a segment of at least four pages that ends below common memory
-pub record IsHome (memory : Memory) (seg : ℕ) : Type 0 where
-  pub exists : HasSegment memory seg
-  pub pages : 4 ≤ (segment_of memory seg).pages
-  pub end : (segment_of memory seg).base + (segment_of memory seg).pages ≤ 192
 
 -- processes live in the segment
 abbrev pub IsOccupied : Memory → ℕ → Type 0

@@ -15,9 +15,10 @@ use Rattle.mpm_kernel.specs.Consoling.{abort_taken}
 use Rattle.mpm_render.specs.Lines.{hex_word}
 use Rattle.mpm_render.specs.Outputs.{Output, rendered}
 use Rattle.mpm_render.specs.Shown.{EndsBetween}
-use Rattle.mpm_machine.specs.Gates.{is_inside, gate_of}
-use Rattle.mpm_machine.specs.declared.gate.Gate.{Gate}
-use Rattle.mpm_machine.specs.declared.gate.Gate.TheVariants.{End, Call, Return}
+use Rattle.mpm_processor.specs.Gates.{gate_of}
+use Rattle.mpm_processor.specs.declared.gate.Gate.{Gate}
+use Rattle.mpm_processor.specs.declared.gate.Gate.TheVariants.{End, Call, Return}
+use Rattle.mpm_machine.specs.Gates.{is_inside}
 use Rattle.mpm_machine.specs.declared.system.System.{System}
 use Rattle.mpm_machine.specs.Writing.{spoken}
 use Rattle.mpm_machine.specs.State.{State, Change, silent, speaking}
@@ -25,7 +26,7 @@ use Rattle.mpm_machine.specs.Ending.{ended}
 use Rattle.mpm_machine.specs.Serving.{with_regs, aborted, gate_step, returning}
 use Rattle.mpm_machine.specs.Residing.{native_in, resided}
 use Rattle.mpm_machine.specs.Due.{settled}
-use Rattle.mpm_machine.specs.Interrupts.{due, behind_due}
+use Rattle.mpm_interrupts.specs.Interrupts.{due, behind_due}
 
 -- what the kernel writes where a process comes to an unlisted opcode
 unfoldable pub illegal_text : ℕ → List ℕ

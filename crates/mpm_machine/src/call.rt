@@ -23,7 +23,8 @@ const ALLOCATED: u8 = 0x80;
 
 impl System {
     ghost use Rattle.mpm_banks.specs.Allocations.{released, is_reserved};
-    ghost use Rattle.mpm_machine.specs.State.{IsWhole, IsHome};
+    ghost use Rattle.mpm_processor.specs.Gates.{IsHome};
+    ghost use Rattle.mpm_machine.specs.State.{IsWhole};
     ghost use Rattle.mpm_machine.specs.Serving.{asked, keeping, IsTaken, served, reserving, releasing, creating, calling, base_asked, string_of, said_by, echo_of, popped, replied, answering_call, fulfilling, completing, completion, outcome_of, gate_step};
     ghost use Rattle.mpm_machine.specs.Ending.{ended};
 
@@ -208,6 +209,7 @@ impl System {
 
     /// The call that a process keeps, whose return address was taken, is fulfilled: where it is a call 151 that got its
     /// message, the process enters the resident procedure; the reply is placed, and its record is written.
+    #[inline(always)]
     #[tactic(auto, unfolding(crate::specs::Serving::fulfilling))]
     pub fn fulfil<S: Sink>(
         &mut self,

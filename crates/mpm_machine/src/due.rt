@@ -13,7 +13,7 @@ impl System {
     ghost use Rattle.mpm_machine.specs.Due.{is_due, is_any_aborted, noted, ended_if_due, all_due_ended, with_ends, settled};
 
     /// The end of a step: the held calls that were completed are answered, and then the ends that are due come.
-    #[tactic(auto, using(crate::proofs::WholeLaws::whole_answered), unfolding(crate::specs::Due::settled))]
+    #[tactic(auto, using(crate::proofs::WholeStepLaws::whole_answered), unfolding(crate::specs::Due::settled))]
     pub fn settle<S: Sink>(
         &mut self,
         reply: &mut Reply,
@@ -76,7 +76,7 @@ impl System {
     }
 
     /// A process ends, where that is due, and the held calls that its end completes are answered.
-    #[tactic(auto, using(crate::proofs::WholeLaws::whole_due_end), unfolding(crate::specs::Due::ended_if_due))]
+    #[tactic(auto, using(crate::proofs::WholeStepLaws::whole_due_end), unfolding(crate::specs::Due::ended_if_due))]
     fn end_if_due<S: Sink>(
         &mut self,
         p: Pid,

@@ -15,8 +15,31 @@ impl System {
     ghost use Rattle.mpm_machine.specs.State.{IsWhole};
     ghost use Rattle.mpm_machine.specs.Finishing.{finished, handed, all_finished};
 
-    /// The held calls that were completed are answered, in order: each reply is placed, and its record follows.
+    /// The held calls that were completed are answered: mostly there are none.
+    #[inline(always)]
+    #[tactic(auto, using(crate::proofs::FinishLaws::finished_nobody, crate::proofs::FinishLaws::shown_nobody))]
     pub fn finish_all<S: Sink>(
+        &mut self,
+        reply: &mut Reply,
+        render: &mut Render,
+        sink: &mut S,
+    ) -> Result<(), Failed>
+        requires whole { IsWhole self.old }
+        ensures system { OnOk result (self.new ≡ (all_finished self.old).system) }
+        ensures ok { OnOk result (Showed render.old (S.written sink.old) render.new (S.written sink.new) (all_finished self.old).news) }
+        ensures err { OnErr result (Stopped render.old (S.written sink.old) (S.written sink.new) (all_finished self.old).news) }
+        ensures cause { HasCause (S.faults sink.old) (S.faults sink.new) result }
+        ensures trace { render.new.trace ≡ render.old.trace }
+    {
+        if self.kernel.has_completed() {
+            return self.finish_each(reply, render, sink);
+        }
+        Ok(())
+    }
+
+    /// The held calls that were completed are answered, in order: each reply is placed, and its record follows.
+    #[inline(never)]
+    fn finish_each<S: Sink>(
         &mut self,
         reply: &mut Reply,
         render: &mut Render,
@@ -38,7 +61,7 @@ impl System {
     }
 
     /// Hands out the next process whose held call was completed, with its reply.
-    #[tactic(auto, using(crate::proofs::WholeLaws::whole_handed, crate::proofs::FinishLaws::handed_nobody, crate::proofs::FinishLaws::handed_lives, crate::proofs::FinishLaws::handed_reply))]
+    #[tactic(auto, using(crate::proofs::WholeStepLaws::whole_handed, crate::proofs::FinishLaws::handed_nobody, crate::proofs::FinishLaws::handed_lives, crate::proofs::FinishLaws::handed_reply))]
     fn next_completed(&mut self, reply: &mut Reply) -> Option<Pid>
         requires { IsWhole self.old }
         ensures process { result ≡ first_completed self.old.kernel.completed }

@@ -2,167 +2,21 @@ use crate::console::put_bytes;
 use crate::system::System;
 use mpm_port::{Failed, Sink};
 use mpm_render::Render;
-use mpm_script::{Event, Script, Timed};
-use std::marker::Model;
-
-/// The interrupts that are to come: periodic ticks of the clock, and the events of a script.
-#[derive(Drop)]
-pub struct Interrupts {
-    /// How many steps lie between two periodic ticks, 0 where there are none.
-    tick_every: u32,
-    /// How many periodic ticks were accepted.
-    ticks: u64,
-    /// The events of the script that were not accepted yet.
-    script: Pending,
-}
-
-impl Interrupts {
-    ghost use Rattle.std.specs.Prelude.{◌≡◌, ◌<◌, ◌≤◌, ℕ, false, None, IfSome, IfNone, All};
-    ghost use Rattle.mpm_script.specs.Events.{IsEvent, IsTimed};
-    ghost use Rattle.mpm_machine.specs.Interrupts.{due, behind_due, is_tick_due, script_due};
-
-    /// The ticks and the events of a script, of which none was accepted yet. (The script tells with its length that its
-    /// events are such as there may be.)
-    pub fn new(tick_every: u32, script: Script) -> Interrupts
-        ensures interrupts { result ≡ record { tick_every = tick_every; ticks = 0; script = script } }
-        ensures script { All IsTimed script }
-    {
-        let _count = script.len();
-        Interrupts {
-            tick_every,
-            ticks: 0,
-            script: Pending { script, place: 0 },
-        }
-    }
-
-    /// Takes the event that is due at a step, if any.
-    #[tactic(auto, unfolding(crate::specs::Interrupts::due, crate::specs::Interrupts::behind_due))]
-    pub fn take_due(&mut self, step: u64) -> Option<Event>
-        requires { step ≤ 4000000000 }
-        ensures event { result ≡ due step self.old }
-        ensures is { IfSome result (λ event. IsEvent event) }
-        ensures rest { self.new ≡ behind_due step self.old }
-        ensures nothing { IfNone result (self.new ≡ self.old) }
-    {
-        if self.is_tick_due(step) {
-            self.ticks += 1;
-            return Some(Event::Tick);
-        }
-        self.script.take_due(step)
-    }
-
-    /// Whether a periodic tick is due at a step.
-    fn is_tick_due(&self, step: u64) -> bool
-        ensures { result ≡ is_tick_due step self.now }
-    {
-        self.tick_every != 0 && self.ticks < step / u64::from(self.tick_every)
-    }
-
-    /// A step before which nothing is due: the first at which something is, or the last number where nothing will be.
-    #[tactic(auto, unfolding(crate::specs::Interrupts::due))]
-    pub fn next_step(&self) -> u64
-        ensures { (step : ℕ) → step < result → due step self.now ≡ None }
-    {
-        self.next_tick().min(self.script.next_step())
-    }
-
-    /// A step before which no periodic tick is due.
-    #[tactic(auto, using(crate::proofs::InterruptLaws::no_tick_before))]
-    fn next_tick(&self) -> u64
-        ensures { (step : ℕ) → step < result → is_tick_due step self.now ≡ false }
-    {
-        if self.tick_every == 0 {
-            return u64::MAX;
-        }
-        self.ticks
-            .saturating_add(1)
-            .saturating_mul(u64::from(self.tick_every))
-    }
-}
-
-/// The events of a script that were not accepted yet. Contracts see the list of them.
-#[derive(Drop)]
-pub struct Pending {
-    script: Script,
-    /// The place of the first of them.
-    place: usize,
-}
-
-impl Model for Pending {
-    ghost use Rattle.std.specs.Prelude.{◌≤◌, List, drop, length};
-    ghost use Rattle.mpm_script.specs.declared.event.Timed.{Timed};
-
-    ghost Value = { List Timed };
-
-    ghost view = { λ p. drop p.place p.script };
-
-    ghost invariant = { λ p. p.place ≤ length p.script };
-}
-
-impl Pending {
-    ghost use Rattle.std.specs.Prelude.{◌≡◌, ◌<◌, ℕ, None, IfSome, IfNone, drop, length, slice_get};
-    ghost use Rattle.mpm_script.specs.Events.{IsEvent};
-    ghost use Rattle.mpm_machine.specs.Interrupts.{script_due, script_behind};
-
-    /// Takes the first event, where it is due at a step.
-    fn take_due(&mut self, step: u64) -> Option<Event>
-        ensures event { result ≡ script_due step self.old }
-        ensures is { IfSome result (λ event. IsEvent event) }
-        ensures rest { self.new ≡ script_behind step self.old }
-        ensures nothing { IfNone result (self.new ≡ self.old) }
-    {
-        match self.first() {
-            Some(timed) if timed.step <= step => {
-                self.skip();
-                Some(timed.event)
-            }
-            _ => None,
-        }
-    }
-
-    /// A step before which no event is due.
-    fn next_step(&self) -> u64
-        ensures { (step : ℕ) → step < result → script_due step self.now ≡ None }
-    {
-        match self.first() {
-            Some(timed) => timed.step,
-            None => u64::MAX,
-        }
-    }
-
-    /// The first event.
-    fn first(&self) -> Option<Timed>
-        ensures first { result ≡ slice_get self.now 0 }
-        ensures is { IfSome result (λ timed. IsEvent timed.event) }
-    {
-        if self.place < self.script.len() {
-            Some(self.script.at(self.place))
-        } else {
-            None
-        }
-    }
-
-    /// Drops the first event, if there is one.
-    fn skip(&mut self)
-        ensures { self.new ≡ drop 1 self.old }
-    {
-        if self.place < self.script.len() {
-            self.place += 1;
-        }
-    }
-}
+use mpm_script::Event;
 
 impl System {
-    ghost use Rattle.std.specs.Prelude.{◌≡◌, ◌≤◌, is_some, IfOk, OnOk, OnErr};
+    ghost use Rattle.std.specs.Prelude.{◌≡◌, ◌≤◌, None, is_some, IfOk, OnOk, OnErr};
+    ghost use Rattle.std.specs.Bool.{OnTrue, OnFalse};
     ghost use Rattle.mpm_port.specs.Causes.{HasCause};
     ghost use Rattle.mpm_script.specs.Events.{IsEvent};
     ghost use Rattle.mpm_kernel.specs.Consoling.{AbortLives};
+    ghost use Rattle.mpm_interrupts.specs.Interrupts.{due};
     ghost use Rattle.mpm_machine.specs.State.{IsWhole};
     ghost use Rattle.mpm_machine.specs.Writing.{Showed, Stopped};
     ghost use Rattle.mpm_machine.specs.Step.{lets_in, coming, roused, interrupted_by, event_come, key_aborted, event_text};
 
     /// The event that is due in this step comes, if one is and it may; answers whether one did.
-    #[tactic(auto, unfolding(crate::specs::Step::coming, crate::specs::Step::interrupted))]
+    #[tactic(auto, unfolding(crate::specs::Step::interrupted))]
     pub fn interrupt<S: Sink>(&mut self, render: &mut Render, sink: &mut S) -> Result<bool, Failed>
         requires whole { IsWhole self.old }
         requires most { self.old.steps ≤ 4000000000 }
@@ -173,7 +27,7 @@ impl System {
         ensures cause { HasCause (S.faults sink.old) (S.faults sink.new) result }
         ensures trace { render.new.trace ≡ render.old.trace }
     {
-        if !self.lets_in() {
+        if !self.is_open() {
             return Ok(false);
         }
         match self.interrupts.take_due(self.steps) {
@@ -241,6 +95,20 @@ impl System {
         if let Some(p) = self.kernel.take_abort() {
             self.abort_process(p);
         }
+    }
+
+    /// Whether an event may come in this step. Mostly none is due yet, and nothing else is asked.
+    #[inline]
+    #[tactic(auto, using(crate::proofs::InterruptLaws::none_due, crate::proofs::InterruptLaws::none_let_in, crate::proofs::InterruptLaws::let_in), unfolding(crate::specs::Step::coming))]
+    fn is_open(&self) -> bool
+        requires { IsWhole self.now }
+        ensures none { OnFalse result (coming self.now ≡ None) }
+        ensures due { OnTrue result (coming self.now ≡ due self.now.steps self.now.interrupts) }
+    {
+        if self.steps < self.interrupts.next_step() {
+            return false;
+        }
+        self.lets_in()
     }
 
     /// Whether an interrupt may come: no process runs, or the one that runs doesn't hold it off.

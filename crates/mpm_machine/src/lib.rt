@@ -6,8 +6,6 @@ mod call;
 mod console;
 mod due;
 mod finish;
-mod gate;
-mod instruction;
 mod interrupts;
 mod machine;
 mod opening;
@@ -16,7 +14,7 @@ mod residents;
 mod residing;
 #[cfg(test)]
 mod scenes;
-mod schedule;
 mod system;
+mod unlisted;
 
 pub use machine::{BootError, Machine, RunFault, StepFault};

@@ -4,10 +4,10 @@ ghost use Rattle.mpm_port.specs.Texts.{appended};
 
 use crate::opening::{moment_of, program_file};
 use crate::residents::Residents;
-use crate::schedule::Schedule;
 use crate::system::System;
 use mpm_banks::Banks;
 use mpm_base::{Name8, Pid, Reply, Seg};
+use mpm_interrupts::Schedule;
 use mpm_kernel::Kernel;
 use mpm_machine_file::MachineFile;
 use mpm_port::{Failed, Sink};
@@ -62,6 +62,7 @@ impl Machine {
     ghost use Rattle.mpm_render.specs.Shown.{Kept, EndsBetween};
     ghost use Rattle.mpm_machine_file.specs.MachineFiles.{IsMachine};
     ghost use Rattle.mpm_machine.specs.State.{State, StandsFor, IsWhole};
+    ghost use Rattle.mpm_machine.specs.Slots.{HasResidents};
     ghost use Rattle.mpm_machine.specs.Opening.{booted, opened, IsBare, MayPlace, with_placed, opening_system, command_queue, with_residents};
     ghost use Rattle.mpm_kernel.specs.Queueing.{OnlySystems};
     ghost use Rattle.mpm_queues.specs.Queues.{refusal};
@@ -76,6 +77,7 @@ impl Machine {
     pub fn boot(alloc: Global, file: &MachineFile, script: Script) -> Result<Machine, BootError>
         requires { IsMachine file.now }
         ensures opening { IfOk result (λ machine. machine ≡ opened file.now script) }
+        ensures residents { IfOk result (λ machine. HasResidents file.now.consoles machine) }
         ensures start { IfOk result (λ machine. machine.steps ≡ 0) }
         ensures whole { IfOk result (λ machine. IsWhole machine) }
         ensures handed { IfOk result (λ machine. machine.kernel.completed ≡ []) }

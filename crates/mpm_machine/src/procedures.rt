@@ -1,5 +1,6 @@
 ghost use Rattle.std.specs.Prelude.{◌≡◌, true};
-ghost use Rattle.mpm_procs.specs.Table.{Lives, call_of};
+ghost use Rattle.mpm_procs.specs.Table.{Lives, process_in, call_of};
+ghost use Rattle.mpm_xdos.specs.Procedures.{entered, entry_reply};
 ghost use Rattle.mpm_machine.specs.Serving.{is_entry as got_message};
 
 use crate::system::System;
@@ -11,7 +12,8 @@ impl System {
     ghost use Rattle.mpm_machine.specs.Serving.{with_entry, reply_at_entry, returning};
 
     /// A process enters a resident procedure, where the call that it keeps is a call 151 that got its message.
-    #[tactic(auto, using(crate::proofs::WholeLaws::segment_is_there), unfolding(crate::specs::Serving::with_entry, crate::specs::Serving::reply_at_entry))]
+    #[inline(always)]
+    #[tactic(auto, unfolding(crate::specs::Serving::with_entry, crate::specs::Serving::reply_at_entry))]
     pub fn enter(&mut self, p: Pid, reply: &mut Reply)
         requires whole { IsWhole self.old }
         requires lives { Lives self.old.kernel.procs p }
@@ -19,8 +21,20 @@ impl System {
         ensures reply { reply.new ≡ reply_at_entry reply.old (call_of self.old.kernel.procs p) p self.old }
     {
         if is_entry(self.kernel.kept_call(p), reply) {
-            mpm_xdos::enter_procedure(&mut self.kernel, &self.memory, p, reply);
+            self.enter_procedure(p, reply);
         }
+    }
+
+    /// A process enters the resident procedure whose message it got.
+    #[inline(never)]
+    #[tactic(auto, using(crate::proofs::WholeLaws::segment_is_there))]
+    fn enter_procedure(&mut self, p: Pid, reply: &mut Reply)
+        requires whole { IsWhole self.old }
+        requires lives { Lives self.old.kernel.procs p }
+        ensures system { self.new ≡ record self.old { kernel = entered p self.old.kernel } }
+        ensures reply { reply.new ≡ entry_reply self.old.memory (process_in self.old.kernel.procs p) }
+    {
+        mpm_xdos::enter_procedure(&mut self.kernel, &self.memory, p, reply);
     }
 
     /// Whether a process is in a resident procedure.

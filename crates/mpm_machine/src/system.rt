@@ -6,14 +6,14 @@ ghost use Rattle.mpm_render.specs.Shown.{Kept};
 ghost use Rattle.mpm_machine.specs.Writing.{Showed, Stopped};
 
 use crate::console::write_bytes;
-use crate::gate::{Gate, gate_at, page_of_gates};
-use crate::instruction::{execute, illegal_text, run_instructions};
 use crate::residents::Residents;
-use crate::schedule::Schedule;
+use crate::unlisted::illegal_text;
 use mpm_banks::Banks;
 use mpm_base::{Pid, Reply, Seg};
+use mpm_interrupts::Schedule;
 use mpm_kernel::Kernel;
 use mpm_port::{Failed, Sink};
+use mpm_processor::{Gate, execute, gate_at, page_of_gates, run_instructions};
 use mpm_render::Render;
 
 /// What a machine keeps from step to step.
@@ -30,18 +30,20 @@ pub(crate) struct System {
 }
 
 impl System {
-    ghost use Rattle.mpm_machine.specs.Gates.{is_inside, gate_of};
-    ghost use Rattle.mpm_machine.specs.State.{State, StandsFor, IsWhole, IsHome};
+    ghost use Rattle.mpm_processor.specs.Gates.{IsHome};
+    ghost use Rattle.mpm_machine.specs.Gates.{is_inside};
+    ghost use Rattle.mpm_machine.specs.State.{State, StandsFor, IsWhole};
     ghost use Rattle.mpm_ready.specs.Order.{first_of};
     ghost use Rattle.mpm_ready.specs.Tables.{list_at};
     ghost use Rattle.mpm_kernel.specs.Kernel.{ready};
-    ghost use Rattle.mpm_machine.specs.Moving.{Moved};
-    ghost use Rattle.mpm_machine.specs.Interrupts.{due};
-    ghost use Rattle.mpm_machine.specs.declared.gate.Gate.TheVariants.{Return};
+    ghost use Rattle.mpm_machine.specs.Moving.{Moved, IsIdle, later};
+    ghost use Rattle.mpm_interrupts.specs.Interrupts.{due};
+    ghost use Rattle.mpm_processor.specs.declared.gate.Gate.TheVariants.{Return};
     ghost use Rattle.mpm_machine.specs.Step.{acted, acted_at, at_instruction, gate_before, is_no_gate, coming, begun_by, instruction_unless, step_of, instruction_at, ran, instructed, illegal, after};
 
-    /// Instructions of the running process, at most so many, each of which is a step: up to a gate or an unlisted opcode, and
-    /// as long as the process runs on. Answers how many were done.
+    /// Steps at most so many, that need no look at anything between them. Answers how many were done. They are instructions of
+    /// the running process, up to a gate or an unlisted opcode, as long as it runs on; where no process runs and none is
+    /// ready, nothing is done in them.
     pub fn run_on(&mut self, most: u64) -> u64
         requires whole { IsWhole self.old }
         requires handed { self.old.kernel.completed ≡ [] }
@@ -56,13 +58,28 @@ impl System {
         if self.put_off {
             return 0;
         }
+        let most = most.min(self.quiet());
         let Some(p) = self.runner() else {
-            return 0;
+            return self.idle(most);
         };
         let Some(seg) = self.kernel.segment(p) else {
             return 0;
         };
-        self.run_process(p, seg, most.min(self.quiet()))
+        self.run_process(p, seg, most)
+    }
+
+    /// Steps in which nothing is done, at most so many: where no process runs and none is ready. Answers how many.
+    fn idle(&mut self, most: u64) -> u64
+        requires room { self.old.steps + most ≤ 4000000000 }
+        ensures count { result ≤ most }
+        ensures idle { 0 < result → IsIdle self.old }
+        ensures system { self.new ≡ later self.old result }
+    {
+        if self.kernel.running().is_some() || self.kernel.first_ready().is_some() {
+            return 0;
+        }
+        self.steps += most;
+        most
     }
 
     /// So many steps at least in which no interrupt is due.
@@ -105,7 +122,7 @@ impl System {
 
     /// One step: an event or what the running process does, the held calls that this completed, the ends that are due, and
     /// then the dispatcher.
-    #[tactic(auto, using(crate::proofs::WholeLaws::whole_counted, crate::proofs::WholeLaws::whole_step, crate::proofs::StepLaws::step_steps), unfolding(crate::specs::Step::step_of, crate::specs::Step::with_settled))]
+    #[tactic(auto, using(crate::proofs::WholeStepLaws::whole_counted, crate::proofs::WholeStepLaws::whole_step, crate::proofs::StepLaws::step_steps), unfolding(crate::specs::Step::step_of, crate::specs::Step::with_settled))]
     pub fn step<S: Sink>(
         &mut self,
         reply: &mut Reply,
@@ -224,7 +241,7 @@ impl System {
     }
 
     /// The gate at which a process of a segment stands, if any.
-    #[tactic(auto, using(crate::proofs::GateLaws::returns_inside))]
+    #[tactic(auto, using(mpm_processor::proofs::GateLaws::returns_inside))]
     fn gate(&self, p: Pid, seg: Seg) -> Option<Gate>
         requires lives { Lives self.now.kernel.procs p }
         requires home { IsHome self.now.memory seg }

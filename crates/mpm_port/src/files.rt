@@ -36,6 +36,7 @@ pub trait Files {
         ensures bytes { Fetches (contents self.old name.now) limit out.old.items out.new.items result }
         ensures names { failed_names self.new ≡ names_after (failed_names self.old) name.now result }
         ensures missing { missing self.old name.now → IsErr result }
+        ensures nothing { missing self.old name.now → out.new.items ≡ out.old.items }
         ensures stays_missing { (other : List ℕ) → missing self.new other ↔ missing self.old other }
         ensures stays { (other : List ℕ) → contents self.new other ≡ contents self.old other };
 }

@@ -75,6 +75,8 @@ impl Files for MemoryFiles {
         ensures bytes { Fetches (contents_of self.old.files name.now) limit out.old.items out.new.items result }
         ensures names { self.new.failed ≡ names_after self.old.failed name.now result }
         ensures missing { contents_of self.old.files name.now ≡ None → IsErr result }
+        ensures nothing { contents_of self.old.files name.now ≡ None → out.new.items ≡ out.old.items }
+        ensures refused { IsTrue (fetch_fails self.old name.now) → out.new.items ≡ out.old.items }
         ensures stays_missing { (other : List ℕ) → (contents_of self.new.files other ≡ None) ↔ (contents_of self.old.files other ≡ None) }
         ensures stays { (other : List ℕ) → contents_of self.new.files other ≡ contents_of self.old.files other }
     {

@@ -1,3 +1,4 @@
 pub mod MapLaws
 pub mod CountLaws
 pub mod BlankLaws
+pub mod Finding

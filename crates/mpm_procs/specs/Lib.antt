@@ -1,3 +1,5 @@
 pub mod Opening
+pub mod Settings
 pub mod Table
+pub mod Finding
 pub mod Lending

@@ -1,8 +1,10 @@
 //! The processes: a finite map from the numbers of the 32 slots.
 #![tactic(auto)]
 
+mod lookup;
 mod process;
 mod procs;
+mod settings;
 
 pub use process::{NewProcess, Process};
 pub use procs::{NoSlot, Procs};

@@ -4,3 +4,4 @@ pub mod QueueLaws
 pub mod SoundLaws
 pub mod RunLaws
 pub mod WaitLaws
+pub mod Examples

@@ -3,3 +3,4 @@ pub mod Messages
 pub mod Queues
 pub mod Handling
 pub mod Runs
+pub mod Blocks

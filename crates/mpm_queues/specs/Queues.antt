@@ -1,10 +1,9 @@
 -- The queues as a finite map from 32 numbers, and the processes that wait at them. (MP/M II Programmer's Guide, "Function
 -- 134: Make Queue", "Function 135: Open Queue", "Function 136: Delete Queue".)
 use Rattle.std.specs.Prelude.{◌≡◌, ℕ, ◌+◌, ◌*◌, ◌<◌, ◌≤◌, Bool, true, false, not, List, Option, Some, None, ◌&&◌, ◌||◌, ◌==◌, nat_lt, is_some, is_none, length, bytes_eq, replicate, slice_index_or, slice_set, if◌then◌else◌}
-use Rattle.std.specs.Prelude.{find}
-use Rattle.std.specs.List.{range_with_len}
 use Rattle.std.specs.Option.{option_map_or}
 use Rattle.mpm_base.specs.declared.number.Name8.{Name8}
+unfoldable pub use Rattle.mpm_procs.specs.Finding.{lowest}
 use Rattle.mpm_ready.specs.Order.{Member, first_of, in_list}
 use Rattle.mpm_ready.specs.Tables.{list_at, list_of, no_lists, IsTable}
 use Rattle.mpm_queues.specs.Queue.{Queue, new_queue, no_queue, is_drained, is_full, IsProper}
@@ -55,10 +54,6 @@ no_queues = record { alive = replicate 32 false; queues = replicate 32 no_queue;
 -- whether a number names the queue of a name, and the number of that queue
 abbrev pub is_named : Queues → Name8 → ℕ → Bool
 is_named t name q = is_made t q && bytes_eq (queue_in t q).name.0 name.0
-
--- the lowest of the 32 numbers that passes a test
-unfoldable pub lowest : (ℕ → Bool) → Option ℕ
-lowest test = find test (range_with_len 0 32)
 
 abbrev pub found : Queues → Name8 → Option ℕ
 found t name = lowest (is_named t name)

@@ -2,6 +2,7 @@ ghost use Rattle.std.specs.Prelude.{◌≡◌, ◌+◌, ◌*◌, ◌≤◌, ◌+
 ghost use Rattle.circular_buffer.specs.Buffer.{buffer};
 ghost use Rattle.mpm_queues.specs.Queue.{no_queue, new_queue, is_drained, is_full, is_exclusive, first_message, shortened, held_by, read_by, with_message, in_width, message_of, with_given, block_size};
 
+use crate::blocks::BLOCK_SIZE;
 use circular_buffer::HeapCircularBuffer;
 use mpm_base::{Call, Name8, Pid, Reply};
 use std::alloc::{AllocError, Global};
@@ -9,9 +10,6 @@ use std::marker::Model;
 
 /// How many bytes all messages of a queue may have together.
 pub const ROOM: usize = 2048;
-
-/// Where a message begins in the bytes of a call: behind its user queue control block.
-const BLOCK_SIZE: usize = 12;
 
 /// A queue, with its messages one behind the other in a ring of bytes. Contracts see them as a list.
 #[derive(Drop)]

@@ -92,7 +92,8 @@ fn ends(
 
 #[test]
 fn programs_write_their_text(rt: HostRuntime) -> Result<(), Fail> {
-    let rows: [(&[u8], &str, &[u8]); 10] = [
+    let rows: [(&[u8], &str, &[u8]); 11] = [
+        (HI, "4000000000", b"c0 Hi\\r\n"),
         (HI, "9", b"c0 Hi\\r\n"),
         (HI, "5", b"c0 Hi\\r\n"),
         (HI, "4", b""),
@@ -226,7 +227,7 @@ fn script_writes(
 #[test]
 fn a_terminal_reads_lines_and_prompts_again(rt: HostRuntime) -> Result<(), Fail> {
     let user: &[u8] = b"c0 0A>user 3\\r\nc0 3A>\\\n";
-    assert!(rt; script_writes(&rt, SCRIPTED, b"0 key 0 user 3\\r\n", "100", user)?);
+    assert!(rt; script_writes(&rt, SCRIPTED, b"0 key 0 user 3\\r\n", "4000000000", user)?);
     let edited: &[u8] = b"c0 0A>us\\x08 \\x08\\x08 \\x08#\\r\nc0 user 16\\r\nc0 0A>\\\n";
     let keys: &[u8] = b"0 key 0 us\\x08\\x7F\\x08\\x15user 16\\r\n";
     assert!(rt; script_writes(&rt, SCRIPTED, keys, "100", edited)?);

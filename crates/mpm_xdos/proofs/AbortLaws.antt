@@ -5,7 +5,7 @@ use Rattle.mpm_kernel.specs.Kernel.{Kernel, IsSound}
 use Rattle.mpm_kernel.specs.Ending.{discharged}
 use Rattle.mpm_kernel.proofs.SoundLaws.{sound_changed}
 use Rattle.mpm_kernel.proofs.EndingLaws.{sound_discharged}
-use Rattle.mpm_xdos.specs.Aborting.{waits_to_end, with_abort_due, behind_abort}
+use Rattle.mpm_xdos.specs.Aborting.{is_resident, waits_to_end, with_abort_due, behind_abort}
 
 sound_due : (kernel : Kernel) (p : ℕ) → IsSound kernel → Lives kernel.procs p → IsSound (with_abort_due kernel p)
 sound_due kernel p s h =
@@ -19,4 +19,5 @@ sound_if false one other is was = was
 pub sound_aborted : (kernel : Kernel) (p : ℕ) (in_service : Bool) → IsSound kernel → Lives kernel.procs p → IsSound (behind_abort kernel p in_service)
 unfolding behind_abort
 sound_aborted kernel p in_service s h =
-    sound_if (waits_to_end kernel p in_service) (with_abort_due kernel p) (discharged kernel p) (sound_due kernel p s h) (sound_discharged kernel p s h)
+    sound_if (is_resident kernel p) kernel _ s
+    (sound_if (waits_to_end kernel p in_service) (with_abort_due kernel p) (discharged kernel p) (sound_due kernel p s h) (sound_discharged kernel p s h))

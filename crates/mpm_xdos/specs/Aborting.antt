@@ -1,13 +1,11 @@
 -- Aborts: which process a call names, and its end, at once or later. (MP/M II Programmer's Guide, "Function 157: Abort
 -- Specified Process".)
-use Rattle.std.specs.Prelude.{ℕ, ◌+◌, ◌*◌, Bool, true, List, Option, Some, None, is_some, ◌&&◌, ◌||◌, ◌==◌, bytes_eq, map, if◌then◌else◌}
-use Rattle.std.specs.List.{range_with_len}
-use Rattle.mpm_base.specs.Calls.{Taken}
+use Rattle.std.specs.Prelude.{ℕ, ◌+◌, ◌*◌, Bool, true, List, Option, Some, None, is_some, is_none, ◌&&◌, ◌||◌, ◌==◌, bytes_eq, if◌then◌else◌}
+use Rattle.mpm_base.specs.Calls.{Taken, byte_in, word_at, eight_at}
 use Rattle.mpm_procs.specs.Table.{Table, lives, process_in, call_of}
 use Rattle.mpm_procs.specs.declared.process.Process.{Process}
 use Rattle.mpm_queues.specs.Queues.{lowest, held}
 use Rattle.mpm_kernel.specs.Kernel.{Kernel, with_changed}
-use Rattle.mpm_kernel.specs.Called.{byte_in, word_at}
 use Rattle.mpm_kernel.specs.Ending.{discharged}
 use Rattle.mpm_banks.specs.Memory.{Memory}
 use Rattle.mpm_xdos.specs.Ending.{memory_without}
@@ -18,7 +16,7 @@ abbrev pub address_in : Taken → ℕ
 address_in call = word_at call 0
 
 abbrev pub name_in : Taken → List ℕ
-name_in call = map (byte_in call) (range_with_len 4 8)
+name_in call = eight_at call 4
 
 abbrev pub console_in : Taken → ℕ
 console_in call = byte_in call 12
@@ -58,11 +56,16 @@ waits_to_end kernel p in_service = in_service || is_some (held kernel.queues p)
 abbrev pub with_abort_due : Kernel → ℕ → Kernel
 with_abort_due kernel p = with_changed kernel p (record (process_in kernel.procs p) { abort_due = true })
 
--- the kernel and memory behind an abort: the process ends, or its end is put off
+-- a resident, which has no segment
+abbrev pub is_resident : Kernel → ℕ → Bool
+is_resident kernel p = is_none (process_in kernel.procs p).seg
+
+-- the kernel and memory behind an abort: a resident stays, another process ends, or its end is put off
 unfoldable pub behind_abort : Kernel → ℕ → Bool → Kernel
 behind_abort kernel p in_service =
-    if waits_to_end kernel p in_service then with_abort_due kernel p else (discharged kernel p)
+    if is_resident kernel p then kernel
+    else (if waits_to_end kernel p in_service then with_abort_due kernel p else (discharged kernel p))
 
 unfoldable pub memory_behind_abort : Memory → Kernel → ℕ → Bool → Memory
 memory_behind_abort memory kernel p in_service =
-    if waits_to_end kernel p in_service then memory else (memory_without memory kernel p)
+    if is_resident kernel p || waits_to_end kernel p in_service then memory else (memory_without memory kernel p)

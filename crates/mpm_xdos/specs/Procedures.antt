@@ -2,12 +2,11 @@
 -- Resident System Procedure".)
 use Rattle.std.specs.Prelude.{ℕ, ◌+◌, ◌-◌, false, Option, Some, None, [], ◌∷◌}
 use Rattle.z80_regs.specs.Words.{back}
-use Rattle.mpm_base.specs.Calls.{Taken, Answer, answering}
+use Rattle.mpm_base.specs.Calls.{Taken, Answer, answering, byte_in}
 use Rattle.mpm_banks.specs.Memory.{Memory, segment_of}
 use Rattle.mpm_procs.specs.Table.{process_in, call_of}
 use Rattle.mpm_procs.specs.declared.process.Process.{Process}
 use Rattle.mpm_kernel.specs.Kernel.{Kernel, with_changed}
-use Rattle.mpm_kernel.specs.Called.{byte_in}
 use Rattle.mpm_kernel.specs.Procedures.{given_back}
 
 -- a process goes on at the address that is the message that it got, with the parameter of its call, the second word of what

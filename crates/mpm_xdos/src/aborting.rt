@@ -2,11 +2,11 @@ ghost use Rattle.std.specs.Prelude.{◌≡◌, ◌&&◌, ℕ, Some, IfSome};
 ghost use Rattle.mpm_banks.specs.Memory.{HasSegment};
 ghost use Rattle.mpm_procs.specs.Table.{Lives, lives, process_in};
 ghost use Rattle.mpm_kernel.specs.Kernel.{IsSound};
-ghost use Rattle.mpm_xdos.specs.Aborting.{name_in, copy_address as address_of_copy, has_name as has_name_of, is_described as is_described_by, described as described_by, target as target_of, behind_abort, memory_behind_abort};
+ghost use Rattle.mpm_xdos.specs.Aborting.{copy_address as address_of_copy, has_name as has_name_of, is_described as is_described_by, described as described_by, target as target_of, behind_abort, memory_behind_abort};
 
 use crate::ending::end;
 use mpm_banks::Banks;
-use mpm_base::{Call, Name8, Pid};
+use mpm_base::{Call, Pid};
 use mpm_kernel::Kernel;
 use mpm_procs::Process;
 
@@ -29,7 +29,7 @@ pub fn target(kernel: &Kernel, p: Pid) -> Option<Pid>
     }
 }
 
-/// Aborts a living process: it ends, as by `end`. While it holds the message of a mutual exclusion queue, and while a call of
+/// Aborts a living process: it ends, as by `end`; a resident, which has no segment, isn't aborted. While it holds the message of a mutual exclusion queue, and while a call of
 /// it is in service, its end is put off: only `abort_due` becomes true. (MP/M II Programmer's Guide, "Function 157: Abort
 /// Specified Process".)
 #[tactic(auto, unfolding(crate::specs::Aborting::behind_abort, crate::specs::Aborting::memory_behind_abort))]
@@ -40,6 +40,9 @@ pub fn abort(kernel: &mut Kernel, banks: &mut Banks, p: Pid, in_service: bool)
     ensures kernel { kernel.new ≡ behind_abort kernel.old p in_service }
     ensures memory { banks.new ≡ memory_behind_abort banks.old kernel.old p in_service }
 {
+    if kernel.segment(p).is_none() {
+        return;
+    }
     if in_service || kernel.holds(p) {
         kernel.process_mut(p).abort_due = true;
     } else {
@@ -87,23 +90,7 @@ fn is_described(kernel: &Kernel, call: &Call, q: Pid) -> bool
 fn has_name(call: &Call, process: &Process) -> bool
     ensures { result ≡ has_name_of call.now process.now }
 {
-    process.name == name_of(call) && process.console == call.byte(12)
-}
-
-/// The name that a call gives.
-fn name_of(call: &Call) -> Name8
-    ensures { result.0 ≡ name_in call.now }
-{
-    Name8([
-        call.byte(4),
-        call.byte(5),
-        call.byte(6),
-        call.byte(7),
-        call.byte(8),
-        call.byte(9),
-        call.byte(10),
-        call.byte(11),
-    ])
+    process.name == call.name(4) && process.console == call.byte(12)
 }
 
 /// The address of the copy of a process's descriptor in common memory.

@@ -1,16 +1,18 @@
 -- Worked examples of what a step does.
-use Rattle.std.proofs.Common.{◌≡◌, ℕ, [], ◌∷◌, Some, None, true, false, rules}
+use Rattle.std.proofs.Common.{◌≡◌, ℕ, [], ◌∷◌, Some, None, true, false, rules, refl}
+use Rattle.std.specs.Prelude.{◌==◌, if◌then◌else◌}
 use Rattle.std.proofs.lemmas.Grind.{common_steps}
 use Rattle.z80_regs.specs.Words.{onward}
 use Rattle.z80_regs.specs.Outcome.{Write}
 use Rattle.z80_regs.specs.declared.regs.Regs.{Regs}
 use Rattle.z80_alu.specs.Single.{block_load_flags_of, bit_test_flags}
+use Rattle.z80_decode.specs.Fields.{operand_of}
 use Rattle.z80_decode.specs.Opcodes.{form_of, low_quarter, high_quarter}
-use Rattle.z80_decode.specs.PageOpcodes.{bit_form_of, third_quarter, transfer_of, extended_form_of}
+use Rattle.z80_decode.specs.PageOpcodes.{bit_form_of, third_quarter, transfer_of, extended_form_of, index_form_of}
 use Rattle.z80_decode.specs.Decoding.{index_instr_of, prefixed_instr_of, main_instr_of, instr_of}
 use Rattle.z80_exec.specs.Performing.{performed, main_outcome}
 use Rattle.z80_ext.specs.Extended.{extended_outcome, extended_performed}
-use Rattle.z80_ext.specs.Index.{index_bits_outcome}
+use Rattle.z80_ext.specs.Index.{index_bits_outcome, index_outcome, index_performed}
 use Rattle.z80_ext.specs.Instruction.{risen, begun, instruction}
 
 -- CALL 0005h at 0100h, with SP at BEFEh: 01h goes to BEFDh, then 03h to BEFCh
@@ -83,3 +85,50 @@ pub bit_tested_indexed : (regs : Regs) (memory ports : ℕ → ℕ) → regs.hal
     })
 unfolding instruction instr_of main_instr_of form_of high_quarter prefixed_instr_of index_instr_of bit_form_of index_bits_outcome
 bit_tested_indexed regs memory ports runs at iy prefix bits displacement opcode byte = search (rules, common_steps)
+
+-- LDIR at 0100h with 0001h in BC is the last step: PC goes behind it
+pub load_ended : (regs : Regs) (memory ports : ℕ → ℕ) → regs.halted ≡ false → regs.pc ≡ 256 →
+    regs.b ≡ 0 → regs.c ≡ 1 → regs.d ≡ 2 → regs.e ≡ 0 → regs.h ≡ 3 → regs.l ≡ 255 →
+    memory 256 ≡ 237 → memory 257 ≡ 176 → memory 1023 ≡ 17 →
+    instruction regs memory ports ≡ Some (record {
+      registers = record (begun regs) { pc = 258; c = 0; e = 1; h = 4; l = 0; f = block_load_flags_of false regs.f };
+      actions = Write 512 17 ∷ [];
+    })
+unfolding instruction instr_of main_instr_of form_of high_quarter prefixed_instr_of extended_form_of third_quarter transfer_of
+    extended_outcome extended_performed
+load_ended regs memory ports runs at b c d e h l prefix opcode byte = search (rules, common_steps)
+
+-- EI sets both flip-flops and casts its shadow
+pub interrupts_enabled : (regs : Regs) (memory ports : ℕ → ℕ) → regs.halted ≡ false → memory regs.pc ≡ 251 →
+    instruction regs memory ports ≡ Some (record {
+      registers = record (begun regs) { pc = onward regs.pc 1; iff1 = true; iff2 = true; shadow = true };
+      actions = [];
+    })
+unfolding instruction instr_of main_instr_of form_of high_quarter main_outcome performed
+interrupts_enabled regs memory ports runs opcode = search (rules, common_steps)
+
+-- HALT ends the shadow, and stands behind itself
+pub halt_begins : (regs : Regs) (memory ports : ℕ → ℕ) → regs.halted ≡ false → memory regs.pc ≡ 118 →
+    instruction regs memory ports ≡ Some (record {
+      registers = record (begun regs) { pc = onward regs.pc 1; halted = true };
+      actions = [];
+    })
+unfolding instruction instr_of main_instr_of form_of main_outcome performed
+halt_begins regs memory ports runs opcode = search (rules, common_steps)
+
+-- all registers 0 but PC, and three bytes at 0100h
+abbrev at_0100h : Regs
+at_0100h = record { a = 0; f = 0; b = 0; c = 0; d = 0; e = 0; h = 0; l = 0; a2 = 0; f2 = 0; b2 = 0; c2 = 0; d2 = 0; e2 = 0; h2 = 0; l2 = 0; ix = 0; iy = 0; sp = 0; pc = 256; i = 0; r = 0; iff1 = false; iff2 = false; mode = 0; halted = false; shadow = false }
+
+abbrev code : ℕ → ℕ
+code address = if address == 256 then 221 else (if address == 257 then 126 else (if address == 258 then 254 else (if address == 65534 then 90 else 0)))
+
+-- LD A,(IX-2) with IX at 0000h reads FFFEh
+pub indexed_load : (ports : ℕ → ℕ) → instruction at_0100h code ports ≡ Some (record { registers = record at_0100h { pc = 259; a = 90; r = 1 }; actions = [] })
+unfolding instruction instr_of main_instr_of form_of high_quarter prefixed_instr_of index_instr_of index_form_of operand_of index_outcome index_performed
+indexed_load ports = refl
+
+-- a shift of a byte at IX + 1 that isn't listed
+pub unlisted_shift : instr_of (221 ∷ 203 ∷ 1 ∷ 54 ∷ []) ≡ None
+unfolding instr_of main_instr_of form_of high_quarter prefixed_instr_of index_instr_of bit_form_of
+unlisted_shift = refl

@@ -174,49 +174,106 @@ fn stopped_output_waits_until_it_goes_on(rt: HostRuntime) -> Result<(), Fail> {
     Ok(())
 }
 
+/// The process that runs takes a step of a line: the outcome, whether the answer is that one, and whether it wrote that text.
+fn step_line(kernel: &mut Kernel, answer: &[u8], text: &[u8]) -> (Option<Outcome>, bool, bool)
+    requires { IsSound kernel.old }
+    ensures { IsSound kernel.new }
+{
+    let (outcome, answers) = read_line(kernel, answer);
+    (outcome, answers, wrote(kernel, text))
+}
+
+/// A line goes on, and its step wrote the text that was expected.
+fn goes_on() -> (Option<Outcome>, bool, bool) {
+    (Some(Outcome::Retry), true, true)
+}
+
+/// A process waits for the keys of a line, which are typed: its step, and who runs before and behind that.
+fn type_line(kernel: &mut Kernel) -> ((Option<Outcome>, bool, bool), [Option<Pid>; 2])
+    requires { IsSound kernel.old }
+    ensures { IsSound kernel.new }
+{
+    let waits = step_line(kernel, &[], b"");
+    let nobody = next(kernel, false);
+    press(kernel, b'a');
+    press(kernel, b'b');
+    press(kernel, 0x08);
+    press(kernel, b'c');
+    press(kernel, b'\r');
+    (waits, [nobody, next(kernel, false)])
+}
+
+/// Its next two steps, and who runs between them.
+fn take_two(kernel: &mut Kernel) -> ([(Option<Outcome>, bool, bool); 2], Option<Pid>)
+    requires { IsSound kernel.old }
+    ensures { IsSound kernel.new }
+{
+    let first = step_line(kernel, &[], b"a");
+    let between = next(kernel, false);
+    ([first, step_line(kernel, &[], b"b")], between)
+}
+
+/// And the last three.
+fn take_rest(kernel: &mut Kernel) -> [(Option<Outcome>, bool, bool); 3]
+    requires { IsSound kernel.old }
+    ensures { IsSound kernel.new }
+{
+    [
+        step_line(kernel, &[], b"\x08 \x08"),
+        step_line(kernel, &[], b"c"),
+        step_line(kernel, &[2, b'a', b'c'], b"\r"),
+    ]
+}
+
 #[test]
 fn a_line_is_read_key_by_key(rt: HostRuntime) -> Result<(), Fail> {
     let mut kernel = kernel_of_one(rt.alloc())?;
-    assert_eq!(rt; read_line(&mut kernel, &[]), (Some(Outcome::Retry), true));
-    assert_eq!(rt; next(&mut kernel, false), None);
-    press(&mut kernel, b'a');
-    press(&mut kernel, b'b');
-    press(&mut kernel, 0x08);
-    press(&mut kernel, b'c');
-    press(&mut kernel, b'\r');
-    assert_eq!(rt; next(&mut kernel, false), Some(Pid(0)));
-    assert_eq!(rt; read_line(&mut kernel, &[]), (Some(Outcome::Retry), true));
-    assert!(rt; wrote(&kernel, b"a"));
-    assert_eq!(rt; next(&mut kernel, false), Some(Pid(0)));
-    assert_eq!(rt; read_line(&mut kernel, &[]), (Some(Outcome::Retry), true));
-    assert!(rt; wrote(&kernel, b"b"));
-    assert_eq!(rt; read_line(&mut kernel, &[]), (Some(Outcome::Retry), true));
-    assert!(rt; wrote(&kernel, b"\x08 \x08"));
-    assert_eq!(rt; read_line(&mut kernel, &[]), (Some(Outcome::Retry), true));
-    assert!(rt; wrote(&kernel, b"c"));
+    assert_eq!(rt; type_line(&mut kernel), (goes_on(), [None, Some(Pid(0))]));
     assert_eq!(rt;
-        read_line(&mut kernel, &[2, b'a', b'c']),
-        (Some(Outcome::Done), true)
+        take_two(&mut kernel),
+        ([goes_on(), goes_on()], Some(Pid(0)))
     );
-    assert!(rt; wrote(&kernel, b"\r"));
+    assert_eq!(rt;
+        take_rest(&mut kernel),
+        [goes_on(), goes_on(), (Some(Outcome::Done), true, true)]
+    );
     Ok(())
+}
+
+/// Who runs next, and what it is answered by two functions.
+fn next_asks(
+    kernel: &mut Kernel,
+    first: u8,
+    second: u8,
+) -> (Option<Pid>, [Option<(Outcome, u16)>; 2])
+    requires { IsSound kernel.old }
+    ensures { IsSound kernel.new }
+{
+    let p = next(kernel, false);
+    (p, [ask(kernel, first, 0), ask(kernel, second, 0)])
 }
 
 #[test]
 fn a_printer_of_another_is_waited_for_or_refused(rt: HostRuntime) -> Result<(), Fail> {
     let mut kernel = kernel_of_one(rt.alloc())?;
     begin(&mut kernel, 200);
-    assert_eq!(rt; ask(&mut kernel, 158, 0), done(0));
+    assert_eq!(rt;
+        next_asks(&mut kernel, 158, 142),
+        (Some(Pid(0)), [done(0), done(0)])
+    );
+    assert_eq!(rt;
+        next_asks(&mut kernel, 161, 158),
+        (Some(Pid(1)), [done(0x00FF), again()])
+    );
+    assert_eq!(rt;
+        next_asks(&mut kernel, 159, 161),
+        (Some(Pid(0)), [done(0), done(0x00FF)])
+    );
     assert_eq!(rt; ask(&mut kernel, 142, 0), done(0));
-    assert_eq!(rt; next(&mut kernel, false), Some(Pid(1)));
-    assert_eq!(rt; ask(&mut kernel, 161, 0), done(0x00FF));
-    assert_eq!(rt; ask(&mut kernel, 158, 0), again());
-    assert_eq!(rt; next(&mut kernel, false), Some(Pid(0)));
-    assert_eq!(rt; ask(&mut kernel, 159, 0), done(0));
-    assert_eq!(rt; ask(&mut kernel, 161, 0), done(0x00FF));
-    assert_eq!(rt; ask(&mut kernel, 142, 0), done(0));
-    assert_eq!(rt; next(&mut kernel, false), Some(Pid(1)));
-    assert_eq!(rt; ask(&mut kernel, 158, 0), done(0));
+    assert_eq!(rt;
+        next_asks(&mut kernel, 158, 158),
+        (Some(Pid(1)), [done(0), done(0)])
+    );
     Ok(())
 }
 
@@ -240,6 +297,7 @@ fn a_key_aborts_the_owner_once(rt: HostRuntime) -> Result<(), Fail> {
     assert!(rt; wrote(&kernel, b""));
     assert_eq!(rt; ask(&mut kernel, 146, 0), done(0));
     press(&mut kernel, CONTROL_C);
+    assert_eq!(rt; ask(&mut kernel, 12, 0), done(0x0130));
     assert!(rt; wrote(&kernel, b"^C\r\n"));
     assert_eq!(rt; kernel.take_abort(), Some(Pid(0)));
     assert_eq!(rt; kernel.take_abort(), None);
@@ -277,22 +335,68 @@ fn a_console_passes_to_the_one_that_waits(rt: HostRuntime) -> Result<(), Fail> {
     Ok(())
 }
 
+/// A process assigns consoles by name, and asks for the one that it gave away.
+fn assign_by_name(kernel: &mut Kernel) -> [Option<(Outcome, u16)>; 6]
+    requires { IsSound kernel.old }
+    ensures { IsSound kernel.new }
+{
+    begin_as(kernel, *b"OTHER   ", false);
+    [
+        assign(kernel, 2, *b"OTHER   ", false),
+        assign(kernel, 1, *b"NOBODY  ", false),
+        assign(kernel, 1, *b"OTHER   ", true),
+        assign(kernel, 1, *b"OTHER   ", false),
+        assign(kernel, 1, *b"OTHER   ", true),
+        ask(kernel, 148, 1),
+    ]
+}
+
+/// The next process tells its console, attaches it, and assigns it back.
+fn assign_back(kernel: &mut Kernel) -> (Option<Pid>, [Option<(Outcome, u16)>; 3])
+    requires { IsSound kernel.old }
+    ensures { IsSound kernel.new }
+{
+    let p = next(kernel, false);
+    (
+        p,
+        [
+            ask(kernel, 153, 0),
+            ask(kernel, 162, 0),
+            assign(kernel, 1, *b"PROGRAM ", true),
+        ],
+    )
+}
+
+/// The next process asks for consoles by number.
+fn change_console(kernel: &mut Kernel) -> (Option<Pid>, [Option<(Outcome, u16)>; 2])
+    requires { IsSound kernel.old }
+    ensures { IsSound kernel.new }
+{
+    let p = next(kernel, false);
+    (p, [ask(kernel, 148, 1), ask(kernel, 148, 2)])
+}
+
 #[test]
 fn a_console_is_assigned_by_name(rt: HostRuntime) -> Result<(), Fail> {
     let mut kernel = kernel_of_one(rt.alloc())?;
-    begin_as(&mut kernel, *b"OTHER   ", false);
-    assert_eq!(rt; assign(&mut kernel, 2, *b"OTHER   ", false), done(0x00FF));
-    assert_eq!(rt; assign(&mut kernel, 1, *b"NOBODY  ", false), done(0x00FF));
-    assert_eq!(rt; assign(&mut kernel, 1, *b"OTHER   ", true), done(0x00FF));
-    assert_eq!(rt; assign(&mut kernel, 1, *b"OTHER   ", false), done(0));
-    assert_eq!(rt; assign(&mut kernel, 1, *b"OTHER   ", true), done(0x00FF));
-    assert_eq!(rt; ask(&mut kernel, 148, 1), again());
-    assert_eq!(rt; next(&mut kernel, false), Some(Pid(1)));
-    assert_eq!(rt; ask(&mut kernel, 153, 0), done(1));
-    assert_eq!(rt; ask(&mut kernel, 162, 0), done(0));
-    assert_eq!(rt; assign(&mut kernel, 1, *b"PROGRAM ", true), done(0));
-    assert_eq!(rt; next(&mut kernel, false), Some(Pid(0)));
-    assert_eq!(rt; ask(&mut kernel, 148, 1), done(0));
-    assert_eq!(rt; ask(&mut kernel, 148, 2), done(0x00FF));
+    assert_eq!(rt;
+        assign_by_name(&mut kernel),
+        [
+            done(0x00FF),
+            done(0x00FF),
+            done(0x00FF),
+            done(0),
+            done(0x00FF),
+            again(),
+        ]
+    );
+    assert_eq!(rt;
+        assign_back(&mut kernel),
+        (Some(Pid(1)), [done(1), done(0), done(0)])
+    );
+    assert_eq!(rt;
+        change_console(&mut kernel),
+        (Some(Pid(0)), [done(0), done(0x00FF)])
+    );
     Ok(())
 }

@@ -1,12 +1,9 @@
 use Rattle.std.proofs.Common.{◌≡◌, ◌∙◌, ℕ, ◌+◌, ◌≤◌, List, [], ◌∷◌, ◌++◌, take, drop, get_or, length, sym, ap, refl, subst, arith, rules, append_assoc}
-use Rattle.std.proofs.lemmas.List.{take_more, take_all, take-append-drop}
+use Rattle.std.proofs.lemmas.List.{take_more, take-append-drop}
 use Rattle.mpm_base.specs.Calls.{Taken}
-use Rattle.mpm_procs.specs.Table.{Lives, call_of}
+use Rattle.mpm_procs.specs.Table.{call_of}
 use Rattle.mpm_kernel.specs.Kernel.{Kernel, HasConsole}
-use Rattle.mpm_kernel.specs.Columns.{spoke, expanded, column_of}
-use Rattle.mpm_kernel.proofs.HomeLaws.{procs_spoke}
 use Rattle.mpm_kernel.proofs.SpokeLaws.{has_spoke}
-use Rattle.mpm_machine.specs.Writing.{spoken, Showed}
 use Rattle.mpm_machine.proofs.StringLaws.{WrittenTo, written_nothing, written_more, stopped_string}
 use Rattle.mpm_machine.proofs.WholeLaws.{lives_behind_text, call_behind_text}
 use Rattle.mpm_machine.proofs.console.write_kept.Goals as goal

@@ -1,4 +1,3 @@
-use Rattle.std.proofs.Common.{◌≡◌, ◌∙◌, sym, ap, subst, arith}
 use Rattle.mpm_machine.proofs.OpeningLaws.{admitted_here, sound_begun}
 use Rattle.mpm_machine.proofs.opening.begin.Goals as goal
 

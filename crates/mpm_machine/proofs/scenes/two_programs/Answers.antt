@@ -1,4 +1,4 @@
-use Rattle.std.proofs.Common.{◌≡◌, ◌≢◌, ◌∙◌, ℕ, ◌+◌, ◌<◌, ◌≤◌, List, replicate, get_or, length, sym, ap, subst, arith}
+use Rattle.std.proofs.Common.{◌≡◌, ◌≢◌, ◌∙◌, ℕ, ◌<◌, ◌≤◌, List, replicate, get_or, length, sym, ap, subst, arith}
 use Rattle.std.proofs.lemmas.List.{length-replicate, get_or-replicate}
 use Rattle.mpm_base.specs.declared.segment.SegmentSpec.{SegmentSpec}
 use Rattle.mpm_script.specs.declared.event.Timed.{Timed}

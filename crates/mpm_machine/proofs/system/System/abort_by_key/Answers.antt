@@ -1,4 +1,4 @@
-use Rattle.mpm_machine.proofs.WholeLaws.{whole_taken}
+use Rattle.mpm_machine.proofs.WholeStepLaws.{whole_taken}
 use Rattle.mpm_machine.proofs.system.System.abort_by_key.Goals as goal
 
 pub abort_process-requires-clause-whole : goal.abort_process-requires-clause-whole

@@ -1,4 +1,4 @@
-use Rattle.std.proofs.Common.{◌≡◌, ◌∙◌, sym}
+use Rattle.std.proofs.Common.{◌∙◌, sym}
 use Rattle.mpm_machine.proofs.OpeningLaws.{first_here, residents_here, whole_picked, handed_picked}
 use Rattle.mpm_machine.proofs.system.System.begin_residents.Goals as goal
 

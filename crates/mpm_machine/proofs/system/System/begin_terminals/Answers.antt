@@ -1,4 +1,4 @@
-use Rattle.std.proofs.Common.{◌≡◌, ◌∙◌, sym, ap, arith}
+use Rattle.std.proofs.Common.{◌∙◌, ap, arith}
 use Rattle.mpm_machine.specs.Opening.{with_terminals}
 use Rattle.mpm_machine.proofs.OpeningLaws.{begun_none, begun_more}
 use Rattle.mpm_machine.proofs.system.System.begin_terminals.Goals as goal

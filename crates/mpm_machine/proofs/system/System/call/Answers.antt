@@ -1,6 +1,5 @@
-use Rattle.std.proofs.Common.{◌≡◌, OnOk, List, rules, subst}
+use Rattle.std.proofs.Common.{◌≡◌, OnOk, rules, subst}
 use Rattle.std.proofs.lemmas.Result.{on_ok_weaker, on_err_weaker}
-use Rattle.mpm_render.specs.Outputs.{Output}
 use Rattle.mpm_procs.specs.Table.{call_of}
 use Rattle.mpm_machine.specs.State.{Change}
 use Rattle.mpm_machine.specs.Serving.{outcome_of}

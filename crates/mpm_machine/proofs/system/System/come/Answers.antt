@@ -1,4 +1,4 @@
-use Rattle.mpm_machine.proofs.WholeLaws.{sound_roused, whole_happened, aborted_lives}
+use Rattle.mpm_machine.proofs.WholeStepLaws.{sound_roused, whole_happened, aborted_lives}
 use Rattle.mpm_machine.proofs.InterruptLaws.{may_be}
 use Rattle.mpm_machine.proofs.system.System.come.Goals as goal
 

@@ -1,6 +1,6 @@
 use Rattle.std.proofs.Common.{◌∙◌, sym, subst, refl, arith}
 use Rattle.mpm_machine.specs.State.{IsWhole}
-use Rattle.mpm_machine.proofs.WholeLaws.{whole_if_due}
+use Rattle.mpm_machine.proofs.WholeStepLaws.{whole_if_due}
 use Rattle.mpm_machine.proofs.DueLaws.{due_nothing, due_more, due_stopped, due_system, due_shown}
 use Rattle.mpm_machine.proofs.system.System.end_each_due.Goals as goal
 

@@ -1,5 +1,5 @@
 use Rattle.std.proofs.Common.{◌∙◌, sym}
-use Rattle.mpm_machine.proofs.WholeLaws.{whole_due_end}
+use Rattle.mpm_machine.proofs.WholeStepLaws.{whole_due_end}
 use Rattle.mpm_machine.proofs.system.System.end_if_due.Goals as goal
 
 pub finish_all-requires : goal.finish_all-requires

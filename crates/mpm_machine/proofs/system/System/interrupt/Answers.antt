@@ -1,4 +1,4 @@
-use Rattle.mpm_machine.proofs.WholeLaws.{whole_due}
+use Rattle.mpm_machine.proofs.WholeStepLaws.{whole_due}
 use Rattle.mpm_machine.proofs.system.System.interrupt.Goals as goal
 
 pub come-requires-clause-whole : goal.come-requires-clause-whole

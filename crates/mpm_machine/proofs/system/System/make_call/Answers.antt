@@ -1,4 +1,4 @@
-use Rattle.std.proofs.Common.{◌≡◌, OnOk, List, rules, subst}
+use Rattle.std.proofs.Common.{◌≡◌, OnOk, rules, subst}
 use Rattle.std.proofs.lemmas.Result.{on_ok_weaker, on_err_weaker}
 use Rattle.mpm_machine.specs.State.{Change}
 use Rattle.mpm_machine.specs.Residing.{native_outcome}

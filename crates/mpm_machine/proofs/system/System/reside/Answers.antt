@@ -1,4 +1,4 @@
-use Rattle.std.proofs.Common.{◌≡◌, ◌∙◌, sym, ap, subst}
+use Rattle.std.proofs.Common.{◌∙◌, sym, ap, subst}
 use Rattle.mpm_machine.specs.State.{Change}
 use Rattle.mpm_machine.specs.Writing.{Showed}
 use Rattle.mpm_machine.proofs.WritingLaws.{showed_nothing}

@@ -1,6 +1,7 @@
 use Rattle.std.proofs.Common.{Bool, refl, subst}
-use Rattle.mpm_machine.specs.Moving.{View, Moves, with_view, view_of}
-use Rattle.mpm_machine.proofs.MovingLaws.{view_is, moves_from}
+use Rattle.mpm_processor.specs.Moving.{View, Moves}
+use Rattle.mpm_processor.proofs.MovingLaws.{view_is, moves_from}
+use Rattle.mpm_machine.specs.Moving.{with_view, view_of}
 use Rattle.mpm_machine.proofs.system.System.run_process.Goals as goal
 
 pub returns-clause-moved : goal.returns-clause-moved

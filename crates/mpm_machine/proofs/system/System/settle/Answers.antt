@@ -1,6 +1,6 @@
 use Rattle.std.proofs.Common.{rules}
 use Rattle.std.proofs.lemmas.Result.{on_err_weaker}
-use Rattle.mpm_machine.proofs.WholeLaws.{whole_answered}
+use Rattle.mpm_machine.proofs.WholeStepLaws.{whole_answered}
 use Rattle.mpm_machine.proofs.DueLaws.{stopped_answers, stopped_ends}
 use Rattle.mpm_machine.proofs.system.System.settle.Goals as goal
 

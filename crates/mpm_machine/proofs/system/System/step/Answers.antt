@@ -1,7 +1,7 @@
 use Rattle.std.proofs.Common.{rules}
 use Rattle.mpm_machine.specs.Step.{counted}
 use Rattle.mpm_machine.proofs.StepLaws.{stopped_begun, stopped_settled}
-use Rattle.mpm_machine.proofs.WholeLaws.{whole_counted, whole_behind_begun, sound_settled, handed_step}
+use Rattle.mpm_machine.proofs.WholeStepLaws.{whole_counted, whole_behind_begun, sound_settled, handed_step}
 use Rattle.mpm_machine.proofs.system.System.step.Goals as goal
 
 pub settle-requires : goal.settle-requires

@@ -1,0 +1,3 @@
+pub mod CompletedLaws
+pub mod ReadyLaws
+pub mod WalkLaws

@@ -1,0 +1,132 @@
+-- Which process runs: the first of the ready list. (MP/M II System Guide, "Dispatcher"; Programmer's Guide, functions 142,
+-- 144 and 145.)
+use Rattle.std.specs.Prelude.{◌≡◌, ℕ, Bool, false, not, Option, Some, None, List, [], ◌∷◌, ◌++◌, ◌&&◌, ◌||◌, ◌==◌, map, if◌then◌else◌}
+use Rattle.z80_regs.specs.declared.regs.Regs.{Regs}
+use Rattle.mpm_ready.specs.Order.{Member, first_of}
+use Rattle.mpm_ready.specs.Tables.{no_lists, list_at, list_of, inserted, removed, rotated}
+use Rattle.mpm_procs.specs.Table.{Table, no_processes, process_in, with_process, added}
+use Rattle.mpm_procs.specs.declared.process.NewProcess.{NewProcess}
+use Rattle.mpm_dispatcher.specs.declared.dispatcher.Dispatcher.{Dispatcher}
+
+-- the number of the ready list
+abbrev pub ready : ℕ
+ready = 0
+
+-- no process lives
+unfoldable pub new_dispatcher : Dispatcher
+new_dispatcher = record { procs = no_processes; lists = no_lists; running = None; completed = [] }
+
+-- a process is ready
+abbrev pub IsReady : Dispatcher → ℕ → Type 0
+IsReady d p = list_of d.lists p ≡ Some ready
+
+-- the list that a process is in is the ready list
+abbrev pub is_ready : Option ℕ → Bool
+is_ready None = false
+is_ready (Some list) = list == ready
+
+-- a process begins in a slot, and is ready
+abbrev pub admitted : Dispatcher → ℕ → NewProcess → Dispatcher
+admitted d p new = record d {
+  procs = added d.procs p new;
+  lists = inserted d.lists ready (record { slot = p; priority = new.priority });
+}
+
+-- a process begins in that slot, if there is one
+abbrev pub in_slot : Dispatcher → NewProcess → Option ℕ → Dispatcher
+in_slot d new None = d
+in_slot d new (Some p) = admitted d p new
+
+-- interrupts are off, or an EI has not taken effect yet
+abbrev pub is_held_off : Regs → Bool
+is_held_off regs = not regs.iff1 || regs.shadow
+
+-- the running process keeps the processor behind its instruction: it is ready, and no interrupt may come
+abbrev pub stays : Dispatcher → Option ℕ → Bool
+stays d None = false
+stays d (Some p) = is_ready (list_of d.lists p) && is_held_off (process_in d.procs p).regs
+
+-- who runs behind a step, which was an instruction or not
+unfoldable pub picked : Bool → Dispatcher → Dispatcher
+picked instruction d =
+    if instruction && stays d d.running then d else (record d { running = first_of (list_at d.lists ready) })
+
+-- a process is put behind its equals
+abbrev pub behind_equals : Dispatcher → ℕ → Dispatcher
+behind_equals d p = record d { lists = rotated d.lists p (process_in d.procs p).priority }
+
+-- a process gets another priority, and is put behind its new equals
+abbrev pub with_priority : Dispatcher → ℕ → ℕ → Dispatcher
+with_priority d p priority =
+    behind_equals (record d { procs = with_process d.procs p (record (process_in d.procs p) { priority = priority }) }) p
+
+-- the process that runs, if it is ready, is put behind its equals
+unfoldable pub runner_behind : Option ℕ → Dispatcher → Dispatcher
+runner_behind None d = d
+runner_behind (Some p) d = if is_ready (list_of d.lists p) then behind_equals d p else d
+
+-- a process keeps the processor if it is another one
+abbrev pub runs_still : ℕ → Option ℕ → Option ℕ
+runs_still p None = None
+runs_still p (Some other) = if other == p then None else Some other
+
+-- a process that doesn't run any more
+abbrev pub at_rest : Dispatcher → ℕ → Dispatcher
+at_rest d p = record d { running = runs_still p d.running }
+
+-- a process stands in no list
+abbrev pub unlisted : Dispatcher → ℕ → Dispatcher
+unlisted d p = record d { lists = removed d.lists p }
+
+-- a process takes the step at its gate again once it is ready: until then it is in no list and doesn't run
+abbrev pub put_off : Dispatcher → ℕ → Dispatcher
+put_off d p = at_rest (unlisted d p) p
+
+-- the lists with a process in another one, or in one now, where its priority puts it
+abbrev pub moved_in : Table → List (List Member) → ℕ → ℕ → List (List Member)
+moved_in procs lists list p =
+    inserted (removed lists p) list (record { slot = p; priority = (process_in procs p).priority })
+
+abbrev pub moved : Dispatcher → ℕ → ℕ → Dispatcher
+moved d list p = record d { lists = moved_in d.procs d.lists list p }
+
+-- the lists as processes become ready, one after the other
+unfoldable pub ready_in : Table → List ℕ → List (List Member) → List (List Member)
+ready_in procs [] lists = lists
+ready_in procs (p ∷ ps) lists = ready_in procs ps (moved_in procs lists ready p)
+
+abbrev pub all_ready : List ℕ → Dispatcher → Dispatcher
+all_ready ps d = record d { lists = ready_in d.procs ps d.lists }
+
+-- those of a list, in order
+abbrev pub slots_in : List (List Member) → ℕ → List ℕ
+slots_in lists list = map (λ m. m.slot) (list_at lists list)
+
+-- other processes whose held calls were completed
+abbrev pub with_completed : Dispatcher → List ℕ → Dispatcher
+with_completed d ps = record d { completed = ps }
+
+-- the held calls of processes are completed: they become ready, in that order
+abbrev pub all_woken : List ℕ → Dispatcher → Dispatcher
+all_woken ps d = with_completed (all_ready ps d) ps
+
+-- a process becomes ready, if there is one: the lists, and the dispatcher
+unfoldable pub lists_ready : Option ℕ → Table → List (List Member) → List (List Member)
+lists_ready None procs lists = lists
+lists_ready (Some p) procs lists = moved_in procs lists ready p
+
+abbrev pub made_ready : Option ℕ → Dispatcher → Dispatcher
+made_ready o d = record d { lists = lists_ready o d.procs d.lists }
+
+-- the held call of another process, if any, is completed, behind those that were
+unfoldable pub also_completed : Option ℕ → List ℕ → List ℕ
+also_completed None ps = ps
+also_completed (Some p) ps = ps ++ p ∷ []
+
+abbrev pub with_other : Option ℕ → Dispatcher → Dispatcher
+with_other o d = with_completed (made_ready o d) (also_completed o d.completed)
+
+-- whose held call was completed first
+abbrev pub first_completed : List ℕ → Option ℕ
+first_completed [] = None
+first_completed (p ∷ ps) = Some p

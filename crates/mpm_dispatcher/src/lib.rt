@@ -1,0 +1,13 @@
+//! The dispatcher: the processes, the lists in which they stand, who runs, and whose held calls were completed.
+#![tactic(auto)]
+
+mod completed;
+mod completion;
+mod dispatcher;
+
+pub use completed::Completed;
+pub use dispatcher::{Dispatcher, READY, done};
+pub use std::alloc::AllocError as OutOfMemory;
+
+#[cfg(test)]
+mod tests;

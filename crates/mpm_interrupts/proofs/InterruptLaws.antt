@@ -1,0 +1,72 @@
+-- When interrupts are due, and what is left behind one.
+use Rattle.std.proofs.Common.{◌≡◌, ℕ, ◌+◌, ◌*◌, ◌<◌, ◌≤◌, Bool, true, false, List, [], ◌∷◌, Option, Some, None, All, IfSome, drop, is_some, if◌then◌else◌, refl, subst, arith}
+use Rattle.std.specs.Prelude.{nat_le}
+use Rattle.std.proofs.lemmas.Bool.Decides.{nat_tests}
+use Rattle.std.proofs.lemmas.Nat.{div_below}
+use Rattle.std.proofs.lemmas.List.Elements.{All-drop}
+use Rattle.mpm_script.specs.declared.event.Event.{Event}
+use Rattle.mpm_script.specs.declared.event.Event.TheVariants.{Tick}
+use Rattle.mpm_script.specs.declared.event.Timed.{Timed}
+use Rattle.mpm_script.specs.Events.{IsTimed, IsEvent}
+use Rattle.mpm_interrupts.specs.Interrupts.{is_tick_due, script_due, due, script_behind, behind_due}
+use Rattle.mpm_interrupts.specs.declared.interrupts.Interrupts.{Interrupts}
+
+-- before the end of one more interval no more of them have passed
+pub no_tick_before : (step next : ℕ) (interrupts : Interrupts) → 0 < interrupts.tick_every
+    → next ≤ (interrupts.ticks + 1) * interrupts.tick_every → step < next → is_tick_due step interrupts ≡ false
+no_tick_before step next interrupts some end before =
+    let few = div_below step interrupts.tick_every (interrupts.ticks + 1) some (omega (arith, end, before)) in
+    grind (arith, nat_tests, few)
+
+-- an event that is due is one that there may be
+
+from_is : (b : Bool) (event : Event) → IsEvent event → IfSome (if b then Some event else None) IsEvent
+from_is true event is = is
+from_is false event is = tt
+
+script_is : (step : ℕ) (script : List Timed) → All IsTimed script → IfSome (script_due step script) IsEvent
+script_is step [] are = tt
+script_is step (timed ∷ rest) are = from_is (nat_le timed.step step) timed.event (are 0 timed (omega arith)).event
+
+if_is : (b : Bool) (one other : Option Event) → IfSome one IsEvent → IfSome other IsEvent → IfSome (if b then one else other) IsEvent
+if_is true one other is was = is
+if_is false one other is was = was
+
+pub due_is : (step : ℕ) (interrupts : Interrupts) → All IsTimed interrupts.script → IfSome (due step interrupts) IsEvent
+unfolding due
+due_is step interrupts are =
+    if_is (is_tick_due step interrupts) (Some Tick) (script_due step interrupts.script) tt (script_is step interrupts.script are)
+
+-- those that are left are of the script
+
+script_if : (b : Bool) (one other : Interrupts) → All IsTimed one.script → All IsTimed other.script → All IsTimed (if b then one else other).script
+script_if true one other is was = is
+script_if false one other is was = was
+
+rest_if : (b : Bool) (one other : List Timed) → All IsTimed one → All IsTimed other → All IsTimed (if b then one else other)
+rest_if true one other is was = is
+rest_if false one other is was = was
+
+pub script_behind_due : (step : ℕ) (interrupts : Interrupts) → All IsTimed interrupts.script → All IsTimed (behind_due step interrupts).script
+unfolding behind_due
+script_behind_due step interrupts are =
+    script_if (is_tick_due step interrupts) (record interrupts { ticks = interrupts.ticks + 1 })
+    (record interrupts { script = script_behind step interrupts.script }) are
+    (rest_if (is_some (script_due step interrupts.script)) (drop 1 interrupts.script) interrupts.script
+    (All-drop IsTimed 1 interrupts.script are) are)
+
+-- where nothing is due, all is still to come
+
+tick_not : (b : Bool) (other : Option Event) → (if b then Some Tick else other) ≡ None → b ≡ false
+tick_not true other none = absurd cc
+tick_not false other none = refl
+
+script_stays : (step : ℕ) (script : List Timed) → script_due step script ≡ None → script_behind step script ≡ script
+script_stays step script none = rw none refl
+
+pub behind_none : (step : ℕ) (interrupts : Interrupts) → due step interrupts ≡ None → behind_due step interrupts ≡ interrupts
+unfolding due behind_due
+behind_none step interrupts none =
+    let no_tick = tick_not (is_tick_due step interrupts) (script_due step interrupts.script) none in
+    let no_event : script_due step interrupts.script ≡ None = subst (λ (b : Bool). (if b then Some Tick else script_due step interrupts.script) ≡ None) no_tick none in
+    rw (no_tick, script_stays step interrupts.script no_event) refl

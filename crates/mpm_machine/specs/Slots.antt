@@ -1,0 +1,27 @@
+-- Who has which slot as a machine begins to run: the command line interpreter the lowest, and behind it a terminal message
+-- processor for each console, by number.
+use Rattle.std.specs.Prelude.{◌≡◌, ℕ, ◌+◌, ◌<◌, Some, None, codes}
+use Rattle.mpm_ready.specs.Tables.{list_of}
+use Rattle.mpm_procs.specs.Table.{Lives, process_in}
+use Rattle.mpm_residents.specs.Terminals.{opening}
+use Rattle.mpm_residents.specs.declared.native.Native.TheVariants.{Tmp}
+use Rattle.mpm_machine.specs.declared.system.System.{System}
+use Rattle.mpm_machine.specs.Opening.{terminal_name}
+use Rattle.mpm_machine.specs.Residing.{native_in}
+
+-- slot 0 has the process of the command line interpreter, which stands in no list
+pub record HasInterpreter (system : System) : Type 0 where
+  pub lives : Lives system.kernel.procs 0
+  pub name : (process_in system.kernel.procs 0).name ≡ record { 0 = codes "cli     " }
+  pub unlisted : list_of system.kernel.lists 0 ≡ None
+
+-- the slot behind the number of a console has the process of its terminal message processor, which is at its opening
+pub record HasTerminal (console : ℕ) (system : System) : Type 0 where
+  pub lives : Lives system.kernel.procs (console + 1)
+  pub name : (process_in system.kernel.procs (console + 1)).name ≡ terminal_name console
+  pub resident : native_in system.residents (console + 1) ≡ Some (Tmp (opening console))
+
+-- the interpreter, and a terminal message processor for each of so many consoles
+pub record HasResidents (consoles : ℕ) (system : System) : Type 0 where
+  pub interpreter : HasInterpreter system
+  pub terminals : (console : ℕ) → console < consoles → HasTerminal console system

@@ -1,0 +1,29 @@
+-- The gate that ends a resident procedure is one only for a process that is in one, and gates stay where they are.
+use Rattle.std.proofs.Common.{◌≡◌, ◌∙◌, ℕ, Bool, true, false, ◌&&◌, ◌==◌, ◌+◌, ◌-◌, ◌*◌, Some, None, if◌then◌else◌, refl, ap, arith}
+use Rattle.mpm_banks.specs.Memory.{Memory, SameSegments, segment_of}
+use Rattle.mpm_processor.specs.declared.gate.Gate.TheVariants.{End, Call, Return}
+use Rattle.mpm_processor.specs.Gates.{IsHome, last_page, gate_in}
+
+by_tests : (a b inside c : Bool) → (if a then Some End else (if b then Some Call else (if inside && c then Some Return else None))) ≡ Some Return → inside ≡ true
+by_tests true b inside c e = absurd (cc)
+by_tests false true inside c e = absurd (cc)
+by_tests false false true c e = refl
+by_tests false false false c e = absurd (cc)
+
+pub returns_inside : (inside : Bool) (page address : ℕ) → gate_in inside page address ≡ Some Return → inside ≡ true
+unfolding gate_in
+returns_inside inside page address e =
+    by_tests (address == 256 * page + 3) (address == 256 * page + 6) inside (address == 256 * page + 9) e
+
+-- a home, and its gates, stay where they are while its segment does
+
+pub home_stays : (old new : Memory) (seg : ℕ) → SameSegments old new → IsHome old seg → IsHome new seg
+home_stays old new seg same home = record {
+  exists = omega (arith, same.count, home.exists);
+  pages = omega (arith, same.pages seg, home.pages);
+  end = omega (arith, same.base seg, same.pages seg, home.end);
+}
+
+pub page_stays : (old new : Memory) (seg : ℕ) → SameSegments old new → last_page new seg ≡ last_page old seg
+page_stays old new seg same =
+    ap (λ base. base + (segment_of new seg).pages - 1) (same.base seg) ∙ ap (λ pages. (segment_of old seg).base + pages - 1) (same.pages seg)

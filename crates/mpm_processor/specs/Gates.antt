@@ -1,0 +1,27 @@
+-- The gates of a segment, in its last page: where the kernel acts in the place of what stands there. (MP/M II System
+-- Guide, "Memory Segment Base Page Initialization"; Programmer's Guide, "Function 151: Call Resident System Procedure".)
+use Rattle.std.specs.Prelude.{ℕ, ◌+◌, ◌-◌, ◌*◌, ◌≤◌, Bool, Option, Some, None, ◌==◌, ◌&&◌, if◌then◌else◌}
+use Rattle.mpm_banks.specs.Memory.{Memory, HasSegment, segment_of}
+use Rattle.mpm_processor.specs.declared.gate.Gate.{Gate}
+use Rattle.mpm_processor.specs.declared.gate.Gate.TheVariants.{End, Call, Return}
+
+-- a process may live in the segment: it has at least four pages and ends below common memory
+pub record IsHome (memory : Memory) (seg : ℕ) : Type 0 where
+  pub exists : HasSegment memory seg
+  pub pages : 4 ≤ (segment_of memory seg).pages
+  pub end : (segment_of memory seg).base + (segment_of memory seg).pages ≤ 192
+
+-- the last page of a segment
+abbrev pub last_page : Memory → ℕ → ℕ
+last_page memory seg = (segment_of memory seg).base + (segment_of memory seg).pages - 1
+
+-- the gate at an address, by the last page: 03h in it ends the process, 06h calls the kernel; for a process that is in a
+-- resident procedure 09h ends that one, for others nothing is there
+unfoldable pub gate_in : Bool → ℕ → ℕ → Option Gate
+gate_in inside page address =
+    if address == 256 * page + 3 then Some End
+    else (if address == 256 * page + 6 then Some Call
+    else (if inside && address == 256 * page + 9 then Some Return else None))
+
+abbrev pub gate_of : Bool → Memory → ℕ → ℕ → Option Gate
+gate_of inside memory seg address = gate_in inside (last_page memory seg) address
