@@ -16,13 +16,13 @@ pub record Written (before now : Option (List ℕ)) (bytes rest : List ℕ) : Ty
 
 pub nothing_written : (known : Option (List ℕ)) (bytes : List ℕ) → Written known known bytes bytes
 nothing_written None bytes = record { done = []; split = refl; taken = tt }
-nothing_written (Some held) bytes = record { done = []; split = refl; taken = sym (append-nil held) }
+nothing_written (Some text) bytes = record { done = []; split = refl; taken = sym (append-nil text) }
 
 appends_more : (a b c : Option (List ℕ)) (xs ys : List ℕ) → Appends a b xs → Appends b c ys → Appends a c (xs ++ ys)
 appends_more None b c xs ys h k = tt
-appends_more (Some held) (Some more) (Some all) xs ys h k = grind (arith, common_steps)
-appends_more (Some held) (Some more) None xs ys h k = k
-appends_more (Some held) None c xs ys h k = absurd h
+appends_more (Some text) (Some more) (Some all) xs ys h k = grind (arith, common_steps)
+appends_more (Some text) (Some more) None xs ys h k = k
+appends_more (Some text) None c xs ys h k = absurd h
 
 pub more_written : (a b c : Option (List ℕ)) (bytes rest : List ℕ) (n : ℕ) → Written a b bytes rest → Appends b c (take n rest) → n ≤ length rest → Written a c bytes (take (length rest - n) (drop n rest))
 more_written a b c bytes rest n w h within = record {
@@ -40,9 +40,9 @@ part_written a b bytes rest w = record { part = w.done; begins = record { rest =
 
 appends_kept : (a b c : Option (List ℕ)) (xs : List ℕ) → Appends a b xs → Keeps b c → Appends a c xs
 appends_kept None b c xs h k = tt
-appends_kept (Some held) (Some more) (Some same) xs h k = k ∙ h
-appends_kept (Some held) (Some more) None xs h k = k
-appends_kept (Some held) None c xs h k = absurd h
+appends_kept (Some text) (Some more) (Some same) xs h k = k ∙ h
+appends_kept (Some text) (Some more) None xs h k = k
+appends_kept (Some text) None c xs h k = absurd h
 
 pub part_stays : (a b c : Option (List ℕ)) (bytes rest : List ℕ) → Written a b bytes rest → Keeps b c → WritesPart a c bytes
 part_stays a b c bytes rest w k = record { part = w.done; begins = record { rest = rest; whole_is = w.split }; taken = appends_kept a b c w.done w.taken k }

@@ -1,8 +1,9 @@
 -- What a process's view of memory and devices is behind the changes of an instruction.
-use Rattle.std.proofs.Common.{◌≡◌, ◌≢◌, ℕ, ◌<◌, Bool, true, false, List, [], ◌∷◌, ◌||◌, ◌==◌, Option, None, Some, if◌then◌else◌, ap, refl, ◌∙◌, arith}
+use Rattle.std.proofs.Common.{◌≡◌, ◌≢◌, ℕ, ◌<◌, Bool, false, List, [], ◌∷◌, ◌||◌, ◌==◌, Option, None, Some, ap, refl, ◌∙◌, arith}
 use Rattle.std.proofs.lemmas.Bool.Decides.{nat_tests}
 use Rattle.std.specs.List.{list_any}
 use Rattle.std.specs.Prelude.{MatchOption}
+use Rattle.mpm_base.proofs.Choices.{either}
 use Rattle.mpm_base.specs.declared.devices.Devices.{Devices}
 use Rattle.z80_regs.specs.Outcome.{Action, Write, Input, Leaves}
 use Rattle.mpm_banks.specs.Memory.{Memory, byte_at, with_byte, SameSegments}
@@ -105,13 +106,9 @@ same_segments_after (Write address byte ∷ rest) seg memory =
     same_segments_both _ _ _ (same_segments_with_byte memory seg address byte) (same_segments_after rest seg (with_byte memory seg address byte))
 same_segments_after (Input port ∷ rest) seg memory = same_segments_after rest seg memory
 
-either_last : (b : Bool) (one other : Devices) (last : List ℕ) → one.last ≡ last → other.last ≡ last → (if b then one else other).last ≡ last
-either_last true one other last is was = is
-either_last false one other last is was = was
-
 last_stays : (devices : Devices) (port : ℕ) → (port_read devices port).last ≡ devices.last
 unfolding port_read
-last_stays devices port = either_last _ _ _ devices.last refl refl
+last_stays devices port = either (λ (d : Devices). d.last ≡ devices.last) _ _ _ (λ _. refl) (λ _. refl)
 
 -- no device sends a byte by it
 pub last_bytes_stay : (actions : List Action) (devices : Devices) → (devices_after actions devices).last ≡ devices.last

@@ -1,8 +1,9 @@
 -- Segments that begin, or change hands: they still make up a memory, and all bytes stay.
-use Rattle.std.proofs.Common.{◌≡◌, ◌≢◌, ℕ, zero, suc, ◌+◌, ◌*◌, min, ◌<◌, ◌≤◌, Bool, true, false, List, [], ◌∷◌, Option, Some, None, All, map, length, get_or, arith, subst, sym, ap, refl, ◌∙◌, if◌then◌else◌}
+use Rattle.std.proofs.Common.{◌≡◌, ◌≢◌, ℕ, zero, suc, ◌+◌, ◌*◌, min, ◌<◌, ◌≤◌, true, false, List, [], ◌∷◌, Option, Some, None, All, map, length, get_or, arith, subst, sym, ap, refl, ◌∙◌, if◌then◌else◌}
 use Rattle.std.proofs.lemmas.List.{length-replicate, length-map, length-set, get_or-map, get_or-set_same, get_or-set_other}
 use Rattle.std.proofs.lemmas.List.Quantifiers.{position-Some}
 use Rattle.std.proofs.Math.ListN.{get_or-eq_default}
+use Rattle.mpm_base.proofs.Choices.{either}
 use Rattle.mpm_base.specs.Lists.{zeros}
 use Rattle.mpm_base.specs.declared.segment.SegmentSpec.{SegmentSpec}
 use Rattle.mpm_banks.specs.declared.segment.Segment.{Segment}
@@ -40,13 +41,9 @@ new_is_memory segments common specs are blank count fit =
     }
 
 -- who has a segment changes nothing of where it lies
-either_is_segment : (b : Bool) (one other : Segment) → IsSegment one → IsSegment other → IsSegment (if b then one else other)
-either_is_segment true one other is was = is
-either_is_segment false one other is was = was
-
 freed_is_segment : (owner : ℕ) (segment : Segment) → IsSegment segment → IsSegment (freed owner segment)
 freed_is_segment owner segment is =
-    either_is_segment (is_owners owner segment.allocation) _ _ (record { some = is.some; below = is.below; size = is.size }) is
+    either IsSegment (is_owners owner segment.allocation) _ _ (λ _. record { some = is.some; below = is.below; size = is.size }) (λ _. is)
 
 pub all_released_is_memory : (segments before : List Segment) (common : List ℕ) (owner : ℕ) → segments ≡ map (freed owner) before
     → IsMemory (record { segments = before; common = common }) → IsMemory (record { segments = segments; common = common })
@@ -167,10 +164,6 @@ same_bytes_both old middle new first second = record {
   common = second.common ∙ first.common;
 }
 
-pub same_bytes_if : (old : Memory) (b : Bool) (one other : Memory) → SameBytes old one → SameBytes old other → SameBytes old (if b then one else other)
-same_bytes_if old true one other is was = is
-same_bytes_if old false one other is was = was
-
 pub same_bytes_allocated : (memory : Memory) (seg : ℕ) (allocation : Allocation) → SameBytes memory (allocated memory seg allocation)
 unfolding allocated
 same_bytes_allocated memory seg allocation = record {
@@ -186,12 +179,11 @@ same_bytes_reserved memory owner (Some seg) = same_bytes_allocated memory seg (R
 
 pub same_bytes_released : (memory : Memory) (owner seg : ℕ) → SameBytes memory (released memory owner seg)
 unfolding released
-same_bytes_released memory owner seg = same_bytes_if memory (is_reserved memory owner seg) _ _ (same_bytes_allocated memory seg Free) (same_bytes_itself memory)
+same_bytes_released memory owner seg = either (SameBytes memory) (is_reserved memory owner seg) _ _ (λ _. same_bytes_allocated memory seg Free) (λ _. same_bytes_itself memory)
 
-freed_if : (b : Bool) (segment other : Segment) → (other.base ≡ segment.base) × (other.bytes ≡ segment.bytes)
-    → ((if b then other else segment).base ≡ segment.base) × ((if b then other else segment).bytes ≡ segment.bytes)
-freed_if true segment other same = same
-freed_if false segment other same = (refl, refl)
+freed_bytes : (owner : ℕ) (segment : Segment) → ((freed owner segment).base ≡ segment.base) × ((freed owner segment).bytes ≡ segment.bytes)
+freed_bytes owner segment =
+    either (λ (s : Segment). (s.base ≡ segment.base) × (s.bytes ≡ segment.bytes)) (is_owners owner segment.allocation) _ _ (λ _. (refl, refl)) (λ _. (refl, refl))
 
 segment_freed : (segments : List Segment) (owner seg : ℕ) → get_or (map (freed owner) segments) seg no_segment ≡ freed owner (get_or segments seg no_segment)
 segment_freed [] owner seg = refl
@@ -201,7 +193,7 @@ segment_freed (s ∷ segments) owner (suc seg) = segment_freed segments owner se
 pub same_bytes_all_released : (memory : Memory) (owner : ℕ) → SameBytes memory (all_released memory owner)
 unfolding all_released
 same_bytes_all_released memory owner = record {
-  base = λ seg. ap (λ (s : Segment). s.base) (segment_freed memory.segments owner seg) ∙ (freed_if (is_owners owner (segment_of memory seg).allocation) (segment_of memory seg) _ (refl, refl)).0;
-  bytes = λ seg. ap (λ (s : Segment). s.bytes) (segment_freed memory.segments owner seg) ∙ (freed_if (is_owners owner (segment_of memory seg).allocation) (segment_of memory seg) _ (refl, refl)).1;
+  base = λ seg. ap (λ (s : Segment). s.base) (segment_freed memory.segments owner seg) ∙ (freed_bytes owner (segment_of memory seg)).0;
+  bytes = λ seg. ap (λ (s : Segment). s.bytes) (segment_freed memory.segments owner seg) ∙ (freed_bytes owner (segment_of memory seg)).1;
   common = refl;
 }

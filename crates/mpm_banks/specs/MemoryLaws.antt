@@ -134,17 +134,17 @@ read_put : (memory : Memory) (place : Place) (value seg address : ℕ)
 unfolding byte_at
 read_put memory place value seg address = ap (byte_of (put_to memory place value)) (put_moves_nothing memory place value seg address)
 
-put_back : (memory : Memory) (place : Place) (value seg address : ℕ) → place_of memory seg address ≡ place → IsPlace place
+put_reads_back : (memory : Memory) (place : Place) (value seg address : ℕ) → place_of memory seg address ≡ place → IsPlace place
     → byte_of (put_to memory place value) place ≡ value
-put_back memory (At space index) value seg address is there =
+put_reads_back memory (At space index) value seg address is there =
     byte_of_same memory space index value (place_is_at memory seg address space index is).below
-put_back memory Nowhere value seg address is there = absurd there
+put_reads_back memory Nowhere value seg address is there = absurd there
 
 -- a byte that is written where there is a place is read back
 pub byte_at_with_byte : (memory : Memory) (seg address value : ℕ) → IsWritable memory seg address → byte_at (with_byte memory seg address value) seg address ≡ value
 unfolding with_byte IsWritable
 byte_at_with_byte memory seg address value is =
-    read_put memory (place_of memory seg address) value seg address ∙ put_back memory _ value seg address refl is
+    read_put memory (place_of memory seg address) value seg address ∙ put_reads_back memory _ value seg address refl is
 
 put_leaves : (memory : Memory) (place other : Place) (value : ℕ) → other ≢ place → byte_of (put_to memory place value) other ≡ byte_of memory other
 put_leaves memory (At space index) (At other at) value apart = byte_of_other memory space other index at value apart

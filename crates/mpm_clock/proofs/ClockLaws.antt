@@ -1,13 +1,14 @@
 -- Laws of the clock: what it stays through, and what a tick is to the time of day.
-use Rattle.std.proofs.Common.{◌≡◌, ◌≢◌, ◌∙◌, ℕ, ◌+◌, ◌%◌, ◌<◌, ◌≤◌, Bool, true, false, ◌==◌, if◌then◌else◌, List, [], ◌∷◌, ◌++◌, length, min, length-append, inl, inr, refl, sym, ap, arith}
+use Rattle.std.proofs.Common.{◌≡◌, ◌≢◌, ◌∙◌, ℕ, ◌+◌, ◌%◌, ◌<◌, ◌≤◌, ◌==◌, if◌then◌else◌, List, [], ◌∷◌, ◌++◌, length, min, length-append, inl, inr, refl, sym, ap, arith}
 use Rattle.std.specs.Prelude.{nat_lt}
 use Rattle.std.proofs.lemmas.Bool.{cases_eq}
 use Rattle.std.proofs.lemmas.Bool.Decides.{nat_tests}
+use Rattle.mpm_base.proofs.Choices.{either}
 use Rattle.mpm_clock.specs.declared.moment.Moment.{Moment}
 use Rattle.mpm_clock.specs.declared.delays.Delay.{Delay}
 use Rattle.mpm_clock.specs.Delays.{delays_of, left_by_tick, without_delay}
-use Rattle.mpm_clock.specs.Times.{Clock, IsTime, IsClock, moment_of, set_to, new_clock, second_later, tick_later, delayed, left, seconds_of, ticks_of}
-use Rattle.mpm_clock.proofs.DelayLaws.{delays_none, delays_ticked, delays_left_own, delays_left_other, delays_more_own, delays_more_other, few_delays}
+use Rattle.mpm_clock.specs.Times.{Clock, IsTime, IsClock, moment_of, set_to, new_clock, second_later, tick_later, delayed, clock_without_delay, seconds_of, ticks_of}
+use Rattle.mpm_clock.proofs.DelayLaws.{delays_none, delays_ticked, delays_without_own, delays_without_other, delays_more_own, delays_more_other, few_delays}
 
 pub clock_new : (moment : Moment) → IsTime moment → IsClock (new_clock moment)
 unfolding new_clock
@@ -61,13 +62,13 @@ room_for_delay clock p is below none =
 
 left_at_most : (ds : List Delay) (p q : ℕ) → delays_of (without_delay ds p) q ≤ delays_of ds q
 left_at_most ds p q = elim (cases_eq q p) [
-  | inl same ↦ omega (arith, ap (delays_of (without_delay ds p)) same, delays_left_own ds p)
-  | inr other ↦ omega (arith, delays_left_other ds p q other)
+  | inl same ↦ omega (arith, ap (delays_of (without_delay ds p)) same, delays_without_own ds p)
+  | inr other ↦ omega (arith, delays_without_other ds p q other)
 ]
 
-pub clock_left : (clock : Clock) (p : ℕ) → IsClock clock → IsClock (left clock p)
-unfolding left
-clock_left clock p is = record {
+pub is_clock_without_delay : (clock : Clock) (p : ℕ) → IsClock clock → IsClock (clock_without_delay clock p)
+unfolding clock_without_delay
+is_clock_without_delay clock p is = record {
   time = is.time;
   ticks = is.ticks;
   once = λ q. omega (arith, left_at_most clock.delays p q, is.once q);
@@ -76,28 +77,20 @@ clock_left clock p is = record {
 
 -- the time goes on
 
-time_if : (b : Bool) (x y : Moment) → (b ≡ true → IsTime x) → (b ≡ false → IsTime y) → IsTime (if b then x else y)
-time_if true x y s t = s refl
-time_if false x y s t = t refl
-
 pub time_later : (m : Moment) → IsTime m → IsTime (second_later m)
 unfolding second_later
 time_later m is =
-    time_if (nat_lt m.second 59) _ _ (λ e. record { hour = is.hour; minute = is.minute; second = grind (arith, nat_tests, e) })
-    (λ _. time_if (nat_lt m.minute 59) _ _ (λ e. record { hour = is.hour; minute = grind (arith, nat_tests, e); second = omega arith })
-    (λ _. time_if (nat_lt m.hour 23) _ _ (λ e. record { hour = grind (arith, nat_tests, e); minute = omega arith; second = omega arith })
+    either IsTime (nat_lt m.second 59) _ _ (λ e. record { hour = is.hour; minute = is.minute; second = grind (arith, nat_tests, e) })
+    (λ _. either IsTime (nat_lt m.minute 59) _ _ (λ e. record { hour = is.hour; minute = grind (arith, nat_tests, e); second = omega arith })
+    (λ _. either IsTime (nat_lt m.hour 23) _ _ (λ e. record { hour = grind (arith, nat_tests, e); minute = omega arith; second = omega arith })
     (λ _. record { hour = omega arith; minute = omega arith; second = omega arith })))
-
-clock_if : (b : Bool) (x y : Clock) → (b ≡ true → IsClock x) → IsClock y → IsClock (if b then x else y)
-clock_if true x y s t = s refl
-clock_if false x y s t = t
 
 pub clock_later : (clock : Clock) → IsClock clock → IsClock (tick_later clock)
 unfolding tick_later
 clock_later clock is =
-    clock_if (nat_lt clock.ticks 59) _ _
+    either IsClock (nat_lt clock.ticks 59) _ _
     (λ e. record { time = is.time; ticks = grind (arith, nat_tests, e); once = is.once; below = is.below })
-    (clock_set clock (second_later (moment_of clock)) is (time_later (moment_of clock) is.time))
+    (λ _. clock_set clock (second_later (moment_of clock)) is (time_later (moment_of clock) is.time))
 
 -- the delays behind a tick
 pub clock_delays_ticked : (clock : Clock) → IsClock clock → IsClock (record clock { delays = left_by_tick clock.delays })
@@ -108,54 +101,40 @@ clock_delays_ticked clock is = record {
   below = λ q some. is.below q (omega (arith, delays_ticked clock.delays q, some));
 }
 
-delays_if : (b : Bool) (x y : Clock) (ds : List Delay) → x.delays ≡ ds → y.delays ≡ ds → (if b then x else y).delays ≡ ds
-delays_if true x y ds s t = s
-delays_if false x y ds s t = t
-
 pub delays_later : (clock : Clock) → (tick_later clock).delays ≡ clock.delays
 unfolding tick_later set_to
-delays_later clock = delays_if (nat_lt clock.ticks 59) _ _ clock.delays refl refl
+delays_later clock = either (λ (c : Clock). c.delays ≡ clock.delays) (nat_lt clock.ticks 59) _ _ (λ _. refl) (λ _. refl)
 
 -- a second is one more second of the day, of which there are 86,400; the date rises behind the last, up to 65,535
-seconds_if : (b : Bool) (x y : Moment) (n : ℕ) → (b ≡ true → seconds_of x ≡ n) → (b ≡ false → seconds_of y ≡ n) → seconds_of (if b then x else y) ≡ n
-seconds_if true x y n s t = s refl
-seconds_if false x y n s t = t refl
-
 pub seconds_later : (m : Moment) → IsTime m → seconds_of (second_later m) ≡ (seconds_of m + 1) % 86400
 unfolding second_later
 seconds_later m is =
-    let n = (seconds_of m + 1) % 86400 in
-    seconds_if (nat_lt m.second 59) _ _ n (λ a. grind (arith, nat_tests, is.hour, is.minute, is.second, a))
-    (λ a. seconds_if (nat_lt m.minute 59) _ _ n (λ b. grind (arith, nat_tests, is.hour, is.minute, is.second, a, b))
-    (λ b. seconds_if (nat_lt m.hour 23) _ _ n (λ d. grind (arith, nat_tests, is.hour, is.minute, is.second, a, b, d))
+    let P : Moment → Type 0 = λ later. seconds_of later ≡ (seconds_of m + 1) % 86400 in
+    either P (nat_lt m.second 59) _ _ (λ a. grind (arith, nat_tests, is.hour, is.minute, is.second, a))
+    (λ a. either P (nat_lt m.minute 59) _ _ (λ b. grind (arith, nat_tests, is.hour, is.minute, is.second, a, b))
+    (λ b. either P (nat_lt m.hour 23) _ _ (λ d. grind (arith, nat_tests, is.hour, is.minute, is.second, a, b, d))
     (λ d. grind (arith, nat_tests, is.hour, is.minute, is.second, a, b, d))))
 
 -- a tick is one more tick of the day, of which there are 5,184,000
-ticks_if : (b : Bool) (x y : Clock) (n : ℕ) → (b ≡ true → ticks_of x ≡ n) → (b ≡ false → ticks_of y ≡ n) → ticks_of (if b then x else y) ≡ n
-ticks_if true x y n s t = s refl
-ticks_if false x y n s t = t refl
-
 pub ticks_later : (clock : Clock) → IsClock clock → ticks_of (tick_later clock) ≡ (ticks_of clock + 1) % 5184000
 unfolding tick_later set_to
 ticks_later clock is =
     let time = is.time in
-    ticks_if (nat_lt clock.ticks 59) _ _ ((ticks_of clock + 1) % 5184000)
+    let P : Clock → Type 0 = λ later. ticks_of later ≡ (ticks_of clock + 1) % 5184000 in
+    either P (nat_lt clock.ticks 59) _ _
     (λ a. grind (arith, nat_tests, time.hour, time.minute, time.second, a))
     (λ a. let last : clock.ticks ≡ 59 = grind (arith, nat_tests, is.ticks, a) in
     omega (arith, last, time.hour, time.minute, time.second, seconds_later (moment_of clock) time))
 
 -- the date rises exactly behind the day's last second, up to 65,535
-date_if : (b : Bool) (x y : Moment) (n : ℕ) → (b ≡ true → x.date ≡ n) → (b ≡ false → y.date ≡ n) → (if b then x else y).date ≡ n
-date_if true x y n s t = s refl
-date_if false x y n s t = t refl
-
 pub date_later : (m : Moment) → IsTime m → (second_later m).date ≡ (if seconds_of m == 86399 then min (m.date + 1) 65535 else m.date)
 unfolding second_later
 date_later m is =
     let n = if seconds_of m == 86399 then min (m.date + 1) 65535 else m.date in
     let stays : seconds_of m ≢ 86399 → m.date ≡ n = λ other. grind (arith, nat_tests, other) in
     let rises : seconds_of m ≡ 86399 → min (m.date + 1) 65535 ≡ n = λ last. grind (arith, nat_tests, last) in
-    date_if (nat_lt m.second 59) _ _ n (λ a. stays (grind (arith, nat_tests, is.hour, is.minute, is.second, a)))
-    (λ a. date_if (nat_lt m.minute 59) _ _ n (λ b. stays (grind (arith, nat_tests, is.hour, is.minute, is.second, a, b)))
-    (λ b. date_if (nat_lt m.hour 23) _ _ n (λ d. stays (grind (arith, nat_tests, is.hour, is.minute, is.second, a, b, d)))
+    let P : Moment → Type 0 = λ later. later.date ≡ n in
+    either P (nat_lt m.second 59) _ _ (λ a. stays (grind (arith, nat_tests, is.hour, is.minute, is.second, a)))
+    (λ a. either P (nat_lt m.minute 59) _ _ (λ b. stays (grind (arith, nat_tests, is.hour, is.minute, is.second, a, b)))
+    (λ b. either P (nat_lt m.hour 23) _ _ (λ d. stays (grind (arith, nat_tests, is.hour, is.minute, is.second, a, b, d)))
     (λ d. rises (grind (arith, nat_tests, is.hour, is.minute, is.second, a, b, d)))))

@@ -145,10 +145,10 @@ own_step false d p left e so_far =
     let none : one_if (d.slot == p) ≡ 0 = ap (λ b. one_if b) e in
     omega (arith, so_far, delays_cons d left p)
 
-pub delays_left_own : (ds : List Delay) (p : ℕ) → delays_of (without_delay ds p) p ≡ 0
+pub delays_without_own : (ds : List Delay) (p : ℕ) → delays_of (without_delay ds p) p ≡ 0
 unfolding without_delay delays_of
-delays_left_own [] p = refl
-delays_left_own (d ∷ ds) p = own_step (d.slot == p) d p (filter (λ x. not (x.slot == p)) ds) refl (delays_left_own ds p)
+delays_without_own [] p = refl
+delays_without_own (d ∷ ds) p = own_step (d.slot == p) d p (filter (λ x. not (x.slot == p)) ds) refl (delays_without_own ds p)
 
 other_step : (b : Bool) (d : Delay) (p q : ℕ) (left ds : List Delay) → (d.slot == p) ≡ b → q ≢ p → delays_of left q ≡ delays_of ds q
     → delays_of (if not b then d ∷ left else left) q ≡ delays_of (d ∷ ds) q
@@ -158,11 +158,11 @@ other_step true d p q left ds e other so_far =
     omega (arith, so_far, delays_cons d ds q)
 other_step false d p q left ds e other so_far = omega (arith, so_far, delays_cons d left q, delays_cons d ds q)
 
-pub delays_left_other : (ds : List Delay) (p q : ℕ) → q ≢ p → delays_of (without_delay ds p) q ≡ delays_of ds q
+pub delays_without_other : (ds : List Delay) (p q : ℕ) → q ≢ p → delays_of (without_delay ds p) q ≡ delays_of ds q
 unfolding without_delay delays_of
-delays_left_other [] p q other = refl
-delays_left_other (d ∷ ds) p q other =
-    other_step (d.slot == p) d p q (filter (λ x. not (x.slot == p)) ds) ds refl other (delays_left_other ds p q other)
+delays_without_other [] p q other = refl
+delays_without_other (d ∷ ds) p q other =
+    other_step (d.slot == p) d p q (filter (λ x. not (x.slot == p)) ds) ds refl other (delays_without_other ds p q other)
 
 -- one more
 more : (ds : List Delay) (d : Delay) (q : ℕ) → delays_of (ds ++ d ∷ []) q ≡ delays_of ds q + one_if (d.slot == q)

@@ -67,8 +67,8 @@ unfoldable pub delayed : Clock → ℕ → ℕ → Clock
 delayed clock p ticks = record clock { delays = clock.delays ++ record { slot = p; ticks = ticks } ∷ [] }
 
 -- a process waits no more
-unfoldable pub left : Clock → ℕ → Clock
-left clock p = record clock { delays = without_delay clock.delays p }
+unfoldable pub clock_without_delay : Clock → ℕ → Clock
+clock_without_delay clock p = record clock { delays = without_delay clock.delays p }
 
 -- what is so of a clock at any time: it tells a time of day, and each of 32 processes waits at most once
 pub record IsClock (clock : Clock) : Type 0 where

@@ -29,7 +29,7 @@ impl Model for Clock {
 
 impl Clock {
     ghost use Rattle.mpm_clock.specs.Delays.{delays_of, woken_by_tick};
-    ghost use Rattle.mpm_clock.specs.Times.{IsClock, moment_of, new_clock, set_to, ticked, delayed, left};
+    ghost use Rattle.mpm_clock.specs.Times.{IsClock, moment_of, new_clock, set_to, ticked, delayed, clock_without_delay};
 
     /// A clock that begins with a second, with no delays.
     #[tactic(auto, unfolding(crate::specs::Times::new_clock))]
@@ -79,9 +79,9 @@ impl Clock {
     }
 
     /// A process waits no more, if it did.
-    #[tactic(auto, unfolding(crate::specs::Times::left))]
+    #[tactic(auto, unfolding(crate::specs::Times::clock_without_delay))]
     pub fn leave(&mut self, p: Pid)
-        ensures { self.new ≡ left self.old p }
+        ensures { self.new ≡ clock_without_delay self.old p }
     {
         self.delays.leave(p);
     }

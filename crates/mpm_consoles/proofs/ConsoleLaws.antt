@@ -3,30 +3,26 @@ use Rattle.std.proofs.Common.{◌≡◌, ◌∙◌, ℕ, ◌+◌, ◌-◌, ◌^�
 use Rattle.std.proofs.lemmas.Bool.{false≢true}
 use Rattle.std.proofs.lemmas.Bool.Decides.{nat_tests}
 use Rattle.std.proofs.lemmas.List.{length-append, length-drop}
+use Rattle.mpm_base.proofs.Choices.{either}
 use Rattle.mpm_consoles.specs.Columns.{column_after, columns_after, text_of}
-use Rattle.mpm_consoles.specs.Console.{Console, new_console, is_owner, passed_to, with_raw, with_output_stopped, awaiting, is_for, woken, behind_wake, left_by, resumed, has_room, with_key, typed, without_first, spoken, written, IsProper}
+use Rattle.mpm_consoles.specs.Console.{Console, new_console, is_owner, passed_to, with_raw, with_output_stopped, awaiting, is_for, woken, behind_wake, without_wait_of, resumed, has_room, with_key, typed, without_first, spoken, written, IsProper}
 use Rattle.mpm_consoles.specs.declared.console.Awaited.{Awaited}
 use Rattle.mpm_consoles.specs.declared.console.Awaited.TheVariants.{Key, Output}
-
--- one of two consoles
-pub either : (P : Console → Type 0) (b : Bool) (x y : Console) → P x → P y → P (if b then x else y)
-either P true x y here there = here
-either P false x y here there = there
 
 -- a key that is stored or lost leaves who waits
 pub woken_key : (what : Awaited) (byte : ℕ) (console : Console) → woken what (with_key byte console) ≡ woken what console
 unfolding woken with_key
 woken_key what byte console =
-    either (λ c. (if is_for c.awaits what then c.owner else None) ≡ (if is_for console.awaits what then console.owner else None)) (has_room console) _ _ refl refl
+    either (λ (c : Console). (if is_for c.awaits what then c.owner else None) ≡ (if is_for console.awaits what then console.owner else None)) (has_room console) _ _ (λ _. refl) (λ _. refl)
 
 -- the owner stays
 pub owner_key : (byte : ℕ) (console : Console) → (with_key byte console).owner ≡ console.owner
 unfolding with_key
-owner_key byte console = either (λ c. c.owner ≡ console.owner) (has_room console) _ _ refl refl
+owner_key byte console = either (λ (c : Console). c.owner ≡ console.owner) (has_room console) _ _ (λ _. refl) (λ _. refl)
 
 pub owner_wake : (what : Awaited) (console : Console) → (behind_wake what console).owner ≡ console.owner
 unfolding behind_wake
-owner_wake what console = either (λ c. c.owner ≡ console.owner) (is_for console.awaits what) _ _ refl refl
+owner_wake what console = either (λ (c : Console). c.owner ≡ console.owner) (is_for console.awaits what) _ _ (λ _. refl) (λ _. refl)
 
 pub owner_typed : (byte : ℕ) (console : Console) → (typed byte console).owner ≡ console.owner
 unfolding typed
@@ -36,9 +32,9 @@ pub owner_resumed : (console : Console) → (resumed console).owner ≡ console.
 unfolding resumed
 owner_resumed console = owner_wake Output (record console { stopped = false })
 
-pub owner_left : (p : ℕ) (console : Console) → (left_by p console).owner ≡ console.owner
-unfolding left_by
-owner_left p console = either (λ c. c.owner ≡ console.owner) (is_owner console.owner p) _ _ refl refl
+pub owner_without_wait : (p : ℕ) (console : Console) → (without_wait_of p console).owner ≡ console.owner
+unfolding without_wait_of
+owner_without_wait p console = either (λ (c : Console). c.owner ≡ console.owner) (is_owner console.owner p) _ _ (λ _. refl) (λ _. refl)
 
 -- what is proper stays so
 pub proper_new : IsProper new_console
@@ -74,11 +70,11 @@ at_rest console proper = record { keys = proper.keys; lost = proper.lost; column
 
 pub proper_wake : (what : Awaited) (console : Console) → IsProper console → IsProper (behind_wake what console)
 unfolding behind_wake
-proper_wake what console proper = either IsProper (is_for console.awaits what) _ _ (at_rest console proper) proper
+proper_wake what console proper = either IsProper (is_for console.awaits what) _ _ (λ _. at_rest console proper) (λ _. proper)
 
-pub proper_left : (p : ℕ) (console : Console) → IsProper console → IsProper (left_by p console)
-unfolding left_by
-proper_left p console proper = either IsProper (is_owner console.owner p) _ _ (at_rest console proper) proper
+pub proper_without_wait : (p : ℕ) (console : Console) → IsProper console → IsProper (without_wait_of p console)
+unfolding without_wait_of
+proper_without_wait p console proper = either IsProper (is_owner console.owner p) _ _ (λ _. at_rest console proper) (λ _. proper)
 
 pub proper_resumed : (console : Console) → IsProper console → IsProper (resumed console)
 unfolding resumed

@@ -2,6 +2,7 @@
 use Rattle.std.proofs.Common.{◌≡◌, ◌⊎◌, inl, inr, ℕ, ◌+◌, ◌-◌, ◌^◌, Bool, true, false, [], ◌∷◌, ◌++◌, Option, Some, None, if◌then◌else◌, min, refl, sym, subst, arith}
 use Rattle.std.proofs.lemmas.Bool.Decides.{nat_tests}
 use Rattle.std.proofs.lemmas.List.{get_or-set_same}
+use Rattle.mpm_base.proofs.Choices.{either}
 use Rattle.mpm_consoles.specs.Console.{Console, new_console, passed_to, with_output_stopped, is_for, behind_wake, resumed, has_room, with_key, typed, IsProper}
 use Rattle.mpm_consoles.specs.Consoles.{Consoles, console_at, HasConsole, with_console, first_waiter, IsSound}
 use Rattle.mpm_consoles.specs.Keys.{control_of}
@@ -23,16 +24,12 @@ cooked false byte control is = refl
 pub set_there : (t : Consoles) (n : ℕ) (console : Console) → HasConsole t n → console_at (with_console t n console) n ≡ console
 set_there t n console has = get_or-set_same t.consoles n console new_console has
 
-either : (P : Console → Type 0) (b : Bool) (x y : Console) → P x → P y → P (if b then x else y)
-either P true x y here there = here
-either P false x y here there = there
-
 pub stays_itself : (console : Console) → Stays console console
 stays_itself console = record { keys = refl; lost = refl }
 
 pub stays_wake : (what : Awaited) (console : Console) → Stays console (behind_wake what console)
 unfolding behind_wake
-stays_wake what console = either (λ c. Stays console c) (is_for console.awaits what) _ _ (record { keys = refl; lost = refl }) (stays_itself console)
+stays_wake what console = either (λ (c : Console). Stays console c) (is_for console.awaits what) _ _ (λ _. record { keys = refl; lost = refl }) (λ _. stays_itself console)
 
 -- a key like others
 fate_in : (b : Bool) (console : Console) (byte : ℕ) → IsProper console → has_room console ≡ b → (now : Console) → Stays (if b then record console { keys = console.keys ++ byte ∷ [] } else (record console { lost = min (console.lost + 1) (2 ^ 64 - 1) })) now → Stores console now byte ⊎ Loses console now

@@ -2,23 +2,20 @@
 use Rattle.std.proofs.Common.{◌≡◌, ◌≢◌, ◌∙◌, inl, inr, ℕ, ◌+◌, ◌-◌, ◌^◌, ◌≤◌, Bool, true, false, not, ◌||◌, List, [], ◌∷◌, ◌++◌, Option, Some, None, ◌==◌, if◌then◌else◌, min, length, drop, get_or, set, slice_get, refl, sym, ap, subst, arith}
 use Rattle.std.proofs.lemmas.Bool.{cases_eq, eq-eqb, ne_eqb}
 use Rattle.std.proofs.lemmas.List.{get_or-set_other, append-nil, append_assoc, length-set, length-map}
-use Rattle.mpm_consoles.specs.Console.{Console, new_console, is_owner, passed_to, with_raw, with_output_stopped, resumed, awaiting, left_by, has_room, with_key, typed, first_key, without_first, spoken, written}
+use Rattle.mpm_base.proofs.Choices.{either}
+use Rattle.mpm_consoles.specs.Console.{Console, new_console, is_owner, passed_to, with_raw, with_output_stopped, resumed, awaiting, without_wait_of, has_room, with_key, typed, first_key, without_first, spoken, written}
 use Rattle.mpm_consoles.specs.Consoles.{Consoles, console_at, HasConsole, with_console, owner_of, owns, first_waiter, waits_for}
 use Rattle.mpm_consoles.specs.Keys.{control_of}
-use Rattle.mpm_consoles.specs.Handling.{given, unlisted, listed, attach_from, behind_attach, pass_to, passed, behind_detach, behind_assign, subject, behind_pass, key_by, behind_key, behind_take, behind_raw, behind_wait, behind_output, left}
+use Rattle.mpm_consoles.specs.Handling.{given, unlisted, listed, attach_from, behind_attach, pass_to, passed, behind_detach, behind_assign, subject, behind_pass, key_by, behind_key, behind_take, behind_raw, behind_wait, behind_output, units_without_waiter}
 use Rattle.mpm_consoles.specs.Fates.{Stays}
-use Rattle.mpm_consoles.specs.Runs.{stored, missed, as_list, Change, Attaches, Detaches, Assigns, MakesRaw, Waits, Writes, Leaves, Deed, Types, Takes, Makes, behind_change, behind_deed, Passage, no_passage, type_in, take_out, passage, Conserves, behind_all, passages}
+use Rattle.mpm_consoles.specs.Runs.{stored, missed, as_list, Change, Attaches, Detaches, Assigns, MakesRaw, Waits, Writes, Leaves, Operation, Types, Takes, Makes, behind_change, behind_operation, Passage, no_passage, type_in, take_out, passage, Conserves, behind_all, passages}
 use Rattle.mpm_consoles.specs.declared.console.Awaited.TheVariants.{Key, Output}
 use Rattle.mpm_consoles.specs.declared.keys.Control.{Control}
 use Rattle.mpm_consoles.specs.declared.keys.Control.TheVariants.{Stop, Resume, Abort, Detach}
 use Rattle.mpm_consoles.specs.declared.unit.Unit.{Unit}
 use Rattle.mpm_consoles.specs.declared.unit.Unit.TheVariants.{Console as ConsoleUnit, Printer as PrinterUnit}
-use Rattle.mpm_consoles.proofs.SoundLaws.{left_at}
+use Rattle.mpm_consoles.proofs.SoundLaws.{without_wait_at}
 use Rattle.mpm_consoles.proofs.FateLaws.{set_there, stays_itself, stays_wake}
-
-one_of : (P : Consoles → Type 0) (b : Bool) (x y : Consoles) → P x → P y → P (if b then x else y)
-one_of P true x y here there = here
-one_of P false x y here there = there
 
 -- a console set to one with the same keys
 set_stays : (t : Consoles) (n m : ℕ) (console : Console) → HasConsole t n → Stays (console_at t m) console → Stays (console_at t n) (console_at (with_console t m console) n)
@@ -35,7 +32,7 @@ stays_given t n (PrinterUnit m) owner has = stays_itself (console_at t n)
 stays_attached : (o : Option ℕ) (t : Consoles) (n p priority : ℕ) (unit : Unit) (wait : Bool) → HasConsole t n → Stays (console_at t n) (console_at (attach_from o t p priority unit wait) n)
 unfolding listed
 stays_attached None t n p priority unit wait has = stays_given t n unit (Some p) has
-stays_attached (Some owner) t n p priority unit wait has = one_of (λ new. Stays (console_at t n) (console_at new n)) (owner == p || not wait) _ _ (stays_itself (console_at t n)) (stays_itself (console_at t n))
+stays_attached (Some owner) t n p priority unit wait has = either (λ (new : Consoles). Stays (console_at t n) (console_at new n)) (owner == p || not wait) _ _ (λ _. stays_itself (console_at t n)) (λ _. stays_itself (console_at t n))
 
 stays_passed : (o : Option ℕ) (t : Consoles) (n : ℕ) (unit : Unit) → HasConsole t n → Stays (console_at t n) (console_at (pass_to o t unit) n)
 unfolding unlisted
@@ -47,24 +44,21 @@ unfolding unlisted
 stays_called true t n p unit owner has = stays_given (unlisted t p) n unit owner has
 stays_called false t n p unit owner has = stays_given t n unit owner has
 
-stays_left : (t : Consoles) (n p : ℕ) → Stays (console_at t n) (left_by p (console_at t n))
-unfolding left_by
-stays_left t n p = by_test (is_owner (console_at t n).owner p)
-  where
-    by_test : (b : Bool) → Stays (console_at t n) (if b then record (console_at t n) { awaits = None } else console_at t n)
-    by_test true = record { keys = refl; lost = refl }
-    by_test false = stays_itself (console_at t n)
+stays_without_wait : (t : Consoles) (n p : ℕ) → Stays (console_at t n) (without_wait_of p (console_at t n))
+unfolding without_wait_of
+stays_without_wait t n p =
+    either (Stays (console_at t n)) (is_owner (console_at t n).owner p) _ _ (λ _. record { keys = refl; lost = refl }) (λ _. stays_itself (console_at t n))
 
 stays_change : (t : Consoles) (n : ℕ) (change : Change) → HasConsole t n → Stays (console_at t n) (console_at (behind_change t change) n)
-unfolding behind_attach behind_detach passed behind_assign behind_raw with_raw behind_wait awaiting behind_output written spoken left unlisted
+unfolding behind_attach behind_detach passed behind_assign behind_raw with_raw behind_wait awaiting behind_output written spoken units_without_waiter unlisted
 stays_change t n (Attaches p priority unit wait) has = stays_attached (owner_of t unit) t n p priority unit wait has
-stays_change t n (Detaches p unit) has = one_of (λ new. Stays (console_at t n) (console_at new n)) (owns t p unit) _ _ (stays_passed (first_waiter t unit) t n unit has) (stays_itself (console_at t n))
-stays_change t n (Assigns m to) has = one_of (λ new. Stays (console_at t n) (console_at new n)) (owns t to (ConsoleUnit m)) _ _ (stays_itself (console_at t n)) (stays_called (waits_for t to (ConsoleUnit m)) t n to (ConsoleUnit m) (Some to) has)
+stays_change t n (Detaches p unit) has = either (λ (new : Consoles). Stays (console_at t n) (console_at new n)) (owns t p unit) _ _ (λ _. stays_passed (first_waiter t unit) t n unit has) (λ _. stays_itself (console_at t n))
+stays_change t n (Assigns m to) has = either (λ (new : Consoles). Stays (console_at t n) (console_at new n)) (owns t to (ConsoleUnit m)) _ _ (λ _. stays_itself (console_at t n)) (λ _. stays_called (waits_for t to (ConsoleUnit m)) t n to (ConsoleUnit m) (Some to) has)
 stays_change t n (MakesRaw m raw) has = set_stays t n m _ has (record { keys = refl; lost = refl })
 stays_change t n (Waits m key) has = set_stays t n m _ has (record { keys = refl; lost = refl })
 stays_change t n (Writes (ConsoleUnit m) byte tabs) has = set_stays t n m _ has (record { keys = refl; lost = refl })
 stays_change t n (Writes (PrinterUnit m) byte tabs) has = stays_itself (console_at t n)
-stays_change t n (Leaves p) has = subst (Stays (console_at t n)) (sym (left_at t.consoles p n)) (stays_left t n p)
+stays_change t n (Leaves p) has = subst (Stays (console_at t n)) (sym (without_wait_at t.consoles p n)) (stays_without_wait t n p)
 
 -- a control character
 stays_control : (control : Control) (t : Consoles) (n m byte : ℕ) (resident : Bool) → HasConsole t n → Stays (console_at t n) (console_at (key_by (Some control) t m byte resident) n)
@@ -128,18 +122,18 @@ at_number P n m here same apart = elim (cases_eq n m) [
   | inr is ↦ subst (λ (b : Bool). P (if b then here else no_passage)) (sym (ne_eqb n m is)) (apart is)
 ]
 
-pub conserves_deed : (t : Consoles) (n : ℕ) (deed : Deed) → HasConsole t n → IsCounted (console_at t n) → Conserves (console_at t n) (console_at (behind_deed t deed) n) (passage t n deed)
+pub conserves_operation : (t : Consoles) (n : ℕ) (operation : Operation) → HasConsole t n → IsCounted (console_at t n) → Conserves (console_at t n) (console_at (behind_operation t operation) n) (passage t n operation)
 unfolding passage behind_key behind_take
-conserves_deed t n (Types m byte resident) has counted =
+conserves_operation t n (Types m byte resident) has counted =
     at_number (Conserves (console_at t n) (console_at (behind_key t m byte resident) n)) n m (type_in (console_at t n) byte)
     (λ is. subst (λ k. Conserves (console_at t n) (console_at (behind_key t k byte resident) n) (type_in (console_at t n) byte)) is (conserves_by (control_of (console_at t n).raw byte) t n byte resident has counted))
     (λ is. conserves_stays _ _ counted (stays_elsewhere (control_of (console_at t m).raw byte) t n m byte resident has is))
-conserves_deed t n (Takes m) has counted =
+conserves_operation t n (Takes m) has counted =
     at_number (Conserves (console_at t n) (console_at (behind_take t m) n)) n m (take_out (console_at t n))
     (λ is. subst (λ k. Conserves (console_at t n) (console_at (behind_take t k) n) (take_out (console_at t n))) is
     (subst (λ (c : Console). Conserves (console_at t n) c (take_out (console_at t n))) (sym (set_there t n _ has)) (conserves_take (console_at t n) counted)))
     (λ is. conserves_stays _ _ counted (subst (Stays (console_at t n)) (sym (get_or-set_other t.consoles m n _ new_console is)) (stays_itself (console_at t n))))
-conserves_deed t n (Makes change) has counted = conserves_stays _ _ counted (stays_change t n change has)
+conserves_operation t n (Makes change) has counted = conserves_stays _ _ counted (stays_change t n change has)
 
 -- the units stay
 abbrev pub Keeps : Consoles → Consoles → Type 0
@@ -159,7 +153,7 @@ keeps_itself t = (refl, refl)
 keeps_attached : (o : Option ℕ) (t : Consoles) (p priority : ℕ) (unit : Unit) (wait : Bool) → Keeps t (attach_from o t p priority unit wait)
 unfolding listed
 keeps_attached None t p priority unit wait = keeps_given t unit (Some p)
-keeps_attached (Some owner) t p priority unit wait = one_of (Keeps t) (owner == p || not wait) _ _ (refl, refl) (refl, refl)
+keeps_attached (Some owner) t p priority unit wait = either (Keeps t) (owner == p || not wait) _ _ (λ _. (refl, refl)) (λ _. (refl, refl))
 
 keeps_passed : (o : Option ℕ) (t : Consoles) (unit : Unit) → Keeps t (pass_to o t unit)
 unfolding unlisted
@@ -172,15 +166,15 @@ keeps_called true t p unit owner = keeps_given (unlisted t p) unit owner
 keeps_called false t p unit owner = keeps_given t unit owner
 
 pub keeps_change : (t : Consoles) (change : Change) → Keeps t (behind_change t change)
-unfolding behind_attach behind_detach passed behind_assign behind_raw behind_wait behind_output left unlisted
+unfolding behind_attach behind_detach passed behind_assign behind_raw behind_wait behind_output units_without_waiter unlisted
 keeps_change t (Attaches p priority unit wait) = keeps_attached (owner_of t unit) t p priority unit wait
-keeps_change t (Detaches p unit) = one_of (Keeps t) (owns t p unit) _ _ (keeps_passed (first_waiter t unit) t unit) (keeps_itself t)
-keeps_change t (Assigns m to) = one_of (Keeps t) (owns t to (ConsoleUnit m)) _ _ (keeps_itself t) (keeps_called (waits_for t to (ConsoleUnit m)) t to (ConsoleUnit m) (Some to))
+keeps_change t (Detaches p unit) = either (Keeps t) (owns t p unit) _ _ (λ _. keeps_passed (first_waiter t unit) t unit) (λ _. keeps_itself t)
+keeps_change t (Assigns m to) = either (Keeps t) (owns t to (ConsoleUnit m)) _ _ (λ _. keeps_itself t) (λ _. keeps_called (waits_for t to (ConsoleUnit m)) t to (ConsoleUnit m) (Some to))
 keeps_change t (MakesRaw m raw) = keeps_console t m _
 keeps_change t (Waits m key) = keeps_console t m _
 keeps_change t (Writes (ConsoleUnit m) byte tabs) = keeps_console t m _
 keeps_change t (Writes (PrinterUnit m) byte tabs) = keeps_itself t
-keeps_change t (Leaves p) = (length-map t.consoles (left_by p), refl)
+keeps_change t (Leaves p) = (length-map t.consoles (without_wait_of p), refl)
 
 keeps_key : (o : Option Control) (t : Consoles) (n byte : ℕ) (resident : Bool) → Keeps t (key_by o t n byte resident)
 unfolding passed
@@ -194,11 +188,11 @@ keeps_key (Some Detach) t n byte resident = on_subject (subject resident (consol
     on_subject None = keeps_itself t
     on_subject (Some p) = keeps_passed (first_waiter t (ConsoleUnit n)) t (ConsoleUnit n)
 
-pub keeps_deed : (t : Consoles) (deed : Deed) → Keeps t (behind_deed t deed)
+pub keeps_operation : (t : Consoles) (operation : Operation) → Keeps t (behind_operation t operation)
 unfolding behind_key behind_take
-keeps_deed t (Types m byte resident) = keeps_key (control_of (console_at t m).raw byte) t m byte resident
-keeps_deed t (Takes m) = keeps_console t m _
-keeps_deed t (Makes change) = keeps_change t change
+keeps_operation t (Types m byte resident) = keeps_key (control_of (console_at t m).raw byte) t m byte resident
+keeps_operation t (Takes m) = keeps_console t m _
+keeps_operation t (Makes change) = keeps_change t change
 
 -- all calls
 joined : (given rest now before into more middle : List ℕ) → given ++ middle ≡ before ++ into → rest ++ now ≡ middle ++ more → (given ++ rest) ++ now ≡ before ++ (into ++ more)
@@ -209,14 +203,14 @@ joined given rest now before into more middle one all =
 counted_on : (before misses most now rest last : ℕ) → now ≡ min (before + misses) most → last ≡ min (now + rest) most → last ≡ min (before + (misses + rest)) most
 counted_on before misses most now rest last one all = omega arith
 
-pub conserves_all : (t : Consoles) (n : ℕ) (deeds : List Deed) → HasConsole t n → IsCounted (console_at t n) → Conserves (console_at t n) (console_at (behind_all t deeds) n) (passages t n deeds)
+pub conserves_all : (t : Consoles) (n : ℕ) (operations : List Operation) → HasConsole t n → IsCounted (console_at t n) → Conserves (console_at t n) (console_at (behind_all t operations) n) (passages t n operations)
 unfolding behind_all passages
 conserves_all t n [] has counted = conserves_stays _ _ counted (stays_itself (console_at t n))
-conserves_all t n (deed ∷ deeds) has counted =
-    let one = conserves_deed t n deed has counted in
-    let kept = (keeps_deed t deed).0 in
-    let all = conserves_all (behind_deed t deed) n deeds (omega (arith, has, kept)) (let lost = one.lost in omega arith) in
+conserves_all t n (operation ∷ operations) has counted =
+    let one = conserves_operation t n operation has counted in
+    let kept = (keeps_operation t operation).0 in
+    let all = conserves_all (behind_operation t operation) n operations (omega (arith, has, kept)) (let lost = one.lost in omega arith) in
     record {
-      keys = joined (passage t n deed).out _ _ (console_at t n).keys (passage t n deed).into _ _ one.keys all.keys;
-      lost = counted_on (console_at t n).lost (passage t n deed).misses (2 ^ 64 - 1) _ _ _ one.lost all.lost;
+      keys = joined (passage t n operation).out _ _ (console_at t n).keys (passage t n operation).into _ _ one.keys all.keys;
+      lost = counted_on (console_at t n).lost (passage t n operation).misses (2 ^ 64 - 1) _ _ _ one.lost all.lost;
     }

@@ -3,16 +3,16 @@ use Rattle.std.proofs.Common.{◌≡◌, ◌≢◌, ◌∙◌, inl, inr, ℕ, �
 use Rattle.std.proofs.lemmas.Bool.{false≢true, cases_eq, cases_lt, eq-eqb, ne_eqb}
 use Rattle.std.proofs.lemmas.List.{get_or-set_same, get_or-set_other, get_or_past, get_or_default, get_or-replicate, length-replicate, length-set, length-map}
 use Rattle.std.proofs.Math.ListN.{get_or-map}
-use Rattle.mpm_ready.specs.Order.{Member, first_of, in_list, taken_out, put_in}
+use Rattle.mpm_ready.specs.Order.{Member, first_of, in_list, without_slot, put_in}
 use Rattle.mpm_ready.specs.Tables.{list_at, no_lists, inserted, removed}
-use Rattle.mpm_ready.proofs.OrderLaws.{in_list_put_in, in_list_taken_out, taken_out_absent}
+use Rattle.mpm_ready.proofs.OrderLaws.{in_list_put_in, in_list_without_slot, without_slot_absent}
 use Rattle.mpm_ready.proofs.TableLaws.{list_at_inserted, list_at_inserted_other, list_at_removed, table_removed, table_inserted, table_none, list_at_none, none_in_none}
-use Rattle.mpm_consoles.specs.Console.{Console, new_console, is_owner, passed_to, with_raw, with_output_stopped, awaited_for, awaiting, left_by, resumed, typed, without_first, spoken, written, IsProper}
+use Rattle.mpm_consoles.specs.Console.{Console, new_console, is_owner, passed_to, with_raw, with_output_stopped, awaited_for, awaiting, without_wait_of, resumed, typed, without_first, spoken, written, IsProper}
 use Rattle.mpm_consoles.specs.Consoles.{Consoles, no_owners, console_at, HasConsole, HasUnit, owner_of, owns, place_of, waiters_of, first_waiter, waits_for, WaitsNowhere, with_console, MayWait, IsSound}
-use Rattle.mpm_consoles.specs.Handling.{given, unlisted, listed, behind_take, behind_raw, behind_wait, behind_output, left}
+use Rattle.mpm_consoles.specs.Handling.{given, unlisted, listed, behind_take, behind_raw, behind_wait, behind_output, units_without_waiter}
 use Rattle.mpm_consoles.specs.declared.unit.Unit.{Unit}
 use Rattle.mpm_consoles.specs.declared.unit.Unit.TheVariants.{Console as ConsoleUnit, Printer as PrinterUnit}
-use Rattle.mpm_consoles.proofs.ConsoleLaws.{owner_typed, owner_resumed, owner_left, proper_new, proper_passed, proper_raw, proper_stop, proper_wait, proper_left, proper_resumed, proper_typed, proper_taken, proper_written}
+use Rattle.mpm_consoles.proofs.ConsoleLaws.{owner_typed, owner_resumed, owner_without_wait, proper_new, proper_passed, proper_raw, proper_stop, proper_wait, proper_without_wait, proper_resumed, proper_typed, proper_taken, proper_written}
 
 -- what is so of a value set at a number, and of each other one, is so of all
 at_set : {X : Type 0} (P : ℕ → X → Type 0) (xs : List X) (n : ℕ) (x other : X) → n < length xs → P n x → ((k : ℕ) → P k (get_or xs k other)) → (k : ℕ) → P k (get_or (set xs n x) k other)
@@ -109,14 +109,14 @@ both_false : (a b : Bool) → b ≡ false → (a && b) ≡ false
 both_false true b is = is
 both_false false b is = refl
 
-for_fewer : (owner : Option ℕ) (ms : List Member) (p : ℕ) → MayWait owner ms → MayWait owner (taken_out p ms)
+for_fewer : (owner : Option ℕ) (ms : List Member) (p : ℕ) → MayWait owner ms → MayWait owner (without_slot p ms)
 for_fewer owner ms p is = record {
-  free = λ none. ap (taken_out p) (is.free none) ∙ none_out p;
-  others = λ r owned. in_list_taken_out ms p r ∙ both_false _ _ (is.others r owned);
+  free = λ none. ap (without_slot p) (is.free none) ∙ none_out p;
+  others = λ r owned. in_list_without_slot ms p r ∙ both_false _ _ (is.others r owned);
 }
   where
-    none_out : (p : ℕ) → taken_out p [] ≡ []
-    none_out p = taken_out_absent [] p (none_in_none p)
+    none_out : (p : ℕ) → without_slot p [] ≡ []
+    none_out p = without_slot_absent [] p (none_in_none p)
 
 pub sound_unlisted : (t : Consoles) (p : ℕ) → IsSound t → IsSound (unlisted t p)
 unfolding unlisted
@@ -188,8 +188,8 @@ not_itself : (b x : Bool) → b ≡ true → (not b && x) ≡ false
 not_itself true x h = refl
 not_itself false x h = absurd (false≢true h)
 
-out : (ms : List Member) (p : ℕ) → in_list p (taken_out p ms) ≡ false
-out ms p = in_list_taken_out ms p p ∙ not_itself _ _ (eq-eqb p p refl)
+out : (ms : List Member) (p : ℕ) → in_list p (without_slot p ms) ≡ false
+out ms p = in_list_without_slot ms p p ∙ not_itself _ _ (eq-eqb p p refl)
 
 for_one : (p : ℕ) (ms : List Member) → in_list p ms ≡ false → MayWait (Some p) ms
 for_one p ms absent = record {
@@ -208,42 +208,42 @@ pub for_free : (t : Consoles) (unit : Unit) (p : ℕ) → IsSound t → HasUnit 
 for_free t unit p sound has none = for_one p (waiters_of t unit) (ap (in_list p) ((sound.waited unit has).free none) ∙ none_in_none p)
 
 -- a process waits at no gate
-left_new : (p : ℕ) → left_by p new_console ≡ new_console
-unfolding left_by new_console
-left_new p = refl
+without_wait_new : (p : ℕ) → without_wait_of p new_console ≡ new_console
+unfolding without_wait_of new_console
+without_wait_new p = refl
 
-pub left_at : (consoles : List Console) (p n : ℕ) → get_or (map (left_by p) consoles) n new_console ≡ left_by p (get_or consoles n new_console)
-left_at consoles p n = ap (get_or (map (left_by p) consoles) n) (sym (left_new p)) ∙ get_or-map (left_by p) consoles n new_console
+pub without_wait_at : (consoles : List Console) (p n : ℕ) → get_or (map (without_wait_of p) consoles) n new_console ≡ without_wait_of p (get_or consoles n new_console)
+without_wait_at consoles p n = ap (get_or (map (without_wait_of p) consoles) n) (sym (without_wait_new p)) ∙ get_or-map (without_wait_of p) consoles n new_console
 
-sound_at_rest : (t : Consoles) (p : ℕ) → IsSound t → IsSound (record t { consoles = map (left_by p) t.consoles })
+sound_at_rest : (t : Consoles) (p : ℕ) → IsSound t → IsSound (record t { consoles = map (without_wait_of p) t.consoles })
 sound_at_rest t p sound = record {
-  some = omega (arith, length-map t.consoles (left_by p), sound.some);
-  consoles = omega (arith, length-map t.consoles (left_by p), sound.consoles);
+  some = omega (arith, length-map t.consoles (without_wait_of p), sound.some);
+  consoles = omega (arith, length-map t.consoles (without_wait_of p), sound.consoles);
   printers = sound.printers;
   table = sound.table;
   waited = λ unit there. by_unit unit there;
-  proper = λ n. subst IsProper (sym (left_at t.consoles p n)) (proper_left p _ (sound.proper n));
+  proper = λ n. subst IsProper (sym (without_wait_at t.consoles p n)) (proper_without_wait p _ (sound.proper n));
 }
   where
     new : Consoles
-    new = record t { consoles = map (left_by p) t.consoles }
+    new = record t { consoles = map (without_wait_of p) t.consoles }
 
     by_unit : (unit : Unit) → HasUnit new unit → MayWait (owner_of new unit) (waiters_of new unit)
     by_unit (ConsoleUnit n) there =
-        subst (λ (o : Option ℕ). MayWait o (list_at t.waiters n)) (sym (ap (λ (c : Console). c.owner) (left_at t.consoles p n) ∙ owner_left p (console_at t n)))
-        (sound.waited (ConsoleUnit n) (omega (arith, there, length-map t.consoles (left_by p))))
+        subst (λ (o : Option ℕ). MayWait o (list_at t.waiters n)) (sym (ap (λ (c : Console). c.owner) (without_wait_at t.consoles p n) ∙ owner_without_wait p (console_at t n)))
+        (sound.waited (ConsoleUnit n) (omega (arith, there, length-map t.consoles (without_wait_of p))))
     by_unit (PrinterUnit n) there = sound.waited (PrinterUnit n) there
 
-pub sound_left : (t : Consoles) (p : ℕ) → IsSound t → IsSound (left t p)
-unfolding left unlisted
-sound_left t p sound = sound_at_rest (unlisted t p) p (sound_unlisted t p sound)
+pub sound_units_without : (t : Consoles) (p : ℕ) → IsSound t → IsSound (units_without_waiter t p)
+unfolding units_without_waiter unlisted
+sound_units_without t p sound = sound_at_rest (unlisted t p) p (sound_unlisted t p sound)
 
 -- the same as it is done, with all consoles lent
-pub sound_leaving : (t : Consoles) (p : ℕ) (consoles : List Console) (waiters : List (List Member)) → IsSound t → consoles ≡ map (left_by p) t.consoles → waiters ≡ removed t.waiters p → IsSound (record { consoles = consoles; printers = t.printers; waiters = waiters })
-unfolding left unlisted
+pub sound_leaving : (t : Consoles) (p : ℕ) (consoles : List Console) (waiters : List (List Member)) → IsSound t → consoles ≡ map (without_wait_of p) t.consoles → waiters ≡ removed t.waiters p → IsSound (record { consoles = consoles; printers = t.printers; waiters = waiters })
+unfolding units_without_waiter unlisted
 sound_leaving t p consoles waiters sound each fewer =
     subst (λ (xs : List Console). IsSound (record { consoles = xs; printers = t.printers; waiters = waiters })) (sym each)
-    (subst (λ (ws : List (List Member)). IsSound (record { consoles = map (left_by p) t.consoles; printers = t.printers; waiters = ws })) (sym fewer) (sound_left t p sound))
+    (subst (λ (ws : List (List Member)). IsSound (record { consoles = map (without_wait_of p) t.consoles; printers = t.printers; waiters = ws })) (sym fewer) (sound_units_without t p sound))
 
 -- as it is at first
 all_at : {X : Type 0} (n k : ℕ) (x : X) → get_or (replicate n x) k x ≡ x

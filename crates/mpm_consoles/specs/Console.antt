@@ -59,8 +59,8 @@ unfoldable pub behind_wake : Awaited → Console → Console
 behind_wake what console = if is_for console.awaits what then record console { awaits = None } else console
 
 -- its owner, if that is the process, waits at its gate no more
-unfoldable pub left_by : ℕ → Console → Console
-left_by p console = if is_owner console.owner p then record console { awaits = None } else console
+unfoldable pub without_wait_of : ℕ → Console → Console
+without_wait_of p console = if is_owner console.owner p then record console { awaits = None } else console
 
 -- its output goes on
 unfoldable pub resumed : Console → Console

@@ -71,11 +71,11 @@ abbrev pub WaitsNowhere : Consoles → ℕ → Type 0
 WaitsNowhere t p = list_of t.waiters p ≡ None
 
 -- whether a process waits at its gate, as the owner of a console, and at how many gates it does
-abbrev pub rests_at : Console → ℕ → Bool
-rests_at console p = is_owner console.owner p && is_some console.awaits
+abbrev pub is_gate_waiter : Console → ℕ → Bool
+is_gate_waiter console p = is_owner console.owner p && is_some console.awaits
 
-unfoldable pub rests : Consoles → ℕ → ℕ
-rests t p = count_by (λ console. rests_at console p) t.consoles
+unfoldable pub gate_waits : Consoles → ℕ → ℕ
+gate_waits t p = count_by (λ console. is_gate_waiter console p) t.consoles
 
 -- one console changed
 abbrev pub with_console : Consoles → ℕ → Console → Consoles

@@ -4,7 +4,7 @@
 use Rattle.std.specs.Prelude.{ℕ, Bool, true, not, List, Option, Some, None, ◌==◌, ◌||◌, map, slice_set, if◌then◌else◌}
 use Rattle.mpm_ready.specs.Tables.{inserted, removed}
 use Rattle.mpm_consoles.specs.Columns.{spaces_for}
-use Rattle.mpm_consoles.specs.Console.{Console, passed_to, with_raw, with_output_stopped, awaited_for, awaiting, woken, left_by, resumed, has_room, typed, without_first, spoken, written}
+use Rattle.mpm_consoles.specs.Console.{Console, passed_to, with_raw, with_output_stopped, awaited_for, awaiting, woken, without_wait_of, resumed, has_room, typed, without_first, spoken, written}
 use Rattle.mpm_consoles.specs.Consoles.{Consoles, console_at, owner_of, owns, place_of, first_waiter, waits_for, with_console}
 use Rattle.mpm_consoles.specs.Keys.{control_of}
 use Rattle.mpm_consoles.specs.declared.console.Awaited.TheVariants.{Key, Output}
@@ -141,5 +141,5 @@ output_spaces t (ConsoleUnit n) byte tabs = spaces_for (console_at t n).column b
 output_spaces t (PrinterUnit n) byte tabs = 0
 
 -- a process waits for no unit any more, nor at its gate
-unfoldable pub left : Consoles → ℕ → Consoles
-left t p = record (unlisted t p) { consoles = map (left_by p) t.consoles }
+unfoldable pub units_without_waiter : Consoles → ℕ → Consoles
+units_without_waiter t p = record (unlisted t p) { consoles = map (without_wait_of p) t.consoles }

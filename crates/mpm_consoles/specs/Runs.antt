@@ -4,7 +4,7 @@ use Rattle.std.specs.Prelude.{◌≡◌, ℕ, ◌+◌, ◌-◌, ◌^◌, Bool, t
 use Rattle.mpm_consoles.specs.Console.{Console, has_room, first_key}
 use Rattle.mpm_consoles.specs.Consoles.{Consoles, console_at}
 use Rattle.mpm_consoles.specs.Keys.{control_of}
-use Rattle.mpm_consoles.specs.Handling.{behind_attach, behind_detach, behind_assign, behind_key, behind_take, behind_raw, behind_wait, behind_output, left}
+use Rattle.mpm_consoles.specs.Handling.{behind_attach, behind_detach, behind_assign, behind_key, behind_take, behind_raw, behind_wait, behind_output, units_without_waiter}
 use Rattle.mpm_consoles.specs.declared.keys.Control.{Control}
 use Rattle.mpm_consoles.specs.declared.unit.Unit.{Unit}
 
@@ -34,10 +34,10 @@ pub data Change : Type 0 where
   Writes : Unit → ℕ → Bool → Change
   Leaves : ℕ → Change
 
-pub data Deed : Type 0 where
-  Types : ℕ → ℕ → Bool → Deed
-  Takes : ℕ → Deed
-  Makes : Change → Deed
+pub data Operation : Type 0 where
+  Types : ℕ → ℕ → Bool → Operation
+  Takes : ℕ → Operation
+  Makes : Change → Operation
 
 abbrev pub behind_change : Consoles → Change → Consoles
 behind_change t (Attaches p priority unit wait) = behind_attach t p priority unit wait
@@ -46,12 +46,12 @@ behind_change t (Assigns n to) = behind_assign t n to
 behind_change t (MakesRaw n raw) = behind_raw t n raw
 behind_change t (Waits n key) = behind_wait t n key
 behind_change t (Writes unit byte tabs) = behind_output t unit byte tabs
-behind_change t (Leaves p) = left t p
+behind_change t (Leaves p) = units_without_waiter t p
 
-abbrev pub behind_deed : Consoles → Deed → Consoles
-behind_deed t (Types n byte resident) = behind_key t n byte resident
-behind_deed t (Takes n) = behind_take t n
-behind_deed t (Makes change) = behind_change t change
+abbrev pub behind_operation : Consoles → Operation → Consoles
+behind_operation t (Types n byte resident) = behind_key t n byte resident
+behind_operation t (Takes n) = behind_take t n
+behind_operation t (Makes change) = behind_change t change
 
 -- what a call does to the keys of one console: those that it takes out, those that it stores, how many it loses
 pub record Passage : Type 0 where
@@ -72,7 +72,7 @@ type_in console byte = record {
 abbrev pub take_out : Console → Passage
 take_out console = record { out = as_list (first_key console); into = []; misses = 0 }
 
-unfoldable pub passage : Consoles → ℕ → Deed → Passage
+unfoldable pub passage : Consoles → ℕ → Operation → Passage
 passage t n (Types m byte resident) = if n == m then type_in (console_at t n) byte else no_passage
 passage t n (Takes m) = if n == m then take_out (console_at t n) else no_passage
 passage t n (Makes change) = no_passage
@@ -84,13 +84,13 @@ pub record Conserves (before now : Console) (by : Passage) : Type 0 where
   pub lost : now.lost ≡ min (before.lost + by.misses) (2 ^ 64 - 1)
 
 -- the same for calls in order
-unfoldable pub behind_all : Consoles → List Deed → Consoles
+unfoldable pub behind_all : Consoles → List Operation → Consoles
 behind_all t [] = t
-behind_all t (deed ∷ deeds) = behind_all (behind_deed t deed) deeds
+behind_all t (operation ∷ operations) = behind_all (behind_operation t operation) operations
 
-unfoldable pub passages : Consoles → ℕ → List Deed → Passage
+unfoldable pub passages : Consoles → ℕ → List Operation → Passage
 passages t n [] = no_passage
-passages t n (deed ∷ deeds) =
-    let first = passage t n deed in
-    let rest = passages (behind_deed t deed) n deeds in
+passages t n (operation ∷ operations) =
+    let first = passage t n operation in
+    let rest = passages (behind_operation t operation) n operations in
     record { out = first.out ++ rest.out; into = first.into ++ rest.into; misses = first.misses + rest.misses }

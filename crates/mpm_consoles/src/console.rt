@@ -1,14 +1,15 @@
 ghost use Rattle.std.specs.Prelude.{◌≡◌, length, nat_lt, is_some, IfOk};
-ghost use Rattle.mpm_consoles.specs.Console.{new_console, is_owner, passed_to, with_raw, with_output_stopped, awaited_for, awaiting, is_for as is_one_for, woken, behind_wake, left_by, resumed, has_room, with_key, typed, first_key, without_first, written};
+ghost use Rattle.mpm_consoles.specs.Console.{new_console, is_owner, passed_to, with_raw, with_output_stopped, awaited_for, awaiting, is_for as is_one_for, woken, behind_wake, without_wait_of, resumed, has_room, with_key, typed, first_key, without_first, written};
 ghost use Rattle.mpm_consoles.specs.declared.console.Awaited.TheVariants.{Output};
 ghost use Rattle.mpm_consoles.specs.Handling.{typed_answer, wake_answer};
 ghost use Rattle.mpm_consoles.specs.Columns.{spaces_for};
 
+use crate::OutOfMemory;
 use crate::columns::column_after;
 use crate::keys::KeyDone;
 use circular_buffer::HeapCircularBuffer;
 use mpm_base::Pid;
-use std::alloc::{AllocError, Global};
+use std::alloc::Global;
 use std::marker::Model;
 
 /// How many typed keys a console keeps.
@@ -49,7 +50,7 @@ impl Model for Console {
 impl Console {
     /// A console that nobody owns, with a ring that takes all memory that it will need.
     #[tactic(auto, unfolding(crate::specs::Console::new_console))]
-    pub fn new(alloc: Global) -> Result<Console, AllocError>
+    pub fn new(alloc: Global) -> Result<Console, OutOfMemory>
         ensures { IfOk result (λ console. console ≡ new_console) }
     {
         Ok(Console {
@@ -168,9 +169,9 @@ impl Console {
     }
 
     /// A process waits at its gate no more.
-    #[tactic(auto, unfolding(crate::specs::Console::left_by))]
+    #[tactic(auto, unfolding(crate::specs::Console::without_wait_of))]
     pub fn leave(&mut self, p: Pid)
-        ensures { self.new ≡ left_by p self.old }
+        ensures { self.new ≡ without_wait_of p self.old }
     {
         if self.is_owned_by(p) {
             self.awaits = None;

@@ -1,13 +1,14 @@
 ghost use Rattle.std.specs.Prelude.{◌≡◌, ◌≤◌, None, map, replicate, IfOk};
-ghost use Rattle.mpm_consoles.specs.Console.{new_console, left_by as behind_leaving};
+ghost use Rattle.mpm_consoles.specs.Console.{new_console, without_wait_of};
 ghost use Rattle.mpm_consoles.specs.Handling.{attaches as may_be_attached};
 
+use crate::OutOfMemory;
 use crate::console::Console;
 use crate::keys::{Control, KeyDone, control_of};
 use crate::unit::Unit;
 use mpm_base::Pid;
 use mpm_ready::Lists;
-use std::alloc::{AllocError, Global};
+use std::alloc::Global;
 use std::marker::Model;
 
 /// The consoles and printers, and the processes that wait for them.
@@ -34,7 +35,7 @@ impl Consoles {
     ghost use Rattle.mpm_ready.specs.Tables.{list_of};
     ghost use Rattle.mpm_consoles.specs.Console.{first_key, typed, with_output_stopped, resumed, woken};
     ghost use Rattle.mpm_consoles.specs.Consoles.{no_owners, console_at, with_console, HasConsole, HasUnit, has_unit, owner_of, owns, waits_for, waiters_of, first_waiter, WaitsNowhere, MayWait, IsSound};
-    ghost use Rattle.mpm_consoles.specs.Handling.{given, unlisted, listed, called_off, may_attach, behind_attach, passed, behind_detach, heir_of, behind_assign, behind_key, key_answer, behind_take, behind_raw, behind_wait, behind_output, output_spaces, left, typed_answer, wake_answer, abort_answer, pass_answer, behind_pass, subject as subject_of};
+    ghost use Rattle.mpm_consoles.specs.Handling.{given, unlisted, listed, called_off, may_attach, behind_attach, passed, behind_detach, heir_of, behind_assign, behind_key, key_answer, behind_take, behind_raw, behind_wait, behind_output, output_spaces, units_without_waiter, typed_answer, wake_answer, abort_answer, pass_answer, behind_pass, subject as subject_of};
     ghost use Rattle.mpm_consoles.specs.declared.keys.KeyDone.TheVariants.{Nothing};
     ghost use Rattle.mpm_consoles.specs.declared.console.Awaited.TheVariants.{Output};
     ghost use Rattle.mpm_consoles.specs.Fates.{FateOf};
@@ -46,7 +47,7 @@ impl Consoles {
     /// # Errors
     /// Where no memory is found.
     #[tactic(auto, using(crate::proofs::SoundLaws::sound_new), unfolding(crate::specs::Consoles::no_owners))]
-    pub fn new(alloc: Global, consoles: u8, printers: u8) -> Result<Consoles, AllocError>
+    pub fn new(alloc: Global, consoles: u8, printers: u8) -> Result<Consoles, OutOfMemory>
         requires some { 1 ≤ consoles }
         requires few { consoles ≤ 8 }
         requires printers { printers ≤ 4 }
@@ -298,9 +299,9 @@ impl Consoles {
     }
 
     /// A process waits for no unit any more, nor at its gate.
-    #[tactic(auto, using(crate::proofs::SoundLaws::sound_left), unfolding(crate::specs::Handling::left, crate::specs::Handling::unlisted))]
+    #[tactic(auto, using(crate::proofs::SoundLaws::sound_units_without), unfolding(crate::specs::Handling::units_without_waiter, crate::specs::Handling::unlisted))]
     pub fn leave(&mut self, p: Pid)
-        ensures { self.new ≡ left self.old p }
+        ensures { self.new ≡ units_without_waiter self.old p }
     {
         self.waiters.remove(p);
         leave_each(self.consoles.as_mut_slice(), p);
@@ -505,7 +506,7 @@ impl Consoles {
 
 /// A process waits no more at its gate, for each of some consoles.
 fn leave_each(consoles: &mut [Console], p: Pid)
-    ensures { consoles.new ≡ map (behind_leaving p) consoles.old }
+    ensures { consoles.new ≡ map (without_wait_of p) consoles.old }
 {
     for console in consoles.iter_mut() {
         console.leave(p);
@@ -513,7 +514,7 @@ fn leave_each(consoles: &mut [Console], p: Pid)
 }
 
 /// So many consoles that nobody owns.
-fn new_consoles(alloc: Global, count: u8) -> Result<Vec<Console>, AllocError>
+fn new_consoles(alloc: Global, count: u8) -> Result<Vec<Console>, OutOfMemory>
     ensures { IfOk result (λ consoles. consoles.items ≡ replicate count new_console) }
 {
     let mut consoles = Vec::with_capacity(alloc, usize::from(count))?;
@@ -524,7 +525,7 @@ fn new_consoles(alloc: Global, count: u8) -> Result<Vec<Console>, AllocError>
 }
 
 /// So many printers that nobody owns.
-fn new_printers(alloc: Global, count: u8) -> Result<Vec<Option<Pid>>, AllocError>
+fn new_printers(alloc: Global, count: u8) -> Result<Vec<Option<Pid>>, OutOfMemory>
     ensures { IfOk result (λ printers. printers.items ≡ replicate count None) }
 {
     let mut printers = Vec::with_capacity(alloc, usize::from(count))?;

@@ -1,12 +1,13 @@
 -- Processes that come to other lists, and that become ready one after the other.
-use Rattle.std.proofs.Common.{◌≡◌, ◌≢◌, ◌∙◌, ◌<◌, ℕ, zero, suc, Bool, true, false, eqb, ◌==◌, List, [], ◌∷◌, ◌++◌, get_or, length, Option, Some, None, refl, sym, subst, arith}
+use Rattle.std.proofs.Common.{◌≡◌, ◌≢◌, ◌∙◌, ◌<◌, ℕ, zero, suc, Bool, true, false, ◌&&◌, eqb, List, [], ◌∷◌, ◌++◌, get_or, length, Option, Some, None, refl, sym, subst, arith}
 use Rattle.std.specs.List.{AllByRecursion}
 use Rattle.std.proofs.lemmas.Bool.Decides.{nat_tests}
+use Rattle.mpm_base.proofs.Choices.{either}
 use Rattle.mpm_ready.specs.Order.{Member, first_of, in_list}
-use Rattle.mpm_ready.specs.Tables.{list_of, inserted, removed, IsTable}
+use Rattle.mpm_ready.specs.Tables.{list_at, list_of, inserted, removed, IsTable}
 use Rattle.mpm_ready.proofs.TableLaws.{table_inserted, table_removed, list_of_inserted, list_of_inserted_other, list_of_removed, list_of_removed_other}
 use Rattle.mpm_procs.specs.Table.{Table, Lives}
-use Rattle.mpm_dispatcher.specs.Dispatch.{ready, is_ready, moved, moved_in, ready_in, all_ready}
+use Rattle.mpm_dispatcher.specs.Dispatch.{ready, is_ready, stays, runner, moved, ready_in, all_ready}
 use Rattle.mpm_dispatcher.specs.declared.dispatcher.Dispatcher.{Dispatcher}
 
 pub not_equal : (p q : ℕ) → p ≢ q → eqb p q ≡ false
@@ -67,3 +68,10 @@ only_runner procs running p is lives q other = let same : p ≡ q = cc in subst 
 
 pub no_runner : (procs : Table) (running : Option ℕ) → running ≡ None → (q : ℕ) → running ≡ Some q → Lives procs q
 no_runner procs running none q is = absurd (cc)
+
+-- who runs and is the first of the ready list, runs on behind a step; and nobody does where nobody runs and none is ready
+pub same_runner : (instruction : Bool) (procs : Table) (lists : List (List Member)) (running : Option ℕ) → first_of (list_at lists ready) ≡ running
+    → runner instruction procs lists running ≡ running
+unfolding runner
+same_runner instruction procs lists running first =
+    either (λ (runs : Option ℕ). runs ≡ running) (instruction && stays procs lists running) _ _ (λ _. refl) (λ _. first)

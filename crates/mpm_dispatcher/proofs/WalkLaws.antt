@@ -1,17 +1,17 @@
 -- A walk over those of a list, in which each becomes ready in turn; and how many they are.
-use Rattle.std.proofs.Common.{eqb-true, ◌≡◌, ◌≢◌, ◌∙◌, ℕ, ◌<◌, ◌≤◌, Bool, true, false, ◌||◌, ◌==◌, List, [], ◌∷◌, length, map, Option, Some, None, inl, inr, refl, sym, ap, subst, arith}
+use Rattle.std.proofs.Common.{eqb-true, ◌≡◌, ◌∙◌, ℕ, ◌<◌, ◌≤◌, Bool, true, false, ◌||◌, ◌==◌, List, [], ◌∷◌, length, map, Some, None, inl, inr, refl, sym, ap, subst, arith}
 use Rattle.std.specs.Prelude.{count_by}
 use Rattle.std.specs.List.{AllByRecursion}
 use Rattle.std.proofs.lemmas.Bool.{cases_eq}
 use Rattle.mpm_base.proofs.CountLaws.{count_cons, few_numbers, one_if, one_if_true, one_if_false}
-use Rattle.mpm_ready.specs.Order.{Member, first_of, in_list, taken_out, IsOnce}
+use Rattle.mpm_ready.specs.Order.{Member, first_of, in_list, without_slot, IsOnce}
 use Rattle.mpm_ready.specs.Tables.{list_at, list_of, removed, IsTable}
-use Rattle.mpm_ready.proofs.OrderLaws.{taken_out_head, taken_out_absent}
+use Rattle.mpm_ready.proofs.OrderLaws.{without_slot_head, without_slot_absent}
 use Rattle.mpm_ready.proofs.TableLaws.{list_at_inserted_other, list_at_removed, list_of_known}
 use Rattle.mpm_procs.specs.Table.{lives, Lives, process_in}
 use Rattle.mpm_dispatcher.specs.Dispatch.{ready, moved, slots_in}
 use Rattle.mpm_dispatcher.specs.declared.dispatcher.Dispatcher.{Dispatcher}
-use Rattle.mpm_dispatcher.proofs.ReadyLaws.{some_same, first_is_in, table_moved, list_moved, list_moved_other}
+use Rattle.mpm_dispatcher.proofs.ReadyLaws.{some_same, first_is_in, table_moved, list_moved_other}
 
 -- the first of them is in the list, and the others are those who are left
 first_polls : (ms : List Member) (p : ℕ) → first_of ms ≡ Some p → (rest : List Member) × ((m : Member) × ((ms ≡ m ∷ rest) × (m.slot ≡ p)))
@@ -23,14 +23,14 @@ once_apart : (m : Member) (rest : List Member) → IsOnce (m ∷ rest) → in_li
 unfolding IsOnce
 once_apart m rest once = once.0
 
-left_polls : (ms rest : List Member) (m : Member) (p : ℕ) → ms ≡ m ∷ rest → m.slot ≡ p → IsOnce ms → taken_out p ms ≡ rest
+left_polls : (ms rest : List Member) (m : Member) (p : ℕ) → ms ≡ m ∷ rest → m.slot ≡ p → IsOnce ms → without_slot p ms ≡ rest
 left_polls ms rest m p is own once =
     let P : List Member → Type 0 = λ l. IsOnce l in
-    let Q : ℕ → Type 0 = λ slot. taken_out slot (m ∷ rest) ≡ rest in
+    let Q : ℕ → Type 0 = λ slot. without_slot slot (m ∷ rest) ≡ rest in
     let there : IsOnce (m ∷ rest) = subst P is once in
-    ap (taken_out p) is ∙ subst Q own (taken_out_head m rest ∙ taken_out_absent rest m.slot (once_apart m rest there))
+    ap (without_slot p) is ∙ subst Q own (without_slot_head m rest ∙ without_slot_absent rest m.slot (once_apart m rest there))
 
-list_behind : (d : Dispatcher) (list p : ℕ) → 0 < list → list_at (moved d ready p).lists list ≡ taken_out p (list_at d.lists list)
+list_behind : (d : Dispatcher) (list p : ℕ) → 0 < list → list_at (moved d ready p).lists list ≡ without_slot p (list_at d.lists list)
 list_behind d list p other =
     list_at_inserted_other (removed d.lists p) ready list (record { slot = p; priority = (process_in d.procs p).priority }) (omega (arith, other))
     ∙ list_at_removed d.lists p list

@@ -25,12 +25,13 @@ abbrev pub is_ready : Option ℕ → Bool
 is_ready None = false
 is_ready (Some list) = list == ready
 
+-- the lists as a process begins, which is ready
+abbrev pub begun_in : List (List Member) → ℕ → NewProcess → List (List Member)
+begun_in lists p new = inserted lists ready (record { slot = p; priority = new.priority })
+
 -- a process begins in a slot, and is ready
 abbrev pub admitted : Dispatcher → ℕ → NewProcess → Dispatcher
-admitted d p new = record d {
-  procs = added d.procs p new;
-  lists = inserted d.lists ready (record { slot = p; priority = new.priority });
-}
+admitted d p new = record d { procs = added d.procs p new; lists = begun_in d.lists p new }
 
 -- a process begins in that slot, if there is one
 abbrev pub in_slot : Dispatcher → NewProcess → Option ℕ → Dispatcher
@@ -42,18 +43,24 @@ abbrev pub is_held_off : Regs → Bool
 is_held_off regs = not regs.iff1 || regs.shadow
 
 -- the running process keeps the processor behind its instruction: it is ready, and no interrupt may come
-abbrev pub stays : Dispatcher → Option ℕ → Bool
-stays d None = false
-stays d (Some p) = is_ready (list_of d.lists p) && is_held_off (process_in d.procs p).regs
+abbrev pub stays : Table → List (List Member) → Option ℕ → Bool
+stays procs lists None = false
+stays procs lists (Some p) = is_ready (list_of lists p) && is_held_off (process_in procs p).regs
 
 -- who runs behind a step, which was an instruction or not
-unfoldable pub picked : Bool → Dispatcher → Dispatcher
-picked instruction d =
-    if instruction && stays d d.running then d else (record d { running = first_of (list_at d.lists ready) })
+unfoldable pub runner : Bool → Table → List (List Member) → Option ℕ → Option ℕ
+runner instruction procs lists running =
+    if instruction && stays procs lists running then running else first_of (list_at lists ready)
+
+abbrev pub picked : Bool → Dispatcher → Dispatcher
+picked instruction d = record d { running = runner instruction d.procs d.lists d.running }
 
 -- a process is put behind its equals
+abbrev pub rotated_in : Table → List (List Member) → ℕ → List (List Member)
+rotated_in procs lists p = rotated lists p (process_in procs p).priority
+
 abbrev pub behind_equals : Dispatcher → ℕ → Dispatcher
-behind_equals d p = record d { lists = rotated d.lists p (process_in d.procs p).priority }
+behind_equals d p = record d { lists = rotated_in d.procs d.lists p }
 
 -- a process gets another priority, and is put behind its new equals
 abbrev pub with_priority : Dispatcher → ℕ → ℕ → Dispatcher
@@ -61,9 +68,12 @@ with_priority d p priority =
     behind_equals (record d { procs = with_process d.procs p (record (process_in d.procs p) { priority = priority }) }) p
 
 -- the process that runs, if it is ready, is put behind its equals
-unfoldable pub runner_behind : Option ℕ → Dispatcher → Dispatcher
-runner_behind None d = d
-runner_behind (Some p) d = if is_ready (list_of d.lists p) then behind_equals d p else d
+unfoldable pub lists_behind : Option ℕ → Table → List (List Member) → List (List Member)
+lists_behind None procs lists = lists
+lists_behind (Some p) procs lists = if is_ready (list_of lists p) then rotated_in procs lists p else lists
+
+abbrev pub runner_behind : Dispatcher → Dispatcher
+runner_behind d = record d { lists = lists_behind d.running d.procs d.lists }
 
 -- a process keeps the processor if it is another one
 abbrev pub runs_still : ℕ → Option ℕ → Option ℕ
@@ -79,8 +89,8 @@ abbrev pub unlisted : Dispatcher → ℕ → Dispatcher
 unlisted d p = record d { lists = removed d.lists p }
 
 -- a process takes the step at its gate again once it is ready: until then it is in no list and doesn't run
-abbrev pub put_off : Dispatcher → ℕ → Dispatcher
-put_off d p = at_rest (unlisted d p) p
+abbrev pub descheduled : Dispatcher → ℕ → Dispatcher
+descheduled d p = at_rest (unlisted d p) p
 
 -- the lists with a process in another one, or in one now, where its priority puts it
 abbrev pub moved_in : Table → List (List Member) → ℕ → ℕ → List (List Member)

@@ -6,15 +6,15 @@ ghost use Rattle.mpm_procs.specs.Table.{Lives, call_of, lowest_free};
 ghost use Rattle.mpm_ready.specs.Order.{first_of};
 ghost use Rattle.mpm_ready.specs.Tables.{list_at, list_of, IsTable};
 ghost use Rattle.mpm_dispatcher.specs.Completion.{completion_of};
-ghost use Rattle.mpm_dispatcher.specs.Dispatch.{ready, first_completed, new_dispatcher, in_slot, IsReady, at_rest, put_off, unlisted, moved, made_ready, slots_in, all_ready, all_woken, with_completed, with_other, behind_equals, with_priority, runner_behind as behind_runner, is_held_off, stays as keeps_on, picked};
+ghost use Rattle.mpm_dispatcher.specs.Dispatch.{ready, first_completed, new_dispatcher, in_slot, IsReady, at_rest, descheduled, unlisted, moved, made_ready, slots_in, all_ready, all_woken, with_completed, with_other, behind_equals, with_priority, runner_behind as behind_runner, is_held_off, stays as keeps_on, picked};
 
-use crate::Completed;
 use crate::completion::complete;
+use crate::{Completed, OutOfMemory};
 use mpm_base::{Outcome, Pid, Reply};
 use mpm_clock::Woken;
 use mpm_procs::{NewProcess, NoSlot, Procs};
 use mpm_ready::Lists;
-use std::alloc::{AllocError, Global};
+use std::alloc::Global;
 use z80_regs::Regs;
 
 /// The number of the ready list.
@@ -36,7 +36,7 @@ impl Dispatcher {
     /// # Errors
     /// Where no memory is found.
     #[tactic(auto, unfolding(crate::specs::Dispatch::new_dispatcher))]
-    pub fn new(alloc: Global) -> Result<Dispatcher, AllocError>
+    pub fn new(alloc: Global) -> Result<Dispatcher, OutOfMemory>
         ensures { IfOk result (λ dispatcher. dispatcher ≡ new_dispatcher) }
     {
         Ok(Dispatcher {
@@ -75,7 +75,7 @@ impl Dispatcher {
 
     /// Picks the process that runs behind a step: the first that is ready. Behind an instruction the running process keeps
     /// the processor while it is ready and no interrupt may come.
-    #[tactic(auto, unfolding(crate::specs::Dispatch::picked))]
+    #[tactic(auto, unfolding(crate::specs::Dispatch::runner))]
     pub fn pick(&mut self, instruction: bool)
         requires { (p : ℕ) → self.old.running ≡ Some p → Lives self.old.procs p }
         ensures { self.new ≡ picked instruction self.old }
@@ -89,7 +89,7 @@ impl Dispatcher {
     /// Whether the running process keeps the processor behind its instruction: it is ready, and no interrupt may come.
     fn stays(&self) -> bool
         requires { (p : ℕ) → self.now.running ≡ Some p → Lives self.now.procs p }
-        ensures { result ≡ keeps_on self.now self.now.running }
+        ensures { result ≡ keeps_on self.now.procs self.now.lists self.now.running }
     {
         match self.running {
             Some(p) => self.lists.list_of(p) == Some(READY) && holds_off(&self.procs.get(p).regs),
@@ -120,10 +120,10 @@ impl Dispatcher {
     }
 
     /// The process that runs, if it is ready, is put behind its equals.
-    #[tactic(auto, unfolding(crate::specs::Dispatch::runner_behind))]
+    #[tactic(auto, unfolding(crate::specs::Dispatch::lists_behind))]
     pub fn runner_behind(&mut self)
         requires { (p : ℕ) → self.old.running ≡ Some p → Lives self.old.procs p }
-        ensures { self.new ≡ behind_runner self.old.running self.old }
+        ensures { self.new ≡ behind_runner self.old }
     {
         if let Some(p) = self.running {
             if self.lists.list_of(p) == Some(READY) {
@@ -154,7 +154,7 @@ impl Dispatcher {
 
     /// A call isn't done: its process takes the step at its gate again once it is ready.
     pub fn retry(&mut self, p: Pid, reply: &mut Reply) -> Outcome
-        ensures dispatcher { self.new ≡ put_off self.old p }
+        ensures dispatcher { self.new ≡ descheduled self.old p }
         ensures outcome { result ≡ IsRetry }
         ensures reply { reply.new ≡ answering 0 }
     {

@@ -1,10 +1,7 @@
-ghost use Rattle.std.specs.Prelude.{◌≡◌};
-
 use super::*;
 use mpm_base::{Name8, Outcome, Pid, Reply, Seg};
 use mpm_clock::Woken;
 use mpm_procs::{NewProcess, NoSlot};
-use std::process::Abort;
 
 /// A process begins, of that priority, in the lowest free slot, and is ready.
 fn begin(dispatcher: &mut Dispatcher, priority: u8) -> Result<Pid, NoSlot> {
@@ -71,7 +68,15 @@ fn set_priority(dispatcher: &mut Dispatcher, p: Pid, priority: u8) {
     }
 }
 
-/// The call of a process begins, which lives.
+/// A process has its interrupts on or off, if it lives.
+fn set_interrupts(dispatcher: &mut Dispatcher, p: Pid, on: bool) {
+    if dispatcher.procs.lives(p) {
+        let process = dispatcher.procs.get_mut(p);
+        process.regs.iff1 = on;
+    }
+}
+
+/// The call of a process begins, if it lives.
 fn call(dispatcher: &mut Dispatcher, p: Pid, function: u8) {
     if dispatcher.procs.lives(p) {
         dispatcher.procs.call_mut(p).begin(function, 0, 0);
@@ -87,6 +92,17 @@ fn the_best_priority_runs_and_equals_take_turns(rt: HostRuntime) -> Result<(), O
     assert_eq!(rt; next(&mut dispatcher, false), Some(Pid(0)));
     turn(&mut dispatcher, Pid(0));
     assert_eq!(rt; next(&mut dispatcher, false), Some(Pid(2)));
+    Ok(())
+}
+
+#[test]
+fn who_has_interrupts_off_keeps_the_processor(rt: HostRuntime) -> Result<(), OutOfMemory> {
+    let mut dispatcher = Dispatcher::new(rt.alloc())?;
+    assert_eq!(rt; three(&mut dispatcher), Ok(()));
+    set_interrupts(&mut dispatcher, Pid(1), false);
+    assert_eq!(rt; begin(&mut dispatcher, 50), Ok(Pid(3)));
+    assert_eq!(rt; next(&mut dispatcher, true), Some(Pid(1)));
+    assert_eq!(rt; next(&mut dispatcher, false), Some(Pid(3)));
     Ok(())
 }
 

@@ -44,10 +44,10 @@ abbrev pub with_flag : List Flag → ℕ → Flag → List Flag
 with_flag flags flag state = slice_set flags flag state
 
 -- a process waits for a flag no more
-abbrev pub left_by : ℕ → Flag → Flag
-left_by p Clear = Clear
-left_by p Set = Set
-left_by p (Waits other) = if other == p then Clear else (Waits other)
+abbrev pub without_waiter : ℕ → Flag → Flag
+without_waiter p Clear = Clear
+without_waiter p Set = Set
+without_waiter p (Waits other) = if other == p then Clear else (Waits other)
 
-unfoldable pub left : List Flag → ℕ → List Flag
-left flags p = map (left_by p) flags
+unfoldable pub flags_without_waiter : List Flag → ℕ → List Flag
+flags_without_waiter flags p = map (without_waiter p) flags

@@ -1,5 +1,5 @@
 ghost use Rattle.std.specs.Prelude.{◌≡◌, ◌<◌, map};
-ghost use Rattle.mpm_flags.specs.States.{left_by as behind_leaving};
+ghost use Rattle.mpm_flags.specs.States.{without_waiter};
 
 use mpm_base::Pid;
 use std::marker::Model;
@@ -53,7 +53,7 @@ impl Model for Flags {
 }
 
 impl Flags {
-    ghost use Rattle.mpm_flags.specs.States.{no_flags, flag_at, with_flag, behind_wait, wait_answer, behind_set, set_answer, left};
+    ghost use Rattle.mpm_flags.specs.States.{no_flags, flag_at, with_flag, behind_wait, wait_answer, behind_set, set_answer, flags_without_waiter};
 
     /// All flags, clear.
     #[tactic(auto, unfolding(crate::specs::States::no_flags))]
@@ -109,9 +109,9 @@ impl Flags {
     }
 
     /// Drops the wait of a process, if it waits.
-    #[tactic(auto, unfolding(crate::specs::States::left))]
+    #[tactic(auto, unfolding(crate::specs::States::flags_without_waiter))]
     pub fn leave(&mut self, p: Pid)
-        ensures { self.new ≡ left self.old p }
+        ensures { self.new ≡ flags_without_waiter self.old p }
     {
         leave_each(&mut self.flags, p);
     }
@@ -119,7 +119,7 @@ impl Flags {
 
 /// Drops the wait of a process for each of some flags.
 fn leave_each(flags: &mut [Flag], p: Pid)
-    ensures { flags.new ≡ map (behind_leaving p) flags.old }
+    ensures { flags.new ≡ map (without_waiter p) flags.old }
 {
     for flag in flags.iter_mut() {
         flag.leave(p);
@@ -128,11 +128,11 @@ fn leave_each(flags: &mut [Flag], p: Pid)
 
 impl Flag {
     ghost use Rattle.std.specs.Prelude.{◌≡◌};
-    ghost use Rattle.mpm_flags.specs.States.{left_by as behind_leaving};
+    ghost use Rattle.mpm_flags.specs.States.{without_waiter};
 
     /// Drops the wait of a process, if it is that one's.
     fn leave(&mut self, p: Pid)
-        ensures { self.new ≡ behind_leaving p self.old }
+        ensures { self.new ≡ without_waiter p self.old }
     {
         let state = *self;
         match state {

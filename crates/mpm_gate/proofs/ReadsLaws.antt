@@ -1,17 +1,16 @@
 -- The table of what calls read: each function stands in it once, and how many bytes each call reads.
-use Rattle.std.proofs.Common.{◌≡◌, ℕ, ◌*◌, ◌≤◌, ◌==◌, ◌&&◌, nat_le, Bool, true, false, List, [], ◌∷◌, length, refl, arith, if◌then◌else◌}
+use Rattle.std.proofs.Common.{◌≡◌, ℕ, ◌*◌, ◌≤◌, ◌==◌, ◌&&◌, nat_le, Bool, true, List, [], ◌∷◌, length, refl, arith}
 use Rattle.std.specs.List.{flat_map, list_all, count_by}
 use Rattle.std.proofs.Math.Nat.{mul-le-mul_right}
 use Rattle.std.proofs.lemmas.List.{length-append}
-use Rattle.std.proofs.lemmas.Bool.{false≢true}
 use Rattle.std.proofs.lemmas.Bool.Decides.{nat_tests}
+use Rattle.mpm_base.proofs.Choices.{either}
 use Rattle.z80_regs.specs.Words.{onward, word_of}
 use Rattle.z80_regs.specs.declared.regs.Regs.{Regs}
-use Rattle.mpm_base.specs.Lists.{zeros}
 use Rattle.mpm_gate.specs.Bytes.{word_from, bytes_from}
 use Rattle.mpm_gate.specs.Texts.{text_from}
-use Rattle.mpm_gate.specs.Reads.{Row, table, is_among, reads_by, reads_of, most_read, is_fixed}
-use Rattle.mpm_gate.specs.Calls.{bytes_read, block_read, taken_call}
+use Rattle.mpm_gate.specs.Reads.{Row, table, is_among, reads_by, reads_of, most_read}
+use Rattle.mpm_gate.specs.Calls.{bytes_read, taken_call}
 use Rattle.mpm_gate.specs.declared.take.TextEnd.TheVariants.{Dollar, NullOrReturn}
 use Rattle.mpm_gate.specs.declared.reads.Reads.{Reads}
 use Rattle.mpm_gate.specs.declared.reads.Reads.TheVariants.{Registers, Block, Pointing, Descriptors, DollarString, TextAtDma, Command, File, Records}
@@ -31,17 +30,13 @@ rows_fit : List Row → Bool
 rows_fit [] = true
 rows_fit (row ∷ rows) = nat_le (most_read row.reads 16) 4096 && rows_fit rows
 
-either_fits : (named : Bool) (one other : Reads) → most_read one 16 ≤ 4096 → most_read other 16 ≤ 4096 → most_read (if named then one else other) 16 ≤ 4096
-either_fits true one other fits rest = fits
-either_fits false one other fits rest = rest
-
 each_fits : (rows : List Row) (function : ℕ) → rows_fit rows ≡ true → most_read (reads_by rows function) 16 ≤ 4096
 unfolding rows_fit
 each_fits [] function fit = omega arith
 each_fits (row ∷ rows) function fit =
     let one : most_read row.reads 16 ≤ 4096 = grind (arith, nat_tests) in
     let rest : rows_fit rows ≡ true = grind (arith, nat_tests) in
-    either_fits (is_among function row.functions) row.reads (reads_by rows function) one (each_fits rows function rest)
+    either (λ (reads : Reads). most_read reads 16 ≤ 4096) (is_among function row.functions) _ _ (λ _. one) (λ _. each_fits rows function rest)
 
 -- a call of 16 records reads at most 4,096 bytes, whatever its function
 pub table_fits : (function : ℕ) → most_read (reads_of function) 16 ≤ 4096
@@ -49,7 +44,7 @@ unfolding reads_of rows_fit
 table_fits function = each_fits table function refl
 
 -- and so does one of fewer
-more_records : (reads : Reads) (multi : ℕ) → multi ≤ 16 → most_read reads multi ≤ most_read reads 16
+pub more_records : (reads : Reads) (multi : ℕ) → multi ≤ 16 → most_read reads multi ≤ most_read reads 16
 more_records Registers multi few = omega arith
 more_records (Block size) multi few = omega arith
 more_records (Pointing size offset count) multi few = omega arith
@@ -76,36 +71,8 @@ length_read Command word dma multi memory =
 length_read (File size) word dma multi memory = omega (arith, length_bytes memory dma size)
 length_read (Records size) word dma multi memory = omega (arith, length_bytes memory dma (multi * size))
 
--- how many it reads where their number is fixed
-pub length_fixed : (reads : Reads) (word dma multi : ℕ) (memory : ℕ → ℕ) → is_fixed reads ≡ true → length (bytes_read reads word dma multi memory) ≡ most_read reads multi
-unfolding bytes_read
-length_fixed Registers word dma multi memory fixed = refl
-length_fixed (Block size) word dma multi memory fixed = length_bytes memory word size
-length_fixed (Pointing size offset count) word dma multi memory fixed =
-    let address : ℕ = word_from memory (onward word offset) in
-    omega (arith, length-append (bytes_from memory word size) (bytes_from memory address count), length_bytes memory word size, length_bytes memory address count)
-length_fixed Descriptors word dma multi memory fixed = absurd (false≢true fixed)
-length_fixed DollarString word dma multi memory fixed = absurd (false≢true fixed)
-length_fixed TextAtDma word dma multi memory fixed = absurd (false≢true fixed)
-length_fixed Command word dma multi memory fixed = absurd (false≢true fixed)
-length_fixed (File size) word dma multi memory fixed = length_bytes memory dma size
-length_fixed (Records size) word dma multi memory fixed = length_bytes memory dma (multi * size)
-
 -- a call has room for all that it reads
 pub length_taken_call : (regs : Regs) (memory : ℕ → ℕ) (dma multi : ℕ) → multi ≤ 16 → length (taken_call regs memory dma multi).bytes ≤ 4096
 unfolding taken_call
 length_taken_call regs memory dma multi few =
     omega (arith, length_read (reads_of regs.c) (word_of regs.e regs.d) dma multi memory, more_records (reads_of regs.c) multi few, table_fits regs.c)
-
--- a file control block has 36 bytes
-pub length_block : (reads : Reads) (word : ℕ) (memory : ℕ → ℕ) → length (block_read reads word memory) ≡ 36
-unfolding block_read zeros
-length_block (File size) word memory = length_bytes memory word 36
-length_block (Records size) word memory = length_bytes memory word 36
-length_block Registers word memory = refl
-length_block (Block size) word memory = refl
-length_block (Pointing size offset count) word memory = refl
-length_block Descriptors word memory = refl
-length_block DollarString word memory = refl
-length_block TextAtDma word memory = refl
-length_block Command word memory = refl

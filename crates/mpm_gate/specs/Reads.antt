@@ -1,6 +1,6 @@
 -- What each kernel call reads in its caller's memory: one table. (MP/M II Programmer's Guide, "BDOS Function Calls",
 -- "XDOS Function Calls".)
-use Rattle.std.specs.Prelude.{ℕ, ◌+◌, ◌*◌, List, [], ◌∷◌, Bool, true, false, ◌==◌, ◌||◌, if◌then◌else◌}
+use Rattle.std.specs.Prelude.{ℕ, ◌+◌, ◌*◌, List, [], ◌∷◌, Bool, false, ◌==◌, ◌||◌, if◌then◌else◌}
 use Rattle.mpm_gate.specs.declared.reads.Reads.{Reads}
 use Rattle.mpm_gate.specs.declared.reads.Reads.TheVariants.{Registers, Block, Pointing, Descriptors, DollarString, TextAtDma, Command, File, Records}
 
@@ -63,11 +63,3 @@ most_read TextAtDma multi = 128
 most_read Command multi = 130
 most_read (File size) multi = size
 most_read (Records size) multi = multi * size
-
--- whether it reads that many in any case
-abbrev pub is_fixed : Reads → Bool
-is_fixed Descriptors = false
-is_fixed DollarString = false
-is_fixed TextAtDma = false
-is_fixed Command = false
-is_fixed _ = true

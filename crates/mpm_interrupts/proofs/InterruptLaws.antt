@@ -4,6 +4,7 @@ use Rattle.std.specs.Prelude.{nat_le}
 use Rattle.std.proofs.lemmas.Bool.Decides.{nat_tests}
 use Rattle.std.proofs.lemmas.Nat.{div_below}
 use Rattle.std.proofs.lemmas.List.Elements.{All-drop}
+use Rattle.mpm_base.proofs.Choices.{either}
 use Rattle.mpm_script.specs.declared.event.Event.{Event}
 use Rattle.mpm_script.specs.declared.event.Event.TheVariants.{Tick}
 use Rattle.mpm_script.specs.declared.event.Timed.{Timed}
@@ -28,32 +29,21 @@ script_is : (step : ℕ) (script : List Timed) → All IsTimed script → IfSome
 script_is step [] are = tt
 script_is step (timed ∷ rest) are = from_is (nat_le timed.step step) timed.event (are 0 timed (omega arith)).event
 
-if_is : (b : Bool) (one other : Option Event) → IfSome one IsEvent → IfSome other IsEvent → IfSome (if b then one else other) IsEvent
-if_is true one other is was = is
-if_is false one other is was = was
-
 pub due_is : (step : ℕ) (interrupts : Interrupts) → All IsTimed interrupts.script → IfSome (due step interrupts) IsEvent
 unfolding due
 due_is step interrupts are =
-    if_is (is_tick_due step interrupts) (Some Tick) (script_due step interrupts.script) tt (script_is step interrupts.script are)
+    either (λ (o : Option Event). IfSome o IsEvent) (is_tick_due step interrupts) (Some Tick) (script_due step interrupts.script) (λ _. tt)
+    (λ _. script_is step interrupts.script are)
 
 -- those that are left are of the script
-
-script_if : (b : Bool) (one other : Interrupts) → All IsTimed one.script → All IsTimed other.script → All IsTimed (if b then one else other).script
-script_if true one other is was = is
-script_if false one other is was = was
-
-rest_if : (b : Bool) (one other : List Timed) → All IsTimed one → All IsTimed other → All IsTimed (if b then one else other)
-rest_if true one other is was = is
-rest_if false one other is was = was
 
 pub script_behind_due : (step : ℕ) (interrupts : Interrupts) → All IsTimed interrupts.script → All IsTimed (behind_due step interrupts).script
 unfolding behind_due
 script_behind_due step interrupts are =
-    script_if (is_tick_due step interrupts) (record interrupts { ticks = interrupts.ticks + 1 })
-    (record interrupts { script = script_behind step interrupts.script }) are
-    (rest_if (is_some (script_due step interrupts.script)) (drop 1 interrupts.script) interrupts.script
-    (All-drop IsTimed 1 interrupts.script are) are)
+    either (λ (i : Interrupts). All IsTimed i.script) (is_tick_due step interrupts) (record interrupts { ticks = interrupts.ticks + 1 })
+    (record interrupts { script = script_behind step interrupts.script }) (λ _. are)
+    (λ _. either (All IsTimed) (is_some (script_due step interrupts.script)) (drop 1 interrupts.script) interrupts.script
+    (λ _. All-drop IsTimed 1 interrupts.script are) (λ _. are))
 
 -- where nothing is due, all is still to come
 

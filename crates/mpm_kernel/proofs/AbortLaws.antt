@@ -1,8 +1,8 @@
 -- Whom an event aborts: a process that lives.
-use Rattle.std.proofs.Common.{◌≡◌, ◌∙◌, ℕ, Bool, true, false, List, [], ◌∷◌, Option, Some, None, if◌then◌else◌, refl, sym, subst, arith}
+use Rattle.std.proofs.Common.{◌≡◌, ◌∙◌, ℕ, Bool, List, [], ◌∷◌, Option, None, refl, sym, subst, arith}
 use Rattle.std.proofs.lemmas.Bool.Decides.{nat_tests}
 use Rattle.std.specs.Prelude.{nat_lt}
-use Rattle.mpm_ready.specs.Tables.{list_of}
+use Rattle.mpm_base.proofs.Choices.{either}
 use Rattle.mpm_clock.specs.Delays.{woken_by_tick}
 use Rattle.mpm_flags.specs.States.{flag_at, set_answer}
 use Rattle.mpm_flags.specs.declared.flags.FlagSet.{FlagSet}
@@ -16,11 +16,11 @@ use Rattle.mpm_script.specs.declared.event.Event.{Event}
 use Rattle.mpm_script.specs.declared.event.Event.TheVariants.{Tick, Key, Ready, Int}
 use Rattle.mpm_kernel.specs.Kernel.{Kernel, IsSound, afresh}
 use Rattle.mpm_kernel.specs.Columns.{spoke}
-use Rattle.mpm_kernel.specs.Dispatch.{is_ready, behind_equals, moved, all_ready, all_woken, runner_behind}
+use Rattle.mpm_kernel.specs.Dispatch.{moved, all_ready, all_woken, runner_behind}
 use Rattle.mpm_kernel.specs.Waiting.{with_woken, signalled, is_flag}
 use Rattle.mpm_kernel.specs.Consoling.{KeyNames, AbortLives, echoed, key_done, is_resident, key_came, abort_taken}
 use Rattle.mpm_kernel.specs.Events.{with_tick, clock_ticked, pollers, with_ready, device_ready, happens, happened, flag_came}
-use Rattle.mpm_kernel.proofs.Soundness.{sound_afresh, sound_told}
+use Rattle.mpm_kernel.proofs.Soundness.{sound_afresh, sound_noted}
 use Rattle.mpm_kernel.proofs.UnitLaws.{has_console, key_names}
 
 -- where nobody is aborted
@@ -28,19 +28,10 @@ lives_if_none : (kernel : Kernel) → kernel.aborted ≡ None → AbortLives ker
 lives_if_none kernel none =
     let P : Option ℕ → Type 0 = λ o. AbortLives (record kernel { aborted = o }) in subst P (sym none) tt
 
-aborted_if : (b : Bool) (x y : Kernel) → x.aborted ≡ y.aborted → (if b then x else y).aborted ≡ y.aborted
-aborted_if true x y e = e
-aborted_if false x y e = refl
-
 aborted_all_ready : (ps : List ℕ) (kernel : Kernel) → (all_ready ps kernel).aborted ≡ kernel.aborted
 unfolding all_ready moved
 aborted_all_ready [] kernel = refl
 aborted_all_ready (p ∷ ps) kernel = aborted_all_ready ps (moved kernel 0 p)
-
-aborted_behind : (running : Option ℕ) (kernel : Kernel) → (runner_behind running kernel).aborted ≡ kernel.aborted
-unfolding runner_behind behind_equals
-aborted_behind None kernel = refl
-aborted_behind (Some p) kernel = aborted_if (is_ready (list_of kernel.lists p)) (behind_equals kernel p) kernel refl
 
 aborted_woken : (answer : FlagSet) (kernel : Kernel) → (with_woken answer kernel).aborted ≡ kernel.aborted
 unfolding with_woken
@@ -54,7 +45,7 @@ aborted_signalled flag kernel = aborted_woken (set_answer (flag_at kernel.flags 
 
 aborted_flag_came : (flag : ℕ) (kernel : Kernel) → (flag_came flag kernel).aborted ≡ kernel.aborted
 unfolding flag_came
-aborted_flag_came flag kernel = aborted_if (is_flag flag) (signalled flag kernel) kernel (aborted_signalled flag kernel)
+aborted_flag_came flag kernel = either (λ (k : Kernel). k.aborted ≡ kernel.aborted) (is_flag flag) _ _ (λ _. aborted_signalled flag kernel) (λ _. refl)
 
 -- a key aborts the owner of its console
 aborts_named : (key : KeyDone) (console : ℕ) (waited : Bool) (kernel : Kernel) → KeyNames kernel.procs key → AbortLives kernel → AbortLives (key_done key console waited kernel)
@@ -66,25 +57,21 @@ aborts_named (Wakes p) console waited kernel names lives = lives
 aborts_named (Aborts p) console waited kernel names lives = names
 aborts_named (Passes from to) console waited kernel names lives = lives
 
-aborts_if : (b : Bool) (x y : Kernel) → (b ≡ true → AbortLives x) → AbortLives y → AbortLives (if b then x else y)
-aborts_if true x y is else_is = is refl
-aborts_if false x y is else_is = else_is
-
 aborts_by_key : (console byte : ℕ) (kernel : Kernel) → IsSound kernel → AbortLives kernel → AbortLives (key_came console byte kernel)
 unfolding key_came
 aborts_by_key console byte kernel s lives =
     let resident = is_resident kernel.procs (owner_of kernel.units (ConsoleUnit console)) in
     let key = key_answer kernel.units console byte resident in
-    aborts_if (nat_lt console kernel.consoles) _ kernel
+    either AbortLives (nat_lt console kernel.consoles) _ _
     (λ fits. aborts_named key console _ _ (key_names kernel console byte resident key s (has_console kernel console s (grind (arith, nat_tests, fits))) refl) lives)
-    lives
+    (λ _. lives)
 
 aborts_by : (event : Event) (kernel : Kernel) → IsSound kernel → kernel.aborted ≡ None → AbortLives (happens event kernel)
 unfolding happens clock_ticked device_ready
 aborts_by Tick kernel s none =
     let woken = woken_by_tick kernel.clock.delays in
     let behind = all_woken woken (with_tick kernel) in
-    lives_if_none (runner_behind kernel.running behind) (aborted_behind kernel.running behind ∙ aborted_all_ready woken (with_tick kernel) ∙ none)
+    lives_if_none (runner_behind behind) (aborted_all_ready woken (with_tick kernel) ∙ none)
 aborts_by (Key console byte) kernel s none = aborts_by_key console byte kernel s (lives_if_none kernel none)
 aborts_by (Ready device byte) kernel s none =
     lives_if_none (all_woken (pollers kernel device) (with_ready kernel device byte)) (aborted_all_ready (pollers kernel device) (with_ready kernel device byte) ∙ none)
@@ -95,4 +82,4 @@ abort_lives event kernel s = aborts_by event (afresh kernel) (sound_afresh kerne
 
 -- it is handed out
 pub sound_abort_taken : (kernel : Kernel) → IsSound kernel → IsSound (abort_taken kernel)
-sound_abort_taken kernel s = sound_told kernel kernel.echo None s
+sound_abort_taken kernel s = sound_noted kernel kernel.echo None s

@@ -8,22 +8,23 @@ use Rattle.mpm_kernel.specs.Kernel.{Kernel, IsSound, with_changed}
 use Rattle.mpm_kernel.specs.Called.{Called, valued, low_parameter}
 use Rattle.mpm_kernel.specs.Waiting.{polled, is_flag, behind_flag_wait, waited, flag_waited, flag_set, slept}
 use Rattle.mpm_clock.specs.PackedDecimal.{names_time}
-use Rattle.mpm_kernel.specs.Dates.{date_set, date_told, time_told}
+use Rattle.mpm_kernel.specs.Dates.{date_set, date_answered, time_answered}
 use Rattle.mpm_kernel.specs.Calls.{called}
 use Rattle.mpm_kernel.specs.Procedures.{procedure_queue, inside, procedure_read, procedure_at, procedure_called}
 use Rattle.mpm_flags.specs.States.{flag_at, wait_answer}
 use Rattle.mpm_flags.specs.declared.flags.FlagWait.{FlagWait}
 use Rattle.mpm_flags.specs.declared.flags.FlagWait.TheVariants.{Passed, Waits, Underrun}
 use Rattle.std.specs.Prelude.{nat_lt, is_some, is_none, slice_index_or}
+use Rattle.mpm_base.proofs.Choices.{either}
 use Rattle.mpm_kernel.proofs.SoundLaws.{procs_signalled}
 use Rattle.mpm_queues.specs.Queue.{with_given, is_full as is_full_queue}
-use Rattle.mpm_queues.specs.Queues.{waits, queue_in, refusal as make_refusal}
-use Rattle.mpm_queues.specs.Handling.{first_reader, written_by, told, read_outcome, write_outcome, procs_behind_write}
+use Rattle.mpm_queues.specs.Queues.{waits, queue_in, make_error}
+use Rattle.mpm_queues.specs.Handling.{first_reader, written_by, delivered_to, read_outcome, write_outcome, procs_behind_write}
 use Rattle.mpm_queues.specs.declared.queues.QueueOutcome.{QueueOutcome}
 use Rattle.mpm_queues.specs.declared.queues.QueueOutcome.TheVariants.{Done as Handled, NotNow}
 use Rattle.mpm_queues.proofs.SoundLaws.{reader_waits}
 use Rattle.mpm_queues.proofs.WaitLaws.{waits_one}
-use Rattle.mpm_kernel.specs.Queueing.{with_queue, queue_made, opened, may_delete, deleted, queued, put_off, with_other, taken_from, was_read, read_at, given_to, was_written, write_at}
+use Rattle.mpm_kernel.specs.Queueing.{with_queue, queue_made, opened, may_delete, deleted, queued, blocked_or_refused, with_other, taken_from, was_read, read_at, given_to, was_written, write_at}
 use Rattle.mpm_kernel.specs.Dispatch.{unlisted, moved, lists_ready, also_completed, behind_equals, with_priority}
 use Rattle.mpm_kernel.proofs.Homes.{SameHomes, homes_stay, homes_both, homes_changed, homes_call}
 
@@ -34,13 +35,11 @@ pub record KeepsHome (old : Kernel) (called : Called) : Type 0 where
   pub call : (q : ℕ) → waits old.queues q ≡ 0 → call_of called.kernel.procs q ≡ call_of old.procs q
 
 pub kept_if : (old : Kernel) (b : Bool) (x y : Called) → KeepsHome old x → KeepsHome old y → KeepsHome old (if b then x else y)
-kept_if old true x y s t = s
-kept_if old false x y s t = t
+kept_if old b x y s t = either (KeepsHome old) b x y (λ _. s) (λ _. t)
 
 pub kept_kernel_if : (old : Kernel) (b : Bool) (x y : Kernel) (value : ℕ) → KeepsHome old (valued value x) → KeepsHome old (valued value y)
     → KeepsHome old (valued value (if b then x else y))
-kept_kernel_if old true x y value s t = s
-kept_kernel_if old false x y value s t = t
+kept_kernel_if old b x y value s t = either (λ (kernel : Kernel). KeepsHome old (valued value kernel)) b x y (λ _. s) (λ _. t)
 
 pub kept_same : (kernel : Kernel) (called : Called) → called.kernel.procs ≡ kernel.procs → KeepsHome kernel called
 kept_same kernel called e = record { homes = homes_stay kernel called.kernel e; call = λ q _. ap (λ procs. call_of procs q) e }
@@ -112,7 +111,7 @@ kept_slept call p kernel = kept_if kernel (call.word == 0) _ _ (kept_behind p 0 
 pub kept_queue_made : (call : Taken) (kernel : Kernel) → KeepsHome kernel (queue_made call kernel)
 unfolding queue_made with_queue
 kept_queue_made call kernel =
-    kept_if kernel (is_none (make_refusal kernel.queues (name_at call 2) (word_at call 10) (word_at call 12))) _ _ (kept_same kernel _ refl) (kept_same kernel _ refl)
+    kept_if kernel (is_none (make_error kernel.queues (name_at call 2) (word_at call 10) (word_at call 12))) _ _ (kept_same kernel _ refl) (kept_same kernel _ refl)
 
 pub kept_opened : (slot : Option ℕ) (call : Taken) (kernel : Kernel) → KeepsHome kernel (opened slot call kernel)
 unfolding opened
@@ -124,9 +123,9 @@ unfolding deleted
 kept_deleted None kernel = kept_same kernel _ refl
 kept_deleted (Some q) kernel = kept_if kernel (may_delete kernel q) _ _ (kept_same kernel _ refl) (kept_same kernel _ refl)
 
-kept_put_off : (may_wait : Bool) (p q : ℕ) (reader : Bool) (kernel : Kernel) → KeepsHome kernel (put_off may_wait p q reader kernel)
-unfolding put_off queued unlisted
-kept_put_off may_wait p q reader kernel = kept_if kernel may_wait _ _ (kept_same kernel _ refl) (kept_same kernel _ refl)
+kept_blocked_or_refused : (may_wait : Bool) (p q : ℕ) (reader : Bool) (kernel : Kernel) → KeepsHome kernel (blocked_or_refused may_wait p q reader kernel)
+unfolding blocked_or_refused queued unlisted
+kept_blocked_or_refused may_wait p q reader kernel = kept_if kernel may_wait _ _ (kept_same kernel _ refl) (kept_same kernel _ refl)
 
 pub procs_with_other : (other : Option ℕ) (kernel : Kernel) → (with_other other kernel).procs ≡ kernel.procs
 unfolding with_other lists_ready also_completed moved
@@ -136,7 +135,7 @@ procs_with_other (Some p) kernel = refl
 kept_was_read : (outcome : QueueOutcome) (may_wait : Bool) (call : Taken) (p q : ℕ) (kernel : Kernel) → KeepsHome kernel (was_read outcome may_wait call p q kernel)
 unfolding was_read
 kept_was_read (Handled other) may_wait call p q kernel = kept_same kernel _ (procs_with_other other (taken_from kernel p q))
-kept_was_read NotNow may_wait call p q kernel = kept_put_off may_wait p q true kernel
+kept_was_read NotNow may_wait call p q kernel = kept_blocked_or_refused may_wait p q true kernel
 
 pub kept_read_at : (slot : Option ℕ) (may_wait : Bool) (call : Taken) (p : ℕ) (kernel : Kernel) → KeepsHome kernel (read_at slot may_wait call p kernel)
 unfolding read_at
@@ -148,12 +147,12 @@ call_else : (procs : Table) (r q : ℕ) (call : Taken) → q ≢ r → call_of (
 unfolding with_call
 call_else procs r q call other = get_or-set_other procs.calls r q call no_call other
 
-pub kept_told : (b : Bool) (o : Option ℕ) (message : List ℕ) (kernel : Kernel) (called : Called)
-    → called.kernel.procs ≡ (if b then kernel.procs else (told o message kernel.procs)) → ((r : ℕ) → o ≡ Some r → waits kernel.queues r ≡ 1)
+pub kept_delivered_to : (b : Bool) (o : Option ℕ) (message : List ℕ) (kernel : Kernel) (called : Called)
+    → called.kernel.procs ≡ (if b then kernel.procs else (delivered_to o message kernel.procs)) → ((r : ℕ) → o ≡ Some r → waits kernel.queues r ≡ 1)
     → KeepsHome kernel called
-kept_told true o message kernel called e one = kept_same kernel called e
-kept_told false None message kernel called e one = kept_same kernel called e
-kept_told false (Some r) message kernel called e one =
+kept_delivered_to true o message kernel called e one = kept_same kernel called e
+kept_delivered_to false None message kernel called e one = kept_same kernel called e
+kept_delivered_to false (Some r) message kernel called e one =
     let call = with_given message (call_of kernel.procs r) in
     let behind = record kernel { procs = with_call kernel.procs r call } in
     record {
@@ -165,9 +164,9 @@ kept_was_written : (outcome : QueueOutcome) (may_wait : Bool) (p q : ℕ) (kerne
 unfolding was_written procs_behind_write
 kept_was_written (Handled other) may_wait p q kernel s =
     let t = kernel.queues in
-    kept_told (is_full_queue (queue_in t q)) (first_reader t q) (written_by t q kernel.procs p) kernel _ (procs_with_other other (given_to kernel p q))
+    kept_delivered_to (is_full_queue (queue_in t q)) (first_reader t q) (written_by t q kernel.procs p) kernel _ (procs_with_other other (given_to kernel p q))
     (λ r first. waits_one t q r s.queues (reader_waits t q r first))
-kept_was_written NotNow may_wait p q kernel s = kept_put_off may_wait p q false kernel
+kept_was_written NotNow may_wait p q kernel s = kept_blocked_or_refused may_wait p q false kernel
 
 pub kept_write_at : (slot : Option ℕ) (may_wait : Bool) (p : ℕ) (kernel : Kernel) → IsSound kernel → KeepsHome kernel (write_at slot may_wait p kernel)
 unfolding write_at
@@ -191,7 +190,7 @@ kept_procedure_read : (outcome : QueueOutcome) (p q : ℕ) (kernel : Kernel) →
 unfolding procedure_read
 kept_procedure_read (Handled other) p q kernel s h =
     kept_inside p q _ 0 kernel (with_other other (taken_from kernel p q)) s h (procs_with_other other (taken_from kernel p q))
-kept_procedure_read NotNow p q kernel s h = kept_put_off true p q true kernel
+kept_procedure_read NotNow p q kernel s h = kept_blocked_or_refused true p q true kernel
 
 kept_procedure_at : (slot : Option ℕ) (p : ℕ) (kernel : Kernel) → IsSound kernel → Lives kernel.procs p → KeepsHome kernel (procedure_at slot p kernel)
 unfolding procedure_at
@@ -209,10 +208,10 @@ pub kept_date_set : (call : Taken) (kernel : Kernel) → KeepsHome kernel (date_
 unfolding date_set
 kept_date_set call kernel = kept_if kernel (names_time call) _ _ (kept_same kernel _ refl) (kept_same kernel _ refl)
 
-pub procs_date_told : (call : Taken) (kernel : Kernel) → (date_told call kernel).kernel.procs ≡ kernel.procs
-unfolding date_told
-procs_date_told call kernel = refl
+pub procs_date_answered : (call : Taken) (kernel : Kernel) → (date_answered call kernel).kernel.procs ≡ kernel.procs
+unfolding date_answered
+procs_date_answered call kernel = refl
 
-pub procs_time_told : (call : Taken) (kernel : Kernel) → (time_told call kernel).kernel.procs ≡ kernel.procs
-unfolding time_told
-procs_time_told call kernel = refl
+pub procs_time_answered : (call : Taken) (kernel : Kernel) → (time_answered call kernel).kernel.procs ≡ kernel.procs
+unfolding time_answered
+procs_time_answered call kernel = refl

@@ -1,12 +1,14 @@
 -- A process that gets another console or printer.
-use Rattle.std.proofs.Common.{◌≡◌, ◌∙◌, ℕ, ◌<◌, Bool, true, false, ◌==◌, if◌then◌else◌, length, refl, sym, ap, subst, arith}
+use Rattle.std.proofs.Common.{◌≡◌, ◌∙◌, ℕ, ◌<◌, ◌==◌, Some, length, refl, sym, ap, subst, arith}
+use Rattle.mpm_base.proofs.Choices.{either}
 use Rattle.mpm_procs.specs.Table.{lives, Lives, process_in}
 use Rattle.mpm_procs.specs.declared.process.Process.{Process}
 use Rattle.mpm_procs.proofs.MapLaws.{lives_changed}
+use Rattle.mpm_queues.specs.Queues.{Queues}
 use Rattle.mpm_consoles.specs.Consoles.{HasUnit}
 use Rattle.mpm_consoles.specs.declared.unit.Unit.{Unit}
 use Rattle.mpm_consoles.specs.declared.unit.Unit.TheVariants.{Console as ConsoleUnit, Printer as PrinterUnit}
-use Rattle.mpm_kernel.specs.Kernel.{Kernel, IsReady, IsFit, IsSound, with_changed}
+use Rattle.mpm_kernel.specs.Kernel.{Kernel, IsReady, IsOfTwo, IsFit, IsSound, with_changed}
 use Rattle.mpm_kernel.specs.Dispatch.{unit_left}
 use Rattle.mpm_kernel.specs.Consoling.{console_changed, printer_changed}
 use Rattle.mpm_kernel.proofs.Soundness.{sound_changed}
@@ -32,57 +34,54 @@ counts_left : (p : ℕ) (unit : Unit) (kernel : Kernel) → HasAll kernel.consol
 unfolding unit_left
 counts_left p unit kernel = record { consoles_there = refl; printers_there = refl }
 
+queues_left : (p : ℕ) (unit : Unit) (kernel : Kernel) → (unit_left p unit kernel).queues ≡ kernel.queues
+unfolding unit_left
+queues_left p unit kernel = refl
+
 -- a process leaves a unit, and is another one
 left_and_changed : (p : ℕ) (unit : Unit) (process : Process) (kernel : Kernel) → MayCall p kernel → HasUnit kernel.units unit
-    → IsFit kernel.consoles kernel.printers process → MayCall p (with_changed (unit_left p unit kernel) p process)
-left_and_changed p unit process kernel m has fit =
+    → IsFit kernel.consoles kernel.printers process → ((q : ℕ) → process.procedure ≡ Some q → IsOfTwo kernel.queues q)
+    → MayCall p (with_changed (unit_left p unit kernel) p process)
+left_and_changed p unit process kernel m has fit two =
+    let P : ℕ → Queues → Type 0 = λ q queues. IsOfTwo queues q in
     let behind = unit_left p unit kernel in
     let counts = counts_left p unit kernel in
     let here : Lives behind.procs p = ap (λ procs. lives procs p) (process_left p unit kernel) ∙ m.lives in
     record {
       sound = sound_changed behind p process (sound_unit_left kernel p unit m.sound has) here
-          (subst (λ n. IsFit n behind.printers process) (sym counts.consoles_there) (subst (λ n. IsFit kernel.consoles n process) (sym counts.printers_there) fit));
+          (subst (λ n. IsFit n behind.printers process) (sym counts.consoles_there) (subst (λ n. IsFit kernel.consoles n process) (sym counts.printers_there) fit))
+          (λ q is. subst (P q) (sym (queues_left p unit kernel)) (two q is));
       lives = lives_changed behind.procs p p process ∙ here;
       ready = ready_unit_left kernel p p unit m.sound has m.ready;
     }
-
-either : (p : ℕ) (b : Bool) (x y : Kernel) → MayCall p x → (b ≡ false → MayCall p y) → MayCall p (if b then x else y)
-either p true x y m n = m
-either p false x y m n = n refl
 
 pub may_console_changed : (kernel : Kernel) (p console : ℕ) → MayCall p kernel → console < kernel.consoles → MayCall p (console_changed p console kernel)
 unfolding console_changed
 may_console_changed kernel p console m below =
     let process = process_in kernel.procs p in
     let fit = m.sound.fit p m.lives in
-    either p (process.console == console) _ _ m (λ _.
+    either (MayCall p) (process.console == console) _ _ (λ _. m) (λ _.
     left_and_changed p (ConsoleUnit process.console) _ kernel m (has_own_console kernel p m.sound m.lives)
-    (record { console = below; printer = fit.printer; some = fit.some; few = fit.few }))
+    (record { console = below; printer = fit.printer; some = fit.some; few = fit.few }) (λ q. m.sound.inside p q m.lives))
 
 pub may_printer_changed : (kernel : Kernel) (p printer : ℕ) → MayCall p kernel → printer < kernel.printers → MayCall p (printer_changed p printer kernel)
 unfolding printer_changed
 may_printer_changed kernel p printer m below =
     let process = process_in kernel.procs p in
     let fit = m.sound.fit p m.lives in
-    either p (process.printer == printer) _ _ m (λ _.
+    either (MayCall p) (process.printer == printer) _ _ (λ _. m) (λ _.
     left_and_changed p (PrinterUnit process.printer) _ kernel m (has_own_printer kernel p m.sound m.lives (omega (arith, below)))
-    (record { console = fit.console; printer = λ _. below; some = fit.some; few = fit.few }))
-
-consoles_if : (b : Bool) (x y : Kernel) → y.consoles ≡ x.consoles → (if b then x else y).consoles ≡ x.consoles
-consoles_if true x y e = refl
-consoles_if false x y e = e
-
-printers_if : (b : Bool) (x y : Kernel) → y.printers ≡ x.printers → (if b then x else y).printers ≡ x.printers
-printers_if true x y e = refl
-printers_if false x y e = e
+    (record { console = fit.console; printer = λ _. below; some = fit.some; few = fit.few }) (λ q. m.sound.inside p q m.lives))
 
 pub consoles_changed : (kernel : Kernel) (p console : ℕ) → (console_changed p console kernel).consoles ≡ kernel.consoles
 unfolding console_changed
-consoles_changed kernel p console = consoles_if ((process_in kernel.procs p).console == console) kernel _ (counts_left p _ kernel).consoles_there
+consoles_changed kernel p console =
+    either (λ (k : Kernel). k.consoles ≡ kernel.consoles) ((process_in kernel.procs p).console == console) _ _ (λ _. refl) (λ _. (counts_left p _ kernel).consoles_there)
 
 pub printers_changed : (kernel : Kernel) (p printer : ℕ) → (printer_changed p printer kernel).printers ≡ kernel.printers
 unfolding printer_changed
-printers_changed kernel p printer = printers_if ((process_in kernel.procs p).printer == printer) kernel _ (counts_left p _ kernel).printers_there
+printers_changed kernel p printer =
+    either (λ (k : Kernel). k.printers ≡ kernel.printers) ((process_in kernel.procs p).printer == printer) _ _ (λ _. refl) (λ _. (counts_left p _ kernel).printers_there)
 
 -- the same, part by part
 pub sound_console_changed : (kernel : Kernel) (p console : ℕ) → IsSound kernel → Lives kernel.procs p → IsReady kernel p → console < kernel.consoles

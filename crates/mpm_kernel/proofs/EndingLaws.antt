@@ -1,66 +1,72 @@
 -- What stays so as a process ends: all that it gives back while it still lives and waits for nothing, and then its end.
-use Rattle.std.proofs.Common.{◌≡◌, ◌≢◌, ◌∙◌, ℕ, suc, ◌+◌, ◌<◌, ◌≤◌, Bool, true, false, List, [], ◌∷◌, ◌++◌, length, Option, Some, None, if◌then◌else◌, inl, inr, refl, sym, ap, subst, arith, get_or-set_other}
+use Rattle.std.proofs.Common.{◌≡◌, ◌≢◌, ◌∙◌, ℕ, suc, ◌+◌, ◌<◌, ◌≤◌, true, false, List, [], ◌∷◌, ◌++◌, length, Option, Some, None, inl, inr, refl, sym, ap, subst, arith, get_or-set_other}
 use Rattle.std.specs.List.{AllByRecursion, range_with_len}
 use Rattle.std.proofs.lemmas.Bool.{cases_eq, false≢true}
 use Rattle.std.proofs.lemmas.List.{length-append}
+use Rattle.mpm_base.proofs.Choices.{either}
 use Rattle.mpm_base.specs.Calls.{no_call}
 use Rattle.mpm_ready.proofs.TableLaws.{table_removed, list_of_removed, list_of_removed_other}
-use Rattle.mpm_clock.specs.Times.{left}
-use Rattle.mpm_clock.proofs.DelayLaws.{delays_left_own, delays_left_other}
+use Rattle.mpm_clock.specs.Times.{clock_without_delay}
+use Rattle.mpm_clock.proofs.DelayLaws.{delays_without_own, delays_without_other}
 use Rattle.mpm_procs.specs.Table.{Table, lives, Lives, process_in, call_of, with_process, without}
 use Rattle.mpm_procs.specs.declared.process.Process.{Process}
 use Rattle.mpm_procs.proofs.MapLaws.{lives_below, lives_without, lives_without_other, process_without_other, slots_without}
 use Rattle.mpm_queues.specs.Queue.{is_full}
 use Rattle.mpm_queues.specs.Queues.{Queues, IsMade, is_made, queue_in, holds, waits}
-use Rattle.mpm_queues.specs.Handling.{left as unqueued, first_reader, written_by, procs_behind_write, write_outcome, ended}
-use Rattle.mpm_queues.proofs.SoundLaws.{sound_left, reader_waits}
-use Rattle.mpm_queues.proofs.WaitLaws.{waits_left, waits_left_other, waits_one, write_ends_waiter, holds_made}
+use Rattle.mpm_queues.specs.Handling.{queues_without_waiter, first_reader, written_by, procs_behind_write, write_outcome, woken_by}
+use Rattle.mpm_queues.proofs.SoundLaws.{sound_queues_without, reader_waits}
+use Rattle.mpm_queues.proofs.WaitLaws.{waits_without_waiter, waits_without_other, waits_one, write_ends_waiter, holds_made}
 use Rattle.mpm_consoles.specs.Console.{is_owner}
 use Rattle.mpm_consoles.specs.Consoles.{owns}
-use Rattle.mpm_consoles.specs.Handling.{left as without_units}
-use Rattle.mpm_consoles.proofs.SoundLaws.{sound_left as sound_units_left}
-use Rattle.mpm_kernel.specs.Kernel.{Kernel, ready, in_lists, places, IsReady, IsFit, AreUnits, IsSound, CompletedLive}
+use Rattle.mpm_consoles.specs.Handling.{units_without_waiter}
+use Rattle.mpm_consoles.proofs.SoundLaws.{sound_units_without}
+use Rattle.mpm_kernel.specs.Kernel.{Kernel, ready, in_lists, places, IsReady, IsOfTwo, IsFit, AreUnits, IsSound, CompletedLive}
 use Rattle.mpm_kernel.specs.Dispatch.{moved, lists_ready, also_completed}
 use Rattle.mpm_kernel.specs.Called.{valued}
 use Rattle.mpm_kernel.specs.Queueing.{with_other, given_to}
 use Rattle.mpm_kernel.specs.Procedures.{writing, outside, given_back_to, given_back}
 use Rattle.mpm_kernel.specs.Ending.{dropped_out, returned, all_returned, units_left, relieved, vacated, discharged, Leaves}
-use Rattle.mpm_kernel.proofs.PlaceLaws.{in_none, not_equal, list_moved_other, flags_left_own, flags_left_other, length_left}
+use Rattle.mpm_kernel.proofs.PlaceLaws.{in_none, not_equal, list_moved_other, flags_without_own, flags_without_other, length_without_waiter}
 use Rattle.mpm_kernel.proofs.Soundness.{dead_and_alive, listed_once, runs_other, sound_ready, sound_with_completed, MayBeReady}
-use Rattle.mpm_kernel.proofs.UnitWaits.{units_left_own, units_left_other, length_units_left, printers_units_left, has_units_left, owner_units_left}
+use Rattle.mpm_kernel.proofs.UnitWaits.{units_without_own, units_without_other, length_units_without, printers_units_without, has_units_without, owner_units_without}
 use Rattle.mpm_kernel.proofs.LeavingLaws.{OwnsNothing, left_units, owns_none}
 use Rattle.mpm_kernel.proofs.Staying.{all_and_one}
 use Rattle.mpm_kernel.proofs.QueueingLaws.{sound_given, write_waits, may_by_write, lives_written}
-use Rattle.mpm_kernel.proofs.HomeLaws.{SameHomes, homes_stay, homes_both, homes_vacated, kept_told, procs_with_other}
+use Rattle.mpm_kernel.proofs.QueueCalls.{queues_with_other}
+use Rattle.mpm_kernel.proofs.HomeLaws.{SameHomes, homes_stay, homes_both, homes_vacated, kept_delivered_to, procs_with_other}
 use Rattle.mpm_kernel.proofs.ProcedureLaws.{sound_outside, lives_outside, nobody_outside, homes_given, homes_given_back}
 
 -- a process stands nowhere any more, and the others where they stood
 dropped_nowhere : (p : ℕ) (kernel : Kernel) → places (dropped_out p kernel) p ≡ 0
-unfolding dropped_out left
+unfolding dropped_out clock_without_delay
 dropped_nowhere p kernel =
-    omega (arith, in_none _ (list_of_removed kernel.lists p), flags_left_own kernel.flags p, delays_left_own kernel.clock.delays p, waits_left kernel.queues p, units_left_own kernel.units p)
+    omega (arith, in_none _ (list_of_removed kernel.lists p), flags_without_own kernel.flags p, delays_without_own kernel.clock.delays p, waits_without_waiter kernel.queues p, units_without_own kernel.units p)
 
 dropped_elsewhere : (p q : ℕ) (kernel : Kernel) → IsSound kernel → q ≢ p → places (dropped_out p kernel) q ≡ places kernel q
-unfolding dropped_out left
+unfolding dropped_out clock_without_delay
 dropped_elsewhere p q kernel s other =
     let same = list_of_removed_other kernel.lists p q s.table (not_equal p q (λ e. other (sym e))) in
-    omega (arith, ap in_lists same, flags_left_other kernel.flags p q other, delays_left_other kernel.clock.delays p q other, waits_left_other kernel.queues p q s.queues other, units_left_other kernel.units p q s.units.sound other)
+    omega (arith, ap in_lists same, flags_without_other kernel.flags p q other, delays_without_other kernel.clock.delays p q other, waits_without_other kernel.queues p q s.queues other, units_without_other kernel.units p q s.units.sound other)
 
-made_left : (t : Queues) (p q : ℕ) → IsMade t q → IsMade (unqueued t p) q
-unfolding unqueued
-made_left t p q is = is
+made_without_waiter : (t : Queues) (p q : ℕ) → IsMade t q → IsMade (queues_without_waiter t p) q
+unfolding queues_without_waiter
+made_without_waiter t p q is = is
+
+two_without_waiter : (t : Queues) (p q : ℕ) → IsOfTwo t q → IsOfTwo (queues_without_waiter t p) q
+unfolding queues_without_waiter
+two_without_waiter t p q two = two
 
 procs_dropped : (p : ℕ) (kernel : Kernel) → (dropped_out p kernel).procs ≡ kernel.procs
 unfolding dropped_out
 procs_dropped p kernel = refl
 
-units_dropped : (kernel : Kernel) (p : ℕ) → IsSound kernel → AreUnits kernel.consoles kernel.printers kernel.procs (without_units kernel.units p)
+units_dropped : (kernel : Kernel) (p : ℕ) → IsSound kernel → AreUnits kernel.consoles kernel.printers kernel.procs (units_without_waiter kernel.units p)
 units_dropped kernel p s = record {
-  sound = sound_units_left kernel.units p s.units.sound;
-  all_consoles = length_units_left kernel.units p ∙ s.units.all_consoles;
-  all_printers = printers_units_left kernel.units p ∙ s.units.all_printers;
+  sound = sound_units_without kernel.units p s.units.sound;
+  all_consoles = length_units_without kernel.units p ∙ s.units.all_consoles;
+  all_printers = printers_units_without kernel.units p ∙ s.units.all_printers;
   owners = λ unit q there is.
-      s.units.owners unit q (has_units_left kernel.units p unit there) (sym (ap (λ o. is_owner o q) (owner_units_left kernel.units p unit)) ∙ is);
+      s.units.owners unit q (has_units_without kernel.units p unit there) (sym (ap (λ o. is_owner o q) (owner_units_without kernel.units p unit)) ∙ is);
 }
 
 pub sound_dropped : (p : ℕ) (kernel : Kernel) → IsSound kernel → Lives kernel.procs p → IsSound (dropped_out p kernel)
@@ -72,9 +78,10 @@ sound_dropped p kernel s h = record {
   slots = s.slots;
   table = table_removed kernel.lists p s.table;
   fit = s.fit;
-  flags = length_left kernel.flags p ∙ s.flags;
-  queues = sound_left kernel.queues p s.queues;
-  system = λ q below. made_left kernel.queues p q (s.system q below);
+  flags = length_without_waiter kernel.flags p ∙ s.flags;
+  queues = sound_queues_without kernel.queues p s.queues;
+  system = λ q below. made_without_waiter kernel.queues p q (s.system q below);
+  inside = λ r q living is. two_without_waiter kernel.queues p q (s.inside r q living is);
   once = λ q. elim (cases_eq q p) [
     | inl same ↦ omega (arith, ap (places (dropped_out p kernel)) same, dropped_nowhere p kernel)
     | inr other ↦ omega (arith, s.once q, dropped_elsewhere p q kernel s other)
@@ -140,23 +147,19 @@ leaves_written p q kernel l is =
     }
 
 -- who waits to read from a queue is another one
-waiter_apart : (p q r : ℕ) (kernel : Kernel) → Leaves p kernel → ended (write_outcome kernel.queues q) ≡ Some r → r ≢ p
+waiter_apart : (p q r : ℕ) (kernel : Kernel) → Leaves p kernel → woken_by (write_outcome kernel.queues q) ≡ Some r → r ≢ p
 waiter_apart p q r kernel l first = λ same.
     let t = kernel.queues in
     omega (arith, waits_one t q r l.sound.queues (write_ends_waiter t q r first), ap (waits t) same, l.nowhere)
-
-leaves_if : (b : Bool) (p : ℕ) (new old : Kernel) → (b ≡ true → Leaves p new) → Leaves p old → Leaves p (if b then new else old)
-leaves_if true p new old is was = is refl
-leaves_if false p new old is was = was
 
 leaves_given : (queue : Option ℕ) (p : ℕ) (kernel : Kernel) → Leaves p kernel → Leaves p (given_back_to queue p kernel)
 unfolding given_back_to
 leaves_given None p kernel l = l
 leaves_given (Some q) p kernel l =
-    leaves_if (is_made kernel.queues q) p _ kernel
-    (λ is. leaves_other (ended (write_outcome kernel.queues q)) p (given_to kernel p q) (leaves_written p q kernel l is)
+    either (Leaves p) (is_made kernel.queues q) _ _
+    (λ is. leaves_other (woken_by (write_outcome kernel.queues q)) p (given_to kernel p q) (leaves_written p q kernel l is)
     (λ r first. (may_by_write kernel p q r l.sound first, waiter_apart p q r kernel l first)))
-    l
+    (λ _. l)
 
 pub leaves_given_back : (p : ℕ) (kernel : Kernel) → IsSound kernel → Lives kernel.procs p → Leaves p (given_back p (dropped_out p kernel))
 unfolding given_back
@@ -170,7 +173,7 @@ held_made p q kernel l held = holds_made kernel.queues p q l.sound.queues held
 
 pub leaves_returned : (p q : ℕ) (kernel : Kernel) → Leaves p kernel → Leaves p (returned p q kernel)
 unfolding returned
-leaves_returned p q kernel l = leaves_if (holds kernel.queues p q) p _ kernel (λ _. leaves_given (Some q) p kernel l) l
+leaves_returned p q kernel l = either (Leaves p) (holds kernel.queues p q) _ _ (λ _. leaves_given (Some q) p kernel l) (λ _. l)
 
 pub leaves_all_returned : (qs : List ℕ) (p : ℕ) (kernel : Kernel) → Leaves p kernel → Leaves p (all_returned qs p kernel)
 unfolding all_returned
@@ -213,15 +216,12 @@ unfolding with_other lists_ready also_completed moved
 few_other None kernel = omega arith
 few_other (Some p) kernel = omega (arith, length-append kernel.completed (p ∷ []))
 
-few_if : (b : Bool) (new old : Kernel) → length new.completed ≤ length old.completed + 1 → length (if b then new else old).completed ≤ length old.completed + 1
-few_if true new old few = few
-few_if false new old few = omega arith
-
 few_given : (queue : Option ℕ) (p : ℕ) (kernel : Kernel) → length (given_back_to queue p kernel).completed ≤ length kernel.completed + 1
 unfolding given_back_to
 few_given None p kernel = omega arith
 few_given (Some q) p kernel =
-    few_if (is_made kernel.queues q) _ kernel (few_other (ended (write_outcome kernel.queues q)) (given_to kernel p q))
+    either (λ (k : Kernel). length k.completed ≤ length kernel.completed + 1) (is_made kernel.queues q) _ _
+    (λ _. few_other (woken_by (write_outcome kernel.queues q)) (given_to kernel p q)) (λ _. omega arith)
 
 pub few_given_back : (p : ℕ) (kernel : Kernel) → length (given_back p kernel).completed ≤ 1
 unfolding given_back
@@ -230,7 +230,8 @@ few_given_back p kernel =
 
 few_returned : (p q : ℕ) (kernel : Kernel) → length (returned p q kernel).completed ≤ length kernel.completed + 1
 unfolding returned
-few_returned p q kernel = few_if (holds kernel.queues p q) _ kernel (few_given (Some q) p kernel)
+few_returned p q kernel =
+    either (λ (k : Kernel). length k.completed ≤ length kernel.completed + 1) (holds kernel.queues p q) _ _ (λ _. few_given (Some q) p kernel) (λ _. omega arith)
 
 -- the queues so far: what is left of all
 pub record ReturnedSo (p : ℕ) (start now : Kernel) (q : ℕ) : Type 0 where
@@ -303,6 +304,12 @@ sound_vacated p kernel l nothing =
       flags = s.flags;
       queues = s.queues;
       system = s.system;
+      inside = λ q k living is. elim (cases_eq q p) [
+        | inl same ↦ absurd (dead_and_alive _ (ap (lives (without kernel.procs p)) same ∙ lives_without kernel.procs p (omega (arith, s.slots.alive))) living)
+        | inr other ↦
+            s.inside q k (sym (lives_without_other kernel.procs p q other) ∙ living)
+            (ap (λ x. x.procedure) (sym (process_without_other kernel.procs p q other)) ∙ is)
+      ];
       once = s.once;
       live = λ q some. elim (cases_eq q p) [
         | inl same ↦ absurd (omega (arith, ap (places kernel) same, l.nowhere))
@@ -325,14 +332,17 @@ unfolding discharged
 live_discharged kernel p s h =
     let behind = relieved p kernel in others_live p behind.completed behind.procs (leaves_relieved p kernel s h).others
 
--- who lives lives where somebody did
-homes_if : (b : Bool) (old new : Kernel) → SameHomes old new → SameHomes old (if b then new else old)
-homes_if true old new is = is
-homes_if false old new is = homes_stay old old refl
+pub dead_discharged : (kernel : Kernel) (p : ℕ) → IsSound kernel → Lives kernel.procs p → lives (discharged kernel p).procs p ≡ false
+unfolding discharged
+dead_discharged kernel p s h =
+    let l = leaves_relieved p kernel s h in
+    let below : p < 32 = lives_below (relieved p kernel).procs p l.sound.slots l.lives in
+    lives_without (relieved p kernel).procs p (omega (arith, below, l.sound.slots.alive))
 
+-- who lives lives where somebody did
 homes_returned : (p q : ℕ) (kernel : Kernel) → SameHomes kernel (returned p q kernel)
 unfolding returned
-homes_returned p q kernel = homes_if (holds kernel.queues p q) kernel _ (homes_given (Some q) p kernel)
+homes_returned p q kernel = either (SameHomes kernel) (holds kernel.queues p q) _ _ (λ _. homes_given (Some q) p kernel) (λ _. homes_stay kernel kernel refl)
 
 homes_all_returned : (qs : List ℕ) (p : ℕ) (kernel : Kernel) → SameHomes kernel (all_returned qs p kernel)
 unfolding all_returned
@@ -373,13 +383,12 @@ keeps_both q old middle new first second = record {
 keeps_same : (q : ℕ) (old new : Kernel) → new.procs ≡ old.procs → (waits old.queues q ≡ 0 → waits new.queues q ≡ 0) → Keeps q old new
 keeps_same q old new same none = record { lives = ap (λ procs. lives procs q) same; call = λ _. ap (λ procs. call_of procs q) same; waits = none }
 
-keeps_if : (b : Bool) (q : ℕ) (old new : Kernel) → (b ≡ true → Keeps q old new) → Keeps q old (if b then new else old)
-keeps_if true q old new is = is refl
-keeps_if false q old new is = keeps_same q old old refl (λ none. none)
+keeps_itself : (q : ℕ) (kernel : Kernel) → Keeps q kernel kernel
+keeps_itself q kernel = keeps_same q kernel kernel refl (λ none. none)
 
 keeps_dropped : (p q : ℕ) (kernel : Kernel) → IsSound kernel → q ≢ p → Keeps q kernel (dropped_out p kernel)
 unfolding dropped_out
-keeps_dropped p q kernel s other = keeps_same q kernel (dropped_out p kernel) refl (λ none. waits_left_other kernel.queues p q s.queues other ∙ none)
+keeps_dropped p q kernel s other = keeps_same q kernel (dropped_out p kernel) refl (λ none. waits_without_other kernel.queues p q s.queues other ∙ none)
 
 keeps_outside : (p q : ℕ) (kernel : Kernel) → q ≢ p → Keeps q kernel (outside p kernel)
 unfolding outside with_process Rattle.mpm_procs.specs.Table.with_call
@@ -389,18 +398,13 @@ keeps_outside p q kernel other = record {
   waits = λ none. none;
 }
 
-pub queues_with_other : (other : Option ℕ) (kernel : Kernel) → (with_other other kernel).queues ≡ kernel.queues
-unfolding with_other lists_ready also_completed moved
-queues_with_other None kernel = refl
-queues_with_other (Some p) kernel = refl
-
-keeps_written : (p q k : ℕ) (kernel : Kernel) → IsSound kernel → Keeps k kernel (with_other (ended (write_outcome kernel.queues q)) (given_to kernel p q))
+keeps_written : (p q k : ℕ) (kernel : Kernel) → IsSound kernel → Keeps k kernel (with_other (woken_by (write_outcome kernel.queues q)) (given_to kernel p q))
 unfolding procs_behind_write
 keeps_written p q k kernel s =
     let t = kernel.queues in
-    let other = ended (write_outcome t q) in
+    let other = woken_by (write_outcome t q) in
     let behind = with_other other (given_to kernel p q) in
-    let kept = kept_told (is_full (queue_in t q)) (first_reader t q) (written_by t q kernel.procs p) kernel (valued 0 behind) (procs_with_other other (given_to kernel p q))
+    let kept = kept_delivered_to (is_full (queue_in t q)) (first_reader t q) (written_by t q kernel.procs p) kernel (valued 0 behind) (procs_with_other other (given_to kernel p q))
     (λ r first. waits_one t q r s.queues (reader_waits t q r first)) in
     record {
       lives = ap (λ procs. lives procs k) (procs_with_other other (given_to kernel p q)) ∙ lives_written t p q kernel.procs k;
@@ -410,8 +414,8 @@ keeps_written p q k kernel s =
 
 keeps_given : (queue : Option ℕ) (p k : ℕ) (kernel : Kernel) → IsSound kernel → Keeps k kernel (given_back_to queue p kernel)
 unfolding given_back_to
-keeps_given None p k kernel s = keeps_same k kernel kernel refl (λ none. none)
-keeps_given (Some q) p k kernel s = keeps_if (is_made kernel.queues q) k kernel _ (λ _. keeps_written p q k kernel s)
+keeps_given None p k kernel s = keeps_itself k kernel
+keeps_given (Some q) p k kernel s = either (Keeps k kernel) (is_made kernel.queues q) _ _ (λ _. keeps_written p q k kernel s) (λ _. keeps_itself k kernel)
 
 keeps_given_back : (p k : ℕ) (kernel : Kernel) → IsSound kernel → Lives kernel.procs p → k ≢ p → Keeps k kernel (given_back p kernel)
 unfolding given_back
@@ -421,11 +425,11 @@ keeps_given_back p k kernel s h other =
 
 keeps_returned : (p q k : ℕ) (kernel : Kernel) → IsSound kernel → Keeps k kernel (returned p q kernel)
 unfolding returned
-keeps_returned p q k kernel s = keeps_if (holds kernel.queues p q) k kernel _ (λ _. keeps_given (Some q) p k kernel s)
+keeps_returned p q k kernel s = either (Keeps k kernel) (holds kernel.queues p q) _ _ (λ _. keeps_given (Some q) p k kernel s) (λ _. keeps_itself k kernel)
 
 keeps_all_returned : (qs : List ℕ) (p k : ℕ) (kernel : Kernel) → Leaves p kernel → Keeps k kernel (all_returned qs p kernel)
 unfolding all_returned
-keeps_all_returned [] p k kernel l = keeps_same k kernel kernel refl (λ none. none)
+keeps_all_returned [] p k kernel l = keeps_itself k kernel
 keeps_all_returned (q ∷ qs) p k kernel l =
     keeps_both k kernel (returned p q kernel) _ (keeps_returned p q k kernel l.sound)
     (keeps_all_returned qs p k (returned p q kernel) (leaves_returned p q kernel l))
@@ -461,11 +465,11 @@ call_discharged kernel p q s h other none =
     call_without_other (relieved p kernel).procs p q other ∙ (keeps_relieved p q kernel s h other).call none
 
 -- the code: behind each part of an end
-pub leaves_held : (p : ℕ) (kernel gone back held : Kernel) → IsSound kernel → Lives kernel.procs p → gone ≡ dropped_out p kernel
-    → back ≡ given_back p gone → held ≡ all_returned (range_with_len 0 32) p back → Leaves p held
-leaves_held p kernel gone back held s h is_gone is_back is_held =
+pub leaves_let_go : (p : ℕ) (kernel gone back behind : Kernel) → IsSound kernel → Lives kernel.procs p → gone ≡ dropped_out p kernel
+    → back ≡ given_back p gone → behind ≡ all_returned (range_with_len 0 32) p back → Leaves p behind
+leaves_let_go p kernel gone back behind s h is_gone is_back is_behind =
     let first : back ≡ given_back p (dropped_out p kernel) = is_back ∙ ap (given_back p) is_gone in
-    subst (Leaves p) (sym (is_held ∙ ap (all_returned (range_with_len 0 32) p) first)) (leaves_messages p kernel s h)
+    subst (Leaves p) (sym (is_behind ∙ ap (all_returned (range_with_len 0 32) p) first)) (leaves_messages p kernel s h)
 
 pub lives_behind_units : (p : ℕ) (old new : Kernel) → Leaves p old → new ≡ units_left p old → Lives new.procs p
 lives_behind_units p old new l is = ap (λ (kernel : Kernel). lives kernel.procs p) is ∙ (leaves_units_left p old l).lives

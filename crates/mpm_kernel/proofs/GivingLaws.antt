@@ -1,5 +1,6 @@
 -- A console that is given: the kernel stays sound, and no process changes.
-use Rattle.std.proofs.Common.{◌≡◌, ℕ, ◌<◌, Bool, true, false, Option, Some, None, if◌then◌else◌, refl}
+use Rattle.std.proofs.Common.{◌≡◌, ℕ, ◌<◌, Option, Some, None, refl}
+use Rattle.mpm_base.proofs.Choices.{either}
 use Rattle.mpm_consoles.specs.Consoles.{owner_of}
 use Rattle.mpm_consoles.specs.declared.unit.Unit.TheVariants.{Console as ConsoleUnit}
 use Rattle.mpm_kernel.specs.Kernel.{Kernel, IsSound}
@@ -8,10 +9,6 @@ use Rattle.mpm_kernel.specs.Consoling.{IfLives, owner_made, is_from, handed_over
 use Rattle.mpm_kernel.proofs.UnitLaws.{has_console}
 use Rattle.mpm_kernel.proofs.Passing.{sound_unit_left}
 use Rattle.mpm_kernel.proofs.UnitCalls.{sound_owner_made}
-
-sound_if : (b : Bool) (x y : Kernel) → IsSound x → IsSound y → IsSound (if b then x else y)
-sound_if true x y s t = s
-sound_if false x y s t = t
 
 sound_handed : (console : ℕ) (from to : Option ℕ) (kernel : Kernel) → IsSound kernel → console < kernel.consoles → IfLives kernel.procs to
     → IsSound (handed_over console from to kernel)
@@ -23,16 +20,12 @@ pub sound_gave : (console : ℕ) (from to : Option ℕ) (kernel : Kernel) → Is
     → IsSound (given console from to kernel)
 unfolding given
 sound_gave console from to kernel s below lives =
-    sound_if (is_from (owner_of kernel.units (ConsoleUnit console)) from) _ kernel (sound_handed console from to kernel s below lives) s
+    either IsSound (is_from (owner_of kernel.units (ConsoleUnit console)) from) _ _ (λ _. sound_handed console from to kernel s below lives) (λ _. s)
 
 -- no process changes, and nobody's call is completed
 record Keeps (old new : Kernel) : Type 0 where
   pub procs : new.procs ≡ old.procs
   pub completed : new.completed ≡ old.completed
-
-keeps_if : (b : Bool) (old new : Kernel) → Keeps old new → Keeps old (if b then new else old)
-keeps_if true old new is = is
-keeps_if false old new is = record { procs = refl; completed = refl }
 
 keeps_handed : (console : ℕ) (from to : Option ℕ) (kernel : Kernel) → Keeps kernel (handed_over console from to kernel)
 unfolding unit_left owner_made
@@ -43,7 +36,7 @@ keeps_handed console from (Some to) kernel = record { procs = refl; completed = 
 keeps_given : (console : ℕ) (from to : Option ℕ) (kernel : Kernel) → Keeps kernel (given console from to kernel)
 unfolding given
 keeps_given console from to kernel =
-    keeps_if (is_from (owner_of kernel.units (ConsoleUnit console)) from) kernel _ (keeps_handed console from to kernel)
+    either (Keeps kernel) (is_from (owner_of kernel.units (ConsoleUnit console)) from) _ _ (λ _. keeps_handed console from to kernel) (λ _. record { procs = refl; completed = refl })
 
 pub procs_gave : (console : ℕ) (from to : Option ℕ) (kernel : Kernel) → (given console from to kernel).procs ≡ kernel.procs
 procs_gave console from to kernel = (keeps_given console from to kernel).procs

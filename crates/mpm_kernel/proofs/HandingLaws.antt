@@ -1,9 +1,9 @@
 -- What stays so where a process whose held call was completed is handed out.
-use Rattle.std.proofs.Common.{◌≡◌, ◌∙◌, ℕ, List, [], ◌∷◌, ◌==◌, drop, Option, Some, None, refl, sym, ap}
+use Rattle.std.proofs.Common.{◌≡◌, ℕ, List, [], ◌∷◌, ◌==◌, drop, Option, Some, None, refl}
 use Rattle.std.specs.List.{AllByRecursion}
 use Rattle.mpm_queues.specs.Queue.{block_size}
-use Rattle.mpm_procs.specs.Table.{Table, lives, Lives, call_of}
-use Rattle.mpm_kernel.specs.Kernel.{Kernel, IsSound, CompletedLive, with_completed}
+use Rattle.mpm_procs.specs.Table.{Table, Lives, call_of}
+use Rattle.mpm_kernel.specs.Kernel.{Kernel, IsOfTwo, IsSound, CompletedLive, with_completed}
 use Rattle.mpm_kernel.specs.Called.{valued}
 use Rattle.mpm_base.specs.Calls.{word_at}
 use Rattle.mpm_kernel.specs.Procedures.{procedure_queue}
@@ -11,7 +11,7 @@ use Rattle.mpm_kernel.specs.Events.{first_completed, inside_of, with_procedure, 
 use Rattle.mpm_dispatcher.proofs.CompletedLaws.{first_lives}
 use Rattle.mpm_kernel.proofs.Soundness.{sound_with_completed}
 use Rattle.mpm_kernel.proofs.Staying.{StaysSound, kernel_if}
-use Rattle.mpm_kernel.proofs.QueueCalls.{stays_inside}
+use Rattle.mpm_kernel.proofs.QueueCalls.{procedure_of_two, stays_inside}
 
 -- those who are left once one was handed out live, and so did that one
 dropped_live : (procs : Table) (ps : List ℕ) → AllByRecursion (λ p. Lives procs p) ps → AllByRecursion (λ p. Lives procs p) (drop 1 ps)
@@ -22,15 +22,18 @@ pub completed_lives : (kernel : Kernel) (p : ℕ) → CompletedLive kernel → f
 completed_lives kernel p live e = first_lives kernel.procs kernel.completed p live e
 
 -- and may be in a procedure now
-stays_inside_of : (slot : Option ℕ) (p message : ℕ) (kernel : Kernel) → StaysSound p (valued 0 kernel) → StaysSound p (valued 0 (inside_of slot p message kernel))
-stays_inside_of None p message kernel s = s
-stays_inside_of (Some q) p message kernel s = stays_inside p q message 0 kernel s
+stays_inside_of : (slot : Option ℕ) (p message : ℕ) (kernel : Kernel) → ((q : ℕ) → slot ≡ Some q → IsOfTwo kernel.queues q) → StaysSound p (valued 0 kernel)
+    → StaysSound p (valued 0 (inside_of slot p message kernel))
+stays_inside_of None p message kernel two s = s
+stays_inside_of (Some q) p message kernel two s = stays_inside p q message 0 kernel (two q refl) s
 
 stays_with_procedure : (p : ℕ) (kernel : Kernel) → StaysSound p (valued 0 kernel) → StaysSound p (valued 0 (with_procedure p kernel))
 unfolding with_procedure
 stays_with_procedure p kernel s =
     let call = call_of kernel.procs p in
-    kernel_if p (call.function == 151) _ _ 0 (λ _. stays_inside_of (procedure_queue kernel.queues call) p (word_at call block_size) kernel s) (λ _. s)
+    kernel_if p (call.function == 151) _ _ 0 (λ _. stays_inside_of (procedure_queue kernel.queues call) p (word_at call block_size) kernel
+    (λ q is. procedure_of_two kernel.queues call q is) s)
+    (λ _. s)
 
 record IsHanded (kernel : Kernel) : Type 0 where
   pub sound : IsSound kernel

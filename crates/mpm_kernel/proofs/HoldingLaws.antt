@@ -1,20 +1,24 @@
--- Who ended holds no message.
-use Rattle.std.proofs.Common.{◌≡◌, ◌≢◌, ◌∙◌, ℕ, zero, suc, ◌+◌, ◌<◌, ◌≤◌, Bool, true, false, cond, List, [], ◌∷◌, length, Option, Some, None, if◌then◌else◌, inl, inr, refl, sym, ap, arith}
+-- Who ended holds no message, and who didn't holds what it held.
+use Rattle.std.proofs.Common.{◌≡◌, ◌≢◌, ◌∙◌, ℕ, zero, suc, ◌+◌, ◌<◌, ◌≤◌, Bool, true, false, cond, List, [], ◌∷◌, length, Option, Some, None, inl, inr, refl, sym, ap, arith}
 use Rattle.std.specs.List.{range_with_len}
 use Rattle.std.specs.Option.{option_map_or}
-use Rattle.std.proofs.lemmas.Bool.{false≢true, cases_Bool, cases_eq, cases_lt}
+use Rattle.std.proofs.lemmas.Bool.{false≢true, cases_eq, cases_lt}
 use Rattle.std.proofs.lemmas.Bool.Decides.{nat_tests}
-use Rattle.mpm_procs.specs.Table.{Lives}
-use Rattle.mpm_queues.specs.Queue.{is_full, is_exclusive}
+use Rattle.mpm_base.proofs.Choices.{either}
+use Rattle.mpm_procs.specs.Table.{Lives, process_in}
+use Rattle.mpm_queues.specs.Queue.{Queue, is_full, is_exclusive}
 use Rattle.mpm_queues.specs.Queues.{Queues, is_made, queue_in, is_holder, holds, waits, IsSound as AreSound}
-use Rattle.mpm_queues.specs.Handling.{first_reader, write_outcome, ended}
+use Rattle.mpm_queues.specs.Handling.{queues_without_waiter, first_reader, write_outcome, woken_by}
 use Rattle.mpm_queues.proofs.SoundLaws.{made_below, reader_waits}
 use Rattle.mpm_queues.proofs.WaitLaws.{waits_one, holds_made, holder_write, write_else}
-use Rattle.mpm_kernel.specs.Kernel.{Kernel, IsSound}
-use Rattle.mpm_kernel.specs.Queueing.{with_other, given_to}
-use Rattle.mpm_kernel.specs.Procedures.{given_back_to}
-use Rattle.mpm_kernel.specs.Ending.{returned, all_returned, relieved, discharged, Leaves}
-use Rattle.mpm_kernel.proofs.EndingLaws.{leaves_given_back, leaves_returned, leaves_messages, leaves_relieved, queues_with_other}
+use Rattle.mpm_kernel.specs.Kernel.{Kernel, IsOfTwo, IsSound}
+use Rattle.mpm_kernel.specs.Queueing.{given_to}
+use Rattle.mpm_kernel.specs.Procedures.{outside, given_back_to, given_back}
+use Rattle.mpm_kernel.specs.Ending.{dropped_out, returned, all_returned, relieved, discharged, Leaves}
+use Rattle.mpm_kernel.proofs.Soundness.{some_same}
+use Rattle.mpm_kernel.proofs.QueueingLaws.{two_width}
+use Rattle.mpm_kernel.proofs.QueueCalls.{queues_with_other}
+use Rattle.mpm_kernel.proofs.EndingLaws.{sound_dropped, lives_dropped, leaves_given_back, leaves_returned, leaves_messages, leaves_relieved}
 use Rattle.mpm_kernel.proofs.LeavingLaws.{left_units}
 
 -- a queue whose message is held has room for it
@@ -39,57 +43,38 @@ reader_apart p q r kernel l first = λ same.
     let t = kernel.queues in
     omega (arith, waits_one t q r l.sound.queues (reader_waits t q r first), ap (waits t) same, l.nowhere)
 
-queues_if : (b : Bool) (new old : Kernel) → b ≡ true → (if b then new else old).queues ≡ new.queues
-queues_if true new old is = refl
-queues_if false new old is = absurd (cc)
-
 held_no_more : (p q : ℕ) (kernel : Kernel) → Leaves p kernel → holds kernel.queues p q ≡ true → holds (given_back_to (Some q) p kernel).queues p q ≡ false
 unfolding given_back_to
 held_no_more p q kernel l held =
     let t = kernel.queues in
     let made = holds_made t p q l.sound.queues held in
-    let behind = with_other (ended (write_outcome t q)) (given_to kernel p q) in
-    ap (λ (queues : Queues). holds queues p q) (queues_if (is_made t q) behind kernel made ∙ queues_with_other (ended (write_outcome t q)) (given_to kernel p q))
+    either (λ (k : Kernel). holds k.queues p q ≡ false) (is_made t q) _ _
+    (λ _.
+    ap (λ (queues : Queues). holds queues p q) (queues_with_other (woken_by (write_outcome t q)) (given_to kernel p q))
     ∙ ap (λ (o : Option ℕ). is_holder o p) (holder_write t p q kernel.procs l.sound.queues made (room_where_held t p q l.sound.queues held))
-    ∙ other_holder (is_exclusive (queue_in t q)) (first_reader t q) p (λ r first. reader_apart p q r kernel l first)
+    ∙ other_holder (is_exclusive (queue_in t q)) (first_reader t q) p (λ r first. reader_apart p q r kernel l first))
+    (λ free. absurd (false≢true (sym free ∙ made)))
 
 -- those of other queues stay
-holds_if : (b : Bool) (new old : Kernel) (p k : ℕ) → holds new.queues p k ≡ holds old.queues p k → holds (if b then new else old).queues p k ≡ holds old.queues p k
-holds_if true new old p k same = same
-holds_if false new old p k same = refl
-
-held_elsewhere : (p q k : ℕ) (kernel : Kernel) → k ≢ q → holds (given_back_to (Some q) p kernel).queues p k ≡ holds kernel.queues p k
+held_elsewhere : (p q holder k : ℕ) (kernel : Kernel) → k ≢ q → holds (given_back_to (Some q) p kernel).queues holder k ≡ holds kernel.queues holder k
 unfolding given_back_to
-held_elsewhere p q k kernel other =
+held_elsewhere p q holder k kernel other =
     let t = kernel.queues in
-    holds_if (is_made t q) _ kernel p k
-    (ap (λ (queues : Queues). holds queues p k) (queues_with_other (ended (write_outcome t q)) (given_to kernel p q))
-    ∙ ap (λ x. is_holder x.holder p) (write_else t p q k kernel.procs other))
+    either (λ (k' : Kernel). holds k'.queues holder k ≡ holds kernel.queues holder k) (is_made t q) _ _
+    (λ _. ap (λ (queues : Queues). holds queues holder k) (queues_with_other (woken_by (write_outcome t q)) (given_to kernel p q))
+    ∙ ap (λ x. is_holder x.holder holder) (write_else t p q k kernel.procs other))
+    (λ _. refl)
 
 -- behind each number, and behind all
-chosen : (b : Bool) (new old : Kernel) → b ≡ true → (if b then new else old) ≡ new
-chosen true new old is = refl
-chosen false new old is = absurd (cc)
-
-kept : (b : Bool) (new old : Kernel) → b ≡ false → (if b then new else old) ≡ old
-kept true new old is = absurd (cc)
-kept false new old is = refl
-
 own_gone : (p q : ℕ) (kernel : Kernel) → Leaves p kernel → holds (returned p q kernel).queues p q ≡ false
 unfolding returned
-own_gone p q kernel l = elim (cases_Bool (holds kernel.queues p q)) [
-  | inl held ↦ ap (λ (k : Kernel). holds k.queues p q) (chosen (holds kernel.queues p q) _ kernel held) ∙ held_no_more p q kernel l held
-  | inr free ↦ ap (λ (k : Kernel). holds k.queues p q) (kept (holds kernel.queues p q) _ kernel free) ∙ free
-]
+own_gone p q kernel l = either (λ (k : Kernel). holds k.queues p q ≡ false) (holds kernel.queues p q) _ _ (λ held. held_no_more p q kernel l held) (λ free. free)
 
 stays_gone : (p q k : ℕ) (kernel : Kernel) → holds kernel.queues p k ≡ false → holds (returned p q kernel).queues p k ≡ false
 unfolding returned
-stays_gone p q k kernel none = elim (cases_Bool (holds kernel.queues p q)) [
-  | inl held ↦
-      let other : k ≢ q = λ same. false≢true (sym none ∙ ap (holds kernel.queues p) same ∙ held) in
-      ap (λ (k' : Kernel). holds k'.queues p k) (chosen (holds kernel.queues p q) _ kernel held) ∙ held_elsewhere p q k kernel other ∙ none
-  | inr free ↦ ap (λ (k' : Kernel). holds k'.queues p k) (kept (holds kernel.queues p q) _ kernel free) ∙ none
-]
+stays_gone p q k kernel none =
+    either (λ (k' : Kernel). holds k'.queues p k ≡ false) (holds kernel.queues p q) _ _
+    (λ held. held_elsewhere p q p k kernel (λ same. false≢true (sym none ∙ ap (holds kernel.queues p) same ∙ held)) ∙ none) (λ _. none)
 
 all_stay_gone : (qs : List ℕ) (p k : ℕ) (kernel : Kernel) → holds kernel.queues p k ≡ false → holds (all_returned qs p kernel).queues p k ≡ false
 unfolding all_returned
@@ -125,3 +110,70 @@ nothing_held kernel p q s h = elim (cases_lt q 32) [
       let t = (relieved p kernel).queues in
       past_gone (holds t p q) (λ held. omega (arith, past, made_below t q sound (holds_made t p q sound held)))
 ]
+
+-- the message of a mutual exclusion queue has no bytes, so that no procedure has one
+no_bytes : (queue : Queue) → is_exclusive queue ≡ true → queue.width ≡ 0
+unfolding is_exclusive
+no_bytes queue is = grind (arith, nat_tests)
+
+held_apart : (t : Queues) (holder q other : ℕ) → AreSound t → holds t holder q ≡ true → IsOfTwo t other → q ≢ other
+held_apart t holder q other s held two = λ same.
+    let none = no_bytes (queue_in t q) ((s.proper q).exclusive holder (holder_is (queue_in t q).holder holder held)) in
+    omega (arith, none, ap (λ n. (queue_in t n).width) same, two_width t other two)
+
+one_holder : (o : Option ℕ) (p holder : ℕ) → is_holder o p ≡ true → is_holder o holder ≡ true → holder ≡ p
+one_holder o p holder own held = some_same holder p (sym (holder_is o holder held) ∙ holder_is o p own)
+
+-- who holds a message still does where another one drops out, and gives its own back
+holds_dropped : (p holder q : ℕ) (kernel : Kernel) → holds (dropped_out p kernel).queues holder q ≡ holds kernel.queues holder q
+unfolding dropped_out queues_without_waiter
+holds_dropped p holder q kernel = refl
+
+holds_outside : (p holder q : ℕ) (kernel : Kernel) → holds (outside p kernel).queues holder q ≡ holds kernel.queues holder q
+unfolding outside
+holds_outside p holder q kernel = refl
+
+still_given : (queue : Option ℕ) (p holder q : ℕ) (kernel : Kernel) → ((other : ℕ) → queue ≡ Some other → q ≢ other)
+    → holds (given_back_to queue p kernel).queues holder q ≡ holds kernel.queues holder q
+unfolding given_back_to
+still_given None p holder q kernel apart = refl
+still_given (Some other) p holder q kernel apart = held_elsewhere p other holder q kernel (apart other refl)
+
+still_given_back : (p holder q : ℕ) (kernel : Kernel) → IsSound kernel → Lives kernel.procs p → holds kernel.queues holder q ≡ true
+    → holds (given_back p kernel).queues holder q ≡ true
+unfolding given_back
+still_given_back p holder q kernel s h held =
+    still_given (process_in kernel.procs p).procedure p holder q (outside p kernel)
+    (λ other is. held_apart kernel.queues holder q other s.queues held (s.inside p other h is))
+    ∙ holds_outside p holder q kernel ∙ held
+
+still_returned : (p other holder q : ℕ) (kernel : Kernel) → holder ≢ p → holds kernel.queues holder q ≡ true → holds (returned p other kernel).queues holder q ≡ true
+unfolding returned
+still_returned p other holder q kernel apart held =
+    either (λ (k : Kernel). holds k.queues holder q ≡ true) (holds kernel.queues p other) _ _
+    (λ own.
+    let elsewhere : q ≢ other = λ same.
+    apart (one_holder (queue_in kernel.queues other).holder p holder own (ap (holds kernel.queues holder) (sym same) ∙ held)) in
+    held_elsewhere p other holder q kernel elsewhere ∙ held)
+    (λ _. held)
+
+all_still_returned : (qs : List ℕ) (p holder q : ℕ) (kernel : Kernel) → holder ≢ p → holds kernel.queues holder q ≡ true
+    → holds (all_returned qs p kernel).queues holder q ≡ true
+unfolding all_returned
+all_still_returned [] p holder q kernel apart held = held
+all_still_returned (other ∷ qs) p holder q kernel apart held =
+    all_still_returned qs p holder q (returned p other kernel) apart (still_returned p other holder q kernel apart held)
+
+still_relieved : (p holder q : ℕ) (kernel : Kernel) → IsSound kernel → Lives kernel.procs p → holder ≢ p → holds kernel.queues holder q ≡ true
+    → holds (relieved p kernel).queues holder q ≡ true
+unfolding relieved
+still_relieved p holder q kernel s h apart held =
+    let gone = dropped_out p kernel in
+    ap (λ (queues : Queues). holds queues holder q) (left_units p _ (leaves_messages p kernel s h).sound).queues
+    ∙ all_still_returned (range_with_len 0 32) p holder q (given_back p gone) apart
+    (still_given_back p holder q gone (sound_dropped p kernel s h) (lives_dropped p p kernel h) (holds_dropped p holder q kernel ∙ held))
+
+pub still_held : (kernel : Kernel) (p holder q : ℕ) → IsSound kernel → Lives kernel.procs p → holder ≢ p → holds kernel.queues holder q ≡ true
+    → holds (discharged kernel p).queues holder q ≡ true
+unfolding discharged
+still_held kernel p holder q s h apart held = still_relieved p holder q kernel s h apart held

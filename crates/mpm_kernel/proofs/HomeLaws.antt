@@ -1,24 +1,26 @@
 -- In which segments the processes live, which of them are aborted, and which calls they keep, behind the kernel's calls and
 -- events, and where a process is handed out. The laws on its parts are told here too.
-use Rattle.std.proofs.Common.{◌≡◌, ◌∙◌, ℕ, ◌≤◌, Bool, true, false, ◌||◌, ◌==◌, List, length, Option, Some, None, if◌then◌else◌, inl, inr, drop, refl, sym, ap, arith}
+use Rattle.std.proofs.Common.{◌≡◌, ◌∙◌, ℕ, ◌≤◌, Bool, true, false, ◌||◌, ◌==◌, List, length, Option, Some, None, inl, inr, drop, refl, sym, ap, arith}
 use Rattle.std.proofs.lemmas.Bool.{cases_eq, cases_lt}
 use Rattle.std.proofs.lemmas.List.{set_past}
+use Rattle.mpm_base.proofs.Choices.{either}
 use Rattle.mpm_base.specs.Calls.{Taken, word_at}
 use Rattle.mpm_procs.specs.Table.{Table, HasSlots, lives, Lives, process_in, call_of, with_process}
 use Rattle.mpm_procs.specs.declared.process.Process.{Process}
 use Rattle.mpm_procs.proofs.MapLaws.{process_changed, process_kept, lives_changed, call_behind}
-use Rattle.mpm_kernel.specs.Kernel.{Kernel, ready, IsReady, IsSound, CompletedLive, with_completed, call_begun}
+use Rattle.mpm_kernel.specs.Kernel.{Kernel, ready, IsReady, IsSound, CompletedLive, is_aborted, with_changed, with_completed, call_begun}
 use Rattle.mpm_kernel.specs.Called.{Called, low_parameter}
 use Rattle.mpm_kernel.specs.Calls.{call_done, called, does_echo, is_for_console, is_for_unit}
 use Rattle.mpm_kernel.specs.Events.{happened, first_completed, inside_of, with_procedure, with_first, handed_out}
 use Rattle.mpm_kernel.specs.Procedures.{procedure_queue, inside}
 use Rattle.mpm_script.specs.declared.event.Event.{Event}
 use Rattle.mpm_kernel.proofs.SoundLaws.{listed_once, completed_lives, procs_happened, sound_begun}
+use Rattle.mpm_kernel.proofs.Homes.{aborted_same}
 use Rattle.mpm_queues.specs.Queue.{block_size}
 use Rattle.mpm_queues.specs.Queues.{waits}
-pub use Rattle.mpm_kernel.proofs.Homes.{IsLivedIn, SameHomes, homes_stay, homes_both, lived_in_changed, homes_changed, homes_call, homes_vacated, opening_home, aborts_admitted, homes_admitted, homes_in_slot, lives_on, keeps_call, keeps_process, procs_picked, procs_spoke}
-pub use Rattle.mpm_kernel.proofs.CallHomes.{KeepsHome, procs_with_other, kept_told}
-use Rattle.mpm_kernel.proofs.CallHomes.{kept_if, kept_same, kept_changed, kept_behind, kept_priority, kept_polled, kept_flag_waited, kept_flag_set, kept_slept, kept_queue_made, kept_opened, kept_deleted, kept_read_at, kept_write_at, kept_procedure_called, kept_date_set, procs_date_told, procs_time_told}
+pub use Rattle.mpm_kernel.proofs.Homes.{IsLivedIn, SameHomes, homes_stay, homes_both, lived_in_changed, homes_changed, homes_call, homes_vacated, opening_home, aborts_admitted, homes_admitted, homes_in_slot, lives_on, keeps_call, keeps_process, procs_spoke}
+pub use Rattle.mpm_kernel.proofs.CallHomes.{KeepsHome, procs_with_other, kept_delivered_to}
+use Rattle.mpm_kernel.proofs.CallHomes.{kept_if, kept_same, kept_changed, kept_behind, kept_priority, kept_polled, kept_flag_waited, kept_flag_set, kept_slept, kept_queue_made, kept_opened, kept_deleted, kept_read_at, kept_write_at, kept_procedure_called, kept_date_set, procs_date_answered, procs_time_answered}
 use Rattle.mpm_kernel.proofs.UnitHomes.{kept_unit_called, kept_console_called}
 
 kept_call_done : (call : Taken) (p : ℕ) (kernel : Kernel) → IsSound kernel → Lives kernel.procs p
@@ -37,7 +39,7 @@ kept_call_done call p kernel s h =
     (kept_if kernel (f == 44) _ _ (kept_changed p _ kernel _ s h refl refl)
     (kept_if kernel (f == 45) _ _ (kept_changed p 0 kernel _ s h refl refl)
     (kept_if kernel (f == 104) _ _ (kept_date_set call kernel)
-    (kept_if kernel (f == 105) _ _ (same _ (procs_date_told call kernel))
+    (kept_if kernel (f == 105) _ _ (same _ (procs_date_answered call kernel))
     (kept_if kernel (f == 106) _ _ (kept_changed p 0 kernel _ s h refl refl)
     (kept_if kernel (f == 131) _ _ (kept_polled call p kernel)
     (kept_if kernel (f == 132) _ _ (kept_flag_waited call p kernel)
@@ -53,7 +55,7 @@ kept_call_done call p kernel s h =
     (kept_if kernel (f == 142) _ _ (kept_behind p 0 kernel)
     (kept_if kernel (f == 145) _ _ (kept_priority p 0 (low_parameter call) kernel s h)
     (kept_if kernel (f == 151) _ _ (kept_procedure_called call p kernel s h)
-    (kept_if kernel (f == 155) _ _ (same _ (procs_time_told call kernel))
+    (kept_if kernel (f == 155) _ _ (same _ (procs_time_answered call kernel))
     (same _ refl)))))))))))))))))))))))))))
 
 homes_through : (echoes : Bool) (old new : Kernel) → SameHomes (call_begun echoes old) new → SameHomes old new
@@ -87,28 +89,37 @@ record HandedFrom (old new : Kernel) : Type 0 where
   pub lives : (q : ℕ) → lives new.procs q ≡ lives old.procs q
   pub call : (q : ℕ) → call_of new.procs q ≡ call_of old.procs q
   pub seg : (q : ℕ) → (process_in new.procs q).seg ≡ (process_in old.procs q).seg
+  pub due : (q : ℕ) → (process_in new.procs q).abort_due ≡ (process_in old.procs q).abort_due
+  pub queues : new.queues ≡ old.queues
   pub completed : new.completed ≡ old.completed
 
 handed_same : (kernel : Kernel) → HandedFrom kernel kernel
-handed_same kernel = record { lives = λ q. refl; call = λ q. refl; seg = λ q. refl; completed = refl }
+handed_same kernel = record { lives = λ q. refl; call = λ q. refl; seg = λ q. refl; due = λ q. refl; queues = refl; completed = refl }
 
 nothing_changed : (procs : Table) (p : ℕ) (process : Process) → length procs.processes ≤ p → with_process procs p process ≡ procs
 unfolding with_process
 nothing_changed procs p process past =
     ap (λ (processes : List Process). record procs { processes = processes }) (set_past procs.processes p process past)
 
-seg_kept : (procs : Table) (p q : ℕ) (process : Process) → process.seg ≡ (process_in procs p).seg
-    → (process_in (with_process procs p process) q).seg ≡ (process_in procs q).seg
-seg_kept procs p q process same = elim (cases_eq q p) [
+field_kept : {X : Type 0} (field : Process → X) (procs : Table) (p q : ℕ) (process : Process) → field process ≡ field (process_in procs p)
+    → field (process_in (with_process procs p process) q) ≡ field (process_in procs q)
+field_kept field procs p q process same = elim (cases_eq q p) [
   | inl equal ↦ elim (cases_lt p (length procs.processes)) [
     | inl below ↦
         let at : process_in (with_process procs p process) q ≡ process =
         ap (process_in (with_process procs p process)) equal ∙ process_changed procs p process below in
-        ap (λ x. x.seg) at ∙ same ∙ ap (λ n. (process_in procs n).seg) (sym equal)
-    | inr past ↦ ap (λ (table : Table). (process_in table q).seg) (nothing_changed procs p process past)
+        ap field at ∙ same ∙ ap (λ n. field (process_in procs n)) (sym equal)
+    | inr past ↦ ap (λ (table : Table). field (process_in table q)) (nothing_changed procs p process past)
   ]
-  | inr other ↦ ap (λ x. x.seg) (process_kept procs p q process other)
+  | inr other ↦ ap field (process_kept procs p q process other)
 ]
+
+-- a process is another one, whose end by an abort is put off as before
+pub aborted_changed : (kernel : Kernel) (p q : ℕ) (process : Process) → process.abort_due ≡ (process_in kernel.procs p).abort_due
+    → is_aborted (with_changed kernel p process).procs q ≡ is_aborted kernel.procs q
+aborted_changed kernel p q process same =
+    aborted_same kernel.procs (with_process kernel.procs p process) q (lives_changed kernel.procs p q process)
+    (field_kept (λ (x : Process). x.abort_due) kernel.procs p q process same)
 
 handed_inside : (slot : Option ℕ) (p message : ℕ) (kernel : Kernel) → HandedFrom kernel (inside_of slot p message kernel)
 unfolding inside
@@ -118,20 +129,18 @@ handed_inside (Some k) p message kernel =
     record {
       lives = λ q. lives_changed kernel.procs p q process;
       call = λ q. call_behind kernel.procs p q process;
-      seg = λ q. seg_kept kernel.procs p q process refl;
+      seg = λ q. field_kept (λ (x : Process). x.seg) kernel.procs p q process refl;
+      due = λ q. field_kept (λ (x : Process). x.abort_due) kernel.procs p q process refl;
+      queues = refl;
       completed = refl;
     }
-
-handed_if : (b : Bool) (old new : Kernel) → HandedFrom old new → HandedFrom old (if b then new else old)
-handed_if true old new is = is
-handed_if false old new is = handed_same old
 
 handed_first : (first : Option ℕ) (kernel : Kernel) → HandedFrom kernel (with_first first kernel)
 unfolding with_procedure
 handed_first None kernel = handed_same kernel
 handed_first (Some p) kernel =
     let call = call_of kernel.procs p in
-    handed_if (call.function == 151) kernel _ (handed_inside (procedure_queue kernel.queues call) p (word_at call block_size) kernel)
+    either (HandedFrom kernel) (call.function == 151) _ _ (λ _. handed_inside (procedure_queue kernel.queues call) p (word_at call block_size) kernel) (λ _. handed_same kernel)
 
 handed_from : (kernel : Kernel) → HandedFrom (with_completed kernel (drop 1 kernel.completed)) (handed_out kernel)
 unfolding handed_out
@@ -146,6 +155,12 @@ call_handed_out kernel q = (handed_from kernel).call q
 pub seg_handed_out : (kernel : Kernel) (q : ℕ) → (process_in (handed_out kernel).procs q).seg ≡ (process_in kernel.procs q).seg
 seg_handed_out kernel q = (handed_from kernel).seg q
 
+pub aborted_handed_out : (kernel : Kernel) (q : ℕ) → is_aborted (handed_out kernel).procs q ≡ is_aborted kernel.procs q
+aborted_handed_out kernel q = aborted_same kernel.procs (handed_out kernel).procs q (lives_handed_out kernel q) ((handed_from kernel).due q)
+
+pub queues_handed_out : (kernel : Kernel) → (handed_out kernel).queues ≡ kernel.queues
+queues_handed_out kernel = (handed_from kernel).queues
+
 pub completed_handed_out : (kernel : Kernel) → (handed_out kernel).completed ≡ drop 1 kernel.completed
 completed_handed_out kernel = (handed_from kernel).completed
 
@@ -156,17 +171,14 @@ homes_inside None p message kernel slots h = homes_stay kernel kernel refl
 homes_inside (Some k) p message kernel slots h =
     homes_changed kernel p (record (process_in kernel.procs p) { procedure = Some k; kept = message }) slots h refl refl
 
-homes_if : (b : Bool) (old new : Kernel) → SameHomes old new → SameHomes old (if b then new else old)
-homes_if true old new is = is
-homes_if false old new is = homes_stay old old refl
-
 homes_first : (first : Option ℕ) (kernel : Kernel) → HasSlots kernel.procs → ((p : ℕ) → first ≡ Some p → Lives kernel.procs p)
     → SameHomes kernel (with_first first kernel)
 unfolding with_procedure
 homes_first None kernel slots living = homes_stay kernel kernel refl
 homes_first (Some p) kernel slots living =
     let call = call_of kernel.procs p in
-    homes_if (call.function == 151) kernel _ (homes_inside (procedure_queue kernel.queues call) p (word_at call block_size) kernel slots (living p refl))
+    either (SameHomes kernel) (call.function == 151) _ _
+    (λ _. homes_inside (procedure_queue kernel.queues call) p (word_at call block_size) kernel slots (living p refl)) (λ _. homes_stay kernel kernel refl)
 
 pub homes_handed_out : (kernel : Kernel) → IsSound kernel → CompletedLive kernel → SameHomes kernel (handed_out kernel)
 unfolding handed_out

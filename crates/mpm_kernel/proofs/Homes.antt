@@ -1,5 +1,5 @@
 -- In which segments the processes live, and which of them are aborted, behind a change of the kernel.
-use Rattle.std.proofs.Common.{◌≡◌, ◌≢◌, ◌∙◌, ℕ, Bool, true, false, ◌&&◌, List, Option, Some, None, if◌then◌else◌, inl, inr, refl, sym, ap, arith}
+use Rattle.std.proofs.Common.{◌≡◌, ◌≢◌, ◌∙◌, ℕ, true, false, ◌&&◌, List, Option, Some, None, inl, inr, refl, sym, ap, arith}
 use Rattle.std.proofs.lemmas.Bool.{cases_eq, false≢true, and_parts}
 use Rattle.mpm_base.specs.Calls.{Taken}
 use Rattle.mpm_procs.specs.Table.{Table, HasSlots, lives, Lives, process_in, call_of, with_process, with_call, lowest_free, added, without}
@@ -10,7 +10,7 @@ use Rattle.mpm_procs.proofs.MapLaws.{lives_below, process_changed, process_kept,
 use Rattle.mpm_kernel.specs.Kernel.{Kernel, is_aborted, with_changed}
 use Rattle.mpm_kernel.specs.Columns.{spoke}
 use Rattle.mpm_kernel.specs.Ending.{vacated}
-use Rattle.mpm_kernel.specs.Dispatch.{admitted, in_slot, stays, picked}
+use Rattle.mpm_kernel.specs.Dispatch.{admitted, in_slot}
 
 -- a process lives in a segment
 pub record IsLivedIn (kernel : Kernel) (seg : ℕ) : Type 0 where
@@ -40,10 +40,13 @@ homes_both old middle new first second = record {
 }
 
 -- it lives, and its process is the same as far as aborts go
+pub aborted_same : (old new : Table) (p : ℕ) → lives new p ≡ lives old p → (process_in new p).abort_due ≡ (process_in old p).abort_due
+    → is_aborted new p ≡ is_aborted old p
+aborted_same old new p living same = ap (λ b. b && (process_in new p).abort_due) living ∙ ap (λ b. lives old p && b) same
+
 aborts_alike : (old new : Table) (p : ℕ) → lives new p ≡ lives old p → (process_in new p).abort_due ≡ (process_in old p).abort_due
     → is_aborted new p ≡ true → is_aborted old p ≡ true
-aborts_alike old new p living same h =
-    sym (ap (λ b. b && (process_in new p).abort_due) living ∙ ap (λ b. lives old p && b) same) ∙ h
+aborts_alike old new p living same h = sym (aborted_same old new p living same) ∙ h
 
 -- a process is another one, in its segment
 pub lived_in_changed : (kernel : Kernel) (p : ℕ) (process : Process) → HasSlots kernel.procs → Lives kernel.procs p
@@ -178,14 +181,6 @@ pub keeps_process : (kernel : Kernel) (new : NewProcess) (slot : Option ℕ) (q 
 unfolding admitted
 keeps_process kernel new None q free h = refl
 keeps_process kernel new (Some p) q free h = process_added_other kernel.procs p q new (living_is_taken kernel p q free h)
-
-procs_if : (b : Bool) (kernel other : Kernel) → other.procs ≡ kernel.procs → (if b then kernel else other).procs ≡ kernel.procs
-procs_if true kernel other e = refl
-procs_if false kernel other e = e
-
-pub procs_picked : (instruction : Bool) (kernel : Kernel) → (picked instruction kernel).procs ≡ kernel.procs
-unfolding picked
-procs_picked instruction kernel = procs_if (instruction && stays kernel kernel.running) kernel _ refl
 
 pub procs_spoke : (kernel : Kernel) (console : ℕ) (bytes : List ℕ) → (spoke kernel console bytes).procs ≡ kernel.procs
 unfolding spoke

@@ -13,16 +13,16 @@ use Rattle.mpm_consoles.specs.declared.unit.Unit.TheVariants.{Console as Console
 use Rattle.mpm_consoles.proofs.SoundLaws.{sound_raw, sound_take, sound_wait}
 use Rattle.mpm_line_input.specs.Echoes.{key_echo}
 use Rattle.mpm_line_input.specs.Lines.{is_full, ends, line_end}
-use Rattle.mpm_kernel.specs.Kernel.{Kernel, ready, IsFit, IsSound, CompletedLive, HasConsole, with_changed}
+use Rattle.mpm_kernel.specs.Kernel.{Kernel, ready, IsSound, CompletedLive, HasConsole, with_changed}
 use Rattle.mpm_kernel.specs.Columns.{column_of, spoke}
 use Rattle.mpm_kernel.specs.Called.{Called, low_parameter}
 use Rattle.mpm_kernel.specs.Consoling.{attaching, awaited, echoed}
 use Rattle.mpm_kernel.specs.ConsoleInput.{is_cooked, is_raw, writes, raw_if, key_taken, next_key, shown_key, read_key, polled_key, direct, line_of, greatest, line_done, key_joined, line_with, line_by, line_read, console_served, unless_stopped, console_called}
 use Rattle.mpm_kernel.proofs.UnitWaits.{is_at_gate, waits_console}
-use Rattle.mpm_consoles.proofs.PlaceLaws.{owner_is, rests_console}
+use Rattle.mpm_consoles.proofs.PlaceLaws.{owner_is, gate_waits_console}
 use Rattle.mpm_kernel.proofs.UnitLaws.{has_own_console}
 use Rattle.mpm_kernel.proofs.InputLaws.{has_attached, owns_attached, has_raw, owns_raw}
-use Rattle.mpm_kernel.proofs.Soundness.{sound_changed, sound_units, sound_console, sound_spoke, sound_told, units_console, listed_once}
+use Rattle.mpm_kernel.proofs.Soundness.{sound_process, sound_units, sound_console, sound_spoke, sound_noted, units_console, listed_once}
 use Rattle.mpm_kernel.proofs.UnitCalls.{WaitsAt, stays_retried, quiet_attached, waits_attached}
 use Rattle.mpm_kernel.proofs.Staying.{StaysSound, Calls, nobody, called_if, same}
 
@@ -45,10 +45,10 @@ waits_at_gate p console key kernel v =
     let is = owner_is (console_at kernel.units console).owner p v.owner in
     record {
       are = units_console kernel console now s v.has refl (sound_wait kernel.units p console key s.units.sound v.has v.owner);
-      once = omega (arith, rests_console kernel.units console now p v.has, waits_console kernel.units console now p, at_most_one (is_at_gate p now), listed_once kernel p ready s v.calls.ready);
+      once = omega (arith, gate_waits_console kernel.units console now p v.has, waits_console kernel.units console now p, at_most_one (is_at_gate p now), listed_once kernel p ready s v.calls.ready);
       others = λ q other.
           let not_its : is_at_gate q now ≡ false = ap (λ o. is_owner o q && true) is ∙ ap (λ b. b && true) (ne_eqb p q (λ e. other (sym e))) in
-          omega (arith, rests_console kernel.units console now q v.has, waits_console kernel.units console now q, one_if_false (is_at_gate q now) not_its);
+          omega (arith, gate_waits_console kernel.units console now q v.has, waits_console kernel.units console now q, one_if_false (is_at_gate q now) not_its);
     }
 
 stays_awaited : (p console : ℕ) (key : Bool) (kernel : Kernel) → Serves p console kernel → StaysSound p (awaited p console key kernel)
@@ -94,10 +94,10 @@ stays_of p kernel t called is =
 taken : (p console : ℕ) (kernel : Kernel) → Serves p console kernel → Stays p (key_taken console kernel)
 taken p console kernel v = record { sound = sound_taken console kernel v.calls.sound v.has; lives = v.calls.lives; none = v.calls.none }
 
-told : (p console : ℕ) (bytes : List ℕ) (kernel : Kernel) → Stays p kernel → Stays p (echoed console bytes kernel)
+stays_echoed : (p console : ℕ) (bytes : List ℕ) (kernel : Kernel) → Stays p kernel → Stays p (echoed console bytes kernel)
 unfolding echoed spoke
-told p console bytes kernel t = record {
-  sound = sound_told (spoke kernel console bytes) bytes kernel.aborted (sound_spoke kernel console bytes t.sound);
+stays_echoed p console bytes kernel t = record {
+  sound = sound_noted (spoke kernel console bytes) bytes kernel.aborted (sound_spoke kernel console bytes t.sound);
   lives = t.lives;
   none = t.none;
 }
@@ -108,7 +108,7 @@ unfolding shown_key
 stays_shown None p console kernel v = stays_awaited p console true kernel v
 stays_shown (Some key) p console kernel v =
     let behind = key_taken console kernel in
-    stays_of p _ (told p console (key_echo key (column_of behind console)) behind (taken p console kernel v)) _ refl
+    stays_of p _ (stays_echoed p console (key_echo key (column_of behind console)) behind (taken p console kernel v)) _ refl
 
 stays_read_key : (o : Option ℕ) (p console : ℕ) (kernel : Kernel) → Serves p console kernel → StaysSound p (read_key o p console kernel)
 unfolding read_key
@@ -129,24 +129,21 @@ stays_direct call p console kernel v =
     (λ _. same p 0 kernel v.calls)))
 
 -- a line is read
-changed : (p : ℕ) (kernel : Kernel) (process : Process) → Stays p kernel → IsFit kernel.consoles kernel.printers process → Stays p (with_changed kernel p process)
-changed p kernel process t fit = record {
-  sound = sound_changed kernel p process t.sound t.lives fit;
+changed : (p : ℕ) (kernel : Kernel) (process : Process) → Stays p kernel → IsSound (with_changed kernel p process) → Stays p (with_changed kernel p process)
+changed p kernel process t sound = record {
+  sound = sound;
   lives = lives_changed kernel.procs p p process ∙ t.lives;
   none = t.none;
 }
 
 stays_line_done : (call : Taken) (p : ℕ) (kernel : Kernel) → Stays p kernel → StaysSound p (line_done call p kernel)
 unfolding line_done
-stays_line_done call p kernel t =
-    let fit = t.sound.fit p t.lives in
-    stays_of p _ (changed p kernel _ t (record { console = fit.console; printer = fit.printer; some = fit.some; few = fit.few })) _ refl
+stays_line_done call p kernel t = stays_of p _ (changed p kernel _ t (sound_process kernel p _ t.sound t.lives refl refl refl refl)) _ refl
 
 joined : (call : Taken) (p console key : ℕ) (kernel : Kernel) → Stays p kernel → Stays p (key_joined call p console key kernel)
 unfolding key_joined
 joined call p console key kernel t =
-    let fit = t.sound.fit p t.lives in
-    told p console _ _ (changed p kernel _ t (record { console = fit.console; printer = fit.printer; some = fit.some; few = fit.few }))
+    stays_echoed p console _ _ (changed p kernel _ t (sound_process kernel p _ t.sound t.lives refl refl refl refl))
 
 stays_line_with : (key : ℕ) (call : Taken) (p console : ℕ) (kernel : Kernel) → Stays p kernel → StaysSound p (line_with key call p console kernel)
 unfolding line_with
@@ -164,7 +161,7 @@ stays_line_read : (call : Taken) (p console : ℕ) (kernel : Kernel) → Serves 
 unfolding line_read
 stays_line_read call p console kernel v =
     called_if p (is_full (process_in kernel.procs p).line_length (greatest call)) _ _
-    (λ _. stays_line_done call p _ (told p console line_end kernel (record { sound = v.calls.sound; lives = v.calls.lives; none = v.calls.none })))
+    (λ _. stays_line_done call p _ (stays_echoed p console line_end kernel (record { sound = v.calls.sound; lives = v.calls.lives; none = v.calls.none })))
     (λ _. stays_line_by (next_key console kernel) call p console kernel v)
 
 -- the calls together

@@ -3,6 +3,7 @@ use Rattle.std.proofs.Common.{◌≡◌, ◌∙◌, ℕ, ◌<◌, Bool, true, fa
 use Rattle.std.specs.Bool.{OnTrue}
 use Rattle.std.proofs.lemmas.Bool.{false≢true}
 use Rattle.std.proofs.lemmas.List.{length-set}
+use Rattle.mpm_base.proofs.Choices.{either}
 use Rattle.mpm_base.specs.Calls.{Taken}
 use Rattle.mpm_procs.specs.Table.{lives, Lives, process_in, call_of}
 use Rattle.mpm_procs.proofs.MapLaws.{lives_changed, call_behind}
@@ -13,7 +14,7 @@ use Rattle.mpm_consoles.specs.declared.unit.Unit.{Unit}
 use Rattle.mpm_kernel.specs.Kernel.{Kernel}
 use Rattle.mpm_kernel.specs.Columns.{spoke}
 use Rattle.mpm_kernel.specs.Consoling.{attaching, echoed}
-use Rattle.mpm_kernel.specs.ConsoleInput.{raw_if, key_taken, key_joined}
+use Rattle.mpm_kernel.specs.ConsoleInput.{raw_if, key_joined}
 use Rattle.mpm_kernel.proofs.UnitWaits.{is_own, owner_given, owner_kept, consoles_given}
 
 -- there are as many consoles as before, and who attached one owns it
@@ -21,14 +22,10 @@ consoles_listed : (t : Consoles) (p priority : ℕ) (unit : Unit) → length (li
 unfolding listed
 consoles_listed t p priority unit = refl
 
-either_length : (b : Bool) (t x y : Consoles) → length x.consoles ≡ length t.consoles → length y.consoles ≡ length t.consoles
-    → length (if b then x else y).consoles ≡ length t.consoles
-either_length true t x y e f = e
-either_length false t x y e f = f
-
 consoles_from : (o : Option ℕ) (t : Consoles) (p priority : ℕ) (unit : Unit) (wait : Bool) → length (attach_from o t p priority unit wait).consoles ≡ length t.consoles
 consoles_from None t p priority unit wait = consoles_given t unit (Some p)
-consoles_from (Some owner) t p priority unit wait = either_length (owner == p || not wait) t t (listed t p priority unit) refl (consoles_listed t p priority unit)
+consoles_from (Some owner) t p priority unit wait =
+    either (λ (new : Consoles). length new.consoles ≡ length t.consoles) (owner == p || not wait) _ _ (λ _. refl) (λ _. consoles_listed t p priority unit)
 
 pub consoles_attached : (t : Consoles) (p priority : ℕ) (unit : Unit) (wait : Bool) → length (behind_attach t p priority unit wait).consoles ≡ length t.consoles
 unfolding behind_attach
@@ -58,10 +55,6 @@ on_true : (b : Bool) (P : Type 0) → (b ≡ true → P) → OnTrue b P
 on_true true P h = h refl
 on_true false P h = tt
 
-pub owns_if_attached : (kernel : Kernel) (p : ℕ) (unit : Unit) (wait b : Bool) → HasUnit kernel.units unit → b ≡ may_attach kernel.units p unit
-    → OnTrue b (owns (attaching p unit wait kernel).units p unit ≡ true)
-owns_if_attached kernel p unit wait b has is = on_true b _ (λ may. owns_attached kernel p unit wait has (sym is ∙ may))
-
 -- and behind it was made raw, or not
 has_raw_if : (b raw : Bool) (t : Consoles) (n k : ℕ) → k < length t.consoles → k < length (if b then behind_raw t n raw else t).consoles
 unfolding behind_raw
@@ -88,10 +81,6 @@ pub owns_made_raw : (t new : Consoles) (p n : ℕ) (unit : Unit) (raw : Bool) �
 owns_made_raw t new p n unit raw is has own = ap (λ (u : Consoles). owns u p unit) is ∙ owns_raw_if true raw t p n unit has own
 
 -- and behind a key was taken
-pub has_taken : (kernel : Kernel) (n k : ℕ) → k < length kernel.units.consoles → k < length (key_taken n kernel).units.consoles
-unfolding behind_take
-has_taken kernel n k has = omega (arith, length-set kernel.units.consoles n (without_first (console_at kernel.units n)), has)
-
 pub has_behind_take : (t new : Consoles) (n : ℕ) → new ≡ behind_take t n → n < length t.consoles → n < length new.consoles
 unfolding behind_take
 has_behind_take t new n is has = omega (arith, ap (λ (u : Consoles). length u.consoles) is, length-set t.consoles n (without_first (console_at t n)), has)

@@ -1,5 +1,6 @@
 -- Laws of processes that begin and aren't ready, and of consoles that are given.
-use Rattle.std.proofs.Common.{◌≡◌, ℕ, ◌<◌, Bool, true, false, Option, Some, None, if◌then◌else◌, refl}
+use Rattle.std.proofs.Common.{◌≡◌, ℕ, ◌<◌, Option, Some, None, refl}
+use Rattle.mpm_base.proofs.Choices.{either}
 use Rattle.mpm_procs.specs.Table.{lowest_free}
 use Rattle.mpm_procs.specs.declared.process.NewProcess.{NewProcess}
 use Rattle.mpm_consoles.specs.Consoles.{owner_of}
@@ -27,6 +28,7 @@ sound_joined kernel p new s free console =
       flags = s.flags;
       queues = s.queues;
       system = s.system;
+      inside = a.inside;
       fit = a.fit;
       once = s.once;
       live = λ q some. lives_on kernel new (Some p) q free (s.live q some);
@@ -42,10 +44,6 @@ homes_joined kernel p new s free home_of =
 
 -- a console that is given is one of as many as before
 
-consoles_if : (b : Bool) (old new : Kernel) → new.consoles ≡ old.consoles → (if b then new else old).consoles ≡ old.consoles
-consoles_if true old new same = same
-consoles_if false old new same = refl
-
 consoles_handed : (console : ℕ) (from to : Option ℕ) (kernel : Kernel) → (handed_over console from to kernel).consoles ≡ kernel.consoles
 unfolding unit_left owner_made
 consoles_handed console None None kernel = refl
@@ -55,4 +53,4 @@ consoles_handed console from (Some to) kernel = refl
 pub consoles_gave : (console : ℕ) (from to : Option ℕ) (kernel : Kernel) → (given console from to kernel).consoles ≡ kernel.consoles
 unfolding given
 consoles_gave console from to kernel =
-    consoles_if (is_from (owner_of kernel.units (ConsoleUnit console)) from) kernel _ (consoles_handed console from to kernel)
+    either (λ (k : Kernel). k.consoles ≡ kernel.consoles) (is_from (owner_of kernel.units (ConsoleUnit console)) from) _ _ (λ _. consoles_handed console from to kernel) (λ _. refl)

@@ -5,6 +5,7 @@ use Rattle.std.proofs.lemmas.Bool.Decides.{nat_tests}
 use Rattle.std.proofs.lemmas.Bool.{false≢true}
 use Rattle.mpm_base.proofs.CountLaws.{one_if, one_if_true}
 use Rattle.std.proofs.lemmas.List.{length-set}
+use Rattle.mpm_base.proofs.Choices.{either}
 use Rattle.mpm_consoles.specs.Console.{Console, is_owner, passed_to, is_for, woken, behind_wake, has_room, with_key, typed, resumed, with_output_stopped}
 use Rattle.mpm_consoles.specs.declared.console.Awaited.{Awaited}
 use Rattle.mpm_consoles.specs.declared.console.Awaited.TheVariants.{Key, Output}
@@ -13,7 +14,7 @@ use Rattle.mpm_consoles.specs.declared.keys.KeyDone.TheVariants.{Stored, Dropped
 use Rattle.mpm_consoles.proofs.ConsoleLaws.{owner_key, woken_key}
 use Rattle.mpm_consoles.proofs.FateLaws.{cooked}
 use Rattle.mpm_consoles.proofs.SoundLaws.{sound_typed, sound_resumed, sound_stop}
-use Rattle.mpm_consoles.specs.Consoles.{Consoles, console_at, HasConsole, with_console, first_waiter, waits, rests, IsSound as AreUnitsSound}
+use Rattle.mpm_consoles.specs.Consoles.{Consoles, console_at, HasConsole, with_console, first_waiter, waits, gate_waits, IsSound as AreUnitsSound}
 use Rattle.mpm_consoles.specs.Handling.{given, unlisted, pass_to, passed, behind_pass, subject, abort_answer, pass_answer, wake_answer, typed_answer, key_by, answer_by, behind_key, key_answer}
 use Rattle.mpm_consoles.specs.Keys.{control_of}
 use Rattle.mpm_consoles.specs.declared.keys.Control.{Control}
@@ -25,10 +26,10 @@ use Rattle.mpm_kernel.specs.Kernel.{Kernel, waits_of, HasConsole as HasConsoleIn
 use Rattle.mpm_kernel.specs.Columns.{spoke}
 use Rattle.mpm_kernel.specs.Dispatch.{moved, lists_ready, made_ready}
 use Rattle.mpm_kernel.specs.Consoling.{if_it, abort_text, echoed, key_done, is_resident, key_came}
-use Rattle.mpm_consoles.proofs.PlaceLaws.{rests_unlisted}
+use Rattle.mpm_consoles.proofs.PlaceLaws.{gate_waits_unlisted}
 use Rattle.mpm_kernel.proofs.UnitWaits.{is_at_gate, consoles_given, gates_kept, gates_fewer, waits_console, owner_kept, is_own}
 use Rattle.mpm_kernel.proofs.UnitLaws.{has_console}
-use Rattle.mpm_kernel.proofs.Soundness.{sound_console, sound_spoke, sound_told, sound_ready}
+use Rattle.mpm_kernel.proofs.Soundness.{sound_console, sound_spoke, sound_noted, sound_ready}
 use Rattle.mpm_kernel.proofs.Passing.{HavePassed, passed_on, sound_passed}
 use Rattle.mpm_kernel.proofs.UnitCalls.{sound_made}
 
@@ -117,11 +118,7 @@ woken_sound t n what console sound has owner awaits now = woken_if (is_for conso
 -- a key that passes nothing on
 awaits_key : (byte : ℕ) (console : Console) → (with_key byte console).awaits ≡ console.awaits
 unfolding with_key
-awaits_key byte console = either_awaits (has_room console) console _ _ refl refl
-  where
-    either_awaits : (b : Bool) (console x y : Console) → x.awaits ≡ console.awaits → y.awaits ≡ console.awaits → (if b then x else y).awaits ≡ console.awaits
-    either_awaits true console x y e f = e
-    either_awaits false console x y e f = f
+awaits_key byte console = either (λ (c : Console). c.awaits ≡ console.awaits) (has_room console) _ _ (λ _. refl) (λ _. refl)
 
 typed_passed : (t : Consoles) (n byte : ℕ) → AreUnitsSound t → HasConsole t n
     → HavePassed t (with_console t n (typed byte (console_at t n))) (woken Key (with_key byte (console_at t n)))
@@ -164,20 +161,20 @@ nothing_passing n waited k = refl
 sound_abort : (o : Option ℕ) (n : ℕ) (waited : Bool) (kernel : Kernel) → IsSound kernel → IsSound (key_done (abort_answer o) n waited kernel)
 unfolding key_done echoed spoke
 sound_abort None n waited kernel s = s
-sound_abort (Some p) n waited kernel s = sound_told (spoke kernel n abort_text) abort_text (Some p) (sound_spoke kernel n abort_text s)
+sound_abort (Some p) n waited kernel s = sound_noted (spoke kernel n abort_text) abort_text (Some p) (sound_spoke kernel n abort_text s)
 
 -- ^D
 owner_at_gate : (t : Consoles) (n p : ℕ) → (console_at t n).owner ≡ Some p → is_some (console_at t n).awaits ≡ true → is_at_gate p (console_at t n) ≡ true
 owner_at_gate t n p owner waits = both _ _ (is_own (console_at t n).owner p owner) waits
 
 gates_passed_to : (o : Option ℕ) (t : Consoles) (n q : ℕ) → HasConsole t n
-    → rests (pass_to o t (ConsoleUnit n)) q + one_if (is_at_gate q (console_at t n)) ≡ rests t q
+    → gate_waits (pass_to o t (ConsoleUnit n)) q + one_if (is_at_gate q (console_at t n)) ≡ gate_waits t q
 unfolding given passed_to unlisted
 gates_passed_to None t n q has = gates_fewer t n (passed_to None (console_at t n)) q has refl
 gates_passed_to (Some h) t n q has =
-    omega (arith, gates_fewer (unlisted t h) n (passed_to (Some h) (console_at t n)) q has refl, rests_unlisted t h q)
+    omega (arith, gates_fewer (unlisted t h) n (passed_to (Some h) (console_at t n)) q has refl, gate_waits_unlisted t h q)
 
-gates_passed : (t : Consoles) (n q : ℕ) → HasConsole t n → rests (passed t (ConsoleUnit n)) q + one_if (is_at_gate q (console_at t n)) ≡ rests t q
+gates_passed : (t : Consoles) (n q : ℕ) → HasConsole t n → gate_waits (passed t (ConsoleUnit n)) q + one_if (is_at_gate q (console_at t n)) ≡ gate_waits t q
 unfolding passed
 gates_passed t n q has = gates_passed_to (first_waiter t (ConsoleUnit n)) t n q has
 
@@ -237,17 +234,13 @@ sound_by (Some Abort) n byte resident kernel s has is = sound_abort (subject res
 sound_by (Some Detach) n byte resident kernel s has is =
     sound_pass (subject resident (console_at kernel.units n).owner) n kernel s has (λ p e. subject_owner resident (console_at kernel.units n).owner p e)
 
-key_if : (b : Bool) (x y : Kernel) → (b ≡ true → IsSound x) → IsSound y → IsSound (if b then x else y)
-key_if true x y s t = s refl
-key_if false x y s t = t
-
 pub sound_key_came : (console byte : ℕ) (kernel : Kernel) → IsSound kernel → IsSound (key_came console byte kernel)
 unfolding key_came behind_key key_answer
 sound_key_came console byte kernel s =
-    key_if (nat_lt console kernel.consoles) _ _
+    either IsSound (nat_lt console kernel.consoles) _ _
     (λ fits. sound_by (control_of (console_at kernel.units console).raw byte) console byte (is_resident kernel.procs (console_at kernel.units console).owner) kernel s
     (has_console kernel console s (grind (arith, nat_tests, fits))) refl)
-    s
+    (λ _. s)
 
 -- a key changes no process, and completes no call
 record Leaves (old new : Kernel) : Type 0 where
@@ -263,15 +256,12 @@ leaves_done (Wakes p) console waited kernel = record { procs = refl; completed =
 leaves_done (Aborts p) console waited kernel = record { procs = refl; completed = refl }
 leaves_done (Passes from to) console waited kernel = record { procs = refl; completed = refl }
 
-leaves_if : (b : Bool) (old x : Kernel) → Leaves old x → Leaves old (if b then x else old)
-leaves_if true old x l = l
-leaves_if false old x l = record { procs = refl; completed = refl }
-
 leaves_key : (console byte : ℕ) (kernel : Kernel) → Leaves kernel (key_came console byte kernel)
 unfolding key_came
 leaves_key console byte kernel =
-    leaves_if (nat_lt console kernel.consoles) kernel _
-    (let l = leaves_done (key_answer kernel.units console byte (is_resident kernel.procs (console_at kernel.units console).owner)) console _ _ in record { procs = l.procs; completed = l.completed })
+    either (Leaves kernel) (nat_lt console kernel.consoles) _ _
+    (λ _. let l = leaves_done (key_answer kernel.units console byte (is_resident kernel.procs (console_at kernel.units console).owner)) console _ _ in record { procs = l.procs; completed = l.completed })
+    (λ _. record { procs = refl; completed = refl })
 
 pub procs_key_came : (console byte : ℕ) (kernel : Kernel) → (key_came console byte kernel).procs ≡ kernel.procs
 procs_key_came console byte kernel = (leaves_key console byte kernel).procs

@@ -111,14 +111,8 @@ has_next_printer p n kernel now s is below =
 pub sound_consoles_left : (p n : ℕ) (kernel : Kernel) → IsSound kernel → n ≤ kernel.consoles → IsSound (consoles_left p n kernel)
 sound_consoles_left p n kernel s few = (left_consoles p n kernel s few).sound
 
-pub consoles_consoles_left : (p n : ℕ) (kernel : Kernel) → IsSound kernel → n ≤ kernel.consoles → (consoles_left p n kernel).consoles ≡ kernel.consoles
-consoles_consoles_left p n kernel s few = (left_consoles p n kernel s few).consoles
-
 pub sound_printers_left : (p n : ℕ) (kernel : Kernel) → IsSound kernel → n ≤ kernel.printers → IsSound (printers_left p n kernel)
 sound_printers_left p n kernel s few = (left_printers p n kernel s few).sound
-
-pub printers_printers_left : (p n : ℕ) (kernel : Kernel) → IsSound kernel → n ≤ kernel.printers → (printers_left p n kernel).printers ≡ kernel.printers
-printers_printers_left p n kernel s few = (left_printers p n kernel s few).printers
 
 -- a process leaves all
 left_all : (p : ℕ) (kernel : Kernel) → IsSound kernel → HasLeft p (consoles_left p kernel.consoles kernel) (units_left p kernel)

@@ -29,3 +29,4 @@ pub mod ProcedureLaws
 pub mod EndingLaws
 pub mod HoldingLaws
 pub mod JoinedLaws
+pub mod OutcomeLaws

@@ -5,7 +5,7 @@ use Rattle.mpm_ready.specs.Tables.{list_of}
 use Rattle.mpm_procs.specs.Table.{Lives, process_in}
 use Rattle.mpm_procs.proofs.MapLaws.{lives_below}
 use Rattle.mpm_consoles.specs.Console.{is_owner}
-use Rattle.mpm_consoles.specs.Consoles.{Consoles, HasUnit, owner_of, owns, waiters_of, first_waiter, waits_for, waits, rests, IsSound as AreUnitsSound}
+use Rattle.mpm_consoles.specs.Consoles.{Consoles, HasUnit, owner_of, owns, waiters_of, first_waiter, waits_for, waits, gate_waits, IsSound as AreUnitsSound}
 use Rattle.mpm_consoles.specs.Handling.{given, unlisted, pass_to, passed, behind_detach, heir_of}
 use Rattle.mpm_consoles.specs.declared.unit.Unit.{Unit}
 use Rattle.mpm_consoles.specs.declared.unit.Unit.TheVariants.{Console as ConsoleUnit, Printer as PrinterUnit}
@@ -14,7 +14,7 @@ use Rattle.mpm_consoles.proofs.WaitLaws.{has_unlisted}
 use Rattle.mpm_kernel.specs.Kernel.{Kernel, ready, in_lists, waits_at_units, places, IsReady, AreUnits, IsSound}
 use Rattle.mpm_kernel.specs.Dispatch.{moved, lists_ready, unit_left}
 use Rattle.mpm_kernel.proofs.PlaceLaws.{list_moved, list_moved_other}
-use Rattle.mpm_consoles.proofs.PlaceLaws.{owner_is, rests_unlisted}
+use Rattle.mpm_consoles.proofs.PlaceLaws.{owner_is, gate_waits_unlisted}
 use Rattle.mpm_kernel.proofs.UnitWaits.{waits_one, waits_unlisted, waits_unlisted_other, waits_given, gates_given, owner_given, owner_from_given, owner_unlisted, consoles_given, printers_given}
 use Rattle.mpm_kernel.proofs.UnitLaws.{first_is_there}
 use Rattle.mpm_kernel.proofs.Soundness.{sound_units, sound_ready}
@@ -26,7 +26,7 @@ pub record HavePassed (t new : Consoles) (heir : Option ℕ) : Type 0 where
   pub printers : length new.printers ≡ length t.printers
   pub owners : (other : Unit) (p : ℕ) → owns new p other ≡ true → (owns t p other ≡ true) ⊎ (heir ≡ Some p)
   pub waiters : (q : ℕ) → waits new q ≤ waits t q
-  pub at_gates : (q : ℕ) → rests new q ≤ rests t q
+  pub at_gates : (q : ℕ) → gate_waits new q ≤ gate_waits t q
   pub first : (h : ℕ) → heir ≡ Some h → waits_at_units new h + 1 ≤ waits_at_units t h
 
 pub passed_same : (t : Consoles) → AreUnitsSound t → HavePassed t t None
@@ -64,12 +64,12 @@ passed_waiter t unit at h sound has there =
         | inr new ↦ inr new
       ];
       waiters = λ q. omega (arith, waits_given (unlisted t h) unit (Some h) q, fewer_waits t h q sound);
-      at_gates = λ q. omega (arith, gates_given (unlisted t h) unit (Some h) q has_still, rests_unlisted t h q);
+      at_gates = λ q. omega (arith, gates_given (unlisted t h) unit (Some h) q has_still, gate_waits_unlisted t h q);
       first = λ k is.
           let same : k ≡ h = sym (cc) in
           let new = given (unlisted t h) unit (Some h) in
           let P : ℕ → Type 0 = λ j. waits_at_units new j + 1 ≤ waits_at_units t j in
-          subst P (sym same) (omega (arith, waits_one t h at sound there, waits_given (unlisted t h) unit (Some h) h, waits_unlisted t h, gates_given (unlisted t h) unit (Some h) h has_still, rests_unlisted t h h));
+          subst P (sym same) (omega (arith, waits_one t h at sound there, waits_given (unlisted t h) unit (Some h) h, waits_unlisted t h, gates_given (unlisted t h) unit (Some h) h has_still, gate_waits_unlisted t h h));
     }
 
 -- a unit for which nobody waits comes to nobody

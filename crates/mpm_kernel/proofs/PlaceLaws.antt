@@ -8,7 +8,7 @@ use Rattle.std.proofs.lemmas.List.{length-map}
 use Rattle.mpm_base.proofs.CountLaws.{one_if, one_if_true, one_if_false, count_cons}
 use Rattle.mpm_flags.specs.declared.flags.Flag.{Flag}
 use Rattle.mpm_flags.specs.declared.flags.Flag.TheVariants.{Clear, Set, Waits}
-use Rattle.mpm_flags.specs.States.{no_flags, flag_at, with_flag, left_by, left}
+use Rattle.mpm_flags.specs.States.{no_flags, flag_at, with_flag, without_waiter, flags_without_waiter}
 use Rattle.mpm_ready.specs.Order.{Member, in_list}
 pub use Rattle.mpm_dispatcher.proofs.ReadyLaws.{not_equal, moved_lists, table_moved, list_moved, list_moved_other}
 use Rattle.mpm_kernel.specs.Kernel.{in_lists, is_waiter, flags_of}
@@ -49,37 +49,31 @@ flags_nil : (q : ℕ) → flags_of [] q ≡ 0
 unfolding flags_of
 flags_nil q = refl
 
-left_one_own : (flag : Flag) (p : ℕ) → is_waiter p (left_by p flag) ≡ false
-left_one_own Clear p = refl
-left_one_own Set p = refl
-left_one_own (Waits other) p = grind (arith, nat_tests)
+without_waiter_own : (flag : Flag) (p : ℕ) → is_waiter p (without_waiter p flag) ≡ false
+without_waiter_own Clear p = refl
+without_waiter_own Set p = refl
+without_waiter_own (Waits other) p = grind (arith, nat_tests)
 
-left_one_other : (flag : Flag) (p q : ℕ) → q ≢ p → is_waiter q (left_by p flag) ≡ is_waiter q flag
-left_one_other Clear p q apart = refl
-left_one_other Set p q apart = refl
-left_one_other (Waits other) p q apart = grind (arith, nat_tests, apart)
+without_waiter_other : (flag : Flag) (p q : ℕ) → q ≢ p → is_waiter q (without_waiter p flag) ≡ is_waiter q flag
+without_waiter_other Clear p q apart = refl
+without_waiter_other Set p q apart = refl
+without_waiter_other (Waits other) p q apart = grind (arith, nat_tests, apart)
 
-pub flags_left_own : (flags : List Flag) (p : ℕ) → flags_of (left flags p) p ≡ 0
-unfolding left
-flags_left_own [] p = flags_nil p
-flags_left_own (flag ∷ flags) p =
-    omega (arith, flags_left_own flags p, flags_cons (left_by p flag) (left flags p) p, one_if_false _ (left_one_own flag p))
+pub flags_without_own : (flags : List Flag) (p : ℕ) → flags_of (flags_without_waiter flags p) p ≡ 0
+unfolding flags_without_waiter
+flags_without_own [] p = flags_nil p
+flags_without_own (flag ∷ flags) p =
+    omega (arith, flags_without_own flags p, flags_cons (without_waiter p flag) (flags_without_waiter flags p) p, one_if_false _ (without_waiter_own flag p))
 
-pub flags_left_other : (flags : List Flag) (p q : ℕ) → q ≢ p → flags_of (left flags p) q ≡ flags_of flags q
-unfolding left
-flags_left_other [] p q apart = refl
-flags_left_other (flag ∷ flags) p q apart =
-    omega (arith, flags_left_other flags p q apart, flags_cons (left_by p flag) (left flags p) q, flags_cons flag flags q, ap (λ b. one_if b) (left_one_other flag p q apart))
+pub flags_without_other : (flags : List Flag) (p q : ℕ) → q ≢ p → flags_of (flags_without_waiter flags p) q ≡ flags_of flags q
+unfolding flags_without_waiter
+flags_without_other [] p q apart = refl
+flags_without_other (flag ∷ flags) p q apart =
+    omega (arith, flags_without_other flags p q apart, flags_cons (without_waiter p flag) (flags_without_waiter flags p) q, flags_cons flag flags q, ap (λ b. one_if b) (without_waiter_other flag p q apart))
 
-pub length_left : (flags : List Flag) (p : ℕ) → length (left flags p) ≡ length flags
-unfolding left
-length_left flags p = length-map flags (left_by p)
-
--- a process for which a flag waits
-pub waits_at : (state : Flag) (p : ℕ) → state ≡ Waits p → is_waiter p state ≡ true
-waits_at Clear p e = absurd (cc)
-waits_at Set p e = absurd (cc)
-waits_at (Waits other) p e = grind (arith, nat_tests, e)
+pub length_without_waiter : (flags : List Flag) (p : ℕ) → length (flags_without_waiter flags p) ≡ length flags
+unfolding flags_without_waiter
+length_without_waiter flags p = length-map flags (without_waiter p)
 
 or_right : (a b : Bool) → b ≡ true → (a || b) ≡ true
 or_right true b h = refl

@@ -1,16 +1,17 @@
 -- What stays so where a process's resident procedure ends.
 use Rattle.std.proofs.Common.{◌≡◌, ◌∙◌, ℕ, Bool, true, false, [], Option, Some, None, if◌then◌else◌, refl, ap}
+use Rattle.mpm_base.proofs.Choices.{either}
 use Rattle.mpm_procs.specs.Table.{lives, Lives, process_in, with_process}
 use Rattle.mpm_procs.proofs.MapLaws.{lives_changed, lives_behind}
 use Rattle.mpm_queues.specs.Queue.{is_full, with_given}
 use Rattle.mpm_queues.specs.Queues.{is_made, queue_in}
-use Rattle.mpm_queues.specs.Handling.{first_reader, written_by, told, procs_behind_write, write_outcome, ended}
+use Rattle.mpm_queues.specs.Handling.{first_reader, written_by, delivered_to, procs_behind_write, write_outcome, woken_by}
 use Rattle.mpm_kernel.specs.Kernel.{Kernel, IsSound, with_changed}
 use Rattle.mpm_kernel.specs.Called.{valued}
 use Rattle.mpm_kernel.specs.Queueing.{with_other, given_to}
 use Rattle.mpm_kernel.specs.Procedures.{writing, outside, given_back_to, given_back}
-use Rattle.mpm_kernel.proofs.Soundness.{sound_changed, sound_call, sound_with_completed}
-use Rattle.mpm_kernel.proofs.Staying.{StaysSound, nobody}
+use Rattle.mpm_kernel.proofs.Soundness.{none_and_some, sound_changed, sound_call, sound_with_completed}
+use Rattle.mpm_kernel.proofs.Staying.{StaysSound, nobody, kernel_if}
 use Rattle.mpm_kernel.proofs.QueueingLaws.{sound_given, may_by_write, lives_written}
 use Rattle.mpm_kernel.proofs.QueueCalls.{stays_other}
 use Rattle.mpm_kernel.proofs.HomeLaws.{SameHomes, homes_stay, homes_both, homes_changed, homes_call, procs_with_other}
@@ -25,7 +26,7 @@ sound_outside p kernel s h =
     let process = record (process_in kernel.procs p) { procedure = None } in
     sound_with_completed _ []
     (sound_call (with_changed kernel p process) p (writing (process_in kernel.procs p).kept)
-    (sound_changed kernel p process s h (record { console = fit.console; printer = fit.printer; some = fit.some; few = fit.few })))
+    (sound_changed kernel p process s h (record { console = fit.console; printer = fit.printer; some = fit.some; few = fit.few }) (λ q is. absurd (none_and_some None q refl is))))
 
 pub lives_outside : (p q : ℕ) (kernel : Kernel) → Lives kernel.procs q → Lives (outside p kernel).procs q
 unfolding outside
@@ -48,44 +49,36 @@ homes_outside p kernel s h =
 
 -- and its message is written
 
-stays_if : (b : Bool) (p : ℕ) (new old : Kernel) → (b ≡ true → StaysSound p (valued 0 new)) → StaysSound p (valued 0 old)
-    → StaysSound p (valued 0 (if b then new else old))
-stays_if true p new old is was = is refl
-stays_if false p new old is was = was
-
 stays_given : (queue : Option ℕ) (p : ℕ) (kernel : Kernel) → IsSound kernel → Lives kernel.procs p → kernel.completed ≡ []
     → StaysSound p (valued 0 (given_back_to queue p kernel))
 unfolding given_back_to
 stays_given None p kernel s h none = record { sound = s; lives = h; completed = nobody kernel none }
 stays_given (Some q) p kernel s h none =
-    stays_if (is_made kernel.queues q) p _ kernel
-    (λ is. stays_other (ended (write_outcome kernel.queues q)) p 0 (given_to kernel p q) (sound_given kernel p q s is)
+    kernel_if p (is_made kernel.queues q) _ _ 0
+    (λ is. stays_other (woken_by (write_outcome kernel.queues q)) p 0 (given_to kernel p q) (sound_given kernel p q s is)
     (lives_written kernel.queues p q kernel.procs p ∙ h) (nobody (given_to kernel p q) none) (λ r first. may_by_write kernel p q r s first))
-    (record { sound = s; lives = h; completed = nobody kernel none })
+    (λ _. record { sound = s; lives = h; completed = nobody kernel none })
 
 pub stays_given_back : (p : ℕ) (kernel : Kernel) → IsSound kernel → Lives kernel.procs p → StaysSound p (valued 0 (given_back p kernel))
 unfolding given_back
 stays_given_back p kernel s h =
     stays_given (process_in kernel.procs p).procedure p (outside p kernel) (sound_outside p kernel s h) (lives_outside p p kernel h) (nobody_outside p kernel)
 
-homes_told : (o : Option ℕ) (b : Bool) (kernel new : Kernel) (message : _) → new.procs ≡ (if b then kernel.procs else (told o message kernel.procs)) → SameHomes kernel new
-homes_told o true kernel new message e = homes_stay kernel new e
-homes_told None false kernel new message e = homes_stay kernel new e
-homes_told (Some r) false kernel new message e =
+homes_delivered : (o : Option ℕ) (b : Bool) (kernel new : Kernel) (message : _) → new.procs ≡ (if b then kernel.procs else (delivered_to o message kernel.procs)) → SameHomes kernel new
+homes_delivered o true kernel new message e = homes_stay kernel new e
+homes_delivered None false kernel new message e = homes_stay kernel new e
+homes_delivered (Some r) false kernel new message e =
     let call = with_given message _ in
     homes_both kernel _ new (homes_call kernel r call) (homes_stay _ new e)
-
-homes_if : (b : Bool) (old new : Kernel) → SameHomes old new → SameHomes old (if b then new else old)
-homes_if true old new is = is
-homes_if false old new is = homes_stay old old refl
 
 pub homes_given : (queue : Option ℕ) (p : ℕ) (kernel : Kernel) → SameHomes kernel (given_back_to queue p kernel)
 unfolding given_back_to procs_behind_write
 homes_given None p kernel = homes_stay kernel kernel refl
 homes_given (Some q) p kernel =
     let t = kernel.queues in
-    homes_if (is_made t q) kernel _
-    (homes_told (first_reader t q) (is_full (queue_in t q)) kernel _ (written_by t q kernel.procs p) (procs_with_other (ended (write_outcome t q)) (given_to kernel p q)))
+    either (SameHomes kernel) (is_made t q) _ _
+    (λ _. homes_delivered (first_reader t q) (is_full (queue_in t q)) kernel _ (written_by t q kernel.procs p) (procs_with_other (woken_by (write_outcome t q)) (given_to kernel p q)))
+    (λ _. homes_stay kernel kernel refl)
 
 pub homes_given_back : (p : ℕ) (kernel : Kernel) → IsSound kernel → Lives kernel.procs p → SameHomes kernel (given_back p kernel)
 unfolding given_back

@@ -5,24 +5,26 @@ use Rattle.std.specs.Prelude.{IfSome, nat_lt, is_some, is_none, slice_index_or}
 use Rattle.std.specs.Option.{option_map_or}
 use Rattle.std.proofs.lemmas.Bool.{false≢true, cases_eq, cases_lt}
 use Rattle.std.proofs.lemmas.Bool.Decides.{nat_tests}
+use Rattle.mpm_base.proofs.Choices.{either}
 use Rattle.mpm_base.specs.declared.number.Name8.{Name8}
 use Rattle.mpm_ready.specs.Order.{Member}
 use Rattle.mpm_ready.specs.Tables.{list_of}
-use Rattle.mpm_procs.specs.Table.{Table, lives, Lives, call_of}
+use Rattle.mpm_procs.specs.Table.{Table, lives, Lives, process_in, call_of}
+use Rattle.mpm_procs.specs.Finding.{is_queue, is_inside_of, is_entered}
 use Rattle.mpm_procs.proofs.MapLaws.{lives_below, lives_behind}
-use Rattle.mpm_queues.specs.Queue.{with_given, is_drained, is_full}
-use Rattle.mpm_queues.specs.Queues.{Queues, IsMade, is_made, is_free, is_named, queue_in, found, lowest_free, waits, waits_at, WaitsNowhere, made, may_end, behind_delete, without, IsSound as AreSound, refusal as make_refusal}
+use Rattle.mpm_queues.specs.Queue.{new_queue, no_queue, with_given, is_drained, is_full}
+use Rattle.mpm_queues.specs.Queues.{Queues, IsMade, is_made, is_free, is_named, queue_in, width_of, lowest, found, lowest_free, waits, waits_at, WaitsNowhere, made, may_end, behind_delete, without, IsSound as AreSound, make_error}
 use Rattle.mpm_queues.specs.declared.queues.MakeRefused.{MakeRefused}
 use Rattle.mpm_queues.specs.declared.queues.MakeRefused.TheVariants.{BadCount, Exists, NoQueueRoom}
 use Rattle.mpm_queues.specs.declared.queues.QueueOutcome.{QueueOutcome}
 use Rattle.mpm_queues.specs.declared.queues.QueueOutcome.TheVariants.{Done as Passed, NotNow}
-use Rattle.mpm_queues.specs.Handling.{behind_read, read_outcome, behind_write, write_outcome, procs_behind_write, first_reader, first_writer, written_by, told, enlisted, may_wait, ended}
+use Rattle.mpm_queues.specs.Handling.{behind_read, read_outcome, behind_write, write_outcome, procs_behind_write, first_reader, first_writer, written_by, delivered_to, enlisted, may_wait, woken_by}
 use Rattle.mpm_queues.specs.Runs.{Reads, Writes, Waits}
-use Rattle.mpm_queues.proofs.Finding.{lowest_passes}
+use Rattle.mpm_queues.proofs.Finding.{lowest_passes, lowest_none}
 use Rattle.mpm_queues.proofs.SoundLaws.{sound_made, sound_delete, sound_read, sound_write, sound_enlisted}
-use Rattle.mpm_queues.proofs.RunLaws.{made_deed}
-use Rattle.mpm_queues.proofs.WaitLaws.{waits_one, nowhere_waits, named_made, waiters_made, waiters_delete, waits_read_ended, waits_read_other, waits_write_ended, waits_write_other, read_ends_waiter, write_ends_waiter}
-use Rattle.mpm_kernel.specs.Kernel.{Kernel, ready, IsReady, IsSound}
+use Rattle.mpm_queues.proofs.RunLaws.{made_operation}
+use Rattle.mpm_queues.proofs.WaitLaws.{waits_one, nowhere_waits, named_made, kept_read, kept_write, waiters_made, waiters_delete, waits_read_woken, waits_read_other, waits_write_woken, waits_write_other, read_ends_waiter, write_ends_waiter}
+use Rattle.mpm_kernel.specs.Kernel.{Kernel, ready, IsReady, IsOfTwo, IsSound}
 use Rattle.mpm_kernel.specs.Queueing.{OnlySystems, IfNotNow, made_at, pointed, taken_from, given_to}
 use Rattle.mpm_kernel.proofs.Soundness.{AreQueues, own_queues, MayBeReady, none_and_some, some_same, listed_once, sound_fewer, sound_call}
 
@@ -92,8 +94,22 @@ waits_same : (t new : Queues) (p : ℕ) → new.waiters ≡ t.waiters → waits 
 unfolding waits
 waits_same t new p same = ap (λ (lists : List (List Member)). option_map_or (λ _. 1) (list_of lists p) 0) same
 
+alive_same : (t new : Queues) (q : ℕ) → new.alive ≡ t.alive → is_made new q ≡ is_made t q
+alive_same t new q same = ap (λ (alive : List Bool). slice_index_or alive q false) same
+
 made_same : (t new : Queues) (q : ℕ) → new.alive ≡ t.alive → IsMade t q → IsMade new q
-made_same t new q same is = ap (λ (alive : List Bool). slice_index_or alive q false) same ∙ is
+made_same t new q same is = alive_same t new q same ∙ is
+
+width_same : (t new : Queues) (q : ℕ) → is_made new q ≡ is_made t q → (queue_in new q).width ≡ (queue_in t q).width → width_of new q ≡ width_of t q
+width_same t new q made width =
+    ap (λ (b : Bool). if b then Some (queue_in new q).width else None) made ∙ ap (λ (n : ℕ). if is_made t q then Some n else None) width
+
+-- a queue of messages of two bytes
+pub two_made : (t : Queues) (q : ℕ) → IsOfTwo t q → IsMade t q
+two_made t q two = (pointed_if (is_made t q) (queue_in t q).width 2 two).0
+
+pub two_width : (t : Queues) (q : ℕ) → IsOfTwo t q → (queue_in t q).width ≡ 2
+two_width t q two = (pointed_if (is_made t q) (queue_in t q).width 2 two).1
 
 -- a queue is made
 pub record Accepts (t : Queues) (name : Name8) (width count : ℕ) : Type 0 where
@@ -114,8 +130,8 @@ none_there : (o : Option ℕ) → is_some o ≡ false → o ≡ None
 none_there None h = refl
 none_there (Some n) h = absurd (cc)
 
-pub accepts : (t : Queues) (name : Name8) (width count : ℕ) → is_none (make_refusal t name width count) ≡ true → Accepts t name width count
-unfolding make_refusal
+pub accepts : (t : Queues) (name : Name8) (width count : ℕ) → is_none (make_error t name width count) ≡ true → Accepts t name width count
+unfolding make_error
 accepts t name width count none =
     let counted = unless (count == 0) BadCount _ none in
     let named = unless (is_some (found t name)) Exists _ counted.1 in
@@ -131,20 +147,32 @@ made_more : (t : Queues) (q k : ℕ) (name : Name8) (width count : ℕ) → IsMa
 unfolding made
 made_more t q k name width count is other = get_or-set_other t.alive q k true false other ∙ is
 
+width_more : (t : Queues) (q k : ℕ) (name : Name8) (width count : ℕ) → k ≢ q → width_of (made t q name width count) k ≡ width_of t k
+unfolding made
+width_more t q k name width count other =
+    width_same t (made t q name width count) k (get_or-set_other t.alive q k true false other)
+    (ap (λ x. x.width) (get_or-set_other t.queues q k (new_queue name width count) no_queue other))
+
+-- one that is there hasn't a free number
+made_apart : (t : Queues) (q k : ℕ) → lowest_free t ≡ Some q → IsMade t k → k ≢ q
+made_apart t q k free is = λ same. false≢true (sym (number_free t q free) ∙ ap (is_made t) (sym same) ∙ is)
+
 made_queues : (kernel : Kernel) (slot : Option ℕ) (name : Name8) (width count : ℕ) → IsSound kernel → lowest_free kernel.queues ≡ slot
     → Accepts kernel.queues name width count → AreQueues kernel (made_at slot kernel.queues name width count)
 made_queues kernel None name width count s free a = own_queues kernel s
 made_queues kernel (Some q) name width count s free a = record {
   sound = sound_made kernel.queues q name width count s.queues free a.new a.some a.few;
-  system = λ k below. made_more kernel.queues q k name width count (s.system k below)
-      (λ same. false≢true (sym (number_free kernel.queues q free) ∙ ap (is_made kernel.queues) (sym same) ∙ s.system k below));
+  system = λ k below. made_more kernel.queues q k name width count (s.system k below) (made_apart kernel.queues q k free (s.system k below));
+  inside = λ p k living is.
+      let two = s.inside p k living is in
+      width_more kernel.queues q k name width count (made_apart kernel.queues q k free (two_made kernel.queues k two)) ∙ two;
 }
 
 waits_made : (slot : Option ℕ) (t : Queues) (name : Name8) (width count p : ℕ) → waits (made_at slot t name width count) p ≡ waits t p
 waits_made None t name width count p = refl
 waits_made (Some q) t name width count p = waits_same t (made t q name width count) p (waiters_made t q name width count)
 
-pub sound_with_queue : (kernel : Kernel) (name : Name8) (width count : ℕ) → IsSound kernel → is_none (make_refusal kernel.queues name width count) ≡ true
+pub sound_with_queue : (kernel : Kernel) (name : Name8) (width count : ℕ) → IsSound kernel → is_none (make_error kernel.queues name width count) ≡ true
     → IsSound (record kernel { queues = made_at (lowest_free kernel.queues) kernel.queues name width count })
 sound_with_queue kernel name width count s none =
     sound_queues kernel _ s (made_queues kernel (lowest_free kernel.queues) name width count s refl (accepts kernel.queues name width count none))
@@ -156,30 +184,59 @@ unfolding without
 deleted_other true t q k other = get_or-set_other t.alive q k false false other
 deleted_other false t q k other = refl
 
-pub sound_with_deleted : (kernel : Kernel) (q : ℕ) → IsSound kernel → IsMade kernel.queues q → kernel.system_queues ≤ q
+width_left : (b : Bool) (t : Queues) (q k : ℕ) → k ≢ q → width_of (cond b (without t q) t) k ≡ width_of t k
+unfolding without
+width_left true t q k other =
+    width_same t (without t q) k (get_or-set_other t.alive q k false false other) (ap (λ x. x.width) (get_or-set_other t.queues q k no_queue no_queue other))
+width_left false t q k other = refl
+
+-- and in whose resident procedure nobody is
+is_this : (k q : ℕ) (o : Option ℕ) → o ≡ Some k → k ≡ q → is_queue q o ≡ true
+is_this k q None is same = absurd (none_and_some None k refl is)
+is_this k q (Some other) is same = (let equal = some_same other k is in grind (arith, nat_tests, equal, same))
+
+inside_apart : (kernel : Kernel) (q p k : ℕ) → IsSound kernel → is_entered kernel.procs q ≡ false → Lives kernel.procs p
+    → (process_in kernel.procs p).procedure ≡ Some k → k ≢ q
+unfolding is_entered
+inside_apart kernel q p k s none living is = λ same.
+    let test = is_inside_of kernel.procs q in
+    let fails : test p ≡ false = lowest_none test (none_there (lowest test) none) p (lives_below kernel.procs p s.slots living) in
+    false≢true (sym fails ∙ ap (λ b. b && is_queue q (process_in kernel.procs p).procedure) living ∙ is_this k q _ is same)
+
+pub sound_with_deleted : (kernel : Kernel) (q : ℕ) → IsSound kernel → IsMade kernel.queues q → kernel.system_queues ≤ q → is_entered kernel.procs q ≡ false
     → IsSound (record kernel { queues = behind_delete kernel.queues q })
 unfolding behind_delete
-sound_with_deleted kernel q s is own =
+sound_with_deleted kernel q s is own none =
+    let gone = may_end kernel.queues q in
     sound_queues kernel (behind_delete kernel.queues q) s
     (record {
       sound = sound_delete kernel.queues q s.queues is;
-      system = λ k below. deleted_other (may_end kernel.queues q) kernel.queues q k (λ same. omega (arith, own, below, same)) ∙ s.system k below;
+      system = λ k below. deleted_other gone kernel.queues q k (λ same. omega (arith, own, below, same)) ∙ s.system k below;
+      inside = λ p k living there. width_left gone kernel.queues q k (inside_apart kernel q p k s none living there) ∙ s.inside p k living there;
     })
     (λ p. omega (arith, waits_same kernel.queues (behind_delete kernel.queues q) p (waiters_delete kernel.queues q)))
 
 -- a message is read
-ended_or_not : (o : Option ℕ) (p : ℕ) → (o ≡ Some p) ⊎ (o ≢ Some p)
-ended_or_not None p = inr (λ is. none_and_some None p refl is)
-ended_or_not (Some other) p = elim (cases_eq other p) [
+woken_or_not : (o : Option ℕ) (p : ℕ) → (o ≡ Some p) ⊎ (o ≢ Some p)
+woken_or_not None p = inr (λ is. none_and_some None p refl is)
+woken_or_not (Some other) p = elim (cases_eq other p) [
   | inl same ↦ inl (ap (λ (n : ℕ). Some n) same)
   | inr apart ↦ inr (λ is. apart (some_same other p is))
 ]
 
 read_waits : (t : Queues) (p q : ℕ) (procs : Table) (k : ℕ) → AreSound t → waits (behind_read t p q procs) k ≤ waits t k
-read_waits t p q procs k s = elim (ended_or_not (ended (read_outcome t q)) k) [
-  | inl is ↦ omega (arith, waits_read_ended t p q procs k is)
+read_waits t p q procs k s = elim (woken_or_not (woken_by (read_outcome t q)) k) [
+  | inl is ↦ omega (arith, waits_read_woken t p q procs k is)
   | inr apart ↦ omega (arith, waits_read_other t p q procs k s apart)
 ]
+
+pub width_read : (t : Queues) (p q k : ℕ) (procs : Table) → AreSound t → IsMade t q → width_of (behind_read t p q procs) k ≡ width_of t k
+width_read t p q k procs s is =
+    width_same t (behind_read t p q procs) k (alive_same t (behind_read t p q procs) k (made_operation t q (Reads p procs))) (kept_read t p q k procs s is).width
+
+pub width_written : (t : Queues) (p q k : ℕ) (procs : Table) → AreSound t → IsMade t q → width_of (behind_write t p q procs) k ≡ width_of t k
+width_written t p q k procs s is =
+    width_same t (behind_write t p q procs) k (alive_same t (behind_write t p q procs) k (made_operation t q (Writes p procs))) (kept_write t p q k procs s is).width
 
 pub sound_taken : (kernel : Kernel) (p q : ℕ) → IsSound kernel → IsMade kernel.queues q → IsSound (taken_from kernel p q)
 sound_taken kernel p q s is =
@@ -187,42 +244,40 @@ sound_taken kernel p q s is =
     sound_queues kernel (behind_read t p q kernel.procs) s
     (record {
       sound = sound_read t p q kernel.procs s.queues is;
-      system = λ k below. made_same t (behind_read t p q kernel.procs) k (made_deed t q (Reads p kernel.procs)) (s.system k below);
+      system = λ k below. made_same t (behind_read t p q kernel.procs) k (made_operation t q (Reads p kernel.procs)) (s.system k below);
+      inside = λ r k living there. width_read t p q k kernel.procs s.queues is ∙ s.inside r k living there;
     })
     (λ k. read_waits t p q kernel.procs k s.queues)
 
 -- whose wait at a queue was ended lives, and waits for nothing else
-pub may_by_read : (kernel : Kernel) (p q w : ℕ) → IsSound kernel → ended (read_outcome kernel.queues q) ≡ Some w → MayBeReady (taken_from kernel p q) w
+pub may_by_read : (kernel : Kernel) (p q w : ℕ) → IsSound kernel → woken_by (read_outcome kernel.queues q) ≡ Some w → MayBeReady (taken_from kernel p q) w
 may_by_read kernel p q w s is =
     let t = kernel.queues in
     let one = waits_one t q w s.queues (read_ends_waiter t q w is) in
-    (s.live w (omega (arith, one)), omega (arith, one, s.once w, waits_read_ended t p q kernel.procs w is))
+    (s.live w (omega (arith, one)), omega (arith, one, s.once w, waits_read_woken t p q kernel.procs w is))
 
 -- a message is written, which may come into the call that another process keeps
-sound_told : (o : Option ℕ) (message : List ℕ) (kernel : Kernel) → IsSound kernel → IsSound (record kernel { procs = told o message kernel.procs })
-sound_told None message kernel s = s
-sound_told (Some r) message kernel s = sound_call kernel r (with_given message (call_of kernel.procs r)) s
+sound_delivered : (o : Option ℕ) (message : List ℕ) (kernel : Kernel) → IsSound kernel → IsSound (record kernel { procs = delivered_to o message kernel.procs })
+sound_delivered None message kernel s = s
+sound_delivered (Some r) message kernel s = sound_call kernel r (with_given message (call_of kernel.procs r)) s
 
-sound_told_if : (b : Bool) (o : Option ℕ) (message : List ℕ) (kernel : Kernel) → IsSound kernel
-    → IsSound (record kernel { procs = if b then kernel.procs else (told o message kernel.procs) })
-sound_told_if true o message kernel s = s
-sound_told_if false o message kernel s = sound_told o message kernel s
+sound_delivered_if : (b : Bool) (o : Option ℕ) (message : List ℕ) (kernel : Kernel) → IsSound kernel
+    → IsSound (record kernel { procs = if b then kernel.procs else (delivered_to o message kernel.procs) })
+sound_delivered_if true o message kernel s = s
+sound_delivered_if false o message kernel s = sound_delivered o message kernel s
 
-lives_told : (o : Option ℕ) (message : List ℕ) (procs : Table) (k : ℕ) → lives (told o message procs) k ≡ lives procs k
-lives_told None message procs k = refl
-lives_told (Some r) message procs k = lives_behind procs r k (with_given message (call_of procs r))
-
-lives_if : (b : Bool) (procs other : Table) (k : ℕ) → lives other k ≡ lives procs k → lives (if b then procs else other) k ≡ lives procs k
-lives_if true procs other k same = refl
-lives_if false procs other k same = same
+lives_delivered : (o : Option ℕ) (message : List ℕ) (procs : Table) (k : ℕ) → lives (delivered_to o message procs) k ≡ lives procs k
+lives_delivered None message procs k = refl
+lives_delivered (Some r) message procs k = lives_behind procs r k (with_given message (call_of procs r))
 
 pub lives_written : (t : Queues) (p q : ℕ) (procs : Table) (k : ℕ) → lives (procs_behind_write t p q procs) k ≡ lives procs k
 unfolding procs_behind_write
-lives_written t p q procs k = lives_if (is_full (queue_in t q)) procs _ k (lives_told (first_reader t q) (written_by t q procs p) procs k)
+lives_written t p q procs k =
+    either (λ (now : Table). lives now k ≡ lives procs k) (is_full (queue_in t q)) _ _ (λ _. refl) (λ _. lives_delivered (first_reader t q) (written_by t q procs p) procs k)
 
 pub write_waits : (t : Queues) (p q : ℕ) (procs : Table) (k : ℕ) → AreSound t → waits (behind_write t p q procs) k ≤ waits t k
-write_waits t p q procs k s = elim (ended_or_not (ended (write_outcome t q)) k) [
-  | inl is ↦ omega (arith, waits_write_ended t p q procs k is)
+write_waits t p q procs k s = elim (woken_or_not (woken_by (write_outcome t q)) k) [
+  | inl is ↦ omega (arith, waits_write_woken t p q procs k is)
   | inr apart ↦ omega (arith, waits_write_other t p q procs k s apart)
 ]
 
@@ -230,19 +285,20 @@ pub sound_given : (kernel : Kernel) (p q : ℕ) → IsSound kernel → IsMade ke
 unfolding procs_behind_write
 sound_given kernel p q s is =
     let t = kernel.queues in
-    sound_told_if (is_full (queue_in t q)) (first_reader t q) (written_by t q kernel.procs p) (record kernel { queues = behind_write t p q kernel.procs })
+    sound_delivered_if (is_full (queue_in t q)) (first_reader t q) (written_by t q kernel.procs p) (record kernel { queues = behind_write t p q kernel.procs })
     (sound_queues kernel (behind_write t p q kernel.procs) s
     (record {
       sound = sound_write t p q kernel.procs s.queues is;
-      system = λ k below. made_same t (behind_write t p q kernel.procs) k (made_deed t q (Writes p kernel.procs)) (s.system k below);
+      system = λ k below. made_same t (behind_write t p q kernel.procs) k (made_operation t q (Writes p kernel.procs)) (s.system k below);
+      inside = λ r k living there. width_written t p q k kernel.procs s.queues is ∙ s.inside r k living there;
     })
     (λ k. write_waits t p q kernel.procs k s.queues))
 
-pub may_by_write : (kernel : Kernel) (p q r : ℕ) → IsSound kernel → ended (write_outcome kernel.queues q) ≡ Some r → MayBeReady (given_to kernel p q) r
+pub may_by_write : (kernel : Kernel) (p q r : ℕ) → IsSound kernel → woken_by (write_outcome kernel.queues q) ≡ Some r → MayBeReady (given_to kernel p q) r
 may_by_write kernel p q r s is =
     let t = kernel.queues in
     let one = waits_one t q r s.queues (write_ends_waiter t q r is) in
-    (lives_written t p q kernel.procs r ∙ s.live r (omega (arith, one)), omega (arith, one, s.once r, waits_write_ended t p q kernel.procs r is))
+    (lives_written t p q kernel.procs r ∙ s.live r (omega (arith, one)), omega (arith, one, s.once r, waits_write_woken t p q kernel.procs r is))
 
 -- where nothing can be done, nothing changes
 not_now_if : (b : Bool) (o : Option ℕ) → (if b then NotNow else (Passed o)) ≡ NotNow → b ≡ true
@@ -280,15 +336,15 @@ some_lives None kernel may = tt
 some_lives (Some w) kernel may = (may w refl).0
 
 pub lives_by_read : (kernel : Kernel) (p q : ℕ) (procs : Table) (outcome : QueueOutcome) → IsSound kernel → outcome ≡ read_outcome kernel.queues q
-    → procs ≡ kernel.procs → IfSome (ended outcome) (λ w. Lives procs w)
+    → procs ≡ kernel.procs → IfSome (woken_by outcome) (λ w. Lives procs w)
 lives_by_read kernel p q procs outcome s is same =
-    let P : Table → Type 0 = λ table. IfSome (ended outcome) (λ w. Lives table w) in
-    subst P (sym same) (some_lives (ended outcome) (taken_from kernel p q) (λ w first. may_by_read kernel p q w s (ap ended (sym is) ∙ first)))
+    let P : Table → Type 0 = λ table. IfSome (woken_by outcome) (λ w. Lives table w) in
+    subst P (sym same) (some_lives (woken_by outcome) (taken_from kernel p q) (λ w first. may_by_read kernel p q w s (ap woken_by (sym is) ∙ first)))
 
 pub lives_by_write : (kernel : Kernel) (p q : ℕ) (outcome : QueueOutcome) → IsSound kernel → outcome ≡ write_outcome kernel.queues q
-    → IfSome (ended outcome) (λ w. Lives (given_to kernel p q).procs w)
+    → IfSome (woken_by outcome) (λ w. Lives (given_to kernel p q).procs w)
 lives_by_write kernel p q outcome s is =
-    some_lives (ended outcome) (given_to kernel p q) (λ w first. may_by_write kernel p q w s (ap ended (sym is) ∙ first))
+    some_lives (woken_by outcome) (given_to kernel p q) (λ w first. may_by_write kernel p q w s (ap woken_by (sym is) ∙ first))
 
 -- the kernel with other queues and processes, which is the one before where they didn't change
 with_parts : Kernel → Queues → Table → Kernel
@@ -324,11 +380,16 @@ waits_by_write kernel old p q queues procs NotNow is outcome behind same = (
 )
 
 -- a process waits at a queue
+two_enlisted : (t : Queues) (p priority q : ℕ) (reader : Bool) (k : ℕ) → IsOfTwo t k → IsOfTwo (enlisted t p priority q reader) k
+unfolding enlisted
+two_enlisted t p priority q reader k two = two
+
 pub queues_enlisted : (kernel : Kernel) (p priority q : ℕ) (reader : Bool) → IsSound kernel → Lives kernel.procs p → IsReady kernel p
     → IsMade kernel.queues q → may_wait kernel.queues q reader ≡ true → AreQueues kernel (enlisted kernel.queues p priority q reader)
 queues_enlisted kernel p priority q reader s h is_ready is may =
     let t = kernel.queues in
     record {
       sound = sound_enlisted t p priority q reader s.queues is (lives_below kernel.procs p s.slots h) (ready_waits_nowhere kernel p s is_ready) may;
-      system = λ k below. made_same t (enlisted t p priority q reader) k (made_deed t q (Waits p priority reader)) (s.system k below);
+      system = λ k below. made_same t (enlisted t p priority q reader) k (made_operation t q (Waits p priority reader)) (s.system k below);
+      inside = λ r k living there. two_enlisted t p priority q reader k (s.inside r k living there);
     }

@@ -1,11 +1,11 @@
 -- What a sound kernel stays through: its calls and its events. The laws on its parts are told here too.
-use Rattle.std.proofs.Common.{◌≡◌, ◌≢◌, ◌∙◌, ℕ, ◌+◌, ◌<◌, ◌≤◌, Bool, true, false, ◌||◌, ◌==◌, List, [], ◌∷◌, Option, Some, None, if◌then◌else◌, refl, sym, ap, subst, arith}
+use Rattle.std.proofs.Common.{◌≡◌, ◌≢◌, ◌∙◌, ℕ, ◌+◌, ◌<◌, ◌≤◌, Bool, true, false, ◌||◌, ◌==◌, List, [], ◌∷◌, Some, if◌then◌else◌, refl, sym, ap, subst, arith}
 use Rattle.std.specs.List.{AllByRecursion}
 use Rattle.std.proofs.lemmas.Bool.Decides.{nat_tests}
 use Rattle.std.proofs.lemmas.List.{length-set}
 use Rattle.mpm_base.specs.Calls.{Taken}
 use Rattle.mpm_ready.specs.Order.{in_list}
-use Rattle.mpm_ready.specs.Tables.{list_at, list_of}
+use Rattle.mpm_ready.specs.Tables.{list_at}
 use Rattle.mpm_ready.proofs.TableLaws.{list_of_known}
 use Rattle.mpm_flags.specs.declared.flags.Flag.{Flag}
 use Rattle.mpm_flags.specs.declared.flags.FlagWait.TheVariants.{Waits as Begins, Underrun}
@@ -16,20 +16,21 @@ use Rattle.mpm_flags.specs.States.{flag_at, with_flag, behind_wait, wait_answer,
 use Rattle.mpm_base.proofs.CountLaws.{one_if, one_if_true, one_if_false}
 use Rattle.mpm_clock.specs.declared.moment.Moment.{Moment}
 use Rattle.std.specs.Prelude.{nat_lt, slice_index_or}
+use Rattle.mpm_base.proofs.Choices.{either}
 use Rattle.mpm_clock.specs.Delays.{delays_of, woken_by_tick}
 use Rattle.mpm_clock.specs.Times.{set_to, delayed, ticked}
 use Rattle.mpm_clock.proofs.DelayLaws.{delays_ticked, delays_more_own, delays_more_other}
 use Rattle.mpm_procs.specs.Table.{Table, lives, Lives, process_in, call_of}
 use Rattle.mpm_procs.specs.declared.process.Process.{Process}
 use Rattle.mpm_procs.proofs.MapLaws.{lives_changed}
-use Rattle.mpm_kernel.specs.Kernel.{Kernel, ready, poll_list, is_waiter, flags_of, waits_of, IsReady, IsFit, IsSound, CompletedLive, with_changed, call_begun, afresh}
-use Rattle.mpm_kernel.specs.Dispatch.{at_rest, stays, is_ready, behind_equals, with_priority, unlisted, moved, ready_in, all_ready, all_woken, runner_behind}
+use Rattle.mpm_kernel.specs.Kernel.{Kernel, ready, poll_list, is_waiter, flags_of, waits_of, IsReady, IsSound, CompletedLive, with_changed, call_begun, afresh}
+use Rattle.mpm_kernel.specs.Dispatch.{at_rest, is_ready, behind_equals, with_priority, unlisted, moved, ready_in, all_ready, all_woken}
 use Rattle.mpm_procs.specs.Settings.{is_count, with_user, with_multi}
 use Rattle.mpm_kernel.specs.Calls.{is_for_console, is_for_unit, call_done, called}
-use Rattle.mpm_kernel.specs.Called.{Called, valued, low_parameter, refusal}
+use Rattle.mpm_kernel.specs.Called.{Called, valued, low_parameter, failure_code}
 use Rattle.mpm_kernel.specs.Waiting.{polled, is_flag, waited, flag_waited, with_woken, signalled, flag_set, slept}
 use Rattle.mpm_clock.specs.PackedDecimal.{names_time, named_moment}
-use Rattle.mpm_kernel.specs.Dates.{date_set, date_told, time_told}
+use Rattle.mpm_kernel.specs.Dates.{date_set, date_answered, time_answered}
 use Rattle.mpm_kernel.specs.Events.{MayCome, with_tick, clock_ticked, pollers, with_ready, device_ready, happens, happened, flag_came}
 use Rattle.mpm_script.specs.Events.{IsEvent}
 use Rattle.mpm_script.specs.declared.event.Event.{Event}
@@ -48,7 +49,7 @@ use Rattle.mpm_kernel.proofs.UnitCalls.{stays_unit_called}
 use Rattle.mpm_kernel.proofs.InputCalls.{stays_console_called}
 use Rattle.mpm_kernel.proofs.KeyLaws.{sound_key_came, procs_key_came, completed_key_came}
 use Rattle.mpm_kernel.proofs.QueueCalls.{stays_queue_made, stays_queue_opened, stays_queue_deleted, stays_queue_read, stays_queue_written, stays_procedure_called}
-pub use Rattle.mpm_kernel.proofs.Soundness.{none_and_some, sound_new, sound_changed, sound_call, sound_devices, sound_spoke, first_is_in, some_same, first_is_ready, listed, listed_once, not_delayed, runner_lives, sound_picked, free_is_unlisted, sound_begun, sound_afresh, sound_admitted, sound_in_slot, consoles_in_slot, completed_in_slot, sound_ready, sound_moved, sound_unlisted, sound_fewer, own_queues, sound_behind_equals, lives_behind_equals, sound_all_ready, procs_all_ready, running_all_ready, is_ready_true, sound_runner_behind, completed_if, procs_runner_behind, sound_with_completed, MayBeReady}
+pub use Rattle.mpm_kernel.proofs.Soundness.{none_and_some, sound_new, sound_changed, sound_process, sound_call, sound_devices, sound_spoke, first_is_in, some_same, first_is_ready, listed, listed_once, not_delayed, runner_lives, sound_picked, free_is_unlisted, sound_begun, sound_afresh, sound_admitted, sound_in_slot, consoles_in_slot, completed_in_slot, sound_ready, sound_moved, sound_unlisted, sound_fewer, own_queues, sound_behind_equals, lives_behind_equals, sound_all_ready, procs_all_ready, running_all_ready, is_ready_true, sound_runner_behind, sound_with_completed, MayBeReady}
 
 -- a byte comes to a unit
 pub sound_wrote : (kernel : Kernel) (unit : Unit) (byte : ℕ) (tabs : Bool) → IsSound kernel → IsSound (wrote kernel unit byte tabs)
@@ -60,18 +61,23 @@ sound_wrote kernel (PrinterUnit n) byte tabs s = s
 -- the calls of the kernel
 
 -- the process with a field changed
-stays_changed : (p value : ℕ) (kernel : Kernel) (process : Process) → Calls p kernel → IsFit kernel.consoles kernel.printers process
+stays_changed : (p value : ℕ) (kernel : Kernel) (process : Process) → Calls p kernel → IsSound (with_changed kernel p process)
     → StaysSound p (valued value (with_changed kernel p process))
-stays_changed p value kernel process c fit = record {
-  sound = sound_changed kernel p process c.sound c.lives fit;
+stays_changed p value kernel process c sound = record {
+  sound = sound;
   lives = lives_changed kernel.procs p p process ∙ c.lives;
   completed = nobody (with_changed kernel p process) c.none;
 }
 
+-- which is none that soundness looks at
+stays_process : (p value : ℕ) (kernel : Kernel) (process : Process) → Calls p kernel → process.console ≡ (process_in kernel.procs p).console
+    → process.printer ≡ (process_in kernel.procs p).printer → process.multi ≡ (process_in kernel.procs p).multi
+    → process.procedure ≡ (process_in kernel.procs p).procedure → StaysSound p (valued value (with_changed kernel p process))
+stays_process p value kernel process c console printer multi procedure =
+    stays_changed p value kernel process c (sound_process kernel p process c.sound c.lives console printer multi procedure)
+
 stays_user : (byte p value : ℕ) (kernel : Kernel) → Calls p kernel → StaysSound p (valued value (with_changed kernel p (with_user byte (process_in kernel.procs p))))
-stays_user byte p value kernel c =
-    let fit = c.sound.fit p c.lives in
-    stays_changed p value kernel _ c (record { console = fit.console; printer = fit.printer; some = fit.some; few = fit.few })
+stays_user byte p value kernel c = stays_process p value kernel _ c refl refl refl refl
 
 multi_fits : (b : Bool) (count old : ℕ) → is_count count ≡ b → 1 ≤ old → old ≤ 16 → (1 ≤ (if b then count else old)) × ((if b then count else old) ≤ 16)
 multi_fits true count old is some few = (grind (arith, nat_tests, is), grind (arith, nat_tests, is))
@@ -81,7 +87,8 @@ stays_multi : (count p value : ℕ) (kernel : Kernel) → Calls p kernel → Sta
 stays_multi count p value kernel c =
     let fit = c.sound.fit p c.lives in
     let multi = multi_fits (is_count count) count (process_in kernel.procs p).multi refl fit.some fit.few in
-    stays_changed p value kernel _ c (record { console = fit.console; printer = fit.printer; some = multi.0; few = multi.1 })
+    stays_changed p value kernel _ c
+    (sound_changed kernel p _ c.sound c.lives (record { console = fit.console; printer = fit.printer; some = multi.0; few = multi.1 }) (λ q. c.sound.inside p q c.lives))
 
 completed_behind_equals : (kernel : Kernel) (p : ℕ) → (behind_equals kernel p).completed ≡ kernel.completed
 unfolding behind_equals
@@ -97,10 +104,9 @@ stays_behind p value kernel c = record {
 stays_priority : (p value priority : ℕ) (kernel : Kernel) → Calls p kernel → StaysSound p (valued value (with_priority kernel p priority))
 unfolding with_priority
 stays_priority p value priority kernel c =
-    let fit = c.sound.fit p c.lives in
     let process = record (process_in kernel.procs p) { priority = priority } in
     stays_behind p value (with_changed kernel p process) (record {
-      sound = sound_changed kernel p process c.sound c.lives (record { console = fit.console; printer = fit.printer; some = fit.some; few = fit.few });
+      sound = sound_process kernel p process c.sound c.lives refl refl refl refl;
       lives = lives_changed kernel.procs p p process ∙ c.lives;
       ready = c.ready;
       none = c.none;
@@ -112,7 +118,7 @@ stays_polled : (call : Taken) (p : ℕ) (kernel : Kernel) → Calls p kernel →
 unfolding polled moved
 stays_polled call p kernel c =
     let device = low_parameter call in
-    called_if p (nat_lt 15 device) _ _ (λ _. same p refusal kernel c)
+    called_if p (nat_lt 15 device) _ _ (λ _. same p failure_code kernel c)
     (λ fits. called_if p (slice_index_or kernel.devices.ready device false) _ _ (λ _. same p 0 kernel c) (λ _. record {
       sound = sound_moved kernel (poll_list device) p c.sound c.lives (grind (arith, nat_tests, fits)) (listed_once kernel p ready c.sound c.ready);
       lives = c.lives;
@@ -144,7 +150,7 @@ waits_not : (kernel : Kernel) (flag other p : ℕ) → Calls p kernel → flag <
 waits_not kernel flag other p c below is same =
     omega (arith, listed_once kernel p ready c.sound c.ready, flags_from kernel flag (Waits other) Clear p c.sound below is, waiter_own other p (sym same))
 
-waited_if : (b : Bool) (p : ℕ) (kernel : Kernel) → (b ≡ true → ⊥) → StaysSound p (valued refusal kernel)
+waited_if : (b : Bool) (p : ℕ) (kernel : Kernel) → (b ≡ true → ⊥) → StaysSound p (valued failure_code kernel)
     → StaysSound p (waited (if b then Begins else Underrun) p kernel)
 unfolding waited
 waited_if true p kernel never stays = absurd (never refl)
@@ -183,7 +189,7 @@ stays_flag_waited : (call : Taken) (p : ℕ) (kernel : Kernel) → Calls p kerne
 unfolding flag_waited
 stays_flag_waited call p kernel c =
     let flag = low_parameter call in
-    called_if p (is_flag flag) _ _ (λ is. stays_waited (flag_at kernel.flags flag) p flag kernel c (flag_below flag is) refl) (λ _. same p refusal kernel c)
+    called_if p (is_flag flag) _ _ (λ is. stays_waited (flag_at kernel.flags flag) p flag kernel c (flag_below flag is) refl) (λ _. same p failure_code kernel c)
 
 -- a flag is set
 record Woke (kernel : Kernel) : Type 0 where
@@ -214,14 +220,10 @@ woke_signalled : (flag : ℕ) (kernel : Kernel) → IsSound kernel → Completed
 unfolding signalled
 woke_signalled flag kernel s live below = woke_by (flag_at kernel.flags flag) flag kernel s live below refl
 
-woke_if : (b : Bool) (one other : Kernel) → (b ≡ true → Woke one) → Woke other → Woke (if b then one else other)
-woke_if true one other is was = is refl
-woke_if false one other is was = was
-
 woke_flag_came : (flag : ℕ) (kernel : Kernel) → IsSound kernel → CompletedLive kernel → Woke (flag_came flag kernel)
 unfolding flag_came
 woke_flag_came flag kernel s live =
-    woke_if (is_flag flag) _ kernel (λ is. woke_signalled flag kernel s live (flag_below flag is)) (record { sound = s; completed = live })
+    either Woke (is_flag flag) _ _ (λ is. woke_signalled flag kernel s live (flag_below flag is)) (λ _. record { sound = s; completed = live })
 
 pub procs_with_woken : (answer : FlagSet) (kernel : Kernel) → (with_woken answer kernel).procs ≡ kernel.procs
 unfolding with_woken
@@ -234,13 +236,9 @@ unfolding signalled
 procs_signalled flag kernel =
     procs_with_woken (set_answer (flag_at kernel.flags flag)) (record kernel { flags = with_flag kernel.flags flag (behind_set (flag_at kernel.flags flag)) })
 
-procs_if : (b : Bool) (one other : Kernel) → one.procs ≡ other.procs → (if b then one else other).procs ≡ other.procs
-procs_if true one other e = e
-procs_if false one other e = refl
-
 procs_flag_came : (flag : ℕ) (kernel : Kernel) → (flag_came flag kernel).procs ≡ kernel.procs
 unfolding flag_came
-procs_flag_came flag kernel = procs_if (is_flag flag) (signalled flag kernel) kernel (procs_signalled flag kernel)
+procs_flag_came flag kernel = either (λ (k : Kernel). k.procs ≡ kernel.procs) (is_flag flag) _ _ (λ _. procs_signalled flag kernel) (λ _. refl)
 
 stays_flag_set : (call : Taken) (p : ℕ) (kernel : Kernel) → Calls p kernel → StaysSound p (flag_set call kernel)
 unfolding flag_set
@@ -249,7 +247,7 @@ stays_flag_set call p kernel c =
     called_if p (is_flag flag) _ _
     (λ is. let woke = woke_signalled flag kernel c.sound (nobody kernel c.none) (flag_below flag is) in
     record { sound = woke.sound; lives = ap (λ procs. lives procs p) (procs_signalled flag kernel) ∙ c.lives; completed = woke.completed })
-    (λ _. same p refusal kernel c)
+    (λ _. same p failure_code kernel c)
 
 delays_delayed : (kernel : Kernel) (p ticks q : ℕ) → q ≢ p → delays_of (delayed kernel.clock p ticks).delays q ≡ delays_of kernel.clock.delays q
 unfolding delayed
@@ -285,27 +283,26 @@ stays_date_set call p kernel c = called_if p (names_time call) _ _
       lives = c.lives;
       completed = nobody (record kernel { clock = set_to kernel.clock (named_moment call) }) c.none;
     })
-    (λ _. same p refusal kernel c)
+    (λ _. same p failure_code kernel c)
 
-stays_told : (p : ℕ) (kernel : Kernel) (called : Called) → called.kernel ≡ kernel → Calls p kernel → StaysSound p called
-stays_told p kernel called e c =
+stays_answered : (p : ℕ) (kernel : Kernel) (called : Called) → called.kernel ≡ kernel → Calls p kernel → StaysSound p called
+stays_answered p kernel called e c =
     let s = same p 0 kernel c in
     let P : Kernel → Type 0 = λ k. IsSound k × (Lives k.procs p × CompletedLive k) in
     let t : P called.kernel = subst P (sym e) (s.sound, (s.lives, s.completed)) in
     record { sound = t.0; lives = t.1.0; completed = t.1.1 }
 
-kernel_date_told : (call : Taken) (kernel : Kernel) → (date_told call kernel).kernel ≡ kernel
-unfolding date_told
-kernel_date_told call kernel = refl
+kernel_date_answered : (call : Taken) (kernel : Kernel) → (date_answered call kernel).kernel ≡ kernel
+unfolding date_answered
+kernel_date_answered call kernel = refl
 
-kernel_time_told : (call : Taken) (kernel : Kernel) → (time_told call kernel).kernel ≡ kernel
-unfolding time_told
-kernel_time_told call kernel = refl
+kernel_time_answered : (call : Taken) (kernel : Kernel) → (time_answered call kernel).kernel ≡ kernel
+unfolding time_answered
+kernel_time_answered call kernel = refl
 
 stays_call_done : (call : Taken) (p : ℕ) (kernel : Kernel) → Calls p kernel → StaysSound p (call_done call p (process_in kernel.procs p) kernel)
 unfolding call_done
 stays_call_done call p kernel c =
-    let fit = c.sound.fit p c.lives in
     let f = call.function in
     let s = same p 0 kernel c in
     called_if p (f == 0 || f == 143) _ _ (λ _. record { sound = s.sound; lives = s.lives; completed = s.completed })
@@ -313,13 +310,13 @@ stays_call_done call p kernel c =
     (λ _. called_if p (is_for_unit f) _ _ (λ _. stays_unit_called call p kernel c)
     (λ _. called_if p (f == 12 || f == 163) _ _ (λ _. same p _ kernel c)
     (λ _. called_if p (f == 25) _ _ (λ _. same p _ kernel c)
-    (λ _. called_if p (f == 26) _ _ (λ _. stays_changed p 0 kernel _ c (record { console = fit.console; printer = fit.printer; some = fit.some; few = fit.few }))
+    (λ _. called_if p (f == 26) _ _ (λ _. stays_process p 0 kernel _ c refl refl refl refl)
     (λ _. called_if p (f == 32) _ _ (λ _. stays_user (low_parameter call) p _ kernel c)
     (λ _. called_if p (f == 44) _ _ (λ _. stays_multi (low_parameter call) p _ kernel c)
-    (λ _. called_if p (f == 45) _ _ (λ _. stays_changed p 0 kernel _ c (record { console = fit.console; printer = fit.printer; some = fit.some; few = fit.few }))
+    (λ _. called_if p (f == 45) _ _ (λ _. stays_process p 0 kernel _ c refl refl refl refl)
     (λ _. called_if p (f == 104) _ _ (λ _. stays_date_set call p kernel c)
-    (λ _. called_if p (f == 105) _ _ (λ _. stays_told p kernel _ (kernel_date_told call kernel) c)
-    (λ _. called_if p (f == 106) _ _ (λ _. stays_changed p 0 kernel _ c (record { console = fit.console; printer = fit.printer; some = fit.some; few = fit.few }))
+    (λ _. called_if p (f == 105) _ _ (λ _. stays_answered p kernel _ (kernel_date_answered call kernel) c)
+    (λ _. called_if p (f == 106) _ _ (λ _. stays_process p 0 kernel _ c refl refl refl refl)
     (λ _. called_if p (f == 131) _ _ (λ _. stays_polled call p kernel c)
     (λ _. called_if p (f == 132) _ _ (λ _. stays_flag_waited call p kernel c)
     (λ _. called_if p (f == 133) _ _ (λ _. stays_flag_set call p kernel c)
@@ -334,7 +331,7 @@ stays_call_done call p kernel c =
     (λ _. called_if p (f == 142) _ _ (λ _. stays_behind p 0 kernel c)
     (λ _. called_if p (f == 145) _ _ (λ _. stays_priority p 0 (low_parameter call) kernel c)
     (λ _. called_if p (f == 151) _ _ (λ _. stays_procedure_called call p kernel c)
-    (λ _. called_if p (f == 155) _ _ (λ _. stays_told p kernel _ (kernel_time_told call kernel) c)
+    (λ _. called_if p (f == 155) _ _ (λ _. stays_answered p kernel _ (kernel_time_answered call kernel) c)
     (λ _. same p _ kernel c)))))))))))))))))))))))))))
 
 -- a process that is ready may call
@@ -382,17 +379,6 @@ woke_all ps kernel s may =
 pub live_by_tick : (kernel : Kernel) → IsSound kernel → AllByRecursion (λ p. Lives kernel.procs p) (woken_by_tick kernel.clock.delays)
 live_by_tick kernel s = all_live (with_tick kernel) (woken_by_tick kernel.clock.delays) (may_by_tick kernel s)
 
-pub sound_woken_by_tick : (kernel : Kernel) → IsSound kernel → IsSound (all_woken (woken_by_tick kernel.clock.delays) (with_tick kernel))
-sound_woken_by_tick kernel s = (woke_all (woken_by_tick kernel.clock.delays) (with_tick kernel) (sound_ticked kernel s) (may_by_tick kernel s)).sound
-
-pub sound_with_ready : (kernel : Kernel) (device byte : ℕ) → IsSound kernel → IsSound (with_ready kernel device byte)
-sound_with_ready kernel device byte s = sound_devices kernel (with_ready kernel device byte).devices s
-
-completed_runner_behind : (running : Option ℕ) (kernel : Kernel) → (runner_behind running kernel).completed ≡ kernel.completed
-unfolding runner_behind behind_equals
-completed_runner_behind None kernel = refl
-completed_runner_behind (Some p) kernel = completed_if (is_ready (list_of kernel.lists p)) (behind_equals kernel p) kernel refl
-
 live_same : (old new : Kernel) → new.procs ≡ old.procs → new.completed ≡ old.completed → CompletedLive old → CompletedLive new
 live_same old new procs completed live =
     let P : Table → Type 0 = λ t. AllByRecursion (λ p. Lives t p) old.completed in
@@ -405,8 +391,8 @@ woke_clock_ticked kernel s =
     let behind = all_woken (woken_by_tick kernel.clock.delays) (with_tick kernel) in
     let woke : Woke behind = woke_all (woken_by_tick kernel.clock.delays) (with_tick kernel) (sound_ticked kernel s) (may_by_tick kernel s) in
     record {
-      sound = sound_runner_behind kernel.running behind woke.sound;
-      completed = live_same behind (runner_behind kernel.running behind) (procs_runner_behind kernel.running behind) (completed_runner_behind kernel.running behind) woke.completed;
+      sound = sound_runner_behind behind woke.sound;
+      completed = woke.completed;
     }
 
 -- who polls a device lives, and waits for nothing else
@@ -443,7 +429,7 @@ live_happened event kernel may s = (woke_happens event (afresh kernel) may (soun
 procs_happens : (event : Event) (kernel : Kernel) → (happens event kernel).procs ≡ kernel.procs
 unfolding happens clock_ticked device_ready
 procs_happens Tick kernel =
-    procs_runner_behind kernel.running _ ∙ procs_all_ready (woken_by_tick kernel.clock.delays) (with_tick kernel)
+    procs_all_ready (woken_by_tick kernel.clock.delays) (with_tick kernel)
 procs_happens (Key console byte) kernel = procs_key_came console byte kernel
 procs_happens (Ready device byte) kernel = procs_all_ready (pollers kernel device) (with_ready kernel device byte)
 procs_happens (Int flag) kernel = procs_flag_came flag kernel

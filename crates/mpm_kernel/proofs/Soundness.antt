@@ -9,7 +9,7 @@ use Rattle.mpm_base.proofs.CountLaws.{count_cons}
 use Rattle.mpm_base.specs.Calls.{Taken}
 use Rattle.mpm_base.specs.declared.devices.Devices.{Devices}
 use Rattle.mpm_ready.specs.Order.{Member, first_of}
-use Rattle.mpm_ready.specs.Tables.{no_lists, list_at, list_of, inserted, removed, put_back}
+use Rattle.mpm_ready.specs.Tables.{no_lists, list_at, list_of, inserted, removed, reinserted}
 use Rattle.mpm_ready.proofs.TableLaws.{table_inserted, table_removed, list_of_inserted, list_of_inserted_other, list_of_removed, list_of_removed_other, list_of_known, list_of_none, table_none}
 use Rattle.mpm_flags.specs.declared.flags.Flag.{Flag}
 use Rattle.mpm_flags.specs.States.{no_flags}
@@ -27,15 +27,16 @@ use Rattle.mpm_queues.proofs.SoundLaws.{sound_none}
 use Rattle.mpm_queues.proofs.WaitLaws.{waits_nowhere}
 use Rattle.mpm_consoles.proofs.PlaceLaws.{waits_nowhere as waits_for_none}
 use Rattle.mpm_consoles.specs.Console.{Console, new_console, is_owner, spoken}
-use Rattle.mpm_consoles.specs.Consoles.{Consoles, rests, no_owners, console_at, owner_of, with_console, IsSound as AreUnitsSound}
+use Rattle.mpm_consoles.specs.Consoles.{Consoles, gate_waits, no_owners, console_at, owner_of, with_console, IsSound as AreUnitsSound}
 use Rattle.mpm_consoles.specs.Handling.{spoke as spoke_units}
 use Rattle.mpm_consoles.specs.declared.unit.Unit.{Unit}
 use Rattle.mpm_consoles.specs.declared.unit.Unit.TheVariants.{Console as ConsoleUnit, Printer as PrinterUnit}
 use Rattle.mpm_consoles.proofs.SoundLaws.{sound_none as sound_units_new, sound_kept}
 use Rattle.mpm_kernel.proofs.UnitWaits.{is_at_gate, gates_kept, waits_console, owner_kept, has_before, proper_spoken}
-use Rattle.mpm_kernel.specs.Kernel.{Kernel, ready, in_lists, flags_of, waits_in, waits_at_units, waits_of, places, IsReady, IsFit, AreUnits, HasConsole, IsSound, with_changed, with_completed, call_begun, afresh}
+use Rattle.mpm_kernel.specs.Kernel.{Kernel, ready, in_lists, flags_of, waits_in, waits_at_units, waits_of, places, IsReady, IsOfTwo, IsFit, AreUnits, HasConsole, IsSound, with_changed, with_completed, call_begun, afresh}
 use Rattle.mpm_kernel.specs.Columns.{spoke}
-use Rattle.mpm_kernel.specs.Dispatch.{new_kernel, admitted, in_slot, at_rest, runs_still, picked, stays, is_ready, behind_equals, moved, all_ready, ready_in, runner_behind}
+use Rattle.mpm_dispatcher.specs.Dispatch.{stays}
+use Rattle.mpm_kernel.specs.Dispatch.{new_kernel, admitted, in_slot, at_rest, runs_still, runner, picked, is_ready, behind_equals, rotated_in, lists_behind, moved, all_ready, ready_in, runner_behind}
 pub use Rattle.mpm_dispatcher.proofs.ReadyLaws.{some_same, first_is_in, is_ready_true}
 use Rattle.mpm_kernel.proofs.PlaceLaws.{in_some, in_none, in_at_most, not_equal, moved_lists, table_moved, list_moved, list_moved_other, flags_none}
 
@@ -82,7 +83,7 @@ no_gates zero p = refl
 no_gates (suc n) p = omega (arith, count_cons (is_at_gate p) new_console (replicate n new_console), no_gates n p)
 
 nowhere_new : (consoles printers p : ℕ) → waits_at_units (no_owners consoles printers) p ≡ 0
-unfolding no_owners rests
+unfolding no_owners gate_waits
 nowhere_new consoles printers p = omega (arith, waits_for_none (no_owners consoles printers) p (list_of_none p), no_gates consoles p)
 
 -- the units where everybody lives on
@@ -108,6 +109,7 @@ sound_new consoles printers now some few more = record {
   flags = refl;
   queues = sound_none;
   system = λ q below. absurd (omega (arith, below));
+  inside = λ p q living is. absurd (dead_and_alive _ (nobody_lives p) living);
   once = λ p. omega (arith, nowhere p, nowhere_new consoles printers p);
   live = λ p some. absurd (omega (arith, nowhere p, nowhere_new consoles printers p));
   runs = λ p e. absurd (none_and_some None p refl e);
@@ -115,8 +117,8 @@ sound_new consoles printers now some few more = record {
 
 -- a process is another one that fits
 pub sound_changed : (kernel : Kernel) (p : ℕ) (process : Process) → IsSound kernel → Lives kernel.procs p → IsFit kernel.consoles kernel.printers process
-    → IsSound (with_changed kernel p process)
-sound_changed kernel p process s h fit = record {
+    → ((q : ℕ) → process.procedure ≡ Some q → IsOfTwo kernel.queues q) → IsSound (with_changed kernel p process)
+sound_changed kernel p process s h fit two = record {
   some = s.some;
   few = s.few;
   units = units_kept kernel.consoles kernel.printers kernel.procs (with_process kernel.procs p process) kernel.units (λ q living. lives_changed kernel.procs p q process ∙ living) s.units;
@@ -136,12 +138,36 @@ sound_changed kernel p process s h fit = record {
   flags = s.flags;
   queues = s.queues;
   system = s.system;
+  inside = λ q k living is. elim (cases_eq q p) [
+    | inl same ↦
+        let at : process_in (with_process kernel.procs p process) q ≡ process =
+        ap (process_in (with_process kernel.procs p process)) same
+        ∙ process_changed kernel.procs p process (omega (arith, s.slots.processes, lives_below kernel.procs p s.slots h)) in
+        two k (ap (λ x. x.procedure) (sym at) ∙ is)
+    | inr other ↦
+        s.inside q k (sym (lives_changed kernel.procs p q process) ∙ living) (ap (λ x. x.procedure) (sym (process_kept kernel.procs p q process other)) ∙ is)
+  ];
   once = s.once;
   live = λ q some. lives_changed kernel.procs p q process ∙ s.live q some;
   runs = s.runs;
 }
 
 -- a process keeps another call
+-- and one that keeps its console, its printer, its multi-sector count and the procedure that it is in, fits
+pub sound_process : (kernel : Kernel) (p : ℕ) (process : Process) → IsSound kernel → Lives kernel.procs p
+    → process.console ≡ (process_in kernel.procs p).console → process.printer ≡ (process_in kernel.procs p).printer
+    → process.multi ≡ (process_in kernel.procs p).multi → process.procedure ≡ (process_in kernel.procs p).procedure → IsSound (with_changed kernel p process)
+sound_process kernel p process s h console printer multi procedure =
+    let fit = s.fit p h in
+    sound_changed kernel p process s h
+    (record {
+      console = omega (arith, console, fit.console);
+      printer = λ some. omega (arith, printer, fit.printer some);
+      some = omega (arith, multi, fit.some);
+      few = omega (arith, multi, fit.few);
+    })
+    (λ q is. s.inside p q h (sym procedure ∙ is))
+
 pub sound_call : (kernel : Kernel) (p : ℕ) (call : Taken) → IsSound kernel → IsSound (record kernel { procs = with_call kernel.procs p call })
 unfolding with_call
 sound_call kernel p call s = record {
@@ -154,6 +180,7 @@ sound_call kernel p call s = record {
   flags = s.flags;
   queues = s.queues;
   system = s.system;
+  inside = s.inside;
   once = s.once;
   live = s.live;
   runs = s.runs;
@@ -170,6 +197,7 @@ sound_devices kernel devices s = record {
   flags = s.flags;
   queues = s.queues;
   system = s.system;
+  inside = s.inside;
   once = s.once;
   live = s.live;
   runs = s.runs;
@@ -189,6 +217,7 @@ sound_with_units kernel units s are once live = record {
   flags = s.flags;
   queues = s.queues;
   system = s.system;
+  inside = s.inside;
   once = once;
   live = live;
   runs = s.runs;
@@ -201,8 +230,8 @@ sound_units kernel units s are fewer =
     sound_with_units kernel units s are (λ q. omega (arith, s.once q, fewer q)) (λ q some. s.live q (omega (arith, fewer q, some)))
 
 -- what was written by the last call, and who is aborted, is no part of that
-pub sound_told : (kernel : Kernel) (echo : List ℕ) (aborted : Option ℕ) → IsSound kernel → IsSound (record kernel { echo = echo; aborted = aborted })
-sound_told kernel echo aborted s = record {
+pub sound_noted : (kernel : Kernel) (echo : List ℕ) (aborted : Option ℕ) → IsSound kernel → IsSound (record kernel { echo = echo; aborted = aborted })
+sound_noted kernel echo aborted s = record {
   some = s.some;
   few = s.few;
   units = s.units;
@@ -212,6 +241,7 @@ sound_told kernel echo aborted s = record {
   flags = s.flags;
   queues = s.queues;
   system = s.system;
+  inside = s.inside;
   once = s.once;
   live = s.live;
   runs = s.runs;
@@ -247,10 +277,6 @@ sound_spoke kernel console bytes s = elim (cases_lt console (length kernel.units
       subst P (sym (set_past kernel.units.consoles console _ past)) s
 ]
 
-sound_if : (b : Bool) (x y : Kernel) → IsSound x → IsSound y → IsSound (if b then x else y)
-sound_if true x y s t = s
-sound_if false x y s t = t
-
 unlisted_if_dead : (o : Option ℕ) → ((list : ℕ) → o ≡ Some list → ⊥) → o ≡ None
 unlisted_if_dead None h = refl
 unlisted_if_dead (Some list) h = absurd (h list refl)
@@ -268,6 +294,10 @@ runs_other p q (Some other) e = elim (cases_eq other p) [
 fit_opening : (consoles printers : ℕ) (new : NewProcess) → new.console < consoles → IsFit consoles printers (opening new)
 unfolding opening
 fit_opening consoles printers new h = record { console = h; printer = λ there. there; some = omega arith; few = omega arith }
+
+opening_outside : (new : NewProcess) → (opening new).procedure ≡ None
+unfolding opening
+opening_outside new = refl
 
 -- the first of the ready list is ready
 pub first_is_ready : (kernel : Kernel) (p : ℕ) → IsSound kernel → first_of (list_at kernel.lists ready) ≡ Some p → IsReady kernel p
@@ -290,10 +320,15 @@ not_delayed kernel p s is_ready = omega (arith, listed_once kernel p ready s is_
 pub runner_lives : (kernel : Kernel) (p : ℕ) → IsSound kernel → kernel.running ≡ Some p → Lives kernel.procs p
 runner_lives kernel p s e = listed kernel p ready s (s.runs p e)
 
--- who runs is picked
+-- who runs is picked, who is ready
+runner_if : (b : Bool) (kernel : Kernel) (p : ℕ) → IsSound kernel
+    → (if b then kernel.running else first_of (list_at kernel.lists ready)) ≡ Some p → IsReady kernel p
+runner_if true kernel p s e = s.runs p e
+runner_if false kernel p s e = first_is_ready kernel p s e
+
 pub sound_picked : (kernel : Kernel) (instruction : Bool) → IsSound kernel → IsSound (picked instruction kernel)
-unfolding picked
-sound_picked kernel instruction s = sound_if (instruction && stays kernel kernel.running) kernel _ s (record {
+unfolding runner
+sound_picked kernel instruction s = record {
   some = s.some;
   few = s.few;
   units = s.units;
@@ -303,10 +338,11 @@ sound_picked kernel instruction s = sound_if (instruction && stays kernel kernel
   flags = s.flags;
   queues = s.queues;
   system = s.system;
+  inside = s.inside;
   once = s.once;
   live = s.live;
-  runs = λ p e. first_is_ready kernel p s e;
-})
+  runs = λ p e. runner_if (instruction && stays kernel.procs kernel.lists kernel.running) kernel p s e;
+}
 
 -- a slot where nobody lives stands in no list
 pub free_is_unlisted : (kernel : Kernel) (p : ℕ) → IsSound kernel → lowest_free kernel.procs ≡ Some p → list_of kernel.lists p ≡ None
@@ -358,6 +394,14 @@ sound_admitted kernel p new s free console =
       flags = s.flags;
       queues = s.queues;
       system = s.system;
+      inside = λ q k living is. elim (cases_eq q p) [
+        | inl same ↦
+            let at = ap (process_in (added kernel.procs p new)) same ∙ process_added kernel.procs p new (omega (arith, s.slots.processes)) in
+            absurd (none_and_some _ k (opening_outside new) (ap (λ x. x.procedure) (sym at) ∙ is))
+        | inr other ↦
+            s.inside q k (sym (lives_added_other kernel.procs p q new other) ∙ living)
+            (ap (λ x. x.procedure) (sym (process_added_other kernel.procs p q new other)) ∙ is)
+      ];
       once = λ q. elim (cases_eq q p) [
         | inl same ↦
             let here = ap (λ x. waits_of kernel x) same in
@@ -412,6 +456,7 @@ placed_in kernel list p running s h small nowhere_else runs =
       flags = s.flags;
       queues = s.queues;
       system = s.system;
+      inside = s.inside;
       fit = s.fit;
       once = λ q. elim (cases_eq q p) [
         | inl same ↦
@@ -448,13 +493,14 @@ sound_moved kernel list p s h small nowhere_else =
     list_moved_other kernel.lists list p (process_in kernel.procs p).priority q s.table small below (runs_other p q kernel.running e).0
     ∙ s.runs q (runs_other p q kernel.running e).1)
 
--- queues that are sound, and those of the system among them
+-- queues that are sound, those of the system and those of resident procedures among them
 pub record AreQueues (kernel : Kernel) (queues : Queues) : Type 0 where
   pub sound : AreSound queues
   pub system : (q : ℕ) → q < kernel.system_queues → IsMade queues q
+  pub inside : (p q : ℕ) → Lives kernel.procs p → (process_in kernel.procs p).procedure ≡ Some q → IsOfTwo queues q
 
 pub own_queues : (kernel : Kernel) → IsSound kernel → AreQueues kernel kernel.queues
-own_queues kernel s = record { sound = s.queues; system = s.system }
+own_queues kernel s = record { sound = s.queues; system = s.system; inside = s.inside }
 
 -- a process that runs no more leaves its list, and waits for a flag, for the clock or at a queue
 pub sound_unlisted : (kernel : Kernel) (p : ℕ) (flags : List Flag) (clock : Clock) (queues : Queues) → IsSound kernel → Lives kernel.procs p
@@ -471,6 +517,7 @@ sound_unlisted kernel p flags clock queues s h size are own others = record {
   flags = size;
   queues = are.sound;
   system = are.system;
+  inside = are.inside;
   fit = s.fit;
   once = λ q. elim (cases_eq q p) [
     | inl same ↦
@@ -505,6 +552,7 @@ sound_fewer kernel flags clock queues s size are fewer = record {
   flags = size;
   queues = are.sound;
   system = are.system;
+  inside = are.inside;
   fit = s.fit;
   once = λ q. omega (arith, s.once q, fewer q);
   live = λ q some. s.live q (omega (arith, fewer q, some));
@@ -513,11 +561,11 @@ sound_fewer kernel flags clock queues s size are fewer = record {
 
 -- a ready process is put behind its equals
 turned : (kernel : Kernel) (p : ℕ) → IsReady kernel p → behind_equals kernel p ≡ moved kernel ready p
-unfolding behind_equals put_back moved
+unfolding behind_equals reinserted moved
 turned kernel p is_ready =
     let priority = (process_in kernel.procs p).priority in
     let with_lists : List (List Member) → Kernel = λ lists. record kernel { lists = lists } in
-    ap with_lists (ap (put_back kernel.lists p priority) is_ready)
+    ap with_lists (ap (reinserted kernel.lists p priority) is_ready)
 
 pub sound_behind_equals : (kernel : Kernel) (p : ℕ) → IsSound kernel → Lives kernel.procs p → IsReady kernel p → IsSound (behind_equals kernel p)
 sound_behind_equals kernel p s h is_ready =
@@ -547,27 +595,20 @@ unfolding all_ready
 running_all_ready ps kernel = refl
 
 -- who runs is put behind its equals
-behind_if : (b : Bool) (kernel : Kernel) (p : ℕ) → IsSound kernel → (b ≡ true → IsReady kernel p) → IsSound (if b then behind_equals kernel p else kernel)
+behind_if : (b : Bool) (kernel : Kernel) (p : ℕ) → IsSound kernel → (b ≡ true → IsReady kernel p)
+    → IsSound (record kernel { lists = if b then rotated_in kernel.procs kernel.lists p else kernel.lists })
+unfolding behind_equals
 behind_if true kernel p s h = sound_behind_equals kernel p s (listed kernel p ready s (h refl)) (h refl)
 behind_if false kernel p s h = s
 
-pub sound_runner_behind : (running : Option ℕ) (kernel : Kernel) → IsSound kernel → IsSound (runner_behind running kernel)
-unfolding runner_behind
-sound_runner_behind None kernel s = s
-sound_runner_behind (Some p) kernel s = behind_if (is_ready (list_of kernel.lists p)) kernel p s (is_ready_true (list_of kernel.lists p))
+sound_lists_behind : (running : Option ℕ) (kernel : Kernel) → IsSound kernel
+    → IsSound (record kernel { lists = lists_behind running kernel.procs kernel.lists })
+unfolding lists_behind
+sound_lists_behind None kernel s = s
+sound_lists_behind (Some p) kernel s = behind_if (is_ready (list_of kernel.lists p)) kernel p s (is_ready_true (list_of kernel.lists p))
 
-procs_if : (b : Bool) (x y : Kernel) → x.procs ≡ y.procs → (if b then x else y).procs ≡ y.procs
-procs_if true x y e = e
-procs_if false x y e = refl
-
-pub completed_if : (b : Bool) (x y : Kernel) → x.completed ≡ y.completed → (if b then x else y).completed ≡ y.completed
-completed_if true x y e = e
-completed_if false x y e = refl
-
-pub procs_runner_behind : (running : Option ℕ) (kernel : Kernel) → (runner_behind running kernel).procs ≡ kernel.procs
-unfolding runner_behind behind_equals
-procs_runner_behind None kernel = refl
-procs_runner_behind (Some p) kernel = procs_if (is_ready (list_of kernel.lists p)) (behind_equals kernel p) kernel refl
+pub sound_runner_behind : (kernel : Kernel) → IsSound kernel → IsSound (runner_behind kernel)
+sound_runner_behind kernel s = sound_lists_behind kernel.running kernel s
 
 -- a call begins, or an event
 pub sound_begun : (echoes : Bool) (kernel : Kernel) → IsSound kernel → IsSound (call_begun echoes kernel)
@@ -580,6 +621,7 @@ sound_begun echoes kernel s = record {
   flags = s.flags;
   queues = s.queues;
   system = s.system;
+  inside = s.inside;
   fit = s.fit;
   once = s.once;
   live = s.live;
@@ -596,6 +638,7 @@ sound_afresh kernel s = record {
   flags = s.flags;
   queues = s.queues;
   system = s.system;
+  inside = s.inside;
   fit = s.fit;
   once = s.once;
   live = s.live;
@@ -613,6 +656,7 @@ sound_with_completed kernel ps s = record {
   flags = s.flags;
   queues = s.queues;
   system = s.system;
+  inside = s.inside;
   fit = s.fit;
   once = s.once;
   live = s.live;

@@ -1,6 +1,7 @@
 -- What stays so behind a call: the kernel is sound, the caller lives, and so does each whose held call was completed.
-use Rattle.std.proofs.Common.{◌≡◌, ℕ, Bool, true, false, List, [], ◌∷◌, ◌++◌, if◌then◌else◌, refl, sym, subst}
+use Rattle.std.proofs.Common.{◌≡◌, ℕ, Bool, true, false, List, [], ◌∷◌, ◌++◌, if◌then◌else◌, sym, subst}
 use Rattle.std.specs.List.{AllByRecursion}
+use Rattle.mpm_base.proofs.Choices.{either}
 use Rattle.mpm_procs.specs.Table.{Table, Lives}
 use Rattle.mpm_kernel.specs.Kernel.{Kernel, IsReady, IsSound, CompletedLive}
 use Rattle.mpm_kernel.specs.Called.{Called, valued}
@@ -34,13 +35,11 @@ live_kept old new same lives live =
     subst P (sym same) (all_kept old.procs new.procs old.completed lives live)
 
 pub called_if : (p : ℕ) (b : Bool) (x y : Called) → (b ≡ true → StaysSound p x) → (b ≡ false → StaysSound p y) → StaysSound p (if b then x else y)
-called_if p true x y s t = s refl
-called_if p false x y s t = t refl
+called_if p b x y s t = either (StaysSound p) b x y s t
 
 pub kernel_if : (p : ℕ) (b : Bool) (x y : Kernel) (value : ℕ) → (b ≡ true → StaysSound p (valued value x)) → (b ≡ false → StaysSound p (valued value y))
     → StaysSound p (valued value (if b then x else y))
-kernel_if p true x y value s t = s refl
-kernel_if p false x y value s t = t refl
+kernel_if p b x y value s t = either (λ (kernel : Kernel). StaysSound p (valued value kernel)) b x y s t
 
 -- a process that is ready and lives, in a sound kernel that has completed no call yet
 pub record Calls (p : ℕ) (kernel : Kernel) : Type 0 where

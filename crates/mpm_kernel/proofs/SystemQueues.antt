@@ -6,7 +6,7 @@ use Rattle.std.proofs.lemmas.Bool.Decides.{nat_tests}
 use Rattle.std.proofs.lemmas.List.{get_or-replicate, get_or_past, length-replicate}
 use Rattle.mpm_base.specs.declared.number.Name8.{Name8}
 use Rattle.mpm_clock.specs.declared.moment.Moment.{Moment}
-use Rattle.mpm_queues.specs.Queues.{Queues, no_queues, IsMade, is_made, is_free, found, lowest_free, made, refusal as make_refusal}
+use Rattle.mpm_queues.specs.Queues.{Queues, no_queues, IsMade, is_made, is_free, found, lowest_free, made, make_error}
 use Rattle.mpm_queues.specs.declared.queues.MakeRefused.TheVariants.{BadCount, Exists, NoQueueRoom}
 use Rattle.mpm_queues.proofs.Finding.{lowest_none}
 use Rattle.mpm_kernel.specs.Kernel.{Kernel, IsSound}
@@ -43,14 +43,14 @@ chain false false true d e f g h = absurd (cc)
 chain false false false true e f g h = absurd (cc)
 chain false false false false e f g h = refl
 
-pub may_make_first : (name : Name8) (width count : ℕ) → 0 < count → width * count ≤ 2048 → make_refusal no_queues name width count ≡ None
-unfolding make_refusal
+pub may_make_first : (name : Name8) (width count : ℕ) → 0 < count → width * count ≤ 2048 → make_error no_queues name width count ≡ None
+unfolding make_error
 may_make_first name width count some few =
     chain (count == 0) (is_some (found no_queues name)) (is_none (lowest_free no_queues)) (nat_lt 2048 (width * count))
     (grind (arith, nat_tests, some)) (none_found (found no_queues name) name refl) (some_free (lowest_free no_queues) refl) (grind (arith, nat_tests, few))
 
 pub may_make_new : (consoles printers : ℕ) (now : Moment) (name : Name8) (width count : ℕ) → 0 < count → width * count ≤ 2048
-    → make_refusal (new_kernel consoles printers now).queues name width count ≡ None
+    → make_error (new_kernel consoles printers now).queues name width count ≡ None
 unfolding new_kernel
 may_make_new consoles printers now name width count some few = may_make_first name width count some few
 
@@ -70,10 +70,10 @@ made_before None t name width count k other = refl
 made_before (Some q) t name width count k other = get_or-set_other t.alive q k true false (λ same. other (ap (λ (n : ℕ). Some n) (sym same)))
 
 pub sound_system_queue : (kernel : Kernel) (name : Name8) (width count : ℕ) → IsSound kernel → OnlySystems kernel
-    → make_refusal kernel.queues name width count ≡ None → IsSound (with_system_queue kernel name width count)
+    → make_error kernel.queues name width count ≡ None → IsSound (with_system_queue kernel name width count)
 unfolding with_system_queue with_queue
 sound_system_queue kernel name width count s only none =
-    let accepted : is_none (make_refusal kernel.queues name width count) ≡ true = ap is_none none in
+    let accepted : is_none (make_error kernel.queues name width count) ≡ true = ap is_none none in
     let more = sound_with_queue kernel name width count s accepted in
     let slot = lowest_free kernel.queues in
     let there = made_there kernel slot name width count s only refl (accepts kernel.queues name width count accepted).free in
@@ -89,6 +89,7 @@ sound_system_queue kernel name width count s only none =
         | inl same ↦ ap (is_made (made_at slot kernel.queues name width count)) same ∙ there
         | inr other ↦ more.system k (omega (arith, below, other))
       ];
+      inside = more.inside;
       fit = more.fit;
       once = more.once;
       live = more.live;

@@ -3,6 +3,7 @@ use Rattle.std.proofs.Common.{◌≡◌, ◌≢◌, ◌∙◌, ℕ, ◌+◌, ◌
 use Rattle.std.specs.Prelude.{nat_lt}
 use Rattle.std.proofs.lemmas.Bool.{false≢true, cases_eq}
 use Rattle.std.proofs.lemmas.Bool.Decides.{nat_tests}
+use Rattle.mpm_base.proofs.Choices.{either}
 use Rattle.mpm_base.specs.Calls.{Taken, byte_in, name_at}
 use Rattle.mpm_ready.specs.Tables.{list_of, removed}
 use Rattle.mpm_ready.proofs.TableLaws.{list_of_removed}
@@ -17,10 +18,10 @@ use Rattle.mpm_consoles.specs.declared.unit.Unit.TheVariants.{Console as Console
 use Rattle.mpm_consoles.proofs.SoundLaws.{sound_given, sound_listed, for_free, for_absent}
 use Rattle.mpm_kernel.specs.Kernel.{Kernel, ready, in_lists, waits_at_units, waits_of, AreUnits, IsSound, with_changed}
 use Rattle.mpm_kernel.specs.Dispatch.{at_rest, runs_still, lists_ready, made_ready, unit_left, unlisted as unlisted_in}
-use Rattle.mpm_kernel.specs.Called.{valued, refusal, low_parameter}
+use Rattle.mpm_kernel.specs.Called.{valued, failure_code, low_parameter}
 use Rattle.mpm_kernel.specs.Consoling.{retried, attached, attached_now, detached, console_changed, printer_changed, console_set, printer_set, is_called, named, owner_made, is_meant, assigned_to, assigned, printer_called, unit_called}
 use Rattle.mpm_kernel.proofs.PlaceLaws.{in_none}
-use Rattle.mpm_consoles.proofs.PlaceLaws.{waits_listed, waits_listed_other, rests_listed, owner_is}
+use Rattle.mpm_consoles.proofs.PlaceLaws.{waits_listed, waits_listed_other, gate_waits_listed, owner_is}
 use Rattle.mpm_kernel.proofs.UnitWaits.{waits_given, gates_given, owner_from_given, owner_listed, consoles_given, printers_given}
 use Rattle.mpm_kernel.proofs.UnitLaws.{waits_at_no_unit, has_own_console, has_own_printer, has_console, has_printer}
 use Rattle.mpm_kernel.proofs.Soundness.{sound_changed, sound_units, sound_with_units, sound_unlisted, own_queues, listed_once}
@@ -140,8 +141,8 @@ waits_listed_at kernel p unit c has some other =
         owners = λ u q there is.
             s.units.owners u q (has_listed t p priority unit u there) (sym (ap (λ o. is_owner o q) (owner_listed t p priority unit u)) ∙ is);
       };
-      once = omega (arith, waits_listed t p priority unit s.units.sound has below nowhere, rests_listed t p priority unit p, listed_once kernel p ready s c.ready);
-      others = λ q apart. omega (arith, waits_listed_other t p priority unit q s.units.sound has below nowhere apart, rests_listed t p priority unit q);
+      once = omega (arith, waits_listed t p priority unit s.units.sound has below nowhere, gate_waits_listed t p priority unit p, listed_once kernel p ready s c.ready);
+      others = λ q apart. omega (arith, waits_listed_other t p priority unit q s.units.sound has below nowhere apart, gate_waits_listed t p priority unit q);
     }
 
 waits_either : (b : Bool) (kernel : Kernel) (p : ℕ) (x : Consoles) → b ≡ false → WaitsAt kernel p x → WaitsAt kernel p (if b || not true then kernel.units else x)
@@ -177,7 +178,7 @@ stays_attached_now : (p : ℕ) (unit : Unit) (kernel : Kernel) → Calls p kerne
 unfolding attached_now
 stays_attached_now p unit kernel c has = called_if p (may_attach kernel.units p unit) _ _
     (λ may. stays_quiet p 0 _ kernel c (quiet_attached kernel p unit false c has may))
-    (λ _. same p refusal kernel c)
+    (λ _. same p failure_code kernel c)
 
 stays_detached : (p : ℕ) (unit : Unit) (kernel : Kernel) → Calls p kernel → HasUnit kernel.units unit → StaysSound p (detached p unit kernel)
 unfolding unit_left
@@ -192,17 +193,15 @@ none_left : (p : ℕ) (unit : Unit) (kernel : Kernel) → (unit_left p unit kern
 unfolding unit_left
 none_left p unit kernel = refl
 
-none_if : (b : Bool) (x y : Kernel) → y.completed ≡ x.completed → (if b then x else y).completed ≡ x.completed
-none_if true x y e = refl
-none_if false x y e = e
-
 none_console_changed : (p console : ℕ) (kernel : Kernel) → (console_changed p console kernel).completed ≡ kernel.completed
 unfolding console_changed
-none_console_changed p console kernel = none_if ((process_in kernel.procs p).console == console) kernel _ (none_left p _ kernel)
+none_console_changed p console kernel =
+    either (λ (k : Kernel). k.completed ≡ kernel.completed) ((process_in kernel.procs p).console == console) _ _ (λ _. refl) (λ _. none_left p _ kernel)
 
 none_printer_changed : (p printer : ℕ) (kernel : Kernel) → (printer_changed p printer kernel).completed ≡ kernel.completed
 unfolding printer_changed
-none_printer_changed p printer kernel = none_if ((process_in kernel.procs p).printer == printer) kernel _ (none_left p _ kernel)
+none_printer_changed p printer kernel =
+    either (λ (k : Kernel). k.completed ≡ kernel.completed) ((process_in kernel.procs p).printer == printer) _ _ (λ _. refl) (λ _. none_left p _ kernel)
 
 may_of : (p : ℕ) (kernel : Kernel) → Calls p kernel → MayCall p kernel
 may_of p kernel c = record { sound = c.sound; lives = c.lives; ready = c.ready }
@@ -218,7 +217,7 @@ stays_console_set call p kernel c =
     let behind = console_changed p console kernel in
     stays_attached p (ConsoleUnit console) behind (record { sound = m.sound; lives = m.lives; ready = m.ready; none = none_console_changed p console kernel ∙ c.none })
     (has_console behind console m.sound (omega (arith, consoles_changed kernel p console, below))))
-    (λ _. same p refusal kernel c)
+    (λ _. same p failure_code kernel c)
 
 stays_printer_set : (call : Taken) (p : ℕ) (kernel : Kernel) → Calls p kernel → StaysSound p (printer_set call p kernel)
 unfolding printer_set
@@ -231,7 +230,7 @@ stays_printer_set call p kernel c =
     let behind = printer_changed p printer kernel in
     stays_attached p (PrinterUnit printer) behind (record { sound = m.sound; lives = m.lives; ready = m.ready; none = none_printer_changed p printer kernel ∙ c.none })
     (has_printer behind printer m.sound (omega (arith, printers_changed kernel p printer, below))))
-    (λ _. same p refusal kernel c)
+    (λ _. same p failure_code kernel c)
 
 -- a console is assigned
 pub sound_made : (heir : Option ℕ) (kernel : Kernel) (units : Consoles) → IsSound (record kernel { lists = lists_ready heir kernel.procs kernel.lists; units = units })
@@ -258,16 +257,10 @@ unfolding owner_made behind_assign
 sound_owner_made console to kernel s h has =
     owner_by (owns kernel.units to (ConsoleUnit console)) (waits_for kernel.units to (ConsoleUnit console)) console to kernel s h has refl refl
 
-owner_made_rest : (console to : ℕ) (kernel : Kernel)
-    → ((owner_made console to kernel).procs ≡ kernel.procs) × (((owner_made console to kernel).completed ≡ kernel.completed)
-    × (((owner_made console to kernel).consoles ≡ kernel.consoles) × ((owner_made console to kernel).printers ≡ kernel.printers)))
-unfolding owner_made
-owner_made_rest console to kernel = (refl, (refl, (refl, refl)))
-
 stays_assigned_to : (o : Option ℕ) (call : Taken) (p : ℕ) (kernel : Kernel) → Calls p kernel → ((q : ℕ) → o ≡ Some q → Lives kernel.procs q)
     → byte_in call 0 < kernel.consoles → StaysSound p (assigned_to o call kernel)
 unfolding assigned_to owner_made
-stays_assigned_to None call p kernel c live below = same p refusal kernel c
+stays_assigned_to None call p kernel c live below = same p failure_code kernel c
 stays_assigned_to (Some to) call p kernel c live below =
     let console = byte_in call 0 in
     let behind = owner_made console to kernel in
@@ -276,11 +269,11 @@ stays_assigned_to (Some to) call p kernel c live below =
     called_if p (is_meant call (process_in kernel.procs to)) _ _
     (λ _. record {
       sound = sound_changed behind to process (sound_owner_made console to kernel c.sound (live to refl) (has_console kernel console c.sound below)) (live to refl)
-          (record { console = below; printer = fit.printer; some = fit.some; few = fit.few });
+          (record { console = below; printer = fit.printer; some = fit.some; few = fit.few }) (λ q. c.sound.inside to q (live to refl));
       lives = lives_changed behind.procs to p process ∙ c.lives;
       completed = nobody (with_changed behind to process) c.none;
     })
-    (λ _. same p refusal kernel c)
+    (λ _. same p failure_code kernel c)
 
 both_true : (b c : Bool) → (b && c) ≡ true → b ≡ true
 both_true true c h = refl
@@ -296,7 +289,7 @@ stays_assigned call p kernel c =
     stays_assigned_to (named kernel.procs (name_at call 1)) call p kernel c
     (λ q is. both_true (lives kernel.procs q) _ (lowest_passes (is_called kernel.procs (name_at call 1)) q is).0)
     (grind (arith, nat_tests, fits)))
-    (λ _. same p refusal kernel c)
+    (λ _. same p failure_code kernel c)
 
 -- the calls together
 stays_printer_called : (call : Taken) (p : ℕ) (kernel : Kernel) → Calls p kernel → StaysSound p (printer_called call p kernel)
@@ -304,7 +297,7 @@ unfolding printer_called
 stays_printer_called call p kernel c =
     let f = call.function in
     let own = PrinterUnit (process_in kernel.procs p).printer in
-    called_if p (kernel.printers == 0) _ _ (λ _. same p refusal kernel c)
+    called_if p (kernel.printers == 0) _ _ (λ _. same p failure_code kernel c)
     (λ some.
     let has : HasUnit kernel.units own = has_own_printer kernel p c.sound c.lives (grind (arith, nat_tests, some)) in
     called_if p (f == 159) _ _ (λ _. stays_detached p own kernel c has)

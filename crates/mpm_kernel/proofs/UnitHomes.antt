@@ -1,5 +1,5 @@
 -- Where processes live, and which calls they keep, behind the calls on consoles and printers.
-use Rattle.std.proofs.Common.{◌≡◌, ◌∙◌, ℕ, Bool, true, false, ◌&&◌, ◌==◌, Option, Some, None, if◌then◌else◌, refl, ap}
+use Rattle.std.proofs.Common.{◌≡◌, ◌∙◌, ℕ, Bool, true, false, ◌&&◌, ◌==◌, Option, Some, None, refl, ap}
 use Rattle.std.proofs.lemmas.Bool.{false≢true}
 use Rattle.mpm_base.specs.Calls.{Taken, byte_in, name_at}
 use Rattle.mpm_procs.specs.Table.{HasSlots, lives, Lives, process_in, call_of, with_process}
@@ -10,6 +10,7 @@ use Rattle.mpm_kernel.specs.Columns.{spoke}
 use Rattle.mpm_kernel.specs.Called.{Called, valued, low_parameter}
 use Rattle.mpm_kernel.specs.Calls.{called}
 use Rattle.std.specs.Prelude.{nat_lt}
+use Rattle.mpm_base.proofs.Choices.{either}
 use Rattle.mpm_queues.proofs.Finding.{lowest_passes}
 use Rattle.mpm_consoles.specs.Consoles.{console_at}
 use Rattle.mpm_consoles.specs.Handling.{may_attach}
@@ -42,10 +43,6 @@ unfolding unit_left
 kept_left_changed p unit process kernel s h same due =
     kept_procs kernel (with_changed kernel p process) _ (kept_changed p 0 kernel process s h same due) refl
 
-queues_if : (b : Bool) (x y : Kernel) → y.queues ≡ x.queues → (if b then x else y).queues ≡ x.queues
-queues_if true x y e = refl
-queues_if false x y e = e
-
 queues_left : (p : ℕ) (unit : Unit) (kernel : Kernel) → (unit_left p unit kernel).queues ≡ kernel.queues
 unfolding unit_left
 queues_left p unit kernel = refl
@@ -58,7 +55,7 @@ kept_console_set call p kernel s h =
     kept_if kernel (nat_lt console kernel.consoles) _ _
     (kept_then kernel _ _
     (kept_kernel_if kernel (process.console == console) _ _ 0 (kept_same kernel _ refl) (kept_left_changed p (ConsoleUnit process.console) _ kernel s h refl refl))
-    (queues_if (process.console == console) kernel _ (queues_left p (ConsoleUnit process.console) kernel))
+    (either (λ (k : Kernel). k.queues ≡ kernel.queues) (process.console == console) _ _ (λ _. refl) (λ _. queues_left p (ConsoleUnit process.console) kernel))
     (kept_attached p (ConsoleUnit console) _))
     (kept_same kernel _ refl)
 
@@ -70,7 +67,7 @@ kept_printer_set call p kernel s h =
     kept_if kernel (nat_lt printer kernel.printers) _ _
     (kept_then kernel _ _
     (kept_kernel_if kernel (process.printer == printer) _ _ 0 (kept_same kernel _ refl) (kept_left_changed p (PrinterUnit process.printer) _ kernel s h refl refl))
-    (queues_if (process.printer == printer) kernel _ (queues_left p (PrinterUnit process.printer) kernel))
+    (either (λ (k : Kernel). k.queues ≡ kernel.queues) (process.printer == printer) _ _ (λ _. refl) (λ _. queues_left p (PrinterUnit process.printer) kernel))
     (kept_attached p (PrinterUnit printer) _))
     (kept_same kernel _ refl)
 

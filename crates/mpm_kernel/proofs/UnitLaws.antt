@@ -5,6 +5,7 @@ use Rattle.std.specs.Prelude.{IfSome, slice_get}
 use Rattle.std.proofs.lemmas.Bool.{false≢true}
 use Rattle.std.proofs.lemmas.Bool.Decides.{nat_tests}
 use Rattle.std.proofs.lemmas.List.{set-get_or}
+use Rattle.mpm_base.proofs.Choices.{either}
 use Rattle.mpm_ready.specs.Order.{Member, first_of, in_list}
 use Rattle.mpm_procs.specs.Table.{Table, Lives, process_in}
 use Rattle.mpm_consoles.specs.Console.{new_console, first_key, without_first, is_for, woken, has_room}
@@ -87,15 +88,12 @@ heir_lives kernel p unit heir s is =
 -- where a unit can't be attached, and isn't waited for, nothing changes
 refused_from : (o : Option ℕ) (t : Consoles) (p priority : ℕ) (unit : Unit) → attaches o p ≡ false → attach_from o t p priority unit false ≡ t
 refused_from None t p priority unit refused = absurd (false≢true (sym refused))
-refused_from (Some owner) t p priority unit refused = either_same (owner == p || not false) t _ (or_true (owner == p))
+refused_from (Some owner) t p priority unit refused =
+    either (λ (new : Consoles). new ≡ t) (owner == p || not false) _ _ (λ _. refl) (λ apart. absurd (false≢true (sym apart ∙ or_true (owner == p))))
   where
     or_true : (b : Bool) → (b || true) ≡ true
     or_true true = refl
     or_true false = refl
-
-    either_same : (b : Bool) (x y : Consoles) → b ≡ true → (if b then x else y) ≡ x
-    either_same true x y is = refl
-    either_same false x y is = absurd (false≢true is)
 
 pub attach_refused : (t : Consoles) (p priority : ℕ) (unit : Unit) → may_attach t p unit ≡ false → behind_attach t p priority unit false ≡ t
 unfolding may_attach behind_attach

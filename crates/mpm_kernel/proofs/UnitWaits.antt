@@ -8,14 +8,14 @@ use Rattle.std.proofs.Math.ListN.{get_or-map}
 use Rattle.mpm_base.proofs.CountLaws.{one_if, one_if_false}
 use Rattle.mpm_ready.specs.Tables.{list_of}
 use Rattle.mpm_ready.proofs.TableLaws.{list_of_known, list_of_removed, list_of_removed_other}
-use Rattle.mpm_consoles.specs.Console.{Console, new_console, is_owner, passed_to, left_by, IsProper}
-use Rattle.mpm_consoles.specs.Consoles.{Consoles, rests_at, rests, console_at, HasConsole, HasUnit, owner_of, owns, place_of, waits_for, waits, WaitsNowhere, with_console, IsSound}
-use Rattle.mpm_consoles.specs.Handling.{given, unlisted, listed, left}
+use Rattle.mpm_consoles.specs.Console.{Console, new_console, is_owner, passed_to, without_wait_of, IsProper}
+use Rattle.mpm_consoles.specs.Consoles.{Consoles, is_gate_waiter, gate_waits, console_at, HasConsole, HasUnit, owner_of, owns, place_of, waits_for, waits, WaitsNowhere, with_console, IsSound}
+use Rattle.mpm_consoles.specs.Handling.{given, unlisted, listed, units_without_waiter}
 use Rattle.mpm_consoles.specs.declared.unit.Unit.{Unit}
 use Rattle.mpm_consoles.specs.declared.unit.Unit.TheVariants.{Console as ConsoleUnit, Printer as PrinterUnit}
 use Rattle.mpm_consoles.specs.Columns.{columns_after}
-use Rattle.mpm_consoles.proofs.ConsoleLaws.{columns_within, owner_left}
-use Rattle.mpm_consoles.proofs.PlaceLaws.{owner_is, rests_console, waiters_left, waits_released, waits_released_other, rests_left, rests_left_other}
+use Rattle.mpm_consoles.proofs.ConsoleLaws.{columns_within, owner_without_wait}
+use Rattle.mpm_consoles.proofs.PlaceLaws.{owner_is, gate_waits_console, waiters_without, waits_dequeued, waits_dequeued_other, gate_waits_without, gate_waits_without_other}
 use Rattle.mpm_kernel.specs.Kernel.{waits_at_units}
 
 -- a process waits for one unit, or for none
@@ -49,15 +49,15 @@ waits_unlisted_other t p q sound other =
 
 -- whether a process waits at the gate of a console
 abbrev pub is_at_gate : ℕ → Console → Bool
-is_at_gate p console = rests_at console p
+is_at_gate p console = is_gate_waiter console p
 
 -- a console that is changed, but not who waits at its gate
 pub gates_kept : (t : Consoles) (n : ℕ) (console : Console) (q : ℕ) → HasConsole t n
-    → console.owner ≡ (console_at t n).owner → console.awaits ≡ (console_at t n).awaits → rests (with_console t n console) q ≡ rests t q
+    → console.owner ≡ (console_at t n).owner → console.awaits ≡ (console_at t n).awaits → gate_waits (with_console t n console) q ≡ gate_waits t q
 gates_kept t n console q h owner awaits =
     let same : is_at_gate q console ≡ is_at_gate q (console_at t n) =
     ap (λ o. is_owner o q && is_some console.awaits) owner ∙ ap (λ a. is_owner (console_at t n).owner q && is_some a) awaits in
-    omega (arith, rests_console t n console q h, ap one_if same)
+    omega (arith, gate_waits_console t n console q h, ap one_if same)
 
 no_gate : (b : Bool) → (b && false) ≡ false
 no_gate true = refl
@@ -65,17 +65,17 @@ no_gate false = refl
 
 -- one at whose gate nobody waits any more
 pub gates_fewer : (t : Consoles) (n : ℕ) (console : Console) (q : ℕ) → HasConsole t n → console.awaits ≡ None
-    → rests (with_console t n console) q + one_if (is_at_gate q (console_at t n)) ≡ rests t q
+    → gate_waits (with_console t n console) q + one_if (is_at_gate q (console_at t n)) ≡ gate_waits t q
 gates_fewer t n console q h none =
     let off : is_at_gate q console ≡ false = ap (λ a. is_owner console.owner q && is_some a) none ∙ no_gate (is_owner console.owner q) in
-    omega (arith, rests_console t n console q h, one_if_false (is_at_gate q console) off)
+    omega (arith, gate_waits_console t n console q h, one_if_false (is_at_gate q console) off)
 
-gates_printer : (t new : Consoles) (q : ℕ) → new.consoles ≡ t.consoles → rests new q ≡ rests t q
-unfolding rests
-gates_printer t new q same = ap (λ (cs : List Console). rests (record t { consoles = cs }) q) same
+gates_printer : (t new : Consoles) (q : ℕ) → new.consoles ≡ t.consoles → gate_waits new q ≡ gate_waits t q
+unfolding gate_waits
+gates_printer t new q same = ap (λ (cs : List Console). gate_waits (record t { consoles = cs }) q) same
 
 -- a unit is given
-pub gates_given : (t : Consoles) (unit : Unit) (owner : Option ℕ) (q : ℕ) → HasUnit t unit → rests (given t unit owner) q ≤ rests t q
+pub gates_given : (t : Consoles) (unit : Unit) (owner : Option ℕ) (q : ℕ) → HasUnit t unit → gate_waits (given t unit owner) q ≤ gate_waits t q
 unfolding given passed_to
 gates_given t (ConsoleUnit n) owner q has = omega (arith, gates_fewer t n (passed_to owner (console_at t n)) q has refl)
 gates_given t (PrinterUnit n) owner q has = omega (arith, gates_printer t (given t (PrinterUnit n) owner) q refl)
@@ -145,13 +145,6 @@ unfolding given
 printers_given t (ConsoleUnit n) owner = refl
 printers_given t (PrinterUnit n) owner = length-set t.printers n owner
 
-pub has_given : (t : Consoles) (unit other : Unit) (owner : Option ℕ) → HasUnit t other → HasUnit (given t unit owner) other
-unfolding given
-has_given t (ConsoleUnit n) (ConsoleUnit k) owner has = omega (arith, length-set t.consoles n (passed_to owner (console_at t n)), has)
-has_given t (ConsoleUnit n) (PrinterUnit k) owner has = has
-has_given t (PrinterUnit n) (ConsoleUnit k) owner has = has
-has_given t (PrinterUnit n) (PrinterUnit k) owner has = omega (arith, length-set t.printers n owner, has)
-
 -- one console changed
 pub owner_kept : (t : Consoles) (n : ℕ) (console : Console) (unit : Unit) → HasConsole t n → console.owner ≡ (console_at t n).owner
     → owner_of (with_console t n console) unit ≡ owner_of t unit
@@ -182,35 +175,35 @@ proper_spoken console bytes proper = record {
 }
 
 -- a process leaves all units
-left_new : (p : ℕ) → left_by p new_console ≡ new_console
-unfolding left_by new_console
-left_new p = refl
+without_wait_new : (p : ℕ) → without_wait_of p new_console ≡ new_console
+unfolding without_wait_of new_console
+without_wait_new p = refl
 
-left_at : (consoles : List Console) (p n : ℕ) → get_or (map (left_by p) consoles) n new_console ≡ left_by p (get_or consoles n new_console)
-left_at consoles p n = ap (get_or (map (left_by p) consoles) n) (sym (left_new p)) ∙ get_or-map (left_by p) consoles n new_console
+without_wait_at : (consoles : List Console) (p n : ℕ) → get_or (map (without_wait_of p) consoles) n new_console ≡ without_wait_of p (get_or consoles n new_console)
+without_wait_at consoles p n = ap (get_or (map (without_wait_of p) consoles) n) (sym (without_wait_new p)) ∙ get_or-map (without_wait_of p) consoles n new_console
 
-pub owner_units_left : (t : Consoles) (p : ℕ) (unit : Unit) → owner_of (left t p) unit ≡ owner_of t unit
-unfolding left unlisted
-owner_units_left t p (ConsoleUnit n) = ap (λ (c : Console). c.owner) (left_at t.consoles p n) ∙ owner_left p (console_at t n)
-owner_units_left t p (PrinterUnit n) = refl
+pub owner_units_without : (t : Consoles) (p : ℕ) (unit : Unit) → owner_of (units_without_waiter t p) unit ≡ owner_of t unit
+unfolding units_without_waiter unlisted
+owner_units_without t p (ConsoleUnit n) = ap (λ (c : Console). c.owner) (without_wait_at t.consoles p n) ∙ owner_without_wait p (console_at t n)
+owner_units_without t p (PrinterUnit n) = refl
 
-pub length_units_left : (t : Consoles) (p : ℕ) → length (left t p).consoles ≡ length t.consoles
-unfolding left
-length_units_left t p = length-map t.consoles (left_by p)
+pub length_units_without : (t : Consoles) (p : ℕ) → length (units_without_waiter t p).consoles ≡ length t.consoles
+unfolding units_without_waiter
+length_units_without t p = length-map t.consoles (without_wait_of p)
 
-pub printers_units_left : (t : Consoles) (p : ℕ) → length (left t p).printers ≡ length t.printers
-unfolding left unlisted
-printers_units_left t p = refl
+pub printers_units_without : (t : Consoles) (p : ℕ) → length (units_without_waiter t p).printers ≡ length t.printers
+unfolding units_without_waiter unlisted
+printers_units_without t p = refl
 
-pub has_units_left : (t : Consoles) (p : ℕ) (unit : Unit) → HasUnit (left t p) unit → HasUnit t unit
-unfolding left unlisted
-has_units_left t p (ConsoleUnit n) there = omega (arith, length-map t.consoles (left_by p), there)
-has_units_left t p (PrinterUnit n) there = there
+pub has_units_without : (t : Consoles) (p : ℕ) (unit : Unit) → HasUnit (units_without_waiter t p) unit → HasUnit t unit
+unfolding units_without_waiter unlisted
+has_units_without t p (ConsoleUnit n) there = omega (arith, length-map t.consoles (without_wait_of p), there)
+has_units_without t p (PrinterUnit n) there = there
 
-pub units_left_own : (t : Consoles) (p : ℕ) → waits_at_units (left t p) p ≡ 0
-units_left_own t p = omega (arith, waits_released (Some p) t (left t p) p (waiters_left t p) refl, rests_left t p)
+pub units_without_own : (t : Consoles) (p : ℕ) → waits_at_units (units_without_waiter t p) p ≡ 0
+units_without_own t p = omega (arith, waits_dequeued (Some p) t (units_without_waiter t p) p (waiters_without t p) refl, gate_waits_without t p)
 
-pub units_left_other : (t : Consoles) (p q : ℕ) → IsSound t → q ≢ p → waits_at_units (left t p) q ≡ waits_at_units t q
-units_left_other t p q sound other =
+pub units_without_other : (t : Consoles) (p q : ℕ) → IsSound t → q ≢ p → waits_at_units (units_without_waiter t p) q ≡ waits_at_units t q
+units_without_other t p q sound other =
     let apart : Some p ≢ Some q = λ e. other (let same : p ≡ q = cc in sym same) in
-    omega (arith, waits_released_other (Some p) t (left t p) q sound (waiters_left t p) apart, rests_left_other t p q other)
+    omega (arith, waits_dequeued_other (Some p) t (units_without_waiter t p) q sound (waiters_without t p) apart, gate_waits_without_other t p q other)

@@ -25,9 +25,9 @@ abbrev pub low_parameter : Taken → ℕ
 low_parameter call = call.word % 256
 
 -- an answer that refuses
-abbrev pub refusal : ℕ
-refusal = 255
+abbrev pub failure_code : ℕ
+failure_code = 255
 
 -- the call is held: its process runs no more, and is answered once the call is completed
-abbrev pub held : ℕ → Kernel → Called
-held p kernel = record { kernel = at_rest kernel p; outcome = Held; reply = answering 0 }
+abbrev pub blocked : ℕ → Kernel → Called
+blocked p kernel = record { kernel = at_rest kernel p; outcome = Held; reply = answering 0 }

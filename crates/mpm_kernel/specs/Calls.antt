@@ -10,12 +10,12 @@ pub use Rattle.mpm_consoles.specs.Modes.{does_echo}
 use Rattle.mpm_kernel.specs.Kernel.{Kernel, with_changed, call_begun}
 use Rattle.mpm_kernel.specs.Dispatch.{behind_equals, with_priority}
 use Rattle.mpm_kernel.specs.Waiting.{polled, flag_waited, flag_set, slept}
-use Rattle.mpm_kernel.specs.Dates.{date_set, date_told, time_told}
+use Rattle.mpm_kernel.specs.Dates.{date_set, date_answered, time_answered}
 use Rattle.mpm_kernel.specs.Consoling.{unit_called}
 use Rattle.mpm_kernel.specs.ConsoleInput.{console_called}
 use Rattle.mpm_kernel.specs.Queueing.{queue_made, queue_opened, queue_deleted, queue_read, queue_written}
 use Rattle.mpm_kernel.specs.Procedures.{procedure_called}
-pub use Rattle.mpm_kernel.specs.Called.{Called, valued, done, low_parameter, refusal}
+pub use Rattle.mpm_kernel.specs.Called.{Called, valued, done, low_parameter, failure_code}
 pub use Rattle.mpm_base.specs.Calls.{eight_at}
 
 -- the version: MP/M II, whose file system is that of CP/M 3
@@ -47,7 +47,7 @@ call_done call p process kernel =
     else (if function == 44 then valued (multi_value (low_parameter call)) (with_changed kernel p (with_multi (low_parameter call) process))
     else (if function == 45 then done (with_changed kernel p (record process { error_mode = low_parameter call }))
     else (if function == 104 then date_set call kernel
-    else (if function == 105 then date_told call kernel
+    else (if function == 105 then date_answered call kernel
     else (if function == 106 then done (with_changed kernel p (record process { password = eight_at call 0 }))
     else (if function == 131 then polled call p kernel
     else (if function == 132 then flag_waited call p kernel
@@ -63,7 +63,7 @@ call_done call p process kernel =
     else (if function == 142 then done (behind_equals kernel p)
     else (if function == 145 then done (with_priority kernel p (low_parameter call))
     else (if function == 151 then procedure_called call p kernel
-    else (if function == 155 then time_told call kernel
+    else (if function == 155 then time_answered call kernel
     else (valued 65535 kernel)))))))))))))))))))))))))))
 
 -- the call that a process keeps is done

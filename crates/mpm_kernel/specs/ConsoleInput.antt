@@ -2,7 +2,7 @@
 -- "Function 1: Console Input", "Function 2: Console Output", "Function 3: Raw Console Input", "Function 4: Raw Console
 -- Output", "Function 6: Direct Console I/O", "Function 9: Print String", "Function 10: Read Console Buffer", "Function 11: Get
 -- Console Status".)
-use Rattle.std.specs.Prelude.{ℕ, Bool, true, false, List, length, Option, Some, None, ◌&&◌, ◌||◌, ◌==◌, nat_lt, if◌then◌else◌}
+use Rattle.std.specs.Prelude.{ℕ, Bool, true, false, List, length, Option, Some, None, ◌&&◌, ◌==◌, nat_lt, if◌then◌else◌}
 use Rattle.mpm_base.specs.Calls.{Taken, answering, byte_in}
 use Rattle.mpm_base.specs.declared.call.Outcome.TheVariants.{Done, Retry}
 use Rattle.mpm_procs.specs.Table.{process_in}

@@ -3,11 +3,10 @@
 -- 149: Assign Console", "Function 153: Get Console Number", "Function 158: Attach List", "Function 159: Detach List",
 -- "Function 160: Set List", "Function 161: Conditional Attach List", "Function 162: Conditional Attach Console", "Function 164:
 -- Get List Number"; User's Guide, control characters of a console.)
-use Rattle.std.specs.Prelude.{ℕ, Bool, true, false, not, [], ◌∷◌, List, Option, Some, None, ◌&&◌, ◌||◌, ◌==◌, nat_lt, bytes_eq, is_some, ⊤, IfSome, if◌then◌else◌}
+use Rattle.std.specs.Prelude.{ℕ, Bool, true, false, not, [], ◌∷◌, List, Option, Some, None, ◌&&◌, ◌||◌, ◌==◌, nat_lt, is_some, ⊤, IfSome, if◌then◌else◌}
 use Rattle.mpm_base.specs.Calls.{Taken, answering, byte_in, name_at}
-use Rattle.mpm_base.specs.declared.number.Name8.{Name8}
 use Rattle.mpm_base.specs.declared.call.Outcome.TheVariants.{Retry}
-use Rattle.mpm_procs.specs.Table.{Table, lives, Lives, process_in}
+use Rattle.mpm_procs.specs.Table.{Table, Lives, process_in}
 use Rattle.mpm_procs.specs.declared.process.Process.{Process}
 pub use Rattle.mpm_procs.specs.Finding.{is_called, named}
 use Rattle.mpm_consoles.specs.Consoles.{console_at, owner_of, waits_for}
@@ -19,7 +18,7 @@ use Rattle.mpm_consoles.specs.declared.unit.Unit.TheVariants.{Console as Console
 use Rattle.mpm_kernel.specs.Kernel.{Kernel, with_changed}
 use Rattle.mpm_kernel.specs.Dispatch.{at_rest, unlisted, made_ready, unit_left}
 use Rattle.mpm_kernel.specs.Columns.{spoke}
-use Rattle.mpm_kernel.specs.Called.{Called, valued, done, low_parameter, refusal}
+use Rattle.mpm_kernel.specs.Called.{Called, valued, done, low_parameter, failure_code}
 
 -- a call isn't done: its process is ready no more, and takes the step at its gate again once it is
 unfoldable pub retried : ℕ → Kernel → Called
@@ -38,7 +37,7 @@ attached p unit kernel =
 -- functions 162 and 161, which don't wait
 unfoldable pub attached_now : ℕ → Unit → Kernel → Called
 attached_now p unit kernel =
-    if may_attach kernel.units p unit then done (attaching p unit false kernel) else (valued refusal kernel)
+    if may_attach kernel.units p unit then done (attaching p unit false kernel) else (valued failure_code kernel)
 
 -- functions 147 and 159
 abbrev pub detached : ℕ → Unit → Kernel → Called
@@ -61,13 +60,13 @@ unfoldable pub console_set : Taken → ℕ → Kernel → Called
 console_set call p kernel =
     let console = low_parameter call in
     if nat_lt console kernel.consoles then attached p (ConsoleUnit console) (console_changed p console kernel)
-    else (valued refusal kernel)
+    else (valued failure_code kernel)
 
 unfoldable pub printer_set : Taken → ℕ → Kernel → Called
 printer_set call p kernel =
     let printer = low_parameter call in
     if nat_lt printer kernel.printers then attached p (PrinterUnit printer) (printer_changed p printer kernel)
-    else (valued refusal kernel)
+    else (valued failure_code kernel)
 
 -- a process becomes the owner of a console; where it waited for that one, it becomes ready
 abbrev pub if_it : Bool → ℕ → Option ℕ
@@ -83,25 +82,25 @@ abbrev pub is_meant : Taken → Process → Bool
 is_meant call process = not (byte_in call 9 == 255) || process.console == byte_in call 0
 
 unfoldable pub assigned_to : Option ℕ → Taken → Kernel → Called
-assigned_to None call kernel = valued refusal kernel
+assigned_to None call kernel = valued failure_code kernel
 assigned_to (Some to) call kernel =
     let process = process_in kernel.procs to in
     if is_meant call process
     then done (with_changed (owner_made (byte_in call 0) to kernel) to (record process { console = byte_in call 0 }))
-    else (valued refusal kernel)
+    else (valued failure_code kernel)
 
 unfoldable pub assigned : Taken → ℕ → Kernel → Called
 assigned call p kernel =
     let console = byte_in call 0 in
     if nat_lt console kernel.consoles && may_attach kernel.units p (ConsoleUnit console)
     then assigned_to (named kernel.procs (name_at call 1)) call kernel
-    else (valued refusal kernel)
+    else (valued failure_code kernel)
 
 -- the calls on printers: 158 to 161, and 5, which attaches before a byte is written; a machine without printers refuses them
 unfoldable pub printer_called : Taken → ℕ → Kernel → Called
 printer_called call p kernel =
     let own = PrinterUnit (process_in kernel.procs p).printer in
-    if kernel.printers == 0 then valued refusal kernel
+    if kernel.printers == 0 then valued failure_code kernel
     else (if call.function == 159 then detached p own kernel
     else (if call.function == 160 then printer_set call p kernel
     else (if call.function == 161 then attached_now p own kernel

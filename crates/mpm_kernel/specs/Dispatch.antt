@@ -1,8 +1,7 @@
 -- Which process runs: the first of the ready list. (MP/M II System Guide, "Dispatcher"; Programmer's Guide, functions 142,
 -- 144 and 145.)
-use Rattle.std.specs.Prelude.{ℕ, Bool, false, Option, Some, None, List, [], ◌&&◌, replicate, if◌then◌else◌}
-use Rattle.mpm_ready.specs.Order.{first_of}
-use Rattle.mpm_ready.specs.Tables.{no_lists, list_at, list_of, inserted, removed, rotated}
+use Rattle.std.specs.Prelude.{ℕ, Bool, false, Option, Some, None, List, [], replicate}
+use Rattle.mpm_ready.specs.Tables.{no_lists, removed}
 use Rattle.mpm_flags.specs.States.{no_flags}
 use Rattle.mpm_clock.specs.declared.moment.Moment.{Moment}
 use Rattle.mpm_clock.specs.Times.{new_clock}
@@ -12,9 +11,9 @@ use Rattle.mpm_consoles.specs.Handling.{behind_detach, heir_of}
 use Rattle.mpm_consoles.specs.declared.unit.Unit.{Unit}
 use Rattle.mpm_procs.specs.Table.{no_processes, process_in, added}
 use Rattle.mpm_procs.specs.declared.process.NewProcess.{NewProcess}
-use Rattle.mpm_kernel.specs.Kernel.{Kernel, ready, with_changed, with_completed}
-pub use Rattle.mpm_dispatcher.specs.Dispatch.{runs_still, moved_in, is_held_off, is_ready}
-unfoldable pub use Rattle.mpm_dispatcher.specs.Dispatch.{lists_ready, ready_in, also_completed}
+use Rattle.mpm_kernel.specs.Kernel.{Kernel, with_changed, with_completed}
+pub use Rattle.mpm_dispatcher.specs.Dispatch.{begun_in, runs_still, moved_in, rotated_in, is_held_off, is_ready}
+unfoldable pub use Rattle.mpm_dispatcher.specs.Dispatch.{runner, lists_ready, ready_in, lists_behind, also_completed}
 
 -- the kernel of a machine as it begins at a moment: no process lives
 unfoldable pub new_kernel : ℕ → ℕ → Moment → Kernel
@@ -37,10 +36,7 @@ new_kernel consoles printers now = record {
 
 -- a process begins in a slot, and is ready
 unfoldable pub admitted : Kernel → ℕ → NewProcess → Kernel
-admitted kernel p new = record kernel {
-  procs = added kernel.procs p new;
-  lists = inserted kernel.lists ready (record { slot = p; priority = new.priority });
-}
+admitted kernel p new = record kernel { procs = added kernel.procs p new; lists = begun_in kernel.lists p new }
 
 -- a process begins in that slot, if there is one
 abbrev pub in_slot : Kernel → NewProcess → Option ℕ → Kernel
@@ -78,21 +74,14 @@ all_ready ps kernel = record kernel { lists = ready_in kernel.procs ps kernel.li
 abbrev pub all_woken : List ℕ → Kernel → Kernel
 all_woken ps kernel = with_completed (all_ready ps kernel) ps
 
--- the running process keeps the processor behind its instruction: it is ready, and no interrupt may come
-abbrev pub stays : Kernel → Option ℕ → Bool
-stays kernel None = false
-stays kernel (Some p) = is_ready (list_of kernel.lists p) && is_held_off (process_in kernel.procs p).regs
-
--- who runs behind a step, which was an instruction or not
-unfoldable pub picked : Bool → Kernel → Kernel
+-- it is picked who runs behind a step, which was an instruction or not
+abbrev pub picked : Bool → Kernel → Kernel
 picked instruction kernel =
-    if instruction && stays kernel kernel.running then kernel
-    else (record kernel { running = first_of (list_at kernel.lists ready) })
+    record kernel { running = runner instruction kernel.procs kernel.lists kernel.running }
 
 -- a process is put behind its equals
 unfoldable pub behind_equals : Kernel → ℕ → Kernel
-behind_equals kernel p =
-    record kernel { lists = rotated kernel.lists p (process_in kernel.procs p).priority }
+behind_equals kernel p = record kernel { lists = rotated_in kernel.procs kernel.lists p }
 
 -- a process gets another priority, and is put behind its new equals
 unfoldable pub with_priority : Kernel → ℕ → ℕ → Kernel
@@ -100,6 +89,5 @@ with_priority kernel p priority =
     behind_equals (with_changed kernel p (record (process_in kernel.procs p) { priority = priority })) p
 
 -- the process that runs, if it is ready, is put behind its equals
-unfoldable pub runner_behind : Option ℕ → Kernel → Kernel
-runner_behind None kernel = kernel
-runner_behind (Some p) kernel = if is_ready (list_of kernel.lists p) then behind_equals kernel p else kernel
+abbrev pub runner_behind : Kernel → Kernel
+runner_behind kernel = record kernel { lists = lists_behind kernel.running kernel.procs kernel.lists }

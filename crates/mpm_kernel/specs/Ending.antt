@@ -3,11 +3,11 @@
 use Rattle.std.specs.Prelude.{◌≡◌, ◌≢◌, ℕ, zero, suc, List, [], ◌∷◌, Some, if◌then◌else◌}
 use Rattle.std.specs.List.{AllByRecursion, range_with_len}
 use Rattle.mpm_ready.specs.Tables.{removed}
-use Rattle.mpm_flags.specs.States.{left as without_waiter}
-use Rattle.mpm_clock.specs.Times.{left as without_delay}
+use Rattle.mpm_flags.specs.States.{flags_without_waiter}
+use Rattle.mpm_clock.specs.Times.{clock_without_delay}
 use Rattle.mpm_queues.specs.Queues.{holds}
-use Rattle.mpm_queues.specs.Handling.{left as unqueued}
-use Rattle.mpm_consoles.specs.Handling.{left as without_units}
+use Rattle.mpm_queues.specs.Handling.{queues_without_waiter}
+use Rattle.mpm_consoles.specs.Handling.{units_without_waiter}
 use Rattle.mpm_consoles.specs.declared.unit.Unit.TheVariants.{Console as ConsoleUnit, Printer as PrinterUnit}
 use Rattle.mpm_procs.specs.Table.{Lives, without}
 use Rattle.mpm_kernel.specs.Kernel.{Kernel, IsSound, places}
@@ -19,10 +19,10 @@ unfoldable pub dropped_out : ℕ → Kernel → Kernel
 dropped_out p kernel = record kernel {
   lists = removed kernel.lists p;
   running = runs_still p kernel.running;
-  flags = without_waiter kernel.flags p;
-  clock = without_delay kernel.clock p;
-  queues = unqueued kernel.queues p;
-  units = without_units kernel.units p;
+  flags = flags_without_waiter kernel.flags p;
+  clock = clock_without_delay kernel.clock p;
+  queues = queues_without_waiter kernel.queues p;
+  units = units_without_waiter kernel.units p;
 }
 
 -- the message of a mutual exclusion queue that it holds goes back

@@ -29,8 +29,7 @@ with_tick kernel = record kernel { clock = ticked kernel.clock }
 -- a tick of the clock: those whose delays end are woken, and who runs is put behind its equals
 unfoldable pub clock_ticked : Kernel → Kernel
 clock_ticked kernel =
-    runner_behind kernel.running
-    (all_woken (woken_by_tick kernel.clock.delays) (with_tick kernel))
+    runner_behind (all_woken (woken_by_tick kernel.clock.delays) (with_tick kernel))
 
 -- those who poll a device, in the order in which they stand
 unfoldable pub pollers : Kernel → ℕ → List ℕ

@@ -8,8 +8,8 @@ use Rattle.mpm_flags.specs.declared.flags.Flag.{Flag}
 use Rattle.mpm_flags.specs.declared.flags.Flag.TheVariants.{Clear, Set, Waits}
 use Rattle.mpm_clock.specs.Delays.{delays_of}
 use Rattle.mpm_clock.specs.Times.{Clock}
-use Rattle.mpm_queues.specs.Queues.{Queues, IsMade, waits, IsSound as AreSound}
-use Rattle.mpm_consoles.specs.Consoles.{Consoles, HasUnit, owns, waits as waits_for_unit, rests, IsSound as AreUnitsSound}
+use Rattle.mpm_queues.specs.Queues.{Queues, IsMade, width_of, waits, IsSound as AreSound}
+use Rattle.mpm_consoles.specs.Consoles.{Consoles, HasUnit, owns, waits as waits_for_unit, gate_waits, IsSound as AreUnitsSound}
 use Rattle.mpm_consoles.specs.declared.unit.Unit.{Unit}
 use Rattle.mpm_procs.specs.Table.{Table, HasSlots, lives, Lives, process_in, with_process}
 use Rattle.mpm_procs.specs.declared.process.Process.{Process}
@@ -84,7 +84,7 @@ abbrev pub waits_in : List Flag → Clock → Queues → ℕ → ℕ
 waits_in flags clock queues p = flags_of flags p + delays_of clock.delays p + waits queues p
 
 abbrev pub waits_at_units : Consoles → ℕ → ℕ
-waits_at_units units p = waits_for_unit units p + rests units p
+waits_at_units units p = waits_for_unit units p + gate_waits units p
 
 abbrev pub waits_of : Kernel → ℕ → ℕ
 waits_of kernel p = waits_in kernel.flags kernel.clock kernel.queues p + waits_at_units kernel.units p
@@ -115,8 +115,12 @@ pub record AreUnits (consoles printers : ℕ) (procs : Table) (units : Consoles)
 abbrev pub HasConsole : Kernel → ℕ → Type 0
 HasConsole kernel console = console < length kernel.units.consoles
 
+-- a queue of messages of two bytes is there, as a resident procedure has one
+abbrev pub IsOfTwo : Queues → ℕ → Type 0
+IsOfTwo queues q = width_of queues q ≡ Some 2
+
 -- what is so of the kernel behind each step: a process is in at most one place, and only living ones are; the system's
--- queues are there
+-- queues are there, and so are those in whose resident procedures processes are
 pub record IsSound (kernel : Kernel) : Type 0 where
   pub some : 1 ≤ kernel.consoles
   pub few : kernel.consoles ≤ 8
@@ -126,6 +130,7 @@ pub record IsSound (kernel : Kernel) : Type 0 where
   pub flags : length kernel.flags ≡ 32
   pub queues : AreSound kernel.queues
   pub system : (q : ℕ) → q < kernel.system_queues → IsMade kernel.queues q
+  pub inside : (p q : ℕ) → Lives kernel.procs p → (process_in kernel.procs p).procedure ≡ Some q → IsOfTwo kernel.queues q
   pub fit : (p : ℕ) → Lives kernel.procs p → IsFit kernel.consoles kernel.printers (process_in kernel.procs p)
   pub once : (p : ℕ) → places kernel p ≤ 1
   pub live : (p : ℕ) → 0 < places kernel p → Lives kernel.procs p

@@ -6,12 +6,12 @@ use Rattle.mpm_procs.specs.Table.{process_in, with_process, with_call}
 use Rattle.mpm_queues.specs.Queues.{Queues, is_made, found, width_of}
 use Rattle.mpm_queues.specs.Blocks.{address_of}
 unfoldable pub use Rattle.mpm_queues.specs.Blocks.{writing}
-use Rattle.mpm_queues.specs.Handling.{read_outcome, read_reply, write_outcome, ended}
+use Rattle.mpm_queues.specs.Handling.{read_outcome, read_reply, write_outcome, woken_by}
 use Rattle.mpm_queues.specs.declared.queues.QueueOutcome.{QueueOutcome}
 use Rattle.mpm_queues.specs.declared.queues.QueueOutcome.TheVariants.{Done as Passed, NotNow}
 use Rattle.mpm_kernel.specs.Kernel.{Kernel, with_changed}
 use Rattle.mpm_kernel.specs.Called.{Called, valued, done}
-use Rattle.mpm_kernel.specs.Queueing.{with_other, taken_from, given_to, put_off}
+use Rattle.mpm_kernel.specs.Queueing.{with_other, taken_from, given_to, blocked_or_refused}
 
 -- what a call 151 answers that is refused
 abbrev pub no_procedure : ℕ
@@ -39,7 +39,7 @@ inside p q message kernel =
 unfoldable pub procedure_read : QueueOutcome → ℕ → ℕ → Kernel → Called
 procedure_read (Passed other) p q kernel =
     done (inside p q (address_of (read_reply kernel.queues q (answering 0)).bytes) (with_other other (taken_from kernel p q)))
-procedure_read NotNow p q kernel = put_off true p q true kernel
+procedure_read NotNow p q kernel = blocked_or_refused true p q true kernel
 
 unfoldable pub procedure_at : Option ℕ → ℕ → Kernel → Called
 procedure_at None p kernel = valued no_procedure kernel
@@ -63,7 +63,7 @@ outside p kernel =
 unfoldable pub given_back_to : Option ℕ → ℕ → Kernel → Kernel
 given_back_to None p kernel = kernel
 given_back_to (Some q) p kernel =
-    if is_made kernel.queues q then with_other (ended (write_outcome kernel.queues q)) (given_to kernel p q) else kernel
+    if is_made kernel.queues q then with_other (woken_by (write_outcome kernel.queues q)) (given_to kernel p q) else kernel
 
 unfoldable pub given_back : ℕ → Kernel → Kernel
 given_back p kernel = given_back_to (process_in kernel.procs p).procedure p (outside p kernel)

@@ -4,20 +4,20 @@
 -- A queue control block has the queue's name at 2, the length of its messages at 10 and their number at 12. A user queue
 -- control block has the queue's pointer, which is its number and 1, the message's address at 2 and the queue's name at 4; the
 -- message that a call writes stands behind its twelve bytes.
-use Rattle.std.specs.Prelude.{ℕ, ◌+◌, ◌<◌, Bool, true, false, not, [], ◌∷◌, ⊤, Option, Some, None, ◌&&◌, ◌==◌, is_some, is_none, nat_le, if◌then◌else◌}
+use Rattle.std.specs.Prelude.{ℕ, ◌+◌, ◌<◌, Bool, true, false, not, [], ◌∷◌, ⊤, Option, Some, None, ◌&&◌, is_none, nat_le, if◌then◌else◌}
 use Rattle.mpm_base.specs.Calls.{Taken, answering, word_at, name_at}
 use Rattle.mpm_base.specs.declared.number.Name8.{Name8}
 use Rattle.mpm_base.specs.declared.call.Outcome.TheVariants.{Done}
 use Rattle.mpm_procs.specs.Table.{process_in}
 use Rattle.mpm_procs.specs.Finding.{is_entered}
-use Rattle.mpm_queues.specs.Queues.{Queues, IsMade, found, lowest_free, made, may_end, behind_delete, refusal as make_refusal}
+use Rattle.mpm_queues.specs.Queues.{Queues, IsMade, found, lowest_free, made, may_end, behind_delete, make_error}
 unfoldable pub use Rattle.mpm_queues.specs.Blocks.{pointed}
 use Rattle.mpm_queues.specs.Handling.{behind_read, read_outcome, read_reply, behind_write, write_outcome, procs_behind_write, enlisted}
 use Rattle.mpm_queues.specs.declared.queues.QueueOutcome.{QueueOutcome}
 use Rattle.mpm_queues.specs.declared.queues.QueueOutcome.TheVariants.{Done as Passed, NotNow}
 use Rattle.mpm_kernel.specs.Kernel.{Kernel, with_completed}
 use Rattle.mpm_kernel.specs.Dispatch.{unlisted, made_ready, also_completed}
-use Rattle.mpm_kernel.specs.Called.{Called, valued, done, held, refusal}
+use Rattle.mpm_kernel.specs.Called.{Called, valued, done, blocked, failure_code}
 
 -- a queue more, with that number
 abbrev pub made_at : Option ℕ → Queues → Name8 → ℕ → ℕ → Queues
@@ -32,9 +32,9 @@ with_queue kernel name width count =
 -- function 134
 unfoldable pub queue_made : Taken → Kernel → Called
 queue_made call kernel =
-    if is_none (make_refusal kernel.queues (name_at call 2) (word_at call 10) (word_at call 12))
+    if is_none (make_error kernel.queues (name_at call 2) (word_at call 10) (word_at call 12))
     then done (with_queue kernel (name_at call 2) (word_at call 10) (word_at call 12))
-    else (valued refusal kernel)
+    else (valued failure_code kernel)
 
 -- a queue more of the system's
 unfoldable pub with_system_queue : Kernel → Name8 → ℕ → ℕ → Kernel
@@ -47,7 +47,7 @@ pub record OnlySystems (kernel : Kernel) : Type 0 where
 
 -- function 135: the queue's pointer is written where the block stands
 unfoldable pub opened : Option ℕ → Taken → Kernel → Called
-opened None call kernel = valued refusal kernel
+opened None call kernel = valued failure_code kernel
 opened (Some q) call kernel =
     record { kernel = kernel; outcome = Done; reply = record (answering 0) { at = call.word; bytes = (q + 1) ∷ 0 ∷ [] } }
 
@@ -60,9 +60,9 @@ abbrev pub may_delete : Kernel → ℕ → Bool
 may_delete kernel q = nat_le kernel.system_queues q && (not (is_entered kernel.procs q) && may_end kernel.queues q)
 
 unfoldable pub deleted : Option ℕ → Kernel → Called
-deleted None kernel = valued refusal kernel
+deleted None kernel = valued failure_code kernel
 deleted (Some q) kernel =
-    if may_delete kernel q then done (record kernel { queues = behind_delete kernel.queues q }) else (valued refusal kernel)
+    if may_delete kernel q then done (record kernel { queues = behind_delete kernel.queues q }) else (valued failure_code kernel)
 
 abbrev pub queue_deleted : Taken → Kernel → Called
 queue_deleted call kernel = deleted (found kernel.queues (name_at call 2)) kernel
@@ -73,8 +73,8 @@ queued kernel p q reader =
     record (unlisted kernel p) { queues = enlisted kernel.queues p (process_in kernel.procs p).priority q reader }
 
 -- a call that can't be done now is held, if it may wait, or else refused
-unfoldable pub put_off : Bool → ℕ → ℕ → Bool → Kernel → Called
-put_off waits p q reader kernel = if waits then held p (queued kernel p q reader) else (valued refusal kernel)
+unfoldable pub blocked_or_refused : Bool → ℕ → ℕ → Bool → Kernel → Called
+blocked_or_refused waits p q reader kernel = if waits then blocked p (queued kernel p q reader) else (valued failure_code kernel)
 
 -- what is so where nothing could be done
 abbrev pub IfNotNow : QueueOutcome → Type 0 → Type 0
@@ -95,10 +95,10 @@ was_read (Passed other) waits call p q kernel = record {
   outcome = Done;
   reply = read_reply kernel.queues q (record (answering 0) { at = word_at call 2 });
 }
-was_read NotNow waits call p q kernel = put_off waits p q true kernel
+was_read NotNow waits call p q kernel = blocked_or_refused waits p q true kernel
 
 unfoldable pub read_at : Option ℕ → Bool → Taken → ℕ → Kernel → Called
-read_at None waits call p kernel = valued refusal kernel
+read_at None waits call p kernel = valued failure_code kernel
 read_at (Some q) waits call p kernel = was_read (read_outcome kernel.queues q) waits call p q kernel
 
 abbrev pub queue_read : Bool → Taken → ℕ → Kernel → Called
@@ -113,10 +113,10 @@ given_to kernel p q = record kernel {
 
 unfoldable pub was_written : QueueOutcome → Bool → ℕ → ℕ → Kernel → Called
 was_written (Passed other) waits p q kernel = done (with_other other (given_to kernel p q))
-was_written NotNow waits p q kernel = put_off waits p q false kernel
+was_written NotNow waits p q kernel = blocked_or_refused waits p q false kernel
 
 unfoldable pub write_at : Option ℕ → Bool → ℕ → Kernel → Called
-write_at None waits p kernel = valued refusal kernel
+write_at None waits p kernel = valued failure_code kernel
 write_at (Some q) waits p kernel = was_written (write_outcome kernel.queues q) waits p q kernel
 
 abbrev pub queue_written : Bool → Taken → ℕ → Kernel → Called

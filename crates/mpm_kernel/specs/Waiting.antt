@@ -1,7 +1,7 @@
 -- Waiting for devices, for flags and for the clock. (MP/M II Programmer's Guide, "Function 131: Poll", "Function 132: Flag
 -- Wait", "Function 133: Flag Set", "Function 141: Delay".)
-use Rattle.std.specs.Prelude.{ℕ, Bool, false, [], ◌∷◌, ◌==◌, ◌&&◌, ◌||◌, nat_le, nat_lt, drop, slice_index_or, if◌then◌else◌}
-use Rattle.mpm_base.specs.Calls.{Taken, Answer, answering, word_at}
+use Rattle.std.specs.Prelude.{ℕ, Bool, false, [], ◌∷◌, ◌==◌, ◌&&◌, nat_le, nat_lt, slice_index_or, if◌then◌else◌}
+use Rattle.mpm_base.specs.Calls.{Taken, Answer}
 use Rattle.mpm_flags.specs.States.{flag_at, with_flag, behind_wait, wait_answer, behind_set, set_answer}
 use Rattle.mpm_flags.specs.declared.flags.FlagWait.{FlagWait}
 use Rattle.mpm_flags.specs.declared.flags.FlagWait.TheVariants.{Passed, Waits, Underrun}
@@ -12,15 +12,15 @@ use Rattle.mpm_procs.specs.Table.{call_of}
 unfoldable pub use Rattle.mpm_dispatcher.specs.Completion.{completion_of}
 use Rattle.mpm_kernel.specs.Kernel.{Kernel, poll_list}
 use Rattle.mpm_kernel.specs.Dispatch.{unlisted, moved, all_woken, behind_equals}
-use Rattle.mpm_kernel.specs.Called.{Called, valued, done, held, low_parameter, refusal}
+use Rattle.mpm_kernel.specs.Called.{Called, valued, done, blocked, low_parameter, failure_code}
 
 -- function 131: a process waits for one of sixteen devices, unless it is ready; a poll keeps it ready
 unfoldable pub polled : Taken → ℕ → Kernel → Called
 polled call p kernel =
     let device = low_parameter call in
-    if nat_lt 15 device then valued refusal kernel
+    if nat_lt 15 device then valued failure_code kernel
     else (if slice_index_or kernel.devices.ready device false then done kernel
-    else (held p (moved kernel (poll_list device) p)))
+    else (blocked p (moved kernel (poll_list device) p)))
 
 -- the flags of processes: flags 0 to 3 are the system's
 abbrev pub is_flag : ℕ → Bool
@@ -34,15 +34,15 @@ behind_flag_wait kernel p flag =
 -- it passed, waits from now on, or may not wait since another one does
 unfoldable pub waited : FlagWait → ℕ → Kernel → Called
 waited Passed p kernel = done kernel
-waited Waits p kernel = held p (unlisted kernel p)
-waited Underrun p kernel = valued refusal kernel
+waited Waits p kernel = blocked p (unlisted kernel p)
+waited Underrun p kernel = valued failure_code kernel
 
 -- function 132
 unfoldable pub flag_waited : Taken → ℕ → Kernel → Called
 flag_waited call p kernel =
     let flag = low_parameter call in
     if is_flag flag then waited (wait_answer p (flag_at kernel.flags flag)) p (behind_flag_wait kernel p flag)
-    else (valued refusal kernel)
+    else (valued failure_code kernel)
 
 -- who waited for a flag that is set is woken
 unfoldable pub with_woken : FlagSet → Kernel → Kernel
@@ -58,7 +58,7 @@ signalled flag kernel =
 
 abbrev pub set_value : FlagSet → ℕ
 set_value Set = 0
-set_value Overrun = refusal
+set_value Overrun = failure_code
 set_value (Woke p) = 0
 
 -- function 133
@@ -66,13 +66,13 @@ unfoldable pub flag_set : Taken → Kernel → Called
 flag_set call kernel =
     let flag = low_parameter call in
     if is_flag flag then valued (set_value (set_answer (flag_at kernel.flags flag))) (signalled flag kernel)
-    else (valued refusal kernel)
+    else (valued failure_code kernel)
 
 -- function 141: a process waits for ticks; for none, it is put behind its equals, as function 142 does
 unfoldable pub slept : Taken → ℕ → Kernel → Called
 slept call p kernel =
     if call.word == 0 then done (behind_equals kernel p)
-    else (held p (record (unlisted kernel p) { clock = delayed kernel.clock p call.word }))
+    else (blocked p (record (unlisted kernel p) { clock = delayed kernel.clock p call.word }))
 
 -- the reply of the held call of a process as it is completed
 abbrev pub completion_reply : Kernel → ℕ → Answer

@@ -17,7 +17,7 @@ impl Kernel {
     ghost use Rattle.mpm_kernel.specs.Calls.{called};
 
     /// Does the call that a ready process keeps.
-    #[tactic(auto, using(crate::proofs::SoundLaws::sound_begun), unfolding(crate::specs::Calls::call_done, crate::specs::Dates::date_told, crate::specs::Dates::time_told, crate::specs::Dispatch::behind_equals, crate::specs::Dispatch::with_priority))]
+    #[tactic(auto, using(crate::proofs::SoundLaws::sound_begun), unfolding(crate::specs::Calls::call_done, crate::specs::Dates::date_answered, crate::specs::Dates::time_answered, crate::specs::Dispatch::behind_equals, crate::specs::Dispatch::with_priority))]
     pub fn call(&mut self, p: Pid, reply: &mut Reply) -> Outcome
         requires sound { IsSound self.old }
         requires lives { Lives self.old.procs p }

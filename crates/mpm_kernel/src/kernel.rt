@@ -2,6 +2,7 @@ ghost use Rattle.std.specs.Prelude.{◌≡◌, ◌↔◌, ℕ, ◌<◌, ◌≤�
 ghost use Rattle.std.specs.Borrow.{sem};
 ghost use Rattle.mpm_clock.specs.Times.{IsTime};
 
+use crate::OutOfMemory;
 use mpm_base::{Call, Devices, Pid, Reply, Seg};
 use mpm_clock::{Clock, Moment};
 use mpm_consoles::Consoles;
@@ -10,7 +11,7 @@ use mpm_flags::Flags;
 use mpm_line_input::Echo;
 use mpm_procs::{NewProcess, NoSlot, Process};
 use mpm_queues::Queues;
-use std::alloc::{AllocError, Global};
+use std::alloc::Global;
 use std::marker::Model;
 use z80_regs::Regs;
 
@@ -43,7 +44,7 @@ impl Kernel {
     ghost use Rattle.mpm_ready.specs.Order.{first_of};
     ghost use Rattle.std.specs.Prelude.{is_some};
     ghost use Rattle.mpm_ready.specs.Tables.{list_at};
-    ghost use Rattle.mpm_queues.specs.Queues.{held as held_queue};
+    ghost use Rattle.mpm_queues.specs.Queues.{lowest_held};
     ghost use Rattle.mpm_kernel.specs.Kernel.{ready, IsSound, CompletedLive, call_begun, afresh};
     ghost use Rattle.mpm_kernel.specs.Dispatch.{new_kernel, in_slot, picked};
     ghost use Rattle.mpm_kernel.specs.Waiting.{completion_reply};
@@ -56,7 +57,12 @@ impl Kernel {
     /// # Errors
     /// Where no memory is found. All that it will need is taken here.
     #[tactic(auto, unfolding(crate::specs::Dispatch::new_kernel, mpm_dispatcher::specs::Dispatch::new_dispatcher))]
-    pub fn new(alloc: Global, consoles: u8, printers: u8, now: Moment) -> Result<Kernel, AllocError>
+    pub fn new(
+        alloc: Global,
+        consoles: u8,
+        printers: u8,
+        now: Moment,
+    ) -> Result<Kernel, OutOfMemory>
         requires some { 1 ≤ consoles }
         requires few { consoles ≤ 8 }
         requires printers { printers ≤ 4 }
@@ -95,7 +101,7 @@ impl Kernel {
     /// Whether a process holds the message of a mutual exclusion queue. (MP/M II Programmer's Guide, "Mutual Exclusion
     /// Queues".)
     pub fn holds(&self, p: Pid) -> bool
-        ensures { result ≡ is_some (held_queue self.now.queues p) }
+        ensures { result ≡ is_some (lowest_held self.now.queues p) }
     {
         self.queues.held(p).is_some()
     }
@@ -264,7 +270,6 @@ impl Kernel {
 
     /// Picks the process that runs behind a step: the first that is ready. Behind an instruction the running process keeps
     /// the processor while it is ready and no interrupt may come.
-    #[tactic(auto, unfolding(crate::specs::Dispatch::picked))]
     pub fn pick(&mut self, instruction: bool)
         requires { IsSound self.old }
         ensures { self.new ≡ picked instruction self.old }

@@ -43,7 +43,7 @@ impl Kernel {
                 self.dispatcher.procs.get_mut(p).enter(q, address);
                 done(reply, 0)
             }
-            QueueOutcome::NotNow => self.put_off(p, q, true, true, reply),
+            QueueOutcome::NotNow => self.block_or_refuse(p, q, true, true, reply),
         }
     }
 

@@ -11,10 +11,10 @@ use mpm_queues::QueueOutcome;
 
 impl Kernel {
     ghost use Rattle.mpm_procs.specs.Table.{Lives, process_in, call_of};
-    ghost use Rattle.mpm_queues.specs.Queues.{IsMade, refusal as make_refusal};
-    ghost use Rattle.mpm_queues.specs.Handling.{ended, may_wait, read_outcome, read_reply, write_outcome};
+    ghost use Rattle.mpm_queues.specs.Queues.{IsMade, make_error};
+    ghost use Rattle.mpm_queues.specs.Handling.{woken_by, may_wait, read_outcome, read_reply, write_outcome};
     ghost use Rattle.mpm_kernel.specs.Kernel.{IsReady, IsSound};
-    ghost use Rattle.mpm_kernel.specs.Queueing.{with_system_queue, OnlySystems, IfNotNow, queue_made, queue_opened, queue_deleted, pointed, queued, put_off, with_other, taken_from, queue_read, given_to, queue_written};
+    ghost use Rattle.mpm_kernel.specs.Queueing.{with_system_queue, OnlySystems, IfNotNow, queue_made, queue_opened, queue_deleted, pointed, queued, blocked_or_refused, with_other, taken_from, queue_read, given_to, queue_written};
 
     /// Makes a queue of the system, which no process deletes, for `count` messages of `message_length` bytes. It is made at
     /// boot, before any other.
@@ -22,7 +22,7 @@ impl Kernel {
     pub fn system_queue(&mut self, name: Name8, message_length: u16, count: u16)
         requires sound { IsSound self.old }
         requires boot { OnlySystems self.old }
-        requires room { make_refusal self.old.queues name message_length count ≡ None }
+        requires room { make_error self.old.queues name message_length count ≡ None }
         ensures { self.new ≡ with_system_queue self.old name message_length count }
     {
         if let Ok(number) = self.queues.make(name, message_length, count) {
@@ -112,7 +112,7 @@ impl Kernel {
                 self.dispatcher.wake_other(other);
                 Outcome::Done
             }
-            QueueOutcome::NotNow => self.put_off(p, q, true, waits, reply),
+            QueueOutcome::NotNow => self.block_or_refuse(p, q, true, waits, reply),
         }
     }
 
@@ -137,7 +137,7 @@ impl Kernel {
                 self.dispatcher.wake_other(other);
                 done(reply, 0)
             }
-            QueueOutcome::NotNow => self.put_off(p, q, false, waits, reply),
+            QueueOutcome::NotNow => self.block_or_refuse(p, q, false, waits, reply),
         }
     }
 
@@ -148,7 +148,7 @@ impl Kernel {
         requires queue { IsMade self.old.queues q }
         ensures kernel { self.new ≡ taken_from self.old p q }
         ensures outcome { result ≡ read_outcome self.old.queues q }
-        ensures other { IfSome (ended result) (λ w. Lives self.new.procs w) }
+        ensures other { IfSome (woken_by result) (λ w. Lives self.new.procs w) }
         ensures not_now { IfNotNow result ((self.new ≡ self.old) × (may_wait self.old.queues q true ≡ true)) }
         ensures reply { reply.new ≡ read_reply self.old.queues q reply.old }
     {
@@ -163,15 +163,15 @@ impl Kernel {
         requires queue { IsMade self.old.queues q }
         ensures kernel { self.new ≡ given_to self.old p q }
         ensures outcome { result ≡ write_outcome self.old.queues q }
-        ensures other { IfSome (ended result) (λ w. Lives self.new.procs w) }
+        ensures other { IfSome (woken_by result) (λ w. Lives self.new.procs w) }
         ensures not_now { IfNotNow result ((self.new ≡ self.old) × (may_wait self.old.queues q false ≡ true)) }
     {
         self.queues.write(p, q, &mut self.dispatcher.procs)
     }
 
     /// A call that can't be done now is held, if it may wait, or else refused.
-    #[tactic(auto, unfolding(crate::specs::Queueing::put_off))]
-    pub(crate) fn put_off(
+    #[tactic(auto, unfolding(crate::specs::Queueing::blocked_or_refused))]
+    pub(crate) fn block_or_refuse(
         &mut self,
         p: Pid,
         q: u8,
@@ -184,9 +184,9 @@ impl Kernel {
         requires ready { IsReady self.old p }
         requires queue { IsMade self.old.queues q }
         requires waits { may_wait self.old.queues q reader ≡ true }
-        ensures kernel { self.new ≡ (put_off waits p q reader self.old).kernel }
-        ensures outcome { result ≡ (put_off waits p q reader self.old).outcome }
-        ensures reply { reply.new ≡ (put_off waits p q reader self.old).reply }
+        ensures kernel { self.new ≡ (blocked_or_refused waits p q reader self.old).kernel }
+        ensures outcome { result ≡ (blocked_or_refused waits p q reader self.old).outcome }
+        ensures reply { reply.new ≡ (blocked_or_refused waits p q reader self.old).reply }
     {
         if waits {
             self.queue_up(p, q, reader);

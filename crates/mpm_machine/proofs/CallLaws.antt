@@ -10,8 +10,8 @@ use Rattle.mpm_render.specs.Shown.{Kept}
 use Rattle.mpm_machine.specs.declared.system.System.{System}
 use Rattle.mpm_machine.specs.State.{Change, IsWhole}
 use Rattle.mpm_machine.specs.Serving.{asked, keeping, IsTaken, Served, served, string_of, said_by, echo_of, behind_echo, popped, fulfilling, completing, outcome_of, gate_step}
-use Rattle.mpm_machine.specs.Writing.{spoken, Showed, Stopped}
-use Rattle.mpm_machine.proofs.WritingLaws.{showed_behind, stopped_before, stopped_behind}
+use Rattle.mpm_output.specs.Writing.{spoken, Showed, Stopped}
+use Rattle.mpm_output.proofs.WritingLaws.{showed_behind, stopped_before, stopped_behind}
 use Rattle.mpm_machine.proofs.WholeLaws.{StaysWhole, Keeps, keeps_call, whole_served, whole_said, whole_popped}
 use Rattle.mpm_machine.proofs.TakenLaws.{call_is_taken}
 
@@ -56,38 +56,38 @@ pub completed_system : (reply : Answer) (p seg : ℕ) (old behind new : System) 
 unfolding completing
 completed_system reply p seg old behind new so is = is ∙ ap (λ (change : Change). change.system) (answers_call reply p seg old behind so)
 
-completed_news : (reply : Answer) (p seg : ℕ) (old behind : System) → Popped p seg old behind
-    → (fulfilling reply (call_of behind.kernel.procs p) p seg behind).news ++ (said_by (call_of old.kernel.procs p) (string_of (call_of old.kernel.procs p) seg old.memory) p old).news
-    ≡ (completing reply (call_of old.kernel.procs p) p seg old).news
+completed_emitted : (reply : Answer) (p seg : ℕ) (old behind : System) → Popped p seg old behind
+    → (fulfilling reply (call_of behind.kernel.procs p) p seg behind).emitted ++ (said_by (call_of old.kernel.procs p) (string_of (call_of old.kernel.procs p) seg old.memory) p old).emitted
+    ≡ (completing reply (call_of old.kernel.procs p) p seg old).emitted
 unfolding completing
-completed_news reply p seg old behind so =
-    ap (λ (change : Change). change.news ++ (said_by (call_of old.kernel.procs p) (string_of (call_of old.kernel.procs p) seg old.memory) p old).news) (answers_call reply p seg old behind so)
+completed_emitted reply p seg old behind so =
+    ap (λ (change : Change). change.emitted ++ (said_by (call_of old.kernel.procs p) (string_of (call_of old.kernel.procs p) seg old.memory) p old).emitted) (answers_call reply p seg old behind so)
 
 pub showed_call : (k0 : Kept) (t0 : Option (List ℕ)) (k1 : Kept) (t1 : Option (List ℕ)) (k2 : Kept) (t2 : Option (List ℕ))
     (reply : Answer) (p seg : ℕ) (old behind : System) → Popped p seg old behind
-    → Showed k0 t0 k1 t1 (said_by (call_of old.kernel.procs p) (string_of (call_of old.kernel.procs p) seg old.memory) p old).news
-    → Showed k1 t1 k2 t2 (fulfilling reply (call_of behind.kernel.procs p) p seg behind).news
-    → Showed k0 t0 k2 t2 (completing reply (call_of old.kernel.procs p) p seg old).news
+    → Showed k0 t0 k1 t1 (said_by (call_of old.kernel.procs p) (string_of (call_of old.kernel.procs p) seg old.memory) p old).emitted
+    → Showed k1 t1 k2 t2 (fulfilling reply (call_of behind.kernel.procs p) p seg behind).emitted
+    → Showed k0 t0 k2 t2 (completing reply (call_of old.kernel.procs p) p seg old).emitted
 showed_call k0 t0 k1 t1 k2 t2 reply p seg old behind so text last =
-    let P : List Output → Type 0 = λ news. Showed k0 t0 k2 t2 news in
-    subst P (completed_news reply p seg old behind so) (showed_behind k0 t0 k1 t1 k2 t2 _ _ text last)
+    let P : List Output → Type 0 = λ emitted. Showed k0 t0 k2 t2 emitted in
+    subst P (completed_emitted reply p seg old behind so) (showed_behind k0 t0 k1 t1 k2 t2 _ _ text last)
 
 -- a stop in the text, or behind it
 
-pub stopped_text : (kept : Kept) (told told' : Option (List ℕ)) (reply : Answer) (p seg : ℕ) (old : System)
-    → Stopped kept told told' (said_by (call_of old.kernel.procs p) (string_of (call_of old.kernel.procs p) seg old.memory) p old).news
-    → Stopped kept told told' (completing reply (call_of old.kernel.procs p) p seg old).news
+pub stopped_text : (kept : Kept) (written written' : Option (List ℕ)) (reply : Answer) (p seg : ℕ) (old : System)
+    → Stopped kept written written' (said_by (call_of old.kernel.procs p) (string_of (call_of old.kernel.procs p) seg old.memory) p old).emitted
+    → Stopped kept written written' (completing reply (call_of old.kernel.procs p) p seg old).emitted
 unfolding completing
-stopped_text kept told told' reply p seg old stopped = stopped_before kept told told' _ _ stopped
+stopped_text kept written written' reply p seg old stopped = stopped_before kept written written' _ _ stopped
 
 pub stopped_record : (k0 : Kept) (t0 : Option (List ℕ)) (k1 : Kept) (t1 t2 : Option (List ℕ)) (reply : Answer) (p seg : ℕ) (old behind : System)
     → k1.trace ≡ k0.trace → Popped p seg old behind
-    → Showed k0 t0 k1 t1 (said_by (call_of old.kernel.procs p) (string_of (call_of old.kernel.procs p) seg old.memory) p old).news
-    → Stopped k1 t1 t2 (fulfilling reply (call_of behind.kernel.procs p) p seg behind).news
-    → Stopped k0 t0 t2 (completing reply (call_of old.kernel.procs p) p seg old).news
+    → Showed k0 t0 k1 t1 (said_by (call_of old.kernel.procs p) (string_of (call_of old.kernel.procs p) seg old.memory) p old).emitted
+    → Stopped k1 t1 t2 (fulfilling reply (call_of behind.kernel.procs p) p seg behind).emitted
+    → Stopped k0 t0 t2 (completing reply (call_of old.kernel.procs p) p seg old).emitted
 stopped_record k0 t0 k1 t1 t2 reply p seg old behind same so text stopped =
-    let P : List Output → Type 0 = λ news. Stopped k0 t0 t2 news in
-    subst P (completed_news reply p seg old behind so) (stopped_behind k0 t0 k1 t1 t2 _ _ same text stopped)
+    let P : List Output → Type 0 = λ emitted. Stopped k0 t0 t2 emitted in
+    subst P (completed_emitted reply p seg old behind so) (stopped_behind k0 t0 k1 t1 t2 _ _ same text stopped)
 
 -- the gate step of a call: it is taken, done, and what its outcome brings about follows
 
@@ -109,19 +109,19 @@ kept_is_taken p seg old kept w h kept_call =
 
 pub echo_shown : (k0 : Kept) (t0 : Option (List ℕ)) (k1 : Kept) (t1 : Option (List ℕ)) (k2 : Kept) (t2 : Option (List ℕ))
     (call : Taken) (p : ℕ) (system : System) (change : Change)
-    → Showed k0 t0 k1 t1 (spoken (process_in system.kernel.procs p).console (echo_of call system.kernel)) → Showed k1 t1 k2 t2 change.news
-    → Showed k0 t0 k2 t2 (behind_echo call p system change).news
-echo_shown k0 t0 k1 t1 k2 t2 call p system change echo rest = showed_behind k0 t0 k1 t1 k2 t2 _ change.news echo rest
+    → Showed k0 t0 k1 t1 (spoken (process_in system.kernel.procs p).console (echo_of call system.kernel)) → Showed k1 t1 k2 t2 change.emitted
+    → Showed k0 t0 k2 t2 (behind_echo call p system change).emitted
+echo_shown k0 t0 k1 t1 k2 t2 call p system change echo rest = showed_behind k0 t0 k1 t1 k2 t2 _ change.emitted echo rest
 
-pub echo_stopped : (kept : Kept) (told told' : Option (List ℕ)) (call : Taken) (p : ℕ) (system : System) (change : Change)
-    → Stopped kept told told' (spoken (process_in system.kernel.procs p).console (echo_of call system.kernel))
-    → Stopped kept told told' (behind_echo call p system change).news
-echo_stopped kept told told' call p system change stopped = stopped_before kept told told' _ change.news stopped
+pub echo_stopped : (kept : Kept) (written written' : Option (List ℕ)) (call : Taken) (p : ℕ) (system : System) (change : Change)
+    → Stopped kept written written' (spoken (process_in system.kernel.procs p).console (echo_of call system.kernel))
+    → Stopped kept written written' (behind_echo call p system change).emitted
+echo_stopped kept written written' call p system change stopped = stopped_before kept written written' _ change.emitted stopped
 
 pub stopped_later : (k0 : Kept) (t0 : Option (List ℕ)) (k1 : Kept) (t1 t2 : Option (List ℕ)) (call : Taken) (p : ℕ) (system : System) (change : Change)
     → k1.trace ≡ k0.trace → Showed k0 t0 k1 t1 (spoken (process_in system.kernel.procs p).console (echo_of call system.kernel))
-    → Stopped k1 t1 t2 change.news → Stopped k0 t0 t2 (behind_echo call p system change).news
-stopped_later k0 t0 k1 t1 t2 call p system change same echo stopped = stopped_behind k0 t0 k1 t1 t2 _ change.news same echo stopped
+    → Stopped k1 t1 t2 change.emitted → Stopped k0 t0 t2 (behind_echo call p system change).emitted
+stopped_later k0 t0 k1 t1 t2 call p system change same echo stopped = stopped_behind k0 t0 k1 t1 t2 _ change.emitted same echo stopped
 
 pub record Concludes (p seg : ℕ) (old done : System) (outcome : Outcome) (reply : Answer) : Type 0 where
   pub whole : IsWhole done

@@ -1,6 +1,6 @@
 -- What a step leaves of memory: each byte of a segment that is written neither by the instruction of a process that lives there
 -- nor by the reply to a call of one, and each byte of common memory that no instruction and no reply writes.
-use Rattle.std.proofs.Common.{◌≡◌, ◌≢◌, ◌∙◌, ℕ, ◌<◌, ◌≤◌, Bool, true, false, not, ◌&&◌, List, [], ◌∷◌, Option, Some, None, ◌==◌, if◌then◌else◌, inl, inr, refl, sym, ap, subst, ◌||◌}
+use Rattle.std.proofs.Common.{◌≡◌, ◌≢◌, ◌∙◌, ℕ, ◌<◌, ◌≤◌, Bool, true, false, not, ◌&&◌, List, [], ◌∷◌, Option, Some, None, ◌==◌, inl, inr, refl, sym, ap, subst, ◌||◌}
 use Rattle.std.specs.List.{range_with_len}
 use Rattle.std.proofs.lemmas.Bool.{cases_eq}
 use Rattle.z80_regs.specs.Outcome.{Outcome}
@@ -13,7 +13,8 @@ use Rattle.mpm_banks.specs.MemoryLaws.{byte_at_common}
 use Rattle.mpm_banks.specs.Actions.{memory_after}
 use Rattle.mpm_banks.specs.Allocations.{all_released}
 use Rattle.mpm_banks.specs.declared.segment.Allocation.TheVariants.{Free}
-use Rattle.mpm_banks.proofs.SegmentLaws.{SameBytes, reads_alike, same_bytes_itself, same_bytes_both, same_bytes_if, same_bytes_allocated, same_bytes_reserved, same_bytes_released, same_bytes_all_released}
+use Rattle.mpm_base.proofs.Choices.{either}
+use Rattle.mpm_banks.proofs.SegmentLaws.{SameBytes, reads_alike, same_bytes_itself, same_bytes_both, same_bytes_allocated, same_bytes_reserved, same_bytes_released, same_bytes_all_released}
 use Rattle.mpm_banks.proofs.ActionLaws.{memory_after_other_segment, memory_after_unwritten}
 use Rattle.mpm_gate.specs.Replies.{placed, IsPlacedAt}
 use Rattle.mpm_gate.proofs.ReplyLaws.{others_keep, segments_keep, common_keeps}
@@ -22,65 +23,64 @@ use Rattle.mpm_script.specs.declared.event.Event.{Event}
 use Rattle.mpm_kernel.specs.Events.{first_completed}
 use Rattle.mpm_kernel.specs.Waiting.{completion_reply}
 use Rattle.mpm_kernel.proofs.SoundLaws.{runner_lives, completed_lives}
-use Rattle.mpm_xdos.specs.Ending.{is_home, left_by, memory_without}
+use Rattle.mpm_xdos.specs.Ending.{is_home, vacated_if_empty, memory_without}
 use Rattle.mpm_xdos.specs.Aborting.{is_resident, waits_to_end, target, memory_behind_abort}
 use Rattle.mpm_machine.specs.declared.system.System.{System}
 use Rattle.mpm_processor.specs.declared.gate.Gate.{Gate}
 use Rattle.mpm_processor.specs.declared.gate.Gate.TheVariants.{End, Call, Return}
 use Rattle.mpm_machine.specs.State.{Change, IsWhole, speaking}
-use Rattle.mpm_machine.specs.Ending.{ended}
+use Rattle.mpm_machine.specs.Ending.{terminated}
 use Rattle.mpm_machine.specs.Serving.{asked, keeping, Served, served, reserving, releasing, creating, aborted, aborting_this, aborting, said_by, popped, replied, with_entry, reply_at_entry, fulfilling, answering_call, completing, returning, outcome_of, gate_step}
-use Rattle.mpm_residents.specs.Natives.{native_call}
+use Rattle.mpm_residents.specs.Natives.{native_call, native_in}
 use Rattle.mpm_residents.specs.declared.native.Native.{Native}
 use Rattle.mpm_kernel.specs.Consoling.{abort_taken}
-use Rattle.mpm_machine.specs.Residing.{native_in, native_outcome, native_step, resided}
+use Rattle.mpm_machine.specs.Residing.{native_outcome, native_step, resided}
 use Rattle.mpm_interrupts.specs.Interrupts.{behind_due}
-use Rattle.mpm_machine.specs.Finishing.{finished, handed, finishing, all_finished}
-use Rattle.mpm_machine.specs.Due.{is_due, ended_if_due, due_ended, with_ends, settled}
+use Rattle.mpm_machine.specs.Finishing.{finished, completion_dequeued, finishing, all_finished}
+use Rattle.mpm_machine.specs.Due.{is_due, terminated_if_due, due_terminated, with_ends, settled}
 use Rattle.mpm_machine.specs.Step.{ran, illegal, instructed, instruction_at, acted_at, gate_before, acted_by, acted, running_segment, coming, key_aborted, happened_to, event_come, interrupted, begun_by, with_settled, counted, step_of}
 use Rattle.mpm_machine.specs.Contained.{placed_reply, PlacesAt, WritesAt, IsWritten, behind_begun, Answers, AnswersAmong, AnswersOne, AnswersAtEnd, AnswersAtEnds, IsAnswered, IsContained}
-use Rattle.mpm_machine.proofs.FinishLaws.{first_finished, left_completed, handed_lives, home_handed}
+use Rattle.mpm_machine.proofs.FinishLaws.{first_finished, left_completed, dequeued_lives, home_dequeued}
 use Rattle.mpm_machine.proofs.WholeStepLaws.{whole_counted, whole_behind_begun, whole_answered, whole_first, whole_if_due, whole_due_end}
 
 -- an end, and a call before its reply, change no byte
 
-left_alike : (memory : Memory) (procs : Table) (seg : Option ℕ) → SameBytes memory (left_by memory procs seg)
-unfolding left_by
-left_alike memory procs None = same_bytes_itself memory
-left_alike memory procs (Some seg) = same_bytes_if memory (is_home procs seg) _ _ (same_bytes_itself memory) (same_bytes_allocated memory seg Free)
+vacated_alike : (memory : Memory) (procs : Table) (seg : Option ℕ) → SameBytes memory (vacated_if_empty memory procs seg)
+unfolding vacated_if_empty
+vacated_alike memory procs None = same_bytes_itself memory
+vacated_alike memory procs (Some seg) = either (SameBytes memory) (is_home procs seg) _ _ (λ _. same_bytes_itself memory) (λ _. same_bytes_allocated memory seg Free)
 
-ended_alike : (p : ℕ) (system : System) → SameBytes system.memory (ended p system).memory
-unfolding ended memory_without
-ended_alike p system = same_bytes_both system.memory (all_released system.memory p) _ (same_bytes_all_released system.memory p) (left_alike (all_released system.memory p) _ _)
-
-alike_if : (memory : Memory) (b : Bool) (one other : Served) → SameBytes memory one.system.memory → SameBytes memory other.system.memory
-    → SameBytes memory (if b then one else other).system.memory
-alike_if memory true one other is was = is
-alike_if memory false one other is was = was
+terminated_alike : (p : ℕ) (system : System) → SameBytes system.memory (terminated p system).memory
+unfolding terminated memory_without
+terminated_alike p system = same_bytes_both system.memory (all_released system.memory p) _ (same_bytes_all_released system.memory p) (vacated_alike (all_released system.memory p) _ _)
 
 aborted_alike : (p : ℕ) (system : System) → SameBytes system.memory (aborted p system).memory
-unfolding aborted memory_behind_abort ended
-aborted_alike p system = same_bytes_if system.memory (is_resident system.kernel p || waits_to_end system.kernel p false) _ _ (same_bytes_itself system.memory) (ended_alike p system)
+unfolding aborted memory_behind_abort terminated
+aborted_alike p system =
+    either (SameBytes system.memory) (is_resident system.kernel p || waits_to_end system.kernel p false) _ _ (λ _. same_bytes_itself system.memory)
+    (λ _. terminated_alike p system)
 
 aborting_alike : (named : Option ℕ) (p : ℕ) (system : System) → SameBytes system.memory (aborting_this named p system).system.memory
 aborting_alike None p system = same_bytes_itself system.memory
 aborting_alike (Some other) p system =
-    alike_if system.memory (other == p && not (waits_to_end system.kernel p false)) _ _ (same_bytes_itself system.memory) (aborted_alike other system)
+    either (λ (s : Served). SameBytes system.memory s.system.memory) (other == p && not (waits_to_end system.kernel p false)) _ _
+    (λ _. same_bytes_itself system.memory) (λ _. aborted_alike other system)
 
 served_alike : (call : Taken) (p : ℕ) (system : System) → SameBytes system.memory (served call p system).system.memory
 unfolding served reserving releasing creating aborting
 served_alike call p system =
     let f = call.function in
     let memory = system.memory in
-    alike_if memory (f == 128) _ _ (same_bytes_reserved memory p _)
-    (alike_if memory (f == 129) _ _ (same_bytes_reserved memory p _)
-    (alike_if memory (f == 130) _ _ (same_bytes_released memory p _)
-    (alike_if memory (f == 144) _ _ (same_bytes_itself memory)
-    (alike_if memory (f == 157) _ _ (aborting_alike (target system.kernel.procs p) p system) (same_bytes_itself memory)))))
+    let P : Served → Type 0 = λ s. SameBytes memory s.system.memory in
+    either P (f == 128) _ _ (λ _. same_bytes_reserved memory p _)
+    (λ _. either P (f == 129) _ _ (λ _. same_bytes_reserved memory p _)
+    (λ _. either P (f == 130) _ _ (λ _. same_bytes_released memory p _)
+    (λ _. either P (f == 144) _ _ (λ _. same_bytes_itself memory)
+    (λ _. either P (f == 157) _ _ (λ _. aborting_alike (target system.kernel.procs p) p system) (λ _. same_bytes_itself memory)))))
 
 illegal_alike : (p : ℕ) (system : System) → SameBytes system.memory (illegal p system).system.memory
 unfolding illegal speaking
-illegal_alike p system = ended_alike p _
+illegal_alike p system = terminated_alike p _
 
 -- nor does a resident, or a key that aborts a process
 
@@ -88,7 +88,7 @@ native_alike : (outcome : CallOutcome) (reply : Answer) (call : Taken) (p : ℕ)
     → SameBytes system.memory (native_outcome outcome reply call p system).system.memory
 unfolding said_by speaking
 native_alike Done reply call p system = same_bytes_itself system.memory
-native_alike Ended reply call p system = ended_alike p system
+native_alike Ended reply call p system = terminated_alike p system
 native_alike Held reply call p system = same_bytes_itself system.memory
 native_alike Retry reply call p system = same_bytes_itself system.memory
 
@@ -114,7 +114,7 @@ outcome_leaves : (outcome : CallOutcome) (reply : Answer) (call : Taken) (p seg 
     → byte_at (outcome_of outcome reply call p seg system).system.memory other at ≡ byte_at system.memory other at
 unfolding completing popped with_entry fulfilling answering_call replied said_by speaking
 outcome_leaves Done reply call p seg system other at leaves = leaves refl
-outcome_leaves Ended reply call p seg system other at leaves = reads_alike system.memory _ (ended_alike p system) other at
+outcome_leaves Ended reply call p seg system other at leaves = reads_alike system.memory _ (terminated_alike p system) other at
 outcome_leaves Held reply call p seg system other at leaves = refl
 outcome_leaves Retry reply call p seg system other at leaves = refl
 
@@ -143,7 +143,7 @@ instruction_leaves (Some outcome) p seg system other at leaves = leaves
 elsewhere_at : (gate : Option Gate) (p seg : ℕ) (system : System) (other at : ℕ) → other ≢ seg → at < 49152
     → byte_at (acted_at gate p seg system).system.memory other at ≡ byte_at system.memory other at
 unfolding returning
-elsewhere_at (Some End) p seg system other at apart below = reads_alike system.memory _ (ended_alike p system) other at
+elsewhere_at (Some End) p seg system other at apart below = reads_alike system.memory _ (terminated_alike p system) other at
 elsewhere_at (Some Call) p seg system other at apart below =
     call_leaves p seg system other at (λ done. segments_keep _ _ seg _ other at apart below)
 elsewhere_at (Some Return) p seg system other at apart below = refl
@@ -163,7 +163,7 @@ placed_at outcome reply call p seg system at is placed = subst (λ (o : CallOutc
 unwritten_at : (gate : Option Gate) (p seg : ℕ) (system : System) (at : ℕ) → (WritesAt gate p seg system at → ⊥)
     → byte_at (acted_at gate p seg system).system.memory seg at ≡ byte_at system.memory seg at
 unfolding returning
-unwritten_at (Some End) p seg system at none = reads_alike system.memory _ (ended_alike p system) seg at
+unwritten_at (Some End) p seg system at none = reads_alike system.memory _ (terminated_alike p system) seg at
 unwritten_at (Some Call) p seg system at none =
     call_leaves p seg system seg at (λ done. others_keep _ _ seg _ at (λ placed. none (placed_at _ _ _ p seg _ at done placed)))
 unwritten_at (Some Return) p seg system at none = refl
@@ -263,8 +263,8 @@ finished_common (Some home) p system seg at living there above none =
 
 -- so do the replies to several, one behind another
 
-lives_handed : (p : ℕ) (system : System) → IsWhole system → first_completed system.kernel.completed ≡ Some p → Lives (handed system).kernel.procs p
-lives_handed p system w first = handed_lives system.kernel p (completed_lives system.kernel p w.live first)
+lives_dequeued : (p : ℕ) (system : System) → IsWhole system → first_completed system.kernel.completed ≡ Some p → Lives (completion_dequeued system).kernel.procs p
+lives_dequeued p system w first = dequeued_lives system.kernel p (completed_lives system.kernel p w.live first)
 
 among_segments : (ps : List ℕ) (system : System) (seg at : ℕ) → IsWhole system → system.kernel.completed ≡ ps → at < 49152
     → (AnswersAmong ps system seg at → ⊥) → byte_at (finishing ps system).system.memory seg at ≡ byte_at system.memory seg at
@@ -273,7 +273,7 @@ among_segments [] system seg at w e below none = refl
 among_segments (p ∷ ps) system seg at w e below none =
     let first = ap first_completed e in
     among_segments ps (first_finished p system) seg at (whole_first p system w first) (left_completed p ps system e) below (λ later. none (inr later))
-    ∙ finished_segments (process_in system.kernel.procs p).seg p (handed system) seg at (lives_handed p system w first) (home_handed system p) below (λ here. none (inl here))
+    ∙ finished_segments (process_in system.kernel.procs p).seg p (completion_dequeued system) seg at (lives_dequeued p system w first) (home_dequeued system p) below (λ here. none (inl here))
 
 among_common : (ps : List ℕ) (system : System) (seg at : ℕ) → IsWhole system → system.kernel.completed ≡ ps → 49152 ≤ at
     → ((home : ℕ) → AnswersAmong ps system home at → ⊥) → byte_at (finishing ps system).system.memory seg at ≡ byte_at system.memory seg at
@@ -282,7 +282,7 @@ among_common [] system seg at w e above none = refl
 among_common (p ∷ ps) system seg at w e above none =
     let first = ap first_completed e in
     among_common ps (first_finished p system) seg at (whole_first p system w first) (left_completed p ps system e) above (λ home later. none home (inr later))
-    ∙ finished_common (process_in system.kernel.procs p).seg p (handed system) seg at (lives_handed p system w first) (home_handed system p) above (λ home here. none home (inl here))
+    ∙ finished_common (process_in system.kernel.procs p).seg p (completion_dequeued system) seg at (lives_dequeued p system w first) (home_dequeued system p) above (λ home here. none home (inl here))
 
 answers_segments : (system : System) (seg at : ℕ) → IsWhole system → at < 49152 → (AnswersOne system seg at → ⊥)
     → byte_at (all_finished system).system.memory seg at ≡ byte_at system.memory seg at
@@ -294,44 +294,43 @@ answers_common system seg at w above none = among_common system.kernel.completed
 
 -- so do the ends that are due, each with the calls that it completes
 
-leaves_if : (b : Bool) (one other : Change) (memory : Memory) (seg at : ℕ) → (b ≡ true → byte_at one.system.memory seg at ≡ byte_at memory seg at)
-    → byte_at other.system.memory seg at ≡ byte_at memory seg at → byte_at (if b then one else other).system.memory seg at ≡ byte_at memory seg at
-leaves_if true one other memory seg at is was = is refl
-leaves_if false one other memory seg at is was = was
-
-whole_at_end : (p : ℕ) (system : System) → IsWhole system → is_due system.kernel p ≡ true → IsWhole (ended p system)
-whole_at_end p system w due = whole_due_end system (ended p system) p w due refl
+whole_at_end : (p : ℕ) (system : System) → IsWhole system → is_due system.kernel p ≡ true → IsWhole (terminated p system)
+whole_at_end p system w due = whole_due_end system (terminated p system) p w due refl
 
 end_segments : (p : ℕ) (system : System) (seg at : ℕ) → IsWhole system → at < 49152 → (AnswersAtEnd p system seg at → ⊥)
-    → byte_at (ended_if_due p system).system.memory seg at ≡ byte_at system.memory seg at
-unfolding ended_if_due
+    → byte_at (terminated_if_due p system).system.memory seg at ≡ byte_at system.memory seg at
+unfolding terminated_if_due
 end_segments p system seg at w below none =
-    leaves_if (is_due system.kernel p) _ _ system.memory seg at (λ due.
-    answers_segments (ended p system) seg at (whole_at_end p system w due) below (λ answers. none (due, answers))
-    ∙ reads_alike system.memory _ (ended_alike p system) seg at) refl
+    either (λ (c : Change). byte_at c.system.memory seg at ≡ byte_at system.memory seg at) (is_due system.kernel p) _ _
+    (λ due.
+    answers_segments (terminated p system) seg at (whole_at_end p system w due) below (λ answers. none (due, answers))
+    ∙ reads_alike system.memory _ (terminated_alike p system) seg at)
+    (λ _. refl)
 
 end_common : (p : ℕ) (system : System) (seg at : ℕ) → IsWhole system → 49152 ≤ at → ((home : ℕ) → AnswersAtEnd p system home at → ⊥)
-    → byte_at (ended_if_due p system).system.memory seg at ≡ byte_at system.memory seg at
-unfolding ended_if_due
+    → byte_at (terminated_if_due p system).system.memory seg at ≡ byte_at system.memory seg at
+unfolding terminated_if_due
 end_common p system seg at w above none =
-    leaves_if (is_due system.kernel p) _ _ system.memory seg at (λ due.
-    answers_common (ended p system) seg at (whole_at_end p system w due) above (λ home answers. none home (due, answers))
-    ∙ reads_alike system.memory _ (ended_alike p system) seg at) refl
+    either (λ (c : Change). byte_at c.system.memory seg at ≡ byte_at system.memory seg at) (is_due system.kernel p) _ _
+    (λ due.
+    answers_common (terminated p system) seg at (whole_at_end p system w due) above (λ home answers. none home (due, answers))
+    ∙ reads_alike system.memory _ (terminated_alike p system) seg at)
+    (λ _. refl)
 
 ends_segments : (ps : List ℕ) (system : System) (seg at : ℕ) → IsWhole system → at < 49152 → (AnswersAtEnds ps system seg at → ⊥)
-    → byte_at (due_ended ps system).system.memory seg at ≡ byte_at system.memory seg at
-unfolding due_ended AnswersAtEnds
+    → byte_at (due_terminated ps system).system.memory seg at ≡ byte_at system.memory seg at
+unfolding due_terminated AnswersAtEnds
 ends_segments [] system seg at w below none = refl
 ends_segments (p ∷ ps) system seg at w below none =
-    ends_segments ps (ended_if_due p system).system seg at (whole_if_due p system w) below (λ later. none (inr later))
+    ends_segments ps (terminated_if_due p system).system seg at (whole_if_due p system w) below (λ later. none (inr later))
     ∙ end_segments p system seg at w below (λ here. none (inl here))
 
 ends_common : (ps : List ℕ) (system : System) (seg at : ℕ) → IsWhole system → 49152 ≤ at → ((home : ℕ) → AnswersAtEnds ps system home at → ⊥)
-    → byte_at (due_ended ps system).system.memory seg at ≡ byte_at system.memory seg at
-unfolding due_ended AnswersAtEnds
+    → byte_at (due_terminated ps system).system.memory seg at ≡ byte_at system.memory seg at
+unfolding due_terminated AnswersAtEnds
 ends_common [] system seg at w above none = refl
 ends_common (p ∷ ps) system seg at w above none =
-    ends_common ps (ended_if_due p system).system seg at (whole_if_due p system w) above (λ home later. none home (inr later))
+    ends_common ps (terminated_if_due p system).system seg at (whole_if_due p system w) above (λ home later. none home (inr later))
     ∙ end_common p system seg at w above (λ home here. none home (inl here))
 
 -- so each byte that changes is written by the process that runs, or is of the reply to a held call

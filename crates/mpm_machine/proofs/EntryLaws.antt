@@ -1,5 +1,6 @@
 -- A process that enters a resident procedure lives on, and keeps its call.
-use Rattle.std.proofs.Common.{◌≡◌, ◌∙◌, ℕ, Bool, true, false, if◌then◌else◌, refl, ap}
+use Rattle.std.proofs.Common.{◌≡◌, ◌∙◌, ℕ, refl, ap}
+use Rattle.mpm_base.proofs.Choices.{either}
 use Rattle.mpm_base.specs.Calls.{Taken, Answer}
 use Rattle.mpm_procs.specs.Table.{lives, Lives, call_of}
 use Rattle.mpm_procs.proofs.MapLaws.{lives_changed, call_behind}
@@ -7,14 +8,6 @@ use Rattle.mpm_kernel.specs.Kernel.{Kernel}
 use Rattle.mpm_xdos.specs.Procedures.{entered}
 use Rattle.mpm_machine.specs.declared.system.System.{System}
 use Rattle.mpm_machine.specs.Serving.{is_entry, with_entry, reply_at_entry, fulfilling, answering_call}
-
-lives_if : (b : Bool) (one other : Kernel) (q : ℕ) → lives one.procs q ≡ lives other.procs q → lives (if b then one else other).procs q ≡ lives other.procs q
-lives_if true one other q same = same
-lives_if false one other q same = refl
-
-call_if : (b : Bool) (one other : Kernel) (q : ℕ) → call_of one.procs q ≡ call_of other.procs q → call_of (if b then one else other).procs q ≡ call_of other.procs q
-call_if true one other q same = same
-call_if false one other q same = refl
 
 pub lives_entered : (p q : ℕ) (kernel : Kernel) → lives (entered p kernel).procs q ≡ lives kernel.procs q
 unfolding entered
@@ -30,11 +23,13 @@ completed_entered p kernel = refl
 
 pub lives_entry : (reply : Answer) (call : Taken) (p q : ℕ) (system : System) → lives (with_entry reply call p system).kernel.procs q ≡ lives system.kernel.procs q
 unfolding with_entry
-lives_entry reply call p q system = lives_if (is_entry call reply) _ _ q (lives_entered p q system.kernel)
+lives_entry reply call p q system =
+    either (λ (k : Kernel). lives k.procs q ≡ lives system.kernel.procs q) (is_entry call reply) _ _ (λ _. lives_entered p q system.kernel) (λ _. refl)
 
 pub call_entry : (reply : Answer) (call : Taken) (p q : ℕ) (system : System) → call_of (with_entry reply call p system).kernel.procs q ≡ call_of system.kernel.procs q
 unfolding with_entry
-call_entry reply call p q system = call_if (is_entry call reply) _ _ q (call_entered p q system.kernel)
+call_entry reply call p q system =
+    either (λ (k : Kernel). call_of k.procs q ≡ call_of system.kernel.procs q) (is_entry call reply) _ _ (λ _. call_entered p q system.kernel) (λ _. refl)
 
 -- behind that its call is answered, and so fulfilled
 

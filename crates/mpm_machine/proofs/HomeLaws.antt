@@ -1,8 +1,9 @@
 -- Each process's segment stays a home: whatever becomes of memory, a segment keeps its place and its size, and one in which
 -- processes live goes into no other hands.
-use Rattle.std.proofs.Common.{◌≡◌, ◌∙◌, ℕ, Bool, true, false, List, Option, Some, None, if◌then◌else◌, inl, inr, length, refl, sym, ap, subst, arith, ◌≢◌}
+use Rattle.std.proofs.Common.{◌≡◌, ◌∙◌, ℕ, true, List, Option, Some, None, inl, inr, length, refl, sym, ap, subst, arith, ◌≢◌}
 use Rattle.std.proofs.lemmas.Bool.{cases_eq, and_parts, false≢true}
 use Rattle.std.proofs.lemmas.List.{length-map, length-set, get_or-map}
+use Rattle.mpm_base.proofs.Choices.{either}
 use Rattle.mpm_base.specs.Calls.{Answer}
 use Rattle.z80_regs.specs.Outcome.{Action}
 use Rattle.mpm_banks.specs.Memory.{Memory, no_segment, SameSegments, segment_of}
@@ -11,7 +12,7 @@ use Rattle.mpm_banks.specs.Actions.{memory_after}
 use Rattle.mpm_banks.specs.declared.segment.Segment.{Segment}
 use Rattle.mpm_banks.specs.declared.segment.Allocation.{Allocation}
 use Rattle.mpm_banks.specs.declared.segment.Allocation.TheVariants.{Free, Reserved, Occupied}
-use Rattle.mpm_banks.specs.Allocations.{is_free, lowest_free, allocated, reserved, released, is_reserved, is_owners, freed, all_released, occupied, vacated}
+use Rattle.mpm_banks.specs.Allocations.{is_free, lowest_free, allocated, reserved, released, is_reserved, is_owners, freed, all_released, occupied}
 use Rattle.mpm_banks.proofs.SegmentLaws.{allocation_of_allocated, segment_of_allocated, lowest_free_fits}
 use Rattle.mpm_banks.proofs.ActionLaws.{same_segments_after}
 use Rattle.mpm_gate.specs.Replies.{placed}
@@ -19,7 +20,7 @@ use Rattle.mpm_gate.proofs.ReplyLaws.{placed_segments}
 use Rattle.mpm_procs.specs.Table.{Table, process_in}
 use Rattle.mpm_kernel.specs.Kernel.{Kernel}
 use Rattle.mpm_kernel.specs.Ending.{discharged}
-use Rattle.mpm_xdos.specs.Ending.{is_home, left_by, memory_without}
+use Rattle.mpm_xdos.specs.Ending.{is_home, vacated_if_empty, memory_without}
 use Rattle.mpm_processor.specs.Gates.{IsHome}
 use Rattle.mpm_machine.specs.State.{IsOccupied}
 
@@ -37,11 +38,6 @@ same_home old new seg count base pages home = record {
   end = omega (arith, base, pages, home.end);
 }
 
-place_if : (b : Bool) (segment other : Segment) → (other.base ≡ segment.base) × (other.pages ≡ segment.pages)
-    → ((if b then other else segment).base ≡ segment.base) × ((if b then other else segment).pages ≡ segment.pages)
-place_if true segment other same = same
-place_if false segment other same = (refl, refl)
-
 pub keeps_itself : (memory : Memory) → KeepsHomes memory memory
 keeps_itself memory = record { all = λ seg home. home; lived = λ seg home h. h }
 
@@ -56,10 +52,6 @@ keeps_same old new same = record {
   all = λ seg home. same_home old new seg same.count (same.base seg) (same.pages seg) home;
   lived = λ seg home h. same.allocation seg ∙ h;
 }
-
-home_if : (b : Bool) (one other : Memory) (seg : ℕ) → IsHome one seg → IsHome other seg → IsHome (if b then one else other) seg
-home_if true one other seg is was = is
-home_if false one other seg is was = was
 
 -- bytes change
 pub keeps_placed : (answer : Answer) (word seg : ℕ) (memory : Memory) → KeepsHomes memory (placed answer word seg memory)
@@ -123,23 +115,19 @@ keeps_reserved memory owner base pages =
     (λ seg is. found_is_free memory base pages seg is)
 
 -- one that is released was reserved
-released_if : (memory : Memory) (owner seg : ℕ) (b : Bool) → is_owners owner (segment_of memory seg).allocation ≡ b
-    → KeepsHomes memory (if b then allocated memory seg Free else memory)
-released_if memory owner seg true owned =
-    keeps_allocated memory seg Free (λ h. absurd (owned_or_lived owner (segment_of memory seg).allocation owned h))
-released_if memory owner seg false owned = keeps_itself memory
-
 pub keeps_released : (memory : Memory) (owner seg : ℕ) → KeepsHomes memory (released memory owner seg)
 unfolding released is_reserved
-keeps_released memory owner seg = released_if memory owner seg _ refl
+keeps_released memory owner seg =
+    either (KeepsHomes memory) (is_owners owner (segment_of memory seg).allocation) _ _
+    (λ owned. keeps_allocated memory seg Free (λ h. absurd (owned_or_lived owner (segment_of memory seg).allocation owned h))) (λ _. keeps_itself memory)
 
-freed_place : (owner : ℕ) (segment : Segment) → ((freed owner segment).base ≡ segment.base) × ((freed owner segment).pages ≡ segment.pages)
-freed_place owner segment = place_if (is_owners owner segment.allocation) segment _ (refl, refl)
+pub freed_place : (owner : ℕ) (segment : Segment) → ((freed owner segment).base ≡ segment.base) × ((freed owner segment).pages ≡ segment.pages)
+freed_place owner segment =
+    either (λ (s : Segment). (s.base ≡ segment.base) × (s.pages ≡ segment.pages)) (is_owners owner segment.allocation) _ _ (λ _. (refl, refl)) (λ _. (refl, refl))
 
-freed_if : (owner : ℕ) (segment : Segment) (b : Bool) → is_owners owner segment.allocation ≡ b → segment.allocation ≡ Occupied
-    → (if b then record segment { allocation = Free } else segment).allocation ≡ Occupied
-freed_if owner segment true owned h = absurd (owned_or_lived owner segment.allocation owned h)
-freed_if owner segment false owned h = h
+freed_lived : (owner : ℕ) (segment : Segment) → segment.allocation ≡ Occupied → (freed owner segment).allocation ≡ Occupied
+freed_lived owner segment h =
+    either (λ (s : Segment). s.allocation ≡ Occupied) (is_owners owner segment.allocation) _ _ (λ owned. absurd (owned_or_lived owner segment.allocation owned h)) (λ _. h)
 
 keeps_all_released : (memory : Memory) (owner : ℕ) → KeepsHomes memory (all_released memory owner)
 unfolding all_released
@@ -151,27 +139,24 @@ keeps_all_released memory owner =
           same_home memory _ seg (length-map memory.segments (freed owner))
           (ap (λ (s : Segment). s.base) (at seg home) ∙ (freed_place owner (segment_of memory seg)).0)
           (ap (λ (s : Segment). s.pages) (at seg home) ∙ (freed_place owner (segment_of memory seg)).1) home;
-      lived = λ seg home h. ap (λ (s : Segment). s.allocation) (at seg home) ∙ freed_if owner (segment_of memory seg) _ refl h;
+      lived = λ seg home h. ap (λ (s : Segment). s.allocation) (at seg home) ∙ freed_lived owner (segment_of memory seg) h;
     }
 
 -- a process ends: its segment stays lived in where somebody else lives there
 
-places_left : (memory : Memory) (procs : Table) (seg : Option ℕ) (other : ℕ) → IsHome memory other → IsHome (left_by memory procs seg) other
-unfolding left_by
-places_left memory procs None other home = home
-places_left memory procs (Some seg) other home = home_if (is_home procs seg) _ _ other home (home_allocated memory seg Free other home)
+places_vacated : (memory : Memory) (procs : Table) (seg : Option ℕ) (other : ℕ) → IsHome memory other → IsHome (vacated_if_empty memory procs seg) other
+unfolding vacated_if_empty
+places_vacated memory procs None other home = home
+places_vacated memory procs (Some seg) other home =
+    either (λ (m : Memory). IsHome m other) (is_home procs seg) _ _ (λ _. home) (λ _. home_allocated memory seg Free other home)
 
-vacated_if : (memory : Memory) (procs : Table) (seg other : ℕ) (b : Bool) → is_home procs seg ≡ b → is_home procs other ≡ true → IsOccupied memory other
-    → IsOccupied (if b then memory else (vacated memory seg)) other
-vacated_if memory procs seg other true lived home h = h
-vacated_if memory procs seg other false lived home h =
-    lived_elsewhere memory seg Free other (λ same. false≢true (sym lived ∙ ap (is_home procs) (sym same) ∙ home)) h
-
-lived_left : (memory : Memory) (procs : Table) (seg : Option ℕ) (other : ℕ) → is_home procs other ≡ true → IsOccupied memory other
-    → IsOccupied (left_by memory procs seg) other
-unfolding left_by
-lived_left memory procs None other home h = h
-lived_left memory procs (Some seg) other home h = vacated_if memory procs seg other (is_home procs seg) refl home h
+lived_vacated : (memory : Memory) (procs : Table) (seg : Option ℕ) (other : ℕ) → is_home procs other ≡ true → IsOccupied memory other
+    → IsOccupied (vacated_if_empty memory procs seg) other
+unfolding vacated_if_empty
+lived_vacated memory procs None other home h = h
+lived_vacated memory procs (Some seg) other home h =
+    either (λ (m : Memory). IsOccupied m other) (is_home procs seg) _ _ (λ _. h)
+    (λ empty. lived_elsewhere memory seg Free other (λ same. false≢true (sym empty ∙ ap (is_home procs) (sym same) ∙ home)) h)
 
 -- what an end leaves: each home, and each segment in which somebody still lives
 pub record LeavesHomes (old new : Memory) (procs : Table) : Type 0 where
@@ -185,6 +170,6 @@ leaves_without memory kernel p =
     let procs = (discharged kernel p).procs in
     let seg = (process_in kernel.procs p).seg in
     record {
-      all = λ other home. places_left (all_released memory p) procs seg other (released.all other home);
-      lived = λ other home there h. lived_left (all_released memory p) procs seg other there (released.lived other home h);
+      all = λ other home. places_vacated (all_released memory p) procs seg other (released.all other home);
+      lived = λ other home there h. lived_vacated (all_released memory p) procs seg other there (released.lived other home h);
     }

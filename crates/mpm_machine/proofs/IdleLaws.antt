@@ -1,29 +1,13 @@
 -- Steps in which nothing is done, as no process runs and none is ready.
-use Rattle.std.proofs.Common.{◌≡◌, ◌∙◌, ℕ, zero, suc, ◌+◌, ◌<◌, Bool, true, false, List, [], ◌++◌, Option, None, if◌then◌else◌, refl, sym, ap, subst, arith, add-one}
-use Rattle.mpm_ready.specs.Order.{first_of}
-use Rattle.mpm_ready.specs.Tables.{list_at}
-use Rattle.mpm_kernel.specs.Kernel.{Kernel, ready}
-use Rattle.mpm_kernel.specs.Dispatch.{picked, stays}
-use Rattle.mpm_interrupts.specs.Interrupts.{due}
+use Rattle.std.proofs.Common.{◌≡◌, ◌∙◌, ℕ, zero, suc, ◌+◌, ◌<◌, false, List, [], ◌++◌, Option, None, sym, ap, subst, arith, add-one}
+use Rattle.mpm_kernel.specs.Kernel.{Kernel}
 use Rattle.mpm_render.specs.Shown.{Kept}
 use Rattle.mpm_machine.specs.declared.system.System.{System}
 use Rattle.mpm_machine.specs.State.{State, Change, StandsFor, IsWhole, NobodyAborted, silent}
-use Rattle.mpm_machine.specs.Step.{acted_by, acted, running_segment, at_instruction, counted, step_of, next, after}
+use Rattle.mpm_machine.specs.Step.{acted_by, acted, running_segment, at_instruction, counted, step_of, next, after, system_after}
 use Rattle.mpm_machine.specs.Moving.{IsIdle, later, Quiet}
 use Rattle.mpm_machine.proofs.WholeLaws.{whole_steps}
-use Rattle.mpm_machine.proofs.QuietLaws.{none_comes, step_still}
-
--- nobody is picked
-
-nobody_if : (b : Bool) (kernel : Kernel) → kernel.running ≡ None → first_of (list_at kernel.lists ready) ≡ None
-    → (if b then kernel else (record kernel { running = first_of (list_at kernel.lists ready) })) ≡ kernel
-nobody_if true kernel idle nobody = refl
-nobody_if false kernel idle nobody = ap (λ (o : Option ℕ). record kernel { running = o }) (nobody ∙ sym idle)
-
-nobody_picked : (instruction : Bool) (kernel : Kernel) → kernel.running ≡ None → first_of (list_at kernel.lists ready) ≡ None
-    → picked instruction kernel ≡ kernel
-unfolding picked
-nobody_picked instruction kernel idle nobody = nobody_if _ kernel idle nobody
+use Rattle.mpm_machine.proofs.QuietLaws.{none_comes, step_still, picked_same}
 
 -- nothing is done
 
@@ -34,17 +18,17 @@ nothing_acted system idle = ap (λ o. acted_by o (running_segment o system) syst
 -- what is so of a system that is idle for n steps
 pub record Idles (system : System) (n : ℕ) : Type 0 where
   pub idle : 0 < n → IsIdle system
-  pub handed : system.kernel.completed ≡ []
+  pub no_completions : system.kernel.completed ≡ []
   pub settled : NobodyAborted system.kernel
-  pub put_off : system.put_off ≡ false
+  pub none_deferred : system.abort_deferred ≡ false
   pub quiet : Quiet n system
 
 idle_step : (system : System) (n : ℕ) → Idles system (n + 1) → step_of (later system n) ≡ silent (later system (n + 1))
 idle_step system n on =
     let begun = counted (later system n) in
     let idle = on.idle (omega arith) in
-    step_still (later system n) begun (none_comes begun (on.quiet n (omega arith))) (nothing_acted begun idle.running) on.handed on.settled on.put_off
-    ∙ ap (λ (kernel : Kernel). silent (record begun { kernel = kernel })) (nobody_picked (at_instruction begun) system.kernel idle.running idle.nobody)
+    step_still (later system n) begun (none_comes begun (on.quiet n (omega arith))) (nothing_acted begun idle.running) on.no_completions on.settled on.none_deferred
+    ∙ ap (λ (kernel : Kernel). silent (record begun { kernel = kernel })) (picked_same (at_instruction begun) system.kernel (idle.nobody ∙ sym idle.running))
     ∙ ap (λ (steps : ℕ). silent (record system { steps = steps })) (omega arith)
 
 -- so n of them are n steps, which say nothing
@@ -52,14 +36,14 @@ idle_step system n on =
 idle_next : (s : State) (n : ℕ) → Idles s.system (n + 1) → next (record s { system = later s.system n }) ≡ record s { system = later s.system (n + 1) }
 unfolding next
 idle_next s n on =
-    ap (λ (change : Change). record { system = change.system; outputs = change.news ++ s.outputs }) (idle_step s.system n on)
+    ap (λ (change : Change). record { system = change.system; outputs = change.emitted ++ s.outputs }) (idle_step s.system n on)
 
 fewer : (system : System) (n : ℕ) → Idles system (n + 1) → Idles system n
 fewer system n on = record {
   idle = λ some. on.idle (omega arith);
-  handed = on.handed;
+  no_completions = on.no_completions;
   settled = on.settled;
-  put_off = on.put_off;
+  none_deferred = on.none_deferred;
   quiet = λ k below. on.quiet k (omega (arith, below));
 }
 
@@ -71,13 +55,17 @@ after_idle (suc n) s on =
     ap next (after_idle n s (fewer s.system n on_more)) ∙ idle_next s n on_more ∙ ap (λ k. record s { system = later s.system k }) (add-one n)
 
 -- what a machine stands for behind them
-pub idle_stands : (n : ℕ) (old new : System) (kept : Kept) (told : Option (List ℕ)) (s : State) (first : Option (List ℕ))
-    → Idles old n → new ≡ later old n → StandsFor old kept told s first → StandsFor new kept told (after n s) first
-idle_stands n old new kept told s first on is stands =
+pub idle_stands : (n : ℕ) (old new : System) (kept : Kept) (written : Option (List ℕ)) (s : State) (first : Option (List ℕ))
+    → Idles old n → new ≡ later old n → StandsFor old kept written s first → StandsFor new kept written (after n s) first
+idle_stands n old new kept written s first on is stands =
     let behind = after_idle n s (subst (λ (system : System). Idles system n) stands.parts on) in
     let whole : new ≡ later s.system n = is ∙ ap (λ system. later system n) stands.parts in
-    let P : State → Type 0 = λ t. StandsFor new kept told t first in
+    let P : State → Type 0 = λ t. StandsFor new kept written t first in
     subst P (sym behind) (record { parts = whole; shown = stands.shown })
+
+-- and its system is the one behind so many steps
+pub idle_system : (n : ℕ) (old new : System) → Idles old n → new ≡ later old n → new ≡ system_after n old
+idle_system n old new on is = is ∙ sym (ap (λ (s : State). s.system) (after_idle n (record { system = old; outputs = [] }) on))
 
 pub idle_whole : (n : ℕ) (old new : System) → IsWhole old → new ≡ later old n → IsWhole new
 idle_whole n old new w is = subst IsWhole (sym is) (whole_steps old (old.steps + n) w)

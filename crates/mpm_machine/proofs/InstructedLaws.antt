@@ -1,5 +1,6 @@
 -- What a listed instruction changes besides memory: its process's registers, and the readiness of devices that it reads.
-use Rattle.std.proofs.Common.{◌≡◌, ◌∙◌, ℕ, zero, suc, ◌-◌, Bool, true, false, ◌&&◌, nat_le, List, [], ◌∷◌, Option, Some, None, IsSome, if◌then◌else◌, get_or, set, refl, sym, ap, subst}
+use Rattle.std.proofs.Common.{◌≡◌, ◌∙◌, ℕ, zero, suc, ◌-◌, Bool, true, false, ◌&&◌, nat_le, List, [], ◌∷◌, Option, Some, None, IsSome, get_or, set, refl, sym, ap, subst}
+use Rattle.mpm_base.proofs.Choices.{either}
 use Rattle.z80_regs.specs.Outcome.{Outcome, Action, Write, Input}
 use Rattle.z80_ext.specs.Instruction.{registers_after, actions_of}
 use Rattle.mpm_base.specs.declared.devices.Devices.{Devices}
@@ -25,15 +26,11 @@ clears_one (x ∷ ready) zero (suc device) h = h
 clears_one (x ∷ ready) (suc k) zero h = h
 clears_one (x ∷ ready) (suc k) (suc device) h = clears_one ready k device h
 
-clears_if : (b : Bool) (one other : Devices) (device : ℕ) → (get_or one.ready device false ≡ true → get_or other.ready device false ≡ true)
-    → get_or (if b then one else other).ready device false ≡ true → get_or other.ready device false ≡ true
-clears_if true one other device clears h = clears h
-clears_if false one other device clears h = h
-
 clears_port : (devices : Devices) (port device : ℕ) → get_or (port_read devices port).ready device false ≡ true → get_or devices.ready device false ≡ true
 unfolding port_read
 clears_port devices port device h =
-    clears_if (nat_le 128 port && nat_le port 143) _ devices device (λ cleared. clears_one devices.ready (port - 128) device cleared) h
+    either (λ (d : Devices). get_or d.ready device false ≡ true → get_or devices.ready device false ≡ true) (nat_le 128 port && nat_le port 143) _ _
+    (λ _. clears_one devices.ready (port - 128) device) (λ _ was. was) h
 
 clears_all : (actions : List Action) (devices : Devices) (device : ℕ) → get_or (devices_after actions devices).ready device false ≡ true
     → get_or devices.ready device false ≡ true
@@ -72,7 +69,7 @@ by_instruction system p seg i =
 
 step_instructs : (system : System) (p seg : ℕ) → Instructs system p seg → system.kernel.completed ≡ [] → OnlyInstructed p system (step_of system).system
 unfolding ran
-step_instructs system p seg i handed =
+step_instructs system p seg i no_completions =
     let outcome = instruction_at p seg system in
     let begun = counted system in
     let actions = actions_of outcome in
@@ -85,7 +82,7 @@ step_instructs system p seg i handed =
       memory = memory_after actions seg system.memory;
       clears = λ device h. clears_all actions system.kernel.devices device h;
       bytes = same_segments_after actions seg system.memory;
-      is = ap (λ (change : Change). change.system) (step_quiet system behind i.quiet (acts system p seg i) handed)
+      is = ap (λ (change : Change). change.system) (step_quiet system behind i.quiet (acts system p seg i) no_completions)
           ∙ ap (λ b. (dispatched b (with_ends behind)).system) (by_instruction system p seg i)
           ∙ ap (λ (d : Devices). (dispatched true (with_ends (record begun {
             kernel = with_regs (record system.kernel { devices = d }) p regs;
@@ -95,4 +92,4 @@ step_instructs system p seg i handed =
 
 pub instructs_only : (old new : System) (p seg : ℕ) → Instructs old p seg → old.kernel.completed ≡ [] → new ≡ (step_of old).system
     → OnlyInstructed p old new
-instructs_only old new p seg i handed is = subst (OnlyInstructed p old) (sym is) (step_instructs old p seg i handed)
+instructs_only old new p seg i no_completions is = subst (OnlyInstructed p old) (sym is) (step_instructs old p seg i no_completions)

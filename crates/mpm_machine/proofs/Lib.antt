@@ -1,6 +1,4 @@
 pub mod InterruptLaws
-pub mod WritingLaws
-pub mod StringLaws
 pub mod SayingLaws
 pub mod HomeLaws
 pub mod EntryLaws
@@ -8,6 +6,7 @@ pub mod FinishLaws
 pub mod DueLaws
 pub mod WholeLaws
 pub mod WholeStepLaws
+pub mod NobodyDueLaws
 pub mod TakenLaws
 pub mod CallLaws
 pub mod ResidingLaws
@@ -20,4 +19,5 @@ pub mod MovingLaws
 pub mod IdleLaws
 pub mod ServedLaws
 pub mod Containment
+pub mod AfterLaws
 pub mod InstructedLaws

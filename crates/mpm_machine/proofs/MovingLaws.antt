@@ -1,5 +1,5 @@
 -- Steps that are instructions of one process.
-use Rattle.std.proofs.Common.{◌≡◌, ◌∙◌, ℕ, zero, suc, ◌+◌, ◌<◌, ◌≤◌, Bool, true, false, ◌&&◌, List, [], ◌++◌, Option, Some, None, IsSome, is_some, ◌-◌, if◌then◌else◌, inl, inr, length, refl, sym, ap, subst, arith, add-one, set-set, get_or-set_same}
+use Rattle.std.proofs.Common.{◌≡◌, ◌∙◌, ℕ, zero, suc, ◌+◌, ◌<◌, ◌≤◌, false, ◌&&◌, List, [], ◌++◌, Option, Some, None, IsSome, is_some, inl, inr, length, refl, sym, ap, subst, arith, add-one, set-set, get_or-set_same}
 use Rattle.std.proofs.lemmas.Bool.{cases_eq}
 use Rattle.z80_regs.specs.declared.regs.Regs.{Regs}
 use Rattle.z80_regs.specs.Outcome.{Outcome}
@@ -14,7 +14,6 @@ use Rattle.mpm_procs.specs.Opening.{blank}
 use Rattle.mpm_procs.specs.declared.process.Process.{Process}
 use Rattle.mpm_procs.proofs.MapLaws.{lives_below, lives_changed, process_changed, process_kept}
 use Rattle.mpm_kernel.specs.Kernel.{Kernel, ready}
-use Rattle.mpm_kernel.specs.Dispatch.{picked, stays}
 use Rattle.mpm_kernel.proofs.SoundLaws.{sound_devices, runner_lives}
 use Rattle.mpm_kernel.proofs.HomeLaws.{homes_stay}
 use Rattle.mpm_processor.specs.declared.gate.Gate.{Gate}
@@ -25,25 +24,13 @@ use Rattle.mpm_machine.specs.declared.system.System.{System}
 use Rattle.mpm_machine.specs.Gates.{is_inside}
 use Rattle.mpm_machine.specs.State.{State, Change, StandsFor, IsWhole, NobodyAborted, silent}
 use Rattle.mpm_machine.specs.Serving.{with_regs}
-use Rattle.mpm_machine.specs.Step.{ran, instructed, instruction_at, acted_at, gate_before, acted_by, acted, running_segment, at_instruction, coming, counted, step_of, next, after}
+use Rattle.mpm_machine.specs.Step.{ran, instructed, instruction_at, acted_at, gate_before, acted_by, acted, running_segment, at_instruction, coming, counted, step_of, next, after, system_after}
 use Rattle.mpm_interrupts.specs.Interrupts.{due}
 use Rattle.mpm_machine.specs.Moving.{Moved, view_of, with_view, RunsOn, Quiet}
 use Rattle.mpm_machine.proofs.HomeLaws.{KeepsHomes, keeps_itself, keeps_both, keeps_acted}
 use Rattle.mpm_machine.proofs.WholeLaws.{same_regs, whole_kernel, whole_memory, whole_regs, whole_steps}
 use Rattle.mpm_machine.proofs.StepLaws.{after_nothing}
-use Rattle.mpm_machine.proofs.QuietLaws.{none_comes, step_still}
-
--- the process that is first and runs is picked again
-
-picked_if : (b : Bool) (kernel : Kernel) (p : ℕ) → kernel.running ≡ Some p → first_of (list_at kernel.lists ready) ≡ Some p
-    → (if b then kernel else (record kernel { running = first_of (list_at kernel.lists ready) })) ≡ kernel
-picked_if true kernel p runs first = refl
-picked_if false kernel p runs first = ap (λ running. record kernel { running = running }) (first ∙ sym runs)
-
-picked_same : (instruction : Bool) (kernel : Kernel) (p : ℕ) → kernel.running ≡ Some p → first_of (list_at kernel.lists ready) ≡ Some p
-    → picked instruction kernel ≡ kernel
-unfolding picked
-picked_same instruction kernel p runs first = picked_if (instruction && stays kernel kernel.running) kernel p runs first
+use Rattle.mpm_machine.proofs.QuietLaws.{none_comes, step_still, picked_same}
 
 -- a view that a process already has, and one behind another
 
@@ -147,9 +134,9 @@ unfolding with_view
 step_view system p seg n view below on can quiet =
     let begun = counted (with_view system p view n) in
     let later = with_view system p (moved seg view) (n + 1) in
-    step_still (with_view system p view n) later (quiet_view system p n view quiet) (acted_view system p seg n view below on can) on.handed
-    (nobody_view system.kernel (moved seg view).devices p (moved seg view).regs below on.settled) on.put_off
-    ∙ ap (λ (kernel : Kernel). silent (record later { kernel = kernel })) (picked_same (at_instruction begun) later.kernel p on.running on.first)
+    step_still (with_view system p view n) later (quiet_view system p n view quiet) (acted_view system p seg n view below on can) on.no_completions
+    (nobody_view system.kernel (moved seg view).devices p (moved seg view).regs below on.settled) on.none_deferred
+    ∙ ap (λ (kernel : Kernel). silent (record later { kernel = kernel })) (picked_same (at_instruction begun) later.kernel (on.first ∙ sym on.running))
 
 -- so n of them are n steps, which say nothing
 
@@ -162,7 +149,7 @@ next_view : (s : State) (p seg n : ℕ) (view : View) → p < length s.system.ke
     → next (with_system s (with_view s.system p view n)) ≡ with_system s (with_view s.system p (moved seg view) (n + 1))
 unfolding next with_system
 next_view s p seg n view below on can quiet =
-    ap (λ (change : Change). record { system = change.system; outputs = change.news ++ s.outputs }) (step_view s.system p seg n view below on can quiet)
+    ap (λ (change : Change). record { system = change.system; outputs = change.emitted ++ s.outputs }) (step_view s.system p seg n view below on can quiet)
 
 after_moves : (n : ℕ) (s : State) (p seg : ℕ) → p < length s.system.kernel.procs.processes → RunsOn s.system p seg
     → ((k : ℕ) → k < n → CanMove (is_inside s.system.kernel.procs p) seg (moves k seg (view_of s.system p))) → Quiet n s.system
@@ -176,9 +163,9 @@ after_moves (suc n) s p seg below on each quiet =
     ∙ ap (λ count. record s { system = with_view s.system p (moved seg view) count }) (add-one n)
 
 pub runs_on : (system : System) (p seg : ℕ) → IsWhole system → system.kernel.running ≡ Some p → first_of (list_at system.kernel.lists ready) ≡ Some p
-    → (process_in system.kernel.procs p).seg ≡ Some seg → system.kernel.completed ≡ [] → system.put_off ≡ false → RunsOn system p seg
-runs_on system p seg w running first home handed off =
-    record { running = running; first = first; home = home; handed = handed; put_off = off; settled = w.settled off }
+    → (process_in system.kernel.procs p).seg ≡ Some seg → system.kernel.completed ≡ [] → system.abort_deferred ≡ false → RunsOn system p seg
+runs_on system p seg w running first home no_completions off =
+    record { running = running; first = first; home = home; no_completions = no_completions; none_deferred = off; settled = w.settled off }
 
 -- so many steps in which nothing is due
 pub quiet_steps : (n quiet : ℕ) (system : System) → n ≤ quiet
@@ -186,11 +173,11 @@ pub quiet_steps : (n quiet : ℕ) (system : System) → n ≤ quiet
 quiet_steps n quiet system few none = λ k below. none (system.steps + k + 1) (omega (arith, few, below)) (omega arith)
 
 -- what a machine stands for behind them
-pub moved_stands : (n p seg : ℕ) (old new : System) (kept : Kept) (told : Option (List ℕ)) (s : State) (first : Option (List ℕ))
-    → IsWhole old → RunsOn old p seg → Moved n p seg old new → Quiet n old → StandsFor old kept told s first
-    → StandsFor new kept told (after n s) first
+pub moved_stands : (n p seg : ℕ) (old new : System) (kept : Kept) (written : Option (List ℕ)) (s : State) (first : Option (List ℕ))
+    → IsWhole old → RunsOn old p seg → Moved n p seg old new → Quiet n old → StandsFor old kept written s first
+    → StandsFor new kept written (after n s) first
 unfolding with_system
-moved_stands n p seg old new kept told s first w on moved quiet stands =
+moved_stands n p seg old new kept written s first w on moved quiet stands =
     let below : p < length old.kernel.procs.processes =
     omega (arith, w.sound.slots.processes, lives_below old.kernel.procs p w.sound.slots (runner_lives old.kernel p w.sound on.running)) in
     let P : System → Type 0 = λ system. (p < length system.kernel.procs.processes) × RunsOn system p seg
@@ -199,8 +186,18 @@ moved_stands n p seg old new kept told s first w on moved quiet stands =
     let behind = after_moves n s p seg facts.0 facts.1 facts.2 facts.3 in
     let whole : new ≡ with_view s.system p (moves n seg (view_of s.system p)) n =
     moved.is ∙ ap (λ v. with_view old p v n) moved.moves.is ∙ ap (λ system. with_view system p (moves n seg (view_of system p)) n) stands.parts in
-    let Q : State → Type 0 = λ t. StandsFor new kept told t first in
+    let Q : State → Type 0 = λ t. StandsFor new kept written t first in
     subst Q (sym behind) (record { parts = whole; shown = stands.shown })
+
+-- and its system is the one behind so many steps
+pub moved_system : (n p seg : ℕ) (old new : System) → IsWhole old → RunsOn old p seg → Moved n p seg old new → Quiet n old → new ≡ system_after n old
+unfolding with_system
+moved_system n p seg old new w on moved quiet =
+    let start : State = record { system = old; outputs = [] } in
+    let below : p < length old.kernel.procs.processes =
+    omega (arith, w.sound.slots.processes, lives_below old.kernel.procs p w.sound.slots (runner_lives old.kernel p w.sound on.running)) in
+    moved.is ∙ ap (λ v. with_view old p v n) moved.moves.is
+    ∙ sym (ap (λ (s : State). s.system) (after_moves n start p seg below on moved.moves.each quiet))
 
 -- a machine that ran so is whole
 whole_view : (system : System) (p n : ℕ) (view : View) → IsWhole system → Lives system.kernel.procs p → KeepsHomes system.memory view.memory
@@ -228,16 +225,16 @@ whole_behind n p seg old new w h on =
 
 -- nothing was done
 
-pub stands_still : (system : System) (kept : Kept) (told : Option (List ℕ)) (s : State) (first : Option (List ℕ)) → StandsFor system kept told s first
-    → StandsFor system kept told (after 0 s) first
-stands_still system kept told s first stands =
-    let P : State → Type 0 = λ t. StandsFor system kept told t first in
+pub stands_still : (system : System) (kept : Kept) (written : Option (List ℕ)) (s : State) (first : Option (List ℕ)) → StandsFor system kept written s first
+    → StandsFor system kept written (after 0 s) first
+stands_still system kept written s first stands =
+    let P : State → Type 0 = λ t. StandsFor system kept written t first in
     subst P (sym (after_nothing s)) stands
 
 pub steps_behind : (n p seg : ℕ) (old new : System) → Moved n p seg old new → new.steps ≡ old.steps + n
 unfolding with_view
 steps_behind n p seg old new moved = ap (λ (system : System). system.steps) moved.is
 
-pub handed_behind : (n p seg : ℕ) (old new : System) → Moved n p seg old new → old.kernel.completed ≡ [] → new.kernel.completed ≡ []
+pub no_completions_behind : (n p seg : ℕ) (old new : System) → Moved n p seg old new → old.kernel.completed ≡ [] → new.kernel.completed ≡ []
 unfolding with_view
-handed_behind n p seg old new moved handed = ap (λ (system : System). system.kernel.completed) moved.is ∙ handed
+no_completions_behind n p seg old new moved no_completions = ap (λ (system : System). system.kernel.completed) moved.is ∙ no_completions

@@ -1,17 +1,17 @@
 -- A machine as it is run: the command queue, the command line interpreter, the terminal message processors.
 use Rattle.std.proofs.Common.{◌≡◌, ◌∙◌, ℕ, ◌+◌, ◌<◌, ◌≤◌, false, List, [], ◌∷◌, ◌++◌, Option, Some, None, codes, refl, sym, ap, subst, arith, add-one}
-use Rattle.mpm_procs.specs.Table.{Lives, lives, process_in, lowest_free}
+use Rattle.mpm_procs.specs.Table.{Lives, process_in, lowest_free}
 use Rattle.mpm_procs.specs.declared.process.Process.{Process}
 use Rattle.mpm_procs.specs.declared.process.NewProcess.{NewProcess}
 use Rattle.mpm_procs.proofs.MapLaws.{lives_added, lives_changed, free_below}
-use Rattle.mpm_queues.specs.Queues.{refusal}
+use Rattle.mpm_queues.specs.Queues.{make_error}
 use Rattle.mpm_kernel.specs.Kernel.{Kernel, IsSound, CompletedLive, with_changed}
 use Rattle.mpm_kernel.specs.Dispatch.{new_kernel, admitted, in_slot, picked}
 use Rattle.mpm_kernel.specs.Joining.{joined, joined_in}
 use Rattle.mpm_kernel.specs.Queueing.{OnlySystems, with_queue, with_system_queue}
 use Rattle.mpm_kernel.proofs.SoundLaws.{sound_changed, sound_admitted, sound_picked, live_kept}
 use Rattle.mpm_kernel.proofs.SystemQueues.{sound_system_queue, only_systems_new, may_make_new}
-use Rattle.mpm_kernel.proofs.HomeLaws.{SameHomes, homes_stay, homes_both, homes_changed, homes_admitted, lives_on, procs_picked}
+use Rattle.mpm_kernel.proofs.HomeLaws.{SameHomes, homes_stay, homes_both, homes_changed, homes_admitted, lives_on}
 use Rattle.mpm_kernel.specs.Consoling.{given}
 use Rattle.mpm_kernel.proofs.GivingLaws.{sound_gave}
 use Rattle.mpm_kernel.proofs.JoinedLaws.{sound_joined, homes_joined}
@@ -25,7 +25,6 @@ use Rattle.mpm_machine.specs.declared.system.System.{System}
 use Rattle.mpm_machine.specs.State.{IsWhole}
 use Rattle.mpm_machine.specs.Opening.{resident_process, with_interpreter, terminal_name, with_terminal, with_terminals, command_queue, with_command_queue, begun_by_interpreter, with_residents, moment_of, booted, opened}
 use Rattle.mpm_machine.proofs.WholeLaws.{whole_kernel, whole_residents}
-use Rattle.mpm_machine.proofs.WholeStepLaws.{live_picked, same_picked}
 
 -- what is so of a kernel in which a resident begins, whose process is then another one of no segment
 record Begins (old new : Kernel) : Type 0 where
@@ -40,8 +39,8 @@ begins_changed : (old begun : Kernel) (p : ℕ) (process : Process) → Begins o
     → process.console ≡ (process_in begun.procs p).console → process.printer ≡ (process_in begun.procs p).printer
     → 1 ≤ process.multi → process.multi ≤ 16
     → process.seg ≡ (process_in begun.procs p).seg → process.abort_due ≡ (process_in begun.procs p).abort_due
-    → Begins old (with_changed begun p process)
-begins_changed old begun p process b h console printer some few seg due =
+    → process.procedure ≡ (process_in begun.procs p).procedure → Begins old (with_changed begun p process)
+begins_changed old begun p process b h console printer some few seg due procedure =
     let fit = b.sound.fit p h in
     record {
       sound = sound_changed begun p process b.sound h (record {
@@ -49,7 +48,7 @@ begins_changed old begun p process b h console printer some few seg due =
         printer = λ there. omega (arith, printer, fit.printer there);
         some = some;
         few = few;
-      });
+      }) (λ q is. b.sound.inside p q h (sym procedure ∙ is));
       homes = homes_both old begun _ b.homes (homes_changed begun p process b.sound.slots h seg due);
       live = λ live. live_kept begun (with_changed begun p process) refl (λ q living. lives_changed begun.procs p q process ∙ living) (b.live live);
       completed = b.completed;
@@ -101,9 +100,9 @@ begins_interpreter None kernel s free = begins_nothing kernel s
 begins_interpreter (Some p) kernel s free =
     let new = resident_process (record { 0 = codes "cli     " }) 190 0 in
     begins_changed kernel (joined kernel p new) p _ (begins_joined kernel p new s free (omega (arith, s.some)) refl)
-    (lives_joined kernel p new s free) refl refl (omega arith) (omega arith) refl refl
+    (lives_joined kernel p new s free) refl refl (omega arith) (omega arith) refl refl refl
 
-begins_queue : (kernel : Kernel) → IsSound kernel → OnlySystems kernel → refusal kernel.queues command_queue 130 15 ≡ None
+begins_queue : (kernel : Kernel) → IsSound kernel → OnlySystems kernel → make_error kernel.queues command_queue 130 15 ≡ None
     → Begins kernel (with_command_queue kernel)
 unfolding with_system_queue with_queue
 begins_queue kernel s only none = record {
@@ -123,7 +122,7 @@ begins_both old middle new one other = record {
   consoles = other.consoles ∙ one.consoles;
 }
 
-begins_first : (kernel : Kernel) → IsSound kernel → OnlySystems kernel → refusal kernel.queues command_queue 130 15 ≡ None
+begins_first : (kernel : Kernel) → IsSound kernel → OnlySystems kernel → make_error kernel.queues command_queue 130 15 ≡ None
     → Begins kernel (with_interpreter (lowest_free (with_command_queue kernel).procs) (with_command_queue kernel))
 begins_first kernel s only none =
     let queued = begins_queue kernel s only none in
@@ -143,7 +142,7 @@ begun_kernel system kernel w b = record {
   steps = refl;
 }
 
-pub first_begun : (system : System) → IsWhole system → OnlySystems system.kernel → refusal system.kernel.queues command_queue 130 15 ≡ None
+pub first_begun : (system : System) → IsWhole system → OnlySystems system.kernel → make_error system.kernel.queues command_queue 130 15 ≡ None
     → Begun system (begun_by_interpreter system)
 unfolding begun_by_interpreter
 first_begun system w only none = begun_kernel system _ w (begins_first system.kernel w.sound only none)
@@ -161,7 +160,7 @@ terminal_by (Some p) console system w free below =
     let lives_now = lives_begun system.kernel p new s free in
     let fit = (begins_admitted system.kernel p new s free below refl).sound.fit p lives_now in
     let b = begins_changed system.kernel begun p (record (process_in begun.procs p) { error_mode = 255 })
-    (begins_admitted system.kernel p new s free below refl) lives_now refl refl fit.some fit.few refl refl in
+    (begins_admitted system.kernel p new s free below refl) lives_now refl refl fit.some fit.few refl refl refl in
     let changed = begun_kernel system _ w b in
     record { whole = whole_residents _ _ changed.whole; completed = changed.completed; consoles = changed.consoles; steps = changed.steps }
 
@@ -209,10 +208,10 @@ pub whole_picked : (behind : System) (kernel : Kernel) → IsWhole behind → ke
 whole_picked behind kernel w is =
     let P : Kernel → Type 0 = λ k. IsWhole (record behind { kernel = k }) in
     subst P (sym is)
-    (whole_kernel behind _ w (sound_picked behind.kernel false w.sound) (live_picked false behind.kernel w.live) (homes_stay _ _ (procs_picked false behind.kernel)))
+    (whole_kernel behind _ w (sound_picked behind.kernel false w.sound) w.live (homes_stay _ _ refl))
 
-pub handed_picked : (behind : Kernel) (kernel : Kernel) → kernel ≡ picked false behind → behind.completed ≡ [] → kernel.completed ≡ []
-handed_picked behind kernel is none = ap (λ (k : Kernel). k.completed) is ∙ same_picked false behind ∙ none
+pub no_completions_picked : (behind : Kernel) (kernel : Kernel) → kernel ≡ picked false behind → behind.completed ≡ [] → kernel.completed ≡ []
+no_completions_picked behind kernel is none = ap (λ (k : Kernel). k.completed) is ∙ none
 
 -- a process that begins gets its console
 
@@ -237,7 +236,7 @@ sound_begun old now console p a is = subst IsSound (sym is) (sound_gave console 
 
 -- the system as it is reached
 
-pub sound_queued : (kernel queued : Kernel) → IsSound kernel → OnlySystems kernel → refusal kernel.queues command_queue 130 15 ≡ None
+pub sound_queued : (kernel queued : Kernel) → IsSound kernel → OnlySystems kernel → make_error kernel.queues command_queue 130 15 ≡ None
     → queued ≡ with_command_queue kernel → IsSound queued
 sound_queued kernel queued s only none is = subst IsSound (sym is) (begins_queue kernel s only none).sound
 
@@ -318,7 +317,7 @@ no_terminal old now console new is none =
 
 -- all of it
 
-pub first_here : (old behind : System) → IsWhole old → OnlySystems old.kernel → refusal old.kernel.queues command_queue 130 15 ≡ None
+pub first_here : (old behind : System) → IsWhole old → OnlySystems old.kernel → make_error old.kernel.queues command_queue 130 15 ≡ None
     → behind ≡ begun_by_interpreter old → Begun old behind
 first_here old behind w only none is = subst (λ s. Begun old s) (sym is) (first_begun old w only none)
 
@@ -334,7 +333,7 @@ residents_here old first behind kernel consoles is was picks =
 pub record Boots (file : MachineFile) (system : System) : Type 0 where
   pub consoles : file.consoles ≡ system.kernel.consoles
   pub queues : OnlySystems system.kernel
-  pub room : refusal system.kernel.queues command_queue 130 15 ≡ None
+  pub room : make_error system.kernel.queues command_queue 130 15 ≡ None
 
 booted_so : (file : MachineFile) (events : List Timed) → Boots file (booted file events)
 unfolding booted new_kernel

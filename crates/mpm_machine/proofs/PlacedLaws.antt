@@ -1,5 +1,5 @@
 -- Programs that are placed into a machine in which no step was done.
-use Rattle.std.proofs.Common.{◌≡◌, ◌≢◌, ◌∙◌, ℕ, suc, cond, count_by, ◌+◌, ◌-◌, ◌*◌, ◌<◌, ◌≤◌, Bool, true, false, ◌&&◌, if◌then◌else◌, List, [], ◌∷◌, Option, Some, None, All, IsSome, length, codes, get_or, map, inl, inr, refl, sym, ap, subst, arith}
+use Rattle.std.proofs.Common.{◌≡◌, ◌≢◌, ◌∙◌, ℕ, suc, cond, count_by, ◌+◌, ◌-◌, ◌*◌, ◌<◌, ◌≤◌, Bool, false, ◌&&◌, List, [], ◌∷◌, Option, Some, None, All, IsSome, length, codes, get_or, map, inl, inr, refl, sym, ap, subst, arith}
 use Rattle.std.proofs.lemmas.Bool.{cases_eq, false≢true}
 use Rattle.std.proofs.lemmas.Option.{same_Some}
 use Rattle.std.proofs.lemmas.List.{length-map, get_or-map}
@@ -21,12 +21,12 @@ use Rattle.mpm_procs.proofs.CountLaws.{living_added, full_from_none}
 use Rattle.mpm_procs.proofs.MapLaws.{nobody_lives, free_below, free_is_dead, lives_added, lives_added_other, process_added, process_added_other}
 use Rattle.std.specs.List.{AllByRecursion}
 use Rattle.mpm_kernel.specs.Kernel.{Kernel, CompletedLive, is_aborted}
-use Rattle.mpm_kernel.specs.Dispatch.{new_kernel, admitted, stays, picked}
+use Rattle.mpm_kernel.specs.Dispatch.{new_kernel, admitted, picked}
 use Rattle.mpm_kernel.proofs.SoundLaws.{sound_new, sound_admitted, sound_picked}
 use Rattle.mpm_kernel.specs.Consoling.{given}
 use Rattle.mpm_kernel.proofs.GivingLaws.{sound_gave, procs_gave, completed_gave}
 use Rattle.mpm_kernel.proofs.JoinedLaws.{consoles_gave}
-use Rattle.mpm_kernel.proofs.HomeLaws.{aborts_admitted, opening_home, procs_picked}
+use Rattle.mpm_kernel.proofs.HomeLaws.{aborts_admitted, opening_home}
 use Rattle.mpm_script.specs.declared.event.Timed.{Timed}
 use Rattle.mpm_script.specs.Events.{IsTimed}
 use Rattle.mpm_residents.specs.declared.native.Native.{Native}
@@ -38,7 +38,6 @@ use Rattle.mpm_interrupts.specs.declared.interrupts.Interrupts.{Interrupts}
 use Rattle.mpm_machine.specs.State.{IsOccupied, IsWhole}
 use Rattle.mpm_machine.specs.Opening.{base_page, laid_out, placed_process, moment_of, booted, program_file, is_lived_in, is_occupied, IsBare, MayPlace, with_placed, opening_system}
 use Rattle.mpm_machine.proofs.WholeLaws.{nobody_more}
-use Rattle.mpm_machine.proofs.WholeStepLaws.{same_picked}
 use Rattle.mpm_machine.proofs.HomeLaws.{KeepsHomes, keeps_same, keeps_both, keeps_occupied}
 
 -- a program that is laid out changes bytes alone
@@ -91,7 +90,7 @@ whole_placed system p seg name priority console program may free =
     keeps_both _ memory _ (keeps_same _ _ (same_segments_laid_out system.memory seg program)) (keeps_occupied memory seg) in
     let begun = admitted system.kernel p new in
     let kernel = given console None (Some p) begun in
-    let same : (picked false kernel).procs ≡ begun.procs = procs_picked false kernel ∙ procs_gave console None (Some p) begun in
+    let same : (picked false kernel).procs ≡ begun.procs = procs_gave console None (Some p) begun in
     let laid = same_segments_laid_out system.memory seg program in
     let here : IsOccupied (occupied memory seg) seg = allocation_of_allocated memory seg Occupied (omega (arith, laid.count, may.home.exists)) in
     let homes = homes_admitted (IsHome (occupied memory seg)) system.kernel p seg new w.sound.slots free refl (keeps.all seg may.home)
@@ -102,7 +101,7 @@ whole_placed system p seg name priority console program may free =
     record {
       sound = sound_picked kernel false (sound_gave console None (Some p) begun (sound_admitted system.kernel p new w.sound free may.has_console) may.has_console
           (lives_added system.kernel.procs p new (free_below system.kernel.procs p free)));
-      live = nobody_completed (picked false kernel) (same_picked false kernel ∙ completed_gave console None (Some p) begun ∙ may.bare.handed);
+      live = nobody_completed (picked false kernel) (completed_gave console None (Some p) begun ∙ may.bare.no_completions);
       script = w.script;
       settled = λ off. nobody_more system.kernel (picked false kernel)
           (λ q due. aborts_admitted system.kernel p new w.sound.slots free q (ap (λ procs. is_aborted procs q) (sym same) ∙ due)) (w.settled off);
@@ -198,10 +197,10 @@ bare_placed system p seg name priority console program may free =
     let more = living_added system.kernel.procs p new (free_below system.kernel.procs p free) (free_is_dead system.kernel.procs p free) in
     record {
       whole = whole_placed system p seg name priority console program may free;
-      handed = same_picked false kernel ∙ completed_gave console None (Some p) begun ∙ may.bare.handed;
+      no_completions = completed_gave console None (Some p) begun ∙ may.bare.no_completions;
       start = may.bare.start;
       few = omega (arith, count_allocated memory seg Occupied, same.count, may.bare.few);
-      counted = omega (arith, ap living (procs_picked false kernel ∙ procs_gave console None (Some p) begun), more, count, before, may.bare.counted);
+      counted = omega (arith, ap living (procs_gave console None (Some p) begun), more, count, before, may.bare.counted);
     }
 
 -- the machine behind a placement
@@ -222,7 +221,7 @@ pub booted_is_bare : (file : MachineFile) (events : List Timed) → 1 ≤ file.c
 unfolding booted new_kernel new_memory living no_processes
 booted_is_bare file events some few printers count script = record {
   whole = whole_booted file events some few printers script;
-  handed = refl;
+  no_completions = refl;
   start = refl;
   few = omega (arith, length-map file.segments new_segment, count);
   counted = omega (arith, nobody_counts file.segments);
@@ -246,15 +245,7 @@ may_place_booted file events seg console size some few printers count script fit
       room = omega (arith, ap (λ (s : Segment). s.pages) at, room);
     }
 
-same_consoles : (b : Bool) (kernel other : Kernel) → other.consoles ≡ kernel.consoles → (if b then kernel else other).consoles ≡ kernel.consoles
-same_consoles true kernel other e = refl
-same_consoles false kernel other e = e
-
 -- one that can be placed elsewhere still can
-consoles_picked : (instruction : Bool) (kernel : Kernel) → (picked instruction kernel).consoles ≡ kernel.consoles
-unfolding picked
-consoles_picked instruction kernel = same_consoles (instruction && stays kernel kernel.running) kernel _ refl
-
 pub may_place_again : (system : System) (p seg : ℕ) (name : Name8) (priority console : ℕ) (program : List ℕ) (other next size : ℕ)
     → MayPlace system seg console (length program) → lowest_free system.kernel.procs ≡ Some p → other ≢ seg → MayPlace system other next size
     → MayPlace (with_placed system p seg name priority console program) other next size
@@ -271,7 +262,6 @@ may_place_again system p seg name priority console program other next size may f
       empty = ap is_occupied there ∙ ap is_lived_in (same.allocation other) ∙ again.empty;
       has_console = omega (
         arith,
-        consoles_picked false (given console None (Some p) (admitted system.kernel p new)),
         consoles_gave console None (Some p) (admitted system.kernel p new),
         again.has_console,
       );
@@ -293,19 +283,19 @@ pub booted_parts : (file : MachineFile) (events : List Timed) (interrupts : Inte
     → 1 ≤ file.consoles → file.consoles ≤ 8 → file.printers ≤ 4 → length file.segments ≤ 16 → All IsTimed events
     → interrupts ≡ record { tick_every = file.tick_every; ticks = 0; script = events }
     → kernel ≡ new_kernel file.consoles file.printers (moment_of file) → memory ≡ new_memory file.segments → residents ≡ []
-    → IsBare (record { steps = 0; interrupts = interrupts; kernel = kernel; memory = memory; put_off = false; residents = residents })
+    → IsBare (record { steps = 0; interrupts = interrupts; kernel = kernel; memory = memory; abort_deferred = false; residents = residents })
 unfolding booted
 booted_parts file events interrupts kernel memory residents some few printers count script is was there none =
-    let whole : record { steps = 0; interrupts = interrupts; kernel = kernel; memory = memory; put_off = false; residents = residents } ≡ booted file events =
-    ap (λ (r : List Native). record { steps = 0; interrupts = interrupts; kernel = kernel; memory = memory; put_off = false; residents = r }) none
-    ∙ ap (λ (i : Interrupts). record { steps = 0; interrupts = i; kernel = kernel; memory = memory; put_off = false; residents = [] }) is
-    ∙ ap (λ (k : Kernel). record { steps = 0; interrupts = record { tick_every = file.tick_every; ticks = 0; script = events }; kernel = k; memory = memory; put_off = false; residents = [] }) was
+    let whole : record { steps = 0; interrupts = interrupts; kernel = kernel; memory = memory; abort_deferred = false; residents = residents } ≡ booted file events =
+    ap (λ (r : List Native). record { steps = 0; interrupts = interrupts; kernel = kernel; memory = memory; abort_deferred = false; residents = r }) none
+    ∙ ap (λ (i : Interrupts). record { steps = 0; interrupts = i; kernel = kernel; memory = memory; abort_deferred = false; residents = [] }) is
+    ∙ ap (λ (k : Kernel). record { steps = 0; interrupts = record { tick_every = file.tick_every; ticks = 0; script = events }; kernel = k; memory = memory; abort_deferred = false; residents = [] }) was
     ∙ ap (λ (m : Memory). record {
       steps = 0;
       interrupts = record { tick_every = file.tick_every; ticks = 0; script = events };
       kernel = new_kernel file.consoles file.printers (moment_of file);
       memory = m;
-      put_off = false;
+      abort_deferred = false;
       residents = [];
     }) there in
     subst IsBare (sym whole) (booted_is_bare file events some few printers count script)
@@ -313,6 +303,15 @@ booted_parts file events interrupts kernel memory residents some few printers co
 pub booted_program : (file : MachineFile) (events : List Timed) (machine : System) → machine ≡ booted file events → file ≡ program_file → events ≡ []
     → machine ≡ booted program_file []
 booted_program file events machine is was none = is ∙ ap (λ f. booted f events) was ∙ ap (booted program_file) none
+
+first_slot : lowest_free (booted program_file []).kernel.procs ≡ Some 0
+unfolding booted new_kernel lowest_free no_processes
+first_slot = refl
+
+pub opening_is_bare : (program : List ℕ) → length program ≤ 48512 → IsBare (opening_system program)
+unfolding opening_system
+opening_is_bare program few =
+    bare_placed (booted program_file []) 0 0 (record { 0 = codes "PROGRAM " }) 200 0 program (may_place_program (length program) few) first_slot
 
 -- it is process 0
 pub opening_is : (program : List ℕ) (p : ℕ) (machine old : System) → old ≡ booted program_file []

@@ -1,7 +1,12 @@
 -- A step in which no event comes, and in which nobody's held call is completed.
-use Rattle.std.proofs.Common.{◌≡◌, ◌∙◌, Bool, true, false, [], ◌++◌, Option, None, if◌then◌else◌, refl, ap}
+use Rattle.std.proofs.Common.{◌≡◌, ◌∙◌, ℕ, Bool, true, false, [], ◌++◌, Option, None, if◌then◌else◌, refl, ap}
 use Rattle.std.proofs.lemmas.List.{append-nil}
+use Rattle.mpm_ready.specs.Order.{first_of}
+use Rattle.mpm_ready.specs.Tables.{list_at}
+use Rattle.mpm_dispatcher.proofs.ReadyLaws.{same_runner}
 use Rattle.mpm_script.specs.declared.event.Event.{Event}
+use Rattle.mpm_kernel.specs.Kernel.{Kernel, ready}
+use Rattle.mpm_kernel.specs.Dispatch.{picked}
 use Rattle.mpm_interrupts.specs.Interrupts.{due}
 use Rattle.mpm_machine.specs.declared.system.System.{System}
 use Rattle.mpm_machine.specs.State.{Change, silent, NobodyAborted}
@@ -30,24 +35,29 @@ unfolding with_settled settled
 settled_silent system e =
     ap (λ (answered : Change). record {
       system = (with_ends answered.system).system;
-      news = ((with_ends answered.system).news ++ answered.news) ++ [];
+      emitted = ((with_ends answered.system).emitted ++ answered.emitted) ++ [];
     }) (finished_silent system e)
-    ∙ ap (λ news. record { system = (with_ends system).system; news = news ++ [] }) (append-nil (with_ends system).news)
-    ∙ ap (λ news. record { system = (with_ends system).system; news = news }) (append-nil (with_ends system).news)
+    ∙ ap (λ emitted. record { system = (with_ends system).system; emitted = emitted ++ [] }) (append-nil (with_ends system).emitted)
+    ∙ ap (λ emitted. record { system = (with_ends system).system; emitted = emitted }) (append-nil (with_ends system).emitted)
 
 -- where no event comes, and what the running process does says nothing and completes nobody, the step is that, and the ends
 -- that are due
 pub step_quiet : (system behind : System) → coming (counted system) ≡ None → acted (counted system) ≡ silent behind → behind.kernel.completed ≡ []
     → step_of system ≡ dispatched (at_instruction (counted system)) (with_ends behind)
 unfolding step_of
-step_quiet system behind quiet acts handed =
+step_quiet system behind quiet acts no_completions =
     let begun = counted system in
     ap (λ event. dispatched (instruction_unless event begun) (with_settled (begun_by event begun))) quiet
     ∙ ap (λ change. dispatched (at_instruction begun) (with_settled change)) acts
-    ∙ ap (dispatched (at_instruction begun)) (settled_silent behind handed)
+    ∙ ap (dispatched (at_instruction begun)) (settled_silent behind no_completions)
 
 -- where besides nobody is aborted, the step is that alone
 pub step_still : (system behind : System) → coming (counted system) ≡ None → acted (counted system) ≡ silent behind → behind.kernel.completed ≡ []
-    → NobodyAborted behind.kernel → behind.put_off ≡ false → step_of system ≡ dispatched (at_instruction (counted system)) (silent behind)
-step_still system behind quiet acts handed none off =
-    step_quiet system behind quiet acts handed ∙ ap (dispatched (at_instruction (counted system))) (no_ends behind none off)
+    → NobodyAborted behind.kernel → behind.abort_deferred ≡ false → step_of system ≡ dispatched (at_instruction (counted system)) (silent behind)
+step_still system behind quiet acts no_completions none off =
+    step_quiet system behind quiet acts no_completions ∙ ap (dispatched (at_instruction (counted system))) (no_ends behind none off)
+
+-- who runs and is the first of the ready list is picked again, or nobody where there is none
+pub picked_same : (instruction : Bool) (kernel : Kernel) → first_of (list_at kernel.lists ready) ≡ kernel.running → picked instruction kernel ≡ kernel
+picked_same instruction kernel first =
+    ap (λ (running : Option ℕ). record kernel { running = running }) (same_runner instruction kernel.procs kernel.lists kernel.running first)

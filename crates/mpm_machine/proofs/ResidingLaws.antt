@@ -6,12 +6,12 @@ use Rattle.mpm_base.specs.declared.call.Outcome.{Outcome}
 use Rattle.mpm_procs.specs.Table.{Lives, call_of}
 use Rattle.mpm_kernel.specs.Kernel.{Kernel, IsReady}
 use Rattle.mpm_kernel.specs.Calls.{called}
-use Rattle.mpm_residents.specs.Natives.{native_call}
+use Rattle.mpm_residents.specs.Natives.{native_call, native_in, answer_taken}
 use Rattle.mpm_residents.specs.declared.native.Native.{Native}
 use Rattle.mpm_machine.specs.declared.system.System.{System}
 use Rattle.mpm_machine.specs.State.{IsWhole, silent, speaking}
 use Rattle.mpm_machine.specs.Serving.{Served, calling, said_by, behind_echo}
-use Rattle.mpm_machine.specs.Residing.{native_in, asking, asked_by, native_outcome, native_step, resided}
+use Rattle.mpm_machine.specs.Residing.{asking, asked_by, native_outcome, native_step, resided}
 use Rattle.mpm_machine.proofs.WholeLaws.{StaysWhole, Keeps, keeps_asked, whole_calling}
 
 -- the process keeps the call that its resident asks
@@ -82,6 +82,14 @@ nobody_resides p system none = nobody_by (native_in system.residents p) p system
   nobody_by : (o : Option Native) (p : ℕ) (system : System) → is_some o ≡ false → resided o p system ≡ silent system
   nobody_by None p system none = refl
   nobody_by (Some native) p system none = absurd (false≢true (sym none))
+
+-- nor does anybody take an answer
+pub nobody_takes : (reply : Answer) (p : ℕ) (natives : List Native) → is_some (native_in natives p) ≡ false
+    → natives ≡ answer_taken (native_in natives p) reply p natives
+nobody_takes reply p natives none = nobody_by (native_in natives p) none where
+  nobody_by : (o : Option Native) → is_some o ≡ false → natives ≡ answer_taken o reply p natives
+  nobody_by None none = refl
+  nobody_by (Some native) none = absurd (false≢true (sym none))
 
 -- what is said changes no resident
 pub said_has : (call : Taken) (string : List ℕ) (p : ℕ) (old said : System) → is_some (native_in old.residents p) ≡ true

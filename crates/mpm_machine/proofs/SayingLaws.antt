@@ -1,5 +1,5 @@
 -- What a call writes, by its function.
-use Rattle.std.proofs.Common.{◌≡◌, ◌≢◌, ◌∙◌, ℕ, ◌<◌, ◌≤◌, Bool, true, false, ◌&&◌, ◌||◌, ◌==◌, if◌then◌else◌, List, [], ◌∷◌, Option, Result, Ok, Err, OnOk, OnErr, refl, sym, ap, subst, arith}
+use Rattle.std.proofs.Common.{◌≡◌, ◌≢◌, ◌∙◌, ℕ, ◌<◌, ◌≤◌, Bool, true, false, ◌&&◌, ◌||◌, ◌==◌, if◌then◌else◌, List, [], ◌∷◌, Option, refl, sym, ap, subst, arith}
 use Rattle.std.specs.Prelude.{nat_lt}
 use Rattle.std.proofs.lemmas.Bool.Decides.{nat_tests}
 use Rattle.mpm_base.specs.Calls.{Taken}
@@ -10,14 +10,14 @@ use Rattle.mpm_kernel.specs.Columns.{column_of, tab_text, expanded, spoke}
 use Rattle.mpm_kernel.specs.ConsoleInput.{writes}
 use Rattle.mpm_kernel.proofs.SpokeLaws.{spoke_none}
 use Rattle.mpm_render.specs.declared.unit.Unit2.TheVariants.{Printer}
-use Rattle.mpm_render.specs.Shown.{Kept, Shows, EndsBetween}
-use Rattle.mpm_render.specs.Outputs.{Output, Said, said, rendered}
+use Rattle.mpm_render.specs.Shown.{Kept}
+use Rattle.mpm_render.specs.Outputs.{Said, said}
 use Rattle.mpm_render.proofs.Laws.{said_nil, said_cons}
 use Rattle.mpm_machine.specs.declared.system.System.{System}
-use Rattle.mpm_machine.specs.Writing.{spoken, Showed, Stopped}
+use Rattle.mpm_output.specs.Writing.{spoken, Showed}
 use Rattle.mpm_machine.specs.State.{Change, silent, speaking}
 use Rattle.mpm_machine.specs.Serving.{call_text, printed, said_by, echo_of}
-use Rattle.mpm_machine.proofs.WritingLaws.{spoken_nil, spoke_nothing}
+use Rattle.mpm_output.proofs.WritingLaws.{spoken_nil, spoke_nothing}
 
 -- the text that is chosen
 
@@ -42,8 +42,8 @@ is_printed a b byte e f = rw (e, f) refl
 speaks_nothing : (console : ℕ) (system : System) → speaking console [] system ≡ silent system
 unfolding speaking
 speaks_nothing console system =
-    ap (λ kernel. record { system = record system { kernel = kernel }; news = _ }) (spoke_none system.kernel console)
-    ∙ ap (λ news. record { system = system; news = news }) (spoken_nil console)
+    ap (λ kernel. record { system = record system { kernel = kernel }; emitted = _ }) (spoke_none system.kernel console)
+    ∙ ap (λ emitted. record { system = system; emitted = emitted }) (spoken_nil console)
 
 -- what is said where the text is known, and what is printed
 
@@ -54,9 +54,9 @@ unfolding said_by
 said_text call string p system text is none =
     let process = process_in system.kernel.procs p in
     let spoke = speaking process.console text system in
-    ap (λ t. record (speaking process.console t system) { news = said (Printer process.printer) (printed call system.kernel) (speaking process.console t system).news }) is
-    ∙ ap (λ bytes. record spoke { news = said (Printer process.printer) bytes spoke.news }) none
-    ∙ ap (λ news. record spoke { news = news }) (said_nil (Printer process.printer) spoke.news)
+    ap (λ t. record (speaking process.console t system) { emitted = said (Printer process.printer) (printed call system.kernel) (speaking process.console t system).emitted }) is
+    ∙ ap (λ bytes. record spoke { emitted = said (Printer process.printer) bytes spoke.emitted }) none
+    ∙ ap (λ emitted. record spoke { emitted = emitted }) (said_nil (Printer process.printer) spoke.emitted)
 
 pub said_silent : (call : Taken) (string : List ℕ) (p : ℕ) (system : System)
     → call_text call (column_of system.kernel (process_in system.kernel.procs p).console) string ≡ [] → printed call system.kernel ≡ []
@@ -66,18 +66,18 @@ said_silent call string p system is none =
 
 pub said_printed : (call : Taken) (string : List ℕ) (p : ℕ) (system : System) (byte : ℕ)
     → call_text call (column_of system.kernel (process_in system.kernel.procs p).console) string ≡ [] → printed call system.kernel ≡ byte ∷ []
-    → said_by call string p system ≡ record { system = system; news = Said (Printer (process_in system.kernel.procs p).printer) byte ∷ [] }
+    → said_by call string p system ≡ record { system = system; emitted = Said (Printer (process_in system.kernel.procs p).printer) byte ∷ [] }
 unfolding said_by
 said_printed call string p system byte is prints =
     let process = process_in system.kernel.procs p in
-    ap (λ t. record (speaking process.console t system) { news = said (Printer process.printer) (printed call system.kernel) (speaking process.console t system).news }) is
-    ∙ ap (λ (spoke : Change). record spoke { news = said (Printer process.printer) (printed call system.kernel) spoke.news }) (speaks_nothing process.console system)
-    ∙ ap (λ bytes. record { system = system; news = said (Printer process.printer) bytes [] }) prints
-    ∙ ap (λ news. record { system = system; news = news }) (said_cons (Printer process.printer) byte [] [] ∙ said_nil (Printer process.printer) (Said (Printer process.printer) byte ∷ []))
+    ap (λ t. record (speaking process.console t system) { emitted = said (Printer process.printer) (printed call system.kernel) (speaking process.console t system).emitted }) is
+    ∙ ap (λ (spoke : Change). record spoke { emitted = said (Printer process.printer) (printed call system.kernel) spoke.emitted }) (speaks_nothing process.console system)
+    ∙ ap (λ bytes. record { system = system; emitted = said (Printer process.printer) bytes [] }) prints
+    ∙ ap (λ emitted. record { system = system; emitted = emitted }) (said_cons (Printer process.printer) byte [] [] ∙ said_nil (Printer process.printer) (Said (Printer process.printer) byte ∷ []))
 
 -- bytes come to a console, as it is reached
 abbrev pub writing : ℕ → List ℕ → System → Change
-writing console text system = record { system = record system { kernel = spoke system.kernel console text }; news = spoken console text }
+writing console text system = record { system = record system { kernel = spoke system.kernel console text }; emitted = spoken console text }
 
 speaking_is : (console : ℕ) (text : List ℕ) (system : System) → speaking console text system ≡ writing console text system
 unfolding speaking
@@ -147,7 +147,7 @@ writes_not call two four nine direct = grind (arith, nat_tests, two, four, nine,
 
 pub says_printed : (call : Taken) (string : List ℕ) (p : ℕ) (system : System) → call.function ≡ 5 → 0 < system.kernel.printers
     → said_by call string p system
-    ≡ record { system = system; news = Said (Printer (process_in system.kernel.procs p).printer) (low_parameter call) ∷ [] }
+    ≡ record { system = system; emitted = Said (Printer (process_in system.kernel.procs p).printer) (low_parameter call) ∷ [] }
 unfolding call_text
 says_printed call string p system is some =
     said_printed call string p system (low_parameter call)
@@ -198,37 +198,20 @@ string_said call string text p system console is same at =
 
 pub byte_printed : (call : Taken) (string : List ℕ) (p : ℕ) (system : System) (printer byte : ℕ) → call.function ≡ 5 → 0 < system.kernel.printers
     → (process_in system.kernel.procs p).printer ≡ printer → low_parameter call ≡ byte
-    → said_by call string p system ≡ record { system = system; news = Said (Printer printer) byte ∷ [] }
+    → said_by call string p system ≡ record { system = system; emitted = Said (Printer printer) byte ∷ [] }
 byte_printed call string p system printer byte is some at what =
     says_printed call string p system is some
-    ∙ ap (λ n. record { system = system; news = Said (Printer n) (low_parameter call) ∷ [] }) at
-    ∙ ap (λ b. record { system = system; news = Said (Printer printer) b ∷ [] }) what
+    ∙ ap (λ n. record { system = system; emitted = Said (Printer n) (low_parameter call) ∷ [] }) at
+    ∙ ap (λ b. record { system = system; emitted = Said (Printer printer) b ∷ [] }) what
 
 -- no key is echoed by another function
-pub echoes_nothing : (console : ℕ) (kept : Kept) (told : Option (List ℕ)) (call : Taken) (kernel : Kernel) → call.function ≢ 1 → call.function ≢ 10
-    → Showed kept told kept told (spoken console (echo_of call kernel))
-echoes_nothing console kept told call kernel one ten =
-    let P : List ℕ → Type 0 = λ bytes. Showed kept told kept told (spoken console bytes) in
+pub echoes_nothing : (console : ℕ) (kept : Kept) (written : Option (List ℕ)) (call : Taken) (kernel : Kernel) → call.function ≢ 1 → call.function ≢ 10
+    → Showed kept written kept written (spoken console (echo_of call kernel))
+echoes_nothing console kept written call kernel one ten =
+    let P : List ℕ → Type 0 = λ bytes. Showed kept written kept written (spoken console bytes) in
     let first : call.function == 1 ≡ false = grind (arith, nat_tests, one) in
     let second : call.function == 10 ≡ false = grind (arith, nat_tests, ten) in
-    subst P (sym (neither (call.function == 1) (call.function == 10) kernel.echo first second)) (spoke_nothing console kept told)
+    subst P (sym (neither (call.function == 1) (call.function == 10) kernel.echo first second)) (spoke_nothing console kept written)
   where
     neither : (a b : Bool) (bytes : List ℕ) → a ≡ false → b ≡ false → (if a || b then bytes else []) ≡ []
     neither a b bytes e f = rw (e, f) refl
-
--- a byte to a unit, by what the renderer says of it
-
-pub showed_by : {A E : Type 0} (r : Result A E) (k0 : Kept) (t0 : Option (List ℕ)) (k1 : Kept) (t1 : Option (List ℕ)) (o : Output)
-    → ((os : List Output) (first : Option (List ℕ)) → Shows k0 t0 os first → OnOk r (Shows k1 t1 (o ∷ os) first)) → OnOk r (Showed k0 t0 k1 t1 (o ∷ []))
-showed_by (Ok x) k0 t0 k1 t1 o h = record { all = h }
-showed_by (Err e) k0 t0 k1 t1 o h = tt
-
-pub stopped_by : {A E : Type 0} (r : Result A E) (k0 : Kept) (t0 t1 : Option (List ℕ)) (o : Output)
-    → ((os : List Output) (first : Option (List ℕ)) → Shows k0 t0 os first → OnErr r (EndsBetween t1 first (rendered k0.trace os) (rendered k0.trace (o ∷ os))))
-    → OnErr r (Stopped k0 t0 t1 (o ∷ []))
-stopped_by (Ok x) k0 t0 t1 o h = tt
-stopped_by (Err e) k0 t0 t1 o h = record { all = h }
-
-pub on_ok_always : {A E P : Type 0} (r : Result A E) → P → OnOk r P
-on_ok_always (Ok x) p = p
-on_ok_always (Err e) p = tt

@@ -15,11 +15,12 @@ use Rattle.mpm_procs.specs.Table.{Table, process_in}
 use Rattle.mpm_kernel.specs.Kernel.{Kernel}
 use Rattle.mpm_kernel.specs.Calls.{called}
 use Rattle.mpm_xdos.specs.Creating.{home_base, created, create_answer}
-use Rattle.mpm_xdos.specs.Ending.{is_home, left_by, memory_without}
+use Rattle.mpm_xdos.specs.Ending.{is_home, vacated_if_empty, memory_without}
 use Rattle.mpm_xdos.specs.Aborting.{is_resident, waits_to_end, target, memory_behind_abort}
 use Rattle.mpm_machine.specs.declared.system.System.{System}
 use Rattle.mpm_machine.specs.Serving.{asked, keeping, Served, reserve_reply, descriptor_of, base_asked, reserving, releasing, creating, aborted, aborting_this, aborting, calling, served}
 use Rattle.mpm_machine.specs.Contained.{DiffersInBytes, ServedAlike, IsServedByValue}
+use Rattle.mpm_machine.proofs.HomeLaws.{freed_place}
 
 -- the same segment is the lowest that is free
 
@@ -48,9 +49,6 @@ lowest_alike one other base pages same =
     ap (λ place. found place (length other.segments)) first ∙ ap (found (position_or_len (fits base pages) one.segments)) same.count
 
 -- segments that are in the same hands go into the same hands
-
-itself : (memory : Memory) → SameSegments memory memory
-itself memory = record { count = refl; base = λ k. refl; pages = λ k. refl; allocation = λ k. refl }
 
 hands_there : (one other : Memory) (seg : ℕ) (allocation : Allocation) → SameSegments one other
     → (segment_of (allocated other seg allocation) seg).allocation ≡ (segment_of (allocated one seg allocation) seg).allocation
@@ -170,25 +168,17 @@ segment_freed memory owner seg = map_at (freed owner) memory.segments seg no_seg
 abbrev hands_freed : ℕ → Allocation → Allocation
 hands_freed owner allocation = if is_owners owner allocation then Free else allocation
 
-freed_base : (b : Bool) (segment : Segment) → (if b then record segment { allocation = Free } else segment).base ≡ segment.base
-freed_base true segment = refl
-freed_base false segment = refl
-
-freed_pages : (b : Bool) (segment : Segment) → (if b then record segment { allocation = Free } else segment).pages ≡ segment.pages
-freed_pages true segment = refl
-freed_pages false segment = refl
-
 freed_hands : (b : Bool) (segment : Segment) → (if b then record segment { allocation = Free } else segment).allocation ≡ (if b then Free else segment.allocation)
 freed_hands true segment = refl
 freed_hands false segment = refl
 
 base_freed : (memory : Memory) (owner seg : ℕ) → (segment_of (all_released memory owner) seg).base ≡ (segment_of memory seg).base
 base_freed memory owner seg =
-    ap (λ (s : Segment). s.base) (segment_freed memory owner seg) ∙ freed_base (is_owners owner (segment_of memory seg).allocation) (segment_of memory seg)
+    ap (λ (s : Segment). s.base) (segment_freed memory owner seg) ∙ (freed_place owner (segment_of memory seg)).0
 
 pages_freed : (memory : Memory) (owner seg : ℕ) → (segment_of (all_released memory owner) seg).pages ≡ (segment_of memory seg).pages
 pages_freed memory owner seg =
-    ap (λ (s : Segment). s.pages) (segment_freed memory owner seg) ∙ freed_pages (is_owners owner (segment_of memory seg).allocation) (segment_of memory seg)
+    ap (λ (s : Segment). s.pages) (segment_freed memory owner seg) ∙ (freed_place owner (segment_of memory seg)).1
 
 hands_after : (memory : Memory) (owner seg : ℕ) → (segment_of (all_released memory owner) seg).allocation ≡ hands_freed owner (segment_of memory seg).allocation
 hands_after memory owner seg =
@@ -205,14 +195,14 @@ all_released_alike one other owner same = record {
   allocation = λ k. hands_after other owner k ∙ ap (hands_freed owner) (same.allocation k) ∙ sym (hands_after one owner k);
 }
 
-left_alike : (one other : Memory) (procs : Table) (seg : Option ℕ) → SameSegments one other → SameSegments (left_by one procs seg) (left_by other procs seg)
-unfolding left_by
-left_alike one other procs None same = same
-left_alike one other procs (Some seg) same = same_if (is_home procs seg) _ _ _ _ same (allocated_alike one other seg Free same)
+vacated_alike : (one other : Memory) (procs : Table) (seg : Option ℕ) → SameSegments one other → SameSegments (vacated_if_empty one procs seg) (vacated_if_empty other procs seg)
+unfolding vacated_if_empty
+vacated_alike one other procs None same = same
+vacated_alike one other procs (Some seg) same = same_if (is_home procs seg) _ _ _ _ same (allocated_alike one other seg Free same)
 
 without_alike : (one other : Memory) (kernel : Kernel) (p : ℕ) → SameSegments one other → SameSegments (memory_without one kernel p) (memory_without other kernel p)
 unfolding memory_without
-without_alike one other kernel p same = left_alike _ _ _ _ (all_released_alike one other p same)
+without_alike one other kernel p same = vacated_alike _ _ _ _ (all_released_alike one other p same)
 
 aborted_alike : (one other : Memory) (kernel : Kernel) (p : ℕ) → SameSegments one other
     → SameSegments (memory_behind_abort one kernel p false) (memory_behind_abort other kernel p false)

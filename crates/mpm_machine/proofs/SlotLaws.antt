@@ -22,7 +22,7 @@ use Rattle.mpm_machine_file.specs.declared.machine_file.MachineFile.{MachineFile
 use Rattle.mpm_machine.specs.declared.system.System.{System}
 use Rattle.mpm_machine.specs.State.{IsWhole}
 use Rattle.mpm_machine.specs.Opening.{resident_process, with_interpreter, terminal_name, with_terminal, with_terminals, with_command_queue, begun_by_interpreter, with_residents, moment_of, booted, opened}
-use Rattle.mpm_machine.specs.Residing.{native_in}
+use Rattle.mpm_residents.specs.Natives.{native_in}
 use Rattle.mpm_machine.specs.Slots.{HasInterpreter, HasTerminal, HasResidents}
 use Rattle.mpm_machine.proofs.OpeningLaws.{Begun, first_begun, terminal_begun, boots}
 
@@ -214,7 +214,6 @@ interpreter_first file events =
 -- and so behind the dispatcher
 
 picked_too : (n : ℕ) (system : System) → Lodges n system → HasResidents n (record system { kernel = picked false system.kernel })
-unfolding picked
 picked_too n system has = record {
   interpreter = record { lives = has.interpreter.lives; name = has.interpreter.name; unlisted = has.interpreter.unlisted };
   terminals = λ k less.

@@ -3,6 +3,7 @@ use Rattle.std.proofs.Common.{◌≡◌, ◌≢◌, ◌∙◌, ℕ, ◌&&◌, �
 use Rattle.std.proofs.lemmas.Bool.{false≢true, or_right, eq-eqb}
 use Rattle.std.proofs.lemmas.Bool.Decides.{nat_tests}
 use Rattle.std.proofs.lemmas.List.{set-get_or}
+use Rattle.mpm_base.proofs.Choices.{either}
 use Rattle.z80_regs.specs.Outcome.{Outcome}
 use Rattle.z80_regs.specs.declared.regs.Regs.{Regs}
 use Rattle.mpm_base.specs.Calls.{Taken, Answer}
@@ -18,10 +19,9 @@ use Rattle.mpm_procs.specs.Opening.{blank}
 use Rattle.mpm_procs.proofs.MapLaws.{lives_below, lives_changed, process_changed, process_behind, call_behind, call_changed, lives_behind}
 use Rattle.mpm_kernel.specs.Kernel.{Kernel, IsSound, IsReady, CompletedLive, is_aborted, with_changed}
 use Rattle.mpm_kernel.specs.Columns.{spoke}
-use Rattle.mpm_kernel.specs.Dispatch.{stays}
 use Rattle.mpm_kernel.specs.Ending.{discharged}
 use Rattle.mpm_queues.specs.Queues.{waits as waits_at_queues}
-use Rattle.mpm_kernel.proofs.SoundLaws.{sound_changed, sound_call, sound_devices, sound_spoke, sound_called, lives_called, live_called, live_kept, runner_lives}
+use Rattle.mpm_kernel.proofs.SoundLaws.{sound_process, sound_call, sound_devices, sound_spoke, sound_called, lives_called, live_called, live_kept, runner_lives}
 use Rattle.mpm_kernel.proofs.HomeLaws.{SameHomes, homes_stay, lived_in_changed, homes_changed, homes_call, homes_called, call_called, procs_spoke}
 use Rattle.mpm_kernel.proofs.EndingLaws.{ready_waits_at_none, sound_discharged, live_discharged, homes_discharged, lives_discharged, call_discharged}
 use Rattle.mpm_kernel.specs.Procedures.{given_back}
@@ -29,7 +29,7 @@ use Rattle.mpm_kernel.proofs.ProcedureLaws.{stays_given_back, homes_given_back}
 use Rattle.mpm_xdos.specs.Creating.{home_base, created}
 use Rattle.mpm_xdos.specs.Ending.{is_segment, lives_in, memory_without}
 use Rattle.mpm_xdos.specs.Aborting.{is_resident, waits_to_end, with_abort_due, target, behind_abort, memory_behind_abort}
-use Rattle.mpm_xdos.specs.Procedures.{entering, entered, leaving, left}
+use Rattle.mpm_xdos.specs.Procedures.{entering, entered, leaving, returned_from_procedure}
 use Rattle.mpm_xdos.proofs.TargetLaws.{target_lives}
 use Rattle.mpm_xdos.proofs.Homes.{home_here}
 use Rattle.mpm_xdos.proofs.CreatedLaws.{made_created}
@@ -38,13 +38,13 @@ use Rattle.mpm_processor.specs.declared.gate.Gate.{Gate}
 use Rattle.mpm_processor.specs.declared.gate.Gate.TheVariants.{End, Call, Return}
 use Rattle.mpm_processor.specs.Gates.{IsHome}
 use Rattle.mpm_machine.specs.State.{IsWhole, NobodyAborted, speaking}
-use Rattle.mpm_machine.specs.Ending.{ended}
+use Rattle.mpm_machine.specs.Ending.{terminated}
 use Rattle.mpm_machine.specs.Serving.{with_regs, asked, keeping, Served, reserving, releasing, creating, aborted, aborting_this, aborting, calling, served, string_of, said_by, popped, replied, completion, is_entry, with_entry, reply_at_entry, fulfilling, answering_call, completing, returning, outcome_of, gate_step}
-use Rattle.mpm_residents.specs.Natives.{native_call}
+use Rattle.mpm_residents.specs.Natives.{native_call, native_in}
 use Rattle.mpm_residents.specs.declared.native.Native.{Native}
-use Rattle.mpm_machine.specs.Residing.{native_in, asking, native_outcome, native_step, resided}
-use Rattle.mpm_machine.specs.Due.{settled}
-use Rattle.mpm_machine.specs.Step.{illegal, illegal_text, instructed, ran, instruction_at, acted_at, gate_before, acted_by, acted}
+use Rattle.mpm_machine.specs.Residing.{asking, native_outcome, native_step, resided}
+use Rattle.mpm_output.specs.Texts.{illegal_text}
+use Rattle.mpm_machine.specs.Step.{illegal, instructed, ran, instruction_at, acted_at, gate_before, acted_by, acted}
 use Rattle.mpm_machine.proofs.HomeLaws.{KeepsHomes, keeps_placed, keeps_acted, keeps_reserved, keeps_released, leaves_without, free_or_lived, found_is_free}
 
 -- the segment of a process is a home
@@ -111,10 +111,9 @@ pub whole_regs : (p : ℕ) (regs : Regs) (system : System) → IsWhole system �
     → StaysWhole p system (record system { kernel = with_regs system.kernel p regs })
 whole_regs p regs system w h =
     let process = record (process_in system.kernel.procs p) { regs = regs } in
-    let fit = w.sound.fit p h in
     record {
       whole = whole_kernel system _ w
-          (sound_changed system.kernel p process w.sound h (record { console = fit.console; printer = fit.printer; some = fit.some; few = fit.few }))
+          (sound_process system.kernel p process w.sound h refl refl refl refl)
           (live_kept system.kernel (with_changed system.kernel p process) refl (λ q living. lives_changed system.kernel.procs p q process ∙ living) w.live)
           (homes_changed system.kernel p process w.sound.slots h refl refl);
       lives = lives_changed system.kernel.procs p p process ∙ h;
@@ -145,15 +144,6 @@ whole_behind_text system kernel console bytes w is =
     (whole_kernel system _ w (sound_spoke system.kernel console bytes w.sound) (live_spoke system.kernel console bytes w.live)
     (homes_stay _ _ (procs_spoke system.kernel console bytes)))
 
-pub lives_behind_text : (old kernel : Kernel) (console p : ℕ) (bytes : List ℕ) → Lives old.procs p → kernel ≡ spoke old console bytes → Lives kernel.procs p
-lives_behind_text old kernel console p bytes h is =
-    ap (λ (k : Kernel). lives k.procs p) is ∙ ap (λ procs. lives procs p) (procs_spoke old console bytes) ∙ h
-
-pub call_behind_text : (old kernel : Kernel) (console p : ℕ) (bytes : List ℕ) → kernel ≡ spoke old console bytes
-    → call_of kernel.procs p ≡ call_of old.procs p
-call_behind_text old kernel console p bytes is =
-    ap (λ (k : Kernel). call_of k.procs p) is ∙ ap (λ procs. call_of procs p) (procs_spoke old console bytes)
-
 -- a process ends
 
 same_number : (n : ℕ) → (n == n) ≡ true
@@ -162,9 +152,9 @@ same_number n = grind (arith, nat_tests)
 lives_there : (procs : Table) (seg q : ℕ) → Lives procs q → (process_in procs q).seg ≡ Some seg → lives_in procs seg q ≡ true
 lives_there procs seg q living there = ap (λ b. b && is_segment seg (process_in procs q).seg) living ∙ ap (is_segment seg) there ∙ same_number seg
 
-pub whole_ended : (p : ℕ) (system : System) → IsWhole system → Lives system.kernel.procs p → IsWhole (ended p system)
-unfolding ended
-whole_ended p system w h =
+pub whole_terminated : (p : ℕ) (system : System) → IsWhole system → Lives system.kernel.procs p → IsWhole (terminated p system)
+unfolding terminated
+whole_terminated p system w h =
     let gone = record system { kernel = discharged system.kernel p } in
     let whole = whole_kernel system _ w (sound_discharged system.kernel p w.sound h) (live_discharged system.kernel p w.sound h)
     (homes_discharged system.kernel p w.sound h) in
@@ -185,7 +175,7 @@ whole_illegal : (p : ℕ) (system : System) → IsWhole system → Lives system.
 unfolding illegal
 whole_illegal p system w h =
     let spoke = whole_speaking (process_in system.kernel.procs p).console p (illegal_text (process_in system.kernel.procs p).regs.pc) system w h in
-    whole_ended p _ spoke.whole spoke.lives
+    whole_terminated p _ spoke.whole spoke.lives
 
 -- an instruction
 whole_ran : (outcome : Option Outcome) (p seg : ℕ) (system : System) → IsWhole system → Lives system.kernel.procs p → IsWhole (ran outcome p seg system)
@@ -241,10 +231,10 @@ lives_replied reply call p seg old behind h is =
     ap (λ (s : System). lives s.kernel.procs p) is ∙ lives_changed old.kernel.procs p p _ ∙ h
 
 -- the record that follows is that of the call
-pub answered_news : (reply : Answer) (p seg : ℕ) (old behind : System) → behind ≡ replied reply (call_of old.kernel.procs p) p seg old
-    → completion (call_of behind.kernel.procs p) p behind ∷ [] ≡ (answering_call reply (call_of old.kernel.procs p) p seg old).news
+pub answered_emitted : (reply : Answer) (p seg : ℕ) (old behind : System) → behind ≡ replied reply (call_of old.kernel.procs p) p seg old
+    → completion (call_of behind.kernel.procs p) p behind ∷ [] ≡ (answering_call reply (call_of old.kernel.procs p) p seg old).emitted
 unfolding answering_call replied
-answered_news reply p seg old behind is =
+answered_emitted reply p seg old behind is =
     ap (λ (s : System). completion (call_of s.kernel.procs p) p s ∷ []) is
     ∙ ap (λ call. completion call p (replied reply (call_of old.kernel.procs p) p seg old) ∷ []) (call_behind old.kernel.procs p p _)
 
@@ -255,26 +245,21 @@ whole_entered : (p : ℕ) (system : System) → IsWhole system → Lives system.
 unfolding entered entering
 whole_entered p system w h =
     let process = entering (call_of system.kernel.procs p) (process_in system.kernel.procs p) in
-    let fit = w.sound.fit p h in
     record {
       whole = whole_kernel system _ w
-          (sound_changed system.kernel p process w.sound h (record { console = fit.console; printer = fit.printer; some = fit.some; few = fit.few }))
+          (sound_process system.kernel p process w.sound h refl refl refl refl)
           (live_kept system.kernel (with_changed system.kernel p process) refl (λ q living. lives_changed system.kernel.procs p q process ∙ living) w.live)
           (homes_changed system.kernel p process w.sound.slots h refl refl);
       lives = lives_changed system.kernel.procs p p process ∙ h;
       call = call_behind system.kernel.procs p p process;
     }
 
-entry_if : (b : Bool) (p : ℕ) (kernel : Kernel) (system : System) → StaysWhole p system (record system { kernel = kernel }) → StaysWhole p system system
-    → StaysWhole p system (record system { kernel = if b then kernel else system.kernel })
-entry_if true p kernel system is was = is
-entry_if false p kernel system is was = was
-
 pub whole_entry : (reply : Answer) (call : Taken) (p : ℕ) (system : System) → IsWhole system → Lives system.kernel.procs p
     → StaysWhole p system (with_entry reply call p system)
 unfolding with_entry
 whole_entry reply call p system w h =
-    entry_if (is_entry call reply) p (entered p system.kernel) system (whole_entered p system w h) (record { whole = w; lives = h; call = refl })
+    either (λ (kernel : Kernel). StaysWhole p system (record system { kernel = kernel })) (is_entry call reply) _ _
+    (λ _. whole_entered p system w h) (λ _. record { whole = w; lives = h; call = refl })
 
 pub whole_fulfilling : (reply : Answer) (call : Taken) (p seg : ℕ) (system : System) → IsWhole system → Lives system.kernel.procs p
     → IsWhole (fulfilling reply call p seg system).system
@@ -285,7 +270,7 @@ whole_fulfilling reply call p seg system w h =
 
 -- and leaves it
 whole_returning : (p : ℕ) (system : System) → IsWhole system → Lives system.kernel.procs p → IsWhole (returning p system)
-unfolding returning left leaving
+unfolding returning returned_from_procedure leaving
 whole_returning p system w h =
     let stays = stays_given_back p system.kernel w.sound h in
     let behind = record system { kernel = given_back p system.kernel } in
@@ -301,11 +286,6 @@ whole_completing reply call p seg system w h =
     whole_fulfilling reply call p seg _ behind.whole behind.lives
 
 -- a call is done
-whole_if : (p : ℕ) (old : System) (b : Bool) (one other : Served) → StaysWhole p old one.system → StaysWhole p old other.system
-    → StaysWhole p old (if b then one else other).system
-whole_if p old true one other is was = is
-whole_if p old false one other is was = was
-
 whole_banks : (p : ℕ) (memory : Memory) (system : System) → IsWhole system → Lives system.kernel.procs p → KeepsHomes system.memory memory
     → StaysWhole p system (record system { memory = memory })
 whole_banks p memory system w h keeps = record { whole = whole_memory system memory w keeps; lives = h; call = refl }
@@ -335,7 +315,7 @@ abbrev pub aborted_by : Bool → Bool → ℕ → System → System
 aborted_by stays waits p system = record system {
   kernel = if stays then system.kernel else (if waits then with_abort_due system.kernel p else (discharged system.kernel p));
   memory = if stays || waits then system.memory else (memory_without system.memory system.kernel p);
-  put_off = system.put_off || waits;
+  abort_deferred = system.abort_deferred || waits;
 }
 
 pub aborted_is : (stays waits : Bool) (p : ℕ) (system : System) → is_resident system.kernel p ≡ stays → waits_to_end system.kernel p false ≡ waits
@@ -344,12 +324,12 @@ unfolding aborted behind_abort memory_behind_abort
 aborted_is stays waits p system resident e =
     ap (λ b. aborted_by b (waits_to_end system.kernel p false) p system) resident ∙ ap (λ b. aborted_by stays b p system) e
 
-pub ends_at_once : (p : ℕ) (system : System) → aborted_by false false p system ≡ ended p system
-unfolding ended
-ends_at_once p system = ap (λ b. record (ended p system) { put_off = b }) (or_off system.put_off)
+pub ends_at_once : (p : ℕ) (system : System) → aborted_by false false p system ≡ terminated p system
+unfolding terminated
+ends_at_once p system = ap (λ b. record (terminated p system) { abort_deferred = b }) (or_off system.abort_deferred)
 
-pub put_off_is : (p : ℕ) (system : System) → aborted_by false true p system ≡ record system { kernel = with_abort_due system.kernel p; put_off = true }
-put_off_is p system = ap (λ b. record system { kernel = with_abort_due system.kernel p; put_off = b }) (or_on system.put_off)
+pub abort_deferred_is : (p : ℕ) (system : System) → aborted_by false true p system ≡ record system { kernel = with_abort_due system.kernel p; abort_deferred = true }
+abort_deferred_is p system = ap (λ b. record system { kernel = with_abort_due system.kernel p; abort_deferred = b }) (or_on system.abort_deferred)
 
 or_neither : (b c : Bool) → (b || c) ≡ false → b ≡ false
 or_neither true c e = e
@@ -362,18 +342,17 @@ whole_resident waits p system w = record {
   homes = w.homes;
   lived = w.lived;
   script = w.script;
-  settled = λ off. w.settled (or_neither system.put_off waits off);
+  settled = λ off. w.settled (or_neither system.abort_deferred waits off);
 }
 
-pub whole_put_off : (p : ℕ) (system : System) → IsWhole system → Lives system.kernel.procs p
-    → IsWhole (record system { kernel = with_abort_due system.kernel p; put_off = true })
-whole_put_off p system w h =
+pub whole_abort_deferred : (p : ℕ) (system : System) → IsWhole system → Lives system.kernel.procs p
+    → IsWhole (record system { kernel = with_abort_due system.kernel p; abort_deferred = true })
+whole_abort_deferred p system w h =
     let process = record (process_in system.kernel.procs p) { abort_due = true } in
-    let fit = w.sound.fit p h in
     let kernel = with_changed system.kernel p process in
     let there = lived_in_changed system.kernel p process w.sound.slots h refl in
     record {
-      sound = sound_changed system.kernel p process w.sound h (record { console = fit.console; printer = fit.printer; some = fit.some; few = fit.few });
+      sound = sound_process system.kernel p process w.sound h refl refl refl refl;
       live = live_kept system.kernel kernel refl (λ q living. lives_changed system.kernel.procs p q process ∙ living) w.live;
       script = w.script;
       settled = λ off. absurd (false≢true (sym off));
@@ -388,12 +367,12 @@ stays_aborted true waits other p system w h living apart none =
 stays_aborted false true other p system w h living apart none =
     let process = record (process_in system.kernel.procs other) { abort_due = true } in
     record {
-      whole = subst IsWhole (sym (put_off_is other system)) (whole_put_off other system w living);
+      whole = subst IsWhole (sym (abort_deferred_is other system)) (whole_abort_deferred other system w living);
       lives = lives_changed system.kernel.procs other p process ∙ h;
       call = call_behind system.kernel.procs other p process;
     }
 stays_aborted false false other p system w h living apart none = record {
-  whole = subst IsWhole (sym (ends_at_once other system)) (whole_ended other system w living);
+  whole = subst IsWhole (sym (ends_at_once other system)) (whole_terminated other system w living);
   lives = lives_discharged system.kernel other p w.sound living (apart refl) ∙ h;
   call = call_discharged system.kernel other p w.sound living (apart refl) none;
 }
@@ -403,11 +382,6 @@ another : (waits : Bool) (other p : ℕ) → (other == p && not waits) ≡ false
 another true other p e off = absurd (false≢true (sym off))
 another false other p e off = λ same. false≢true (sym e ∙ ap (λ b. b && true) (eq-eqb other p (sym same)))
 
-served_unless : (p : ℕ) (old : System) (b : Bool) (one other : Served) → StaysWhole p old one.system → (b ≡ false → StaysWhole p old other.system)
-    → StaysWhole p old (if b then one else other).system
-served_unless p old true one other is was = is
-served_unless p old false one other is was = was refl
-
 whole_aborting_this : (named : Option ℕ) (p : ℕ) (system : System) → IsWhole system → Lives system.kernel.procs p
     → ((q : ℕ) → named ≡ Some q → Lives system.kernel.procs q) → waits_at_queues system.kernel.queues p ≡ 0
     → StaysWhole p system (aborting_this named p system).system
@@ -415,7 +389,8 @@ whole_aborting_this None p system w h living none = record { whole = w; lives = 
 whole_aborting_this (Some other) p system w h living none =
     let stays = is_resident system.kernel other in
     let waits = waits_to_end system.kernel other false in
-    served_unless p system (other == p && not (waits_to_end system.kernel p false)) _ _ (record { whole = w; lives = h; call = refl }) (λ e.
+    either (λ (s : Served). StaysWhole p system s.system) (other == p && not (waits_to_end system.kernel p false)) _ _
+    (λ _. record { whole = w; lives = h; call = refl }) (λ e.
     subst (StaysWhole p system) (sym (aborted_is stays waits other system refl refl))
     (stays_aborted stays waits other p system w h (living other refl) (apart other p system e) none))
   where
@@ -446,12 +421,12 @@ pub whole_served : (call : Taken) (p : ℕ) (system : System) → IsWhole system
 unfolding served reserving releasing
 whole_served call p system w h ready =
     let f = call.function in
-    whole_if p system (f == 128) _ _ (whole_banks p _ system w h (keeps_reserved system.memory p _ _))
-    (whole_if p system (f == 129) _ _ (whole_banks p _ system w h (keeps_reserved system.memory p _ _))
-    (whole_if p system (f == 130) _ _ (whole_banks p _ system w h (keeps_released system.memory p _))
-    (whole_if p system (f == 144) _ _ (whole_creating p system w h)
-    (whole_if p system (f == 157) _ _ (whole_aborting p system w h ready)
-    (whole_calling p system w h ready)))))
+    let P : Served → Type 0 = λ s. StaysWhole p system s.system in
+    either P (f == 128) _ _ (λ _. whole_banks p _ system w h (keeps_reserved system.memory p _ _))
+    (λ _. either P (f == 129) _ _ (λ _. whole_banks p _ system w h (keeps_reserved system.memory p _ _))
+    (λ _. either P (f == 130) _ _ (λ _. whole_banks p _ system w h (keeps_released system.memory p _))
+    (λ _. either P (f == 144) _ _ (λ _. whole_creating p system w h)
+    (λ _. either P (f == 157) _ _ (λ _. whole_aborting p system w h ready) (λ _. whole_calling p system w h ready)))))
 
 -- a call is taken: the process keeps it, is ready as before, and has its segment
 pub record Keeps (p : ℕ) (taken : Taken) (old new : System) : Type 0 where
@@ -483,7 +458,7 @@ keeps_call p call system w h =
 whole_outcome : (outcome : Ended_how) (reply : Answer) (call : Taken) (p seg : ℕ) (system : System) → IsWhole system → Lives system.kernel.procs p
     → IsWhole (outcome_of outcome reply call p seg system).system
 whole_outcome Done reply call p seg system w h = whole_completing reply call p seg system w h
-whole_outcome Ended reply call p seg system w h = whole_ended p system w h
+whole_outcome Ended reply call p seg system w h = whole_terminated p system w h
 whole_outcome Held reply call p seg system w h = (whole_popped p seg system w h).whole
 whole_outcome Retry reply call p seg system w h = w
 
@@ -520,7 +495,7 @@ whole_residents system residents w = record { sound = w.sound; live = w.live; ho
 whole_native : (outcome : Ended_how) (reply : Answer) (call : Taken) (p : ℕ) (system : System) → IsWhole system → Lives system.kernel.procs p
     → IsWhole (native_outcome outcome reply call p system).system
 whole_native Done reply call p system w h = whole_residents _ _ (whole_said call call.bytes p system w h).whole
-whole_native Ended reply call p system w h = whole_ended p system w h
+whole_native Ended reply call p system w h = whole_terminated p system w h
 whole_native Held reply call p system w h = w
 whole_native Retry reply call p system w h = w
 
@@ -536,7 +511,7 @@ whole_resided (Some native) p system w h ready =
 -- what the running process does
 whole_acted_at : (gate : Option Gate) (p seg : ℕ) (system : System) → IsWhole system → Lives system.kernel.procs p → IsReady system.kernel p
     → IsWhole (acted_at gate p seg system).system
-whole_acted_at (Some End) p seg system w h ready = whole_ended p system w h
+whole_acted_at (Some End) p seg system w h ready = whole_terminated p system w h
 whole_acted_at (Some Call) p seg system w h ready = whole_gate_step p seg system w h ready
 whole_acted_at (Some Return) p seg system w h ready = whole_returning p system w h
 whole_acted_at None p seg system w h ready = whole_instructed (instruction_at p seg system) p seg system w h

@@ -1,44 +1,44 @@
 -- A whole system stays whole through each part of a step: the event, the answers, the ends that are due, and the step.
-use Rattle.std.proofs.Common.{◌≡◌, ◌≢◌, ◌∙◌, ℕ, ◌+◌, ◌&&◌, Bool, true, false, List, [], ◌∷◌, Option, Some, None, if◌then◌else◌, inl, inr, refl, sym, ap, subst, IfSome, All, arith}
+use Rattle.std.proofs.Common.{◌≡◌, ◌∙◌, ℕ, ◌+◌, ◌&&◌, Bool, true, false, List, [], ◌∷◌, Option, Some, None, inl, inr, refl, sym, ap, subst, IfSome, All, arith}
 use Rattle.std.proofs.lemmas.Bool.{and_parts, false≢true}
 use Rattle.std.proofs.lemmas.Bool.Decides.{nat_tests}
 use Rattle.std.specs.List.{range_with_len}
 use Rattle.std.specs.Prelude.{is_some, nat_lt, ◌⊎◌}
+use Rattle.mpm_base.proofs.Choices.{either}
 use Rattle.mpm_procs.specs.Table.{lives, Lives, process_in}
 use Rattle.mpm_procs.proofs.MapLaws.{lives_below}
 use Rattle.mpm_queues.specs.Queues.{lowest}
 use Rattle.mpm_queues.proofs.Finding.{lowest_none}
-use Rattle.mpm_kernel.specs.Kernel.{Kernel, IsSound, CompletedLive, is_aborted}
+use Rattle.mpm_kernel.specs.Kernel.{Kernel, IsSound, is_aborted}
 use Rattle.mpm_script.specs.declared.event.Event.{Event}
 use Rattle.mpm_script.specs.Events.{IsTimed}
-use Rattle.mpm_kernel.specs.Dispatch.{stays, picked}
+use Rattle.mpm_kernel.specs.Dispatch.{picked}
 use Rattle.mpm_kernel.specs.Events.{MayCome, first_completed, happened}
 use Rattle.mpm_kernel.proofs.SoundLaws.{sound_picked, sound_happened, live_happened, sound_completed, live_handed_out, completed_lives, runner_lives}
-use Rattle.mpm_kernel.proofs.HomeLaws.{homes_stay, homes_happened, procs_picked, homes_handed_out, lives_handed_out}
+use Rattle.mpm_kernel.proofs.HomeLaws.{homes_stay, homes_happened, homes_handed_out, lives_handed_out}
 use Rattle.mpm_xdos.specs.Aborting.{is_resident, waits_to_end}
 use Rattle.mpm_machine.specs.declared.system.System.{System}
 use Rattle.mpm_machine.specs.State.{Change, IsWhole, NobodyAborted}
-use Rattle.mpm_machine.specs.Ending.{ended}
-use Rattle.mpm_machine.specs.Serving.{aborted}
+use Rattle.mpm_machine.specs.Ending.{terminated}
 use Rattle.mpm_kernel.specs.Consoling.{abort_taken}
 use Rattle.mpm_kernel.proofs.AbortLaws.{abort_lives, sound_abort_taken}
 use Rattle.mpm_interrupts.specs.Interrupts.{due, behind_due}
 use Rattle.mpm_interrupts.specs.declared.interrupts.Interrupts.{Interrupts}
-use Rattle.mpm_machine.specs.Finishing.{finished, handed, finishing, all_finished}
-use Rattle.mpm_machine.specs.Due.{is_due, ended_if_due, due_ended, is_any_aborted, noted, with_ends, settled}
-use Rattle.mpm_machine.specs.Step.{counted, lets_in, coming, roused, key_aborted, happened_to, event_come, interrupted, begun_by, instruction_unless, with_settled, step_of}
+use Rattle.mpm_machine.specs.Finishing.{finished, completion_dequeued, finishing, all_finished}
+use Rattle.mpm_machine.specs.Due.{is_due, terminated_if_due, due_terminated, is_any_aborted, noted, with_ends, settled}
+use Rattle.mpm_machine.specs.Step.{counted, lets_in, coming, unhalted, key_aborted, happened_to, event_come, interrupted, begun_by, instruction_unless, with_settled, step_of}
 use Rattle.mpm_machine.proofs.InterruptLaws.{due_may}
 use Rattle.mpm_interrupts.proofs.InterruptLaws.{script_behind_due}
 use Rattle.mpm_machine.proofs.FinishLaws.{first_finished, left_completed}
-use Rattle.mpm_machine.proofs.DueLaws.{handed_settled}
-use Rattle.mpm_machine.proofs.WholeLaws.{whole_kernel, whole_steps, whole_regs, whole_ended, aborted_by, aborted_is, ends_at_once, put_off_is, whole_put_off, whole_resident, whole_fulfilling, whole_acted}
+use Rattle.mpm_machine.proofs.DueLaws.{no_completions_settled}
+use Rattle.mpm_machine.proofs.WholeLaws.{whole_kernel, whole_steps, whole_regs, whole_terminated, aborted_by, aborted_is, ends_at_once, abort_deferred_is, whole_abort_deferred, whole_resident, whole_residents, whole_fulfilling, whole_acted}
 
 -- an event comes
 
-whole_roused : (running : Option ℕ) (system : System) → IsWhole system → system.kernel.running ≡ running
-    → IsWhole (record system { kernel = roused running system.kernel })
-whole_roused None system w e = w
-whole_roused (Some p) system w e =
+whole_unhalted : (running : Option ℕ) (system : System) → IsWhole system → system.kernel.running ≡ running
+    → IsWhole (record system { kernel = unhalted running system.kernel })
+whole_unhalted None system w e = w
+whole_unhalted (Some p) system w e =
     (whole_regs p (record (process_in system.kernel.procs p).regs { halted = false }) system w (runner_lives system.kernel p w.sound e)).whole
 
 whole_interrupts : (system : System) (interrupts : Interrupts) → IsWhole system → All IsTimed interrupts.script
@@ -51,36 +51,36 @@ whole_due system interrupts w is =
     let P : Interrupts → Type 0 = λ i. All IsTimed i.script in
     whole_interrupts system interrupts w (subst P (sym is) (script_behind_due system.steps system.interrupts w.script))
 
-pub sound_roused : (system behind : System) → IsWhole system → behind ≡ record system { kernel = roused system.kernel.running system.kernel }
+pub sound_unhalted : (system behind : System) → IsWhole system → behind ≡ record system { kernel = unhalted system.kernel.running system.kernel }
     → IsSound behind.kernel
-sound_roused system behind w is =
+sound_unhalted system behind w is =
     let P : System → Type 0 = λ s. IsSound s.kernel in
-    subst P (sym is) (whole_roused system.kernel.running system w refl).sound
+    subst P (sym is) (whole_unhalted system.kernel.running system w refl).sound
 
 -- an event, behind which the process that it aborts lives
 pub whole_happened : (event : Event) (system behind : System) (kernel : Kernel) → MayCome event → IsWhole system
-    → behind ≡ record system { kernel = roused system.kernel.running system.kernel } → kernel ≡ happened event behind.kernel
+    → behind ≡ record system { kernel = unhalted system.kernel.running system.kernel } → kernel ≡ happened event behind.kernel
     → IsWhole (record behind { kernel = kernel })
 whole_happened event system behind kernel may w is was =
-    let before : IsWhole behind = subst IsWhole (sym is) (whole_roused system.kernel.running system w refl) in
+    let before : IsWhole behind = subst IsWhole (sym is) (whole_unhalted system.kernel.running system w refl) in
     let P : Kernel → Type 0 = λ k. IsWhole (record behind { kernel = k }) in
     subst P (sym was)
     (whole_kernel behind (happened event behind.kernel) before (sound_happened event behind.kernel may before.sound)
     (live_happened event behind.kernel may before.sound) (homes_happened event behind.kernel))
 
 pub aborted_lives : (event : Event) (system behind : System) (kernel : Kernel) → IsWhole system
-    → behind ≡ record system { kernel = roused system.kernel.running system.kernel } → kernel ≡ happened event behind.kernel
+    → behind ≡ record system { kernel = unhalted system.kernel.running system.kernel } → kernel ≡ happened event behind.kernel
     → IfSome kernel.aborted (λ p. Lives kernel.procs p)
 aborted_lives event system behind kernel w is was =
-    let before : IsWhole behind = subst IsWhole (sym is) (whole_roused system.kernel.running system w refl) in
+    let before : IsWhole behind = subst IsWhole (sym is) (whole_unhalted system.kernel.running system w refl) in
     let P : Kernel → Type 0 = λ k. IfSome k.aborted (λ p. Lives k.procs p) in
     subst P (sym was) (abort_lives event behind.kernel before.sound)
 
 whole_aborted_by : (stays waits : Bool) (p : ℕ) (system : System) → IsWhole system → Lives system.kernel.procs p
     → IsWhole (aborted_by stays waits p system)
 whole_aborted_by true waits p system w h = whole_resident waits p system w
-whole_aborted_by false true p system w h = subst IsWhole (sym (put_off_is p system)) (whole_put_off p system w h)
-whole_aborted_by false false p system w h = subst IsWhole (sym (ends_at_once p system)) (whole_ended p system w h)
+whole_aborted_by false true p system w h = subst IsWhole (sym (abort_deferred_is p system)) (whole_abort_deferred p system w h)
+whole_aborted_by false false p system w h = subst IsWhole (sym (ends_at_once p system)) (whole_terminated p system w h)
 
 pub whole_abort_taken : (system : System) → IsWhole system → IsWhole (record system { kernel = abort_taken system.kernel })
 whole_abort_taken system w =
@@ -102,10 +102,10 @@ whole_key_aborted (Some p) system w lives =
 whole_event_come : (event : Event) (system : System) → MayCome event → IsWhole system → IsWhole (event_come event system).system
 unfolding event_come
 whole_event_come event system may w =
-    let roused_system = record system { kernel = roused system.kernel.running system.kernel } in
+    let unhalted_system = record system { kernel = unhalted system.kernel.running system.kernel } in
     whole_key_aborted (happened_to event system).kernel.aborted (happened_to event system)
-    (whole_happened event system roused_system (happened event roused_system.kernel) may w refl refl)
-    (aborted_lives event system roused_system (happened event roused_system.kernel) w refl refl)
+    (whole_happened event system unhalted_system (happened event unhalted_system.kernel) may w refl refl)
+    (aborted_lives event system unhalted_system (happened event unhalted_system.kernel) w refl refl)
 
 whole_interrupted : (event : Event) (system : System) → MayCome event → IsWhole system → IsWhole (interrupted event system).system
 unfolding interrupted
@@ -120,11 +120,11 @@ whole_begun (Some event) system may w = whole_interrupted event system may w
 -- the held calls that were completed are answered
 
 whole_finished : (seg : Option ℕ) (p : ℕ) (system : System) → IsWhole system → Lives system.kernel.procs p → IsWhole (finished seg p system).system
-whole_finished None p system w h = w
+whole_finished None p system w h = whole_residents system _ w
 whole_finished (Some seg) p system w h = whole_fulfilling _ _ p seg system w h
 
-pub whole_handed : (system : System) → IsWhole system → IsWhole (handed system)
-whole_handed system w =
+pub whole_dequeued : (system : System) → IsWhole system → IsWhole (completion_dequeued system)
+whole_dequeued system w =
     whole_kernel system _ w (sound_completed system.kernel w.sound w.live) (live_handed_out system.kernel w.sound w.live)
     (homes_handed_out system.kernel w.sound w.live)
 
@@ -132,7 +132,7 @@ whole_handed system w =
 pub whole_first : (p : ℕ) (system : System) → IsWhole system → first_completed system.kernel.completed ≡ Some p → IsWhole (first_finished p system)
 whole_first p system w first =
     let same = lives_handed_out system.kernel p ∙ completed_lives system.kernel p w.live first in
-    whole_finished (process_in system.kernel.procs p).seg p (handed system) (whole_handed system w) same
+    whole_finished (process_in system.kernel.procs p).seg p (completion_dequeued system) (whole_dequeued system w) same
 
 pub whole_left : (now new : System) (p : ℕ) → IsWhole now → first_completed now.kernel.completed ≡ Some p → new ≡ first_finished p now → IsWhole new
 whole_left now new p w first is = subst IsWhole (sym is) (whole_first p now w first)
@@ -149,28 +149,26 @@ whole_answered system behind w is = subst IsWhole (sym is) (whole_finishing syst
 
 -- the ends that are due come
 
-whole_change : (b : Bool) (one other : Change) → (b ≡ true → IsWhole one.system) → IsWhole other.system → IsWhole (if b then one else other).system
-whole_change true one other is was = is refl
-whole_change false one other is was = was
-
-pub whole_if_due : (p : ℕ) (system : System) → IsWhole system → IsWhole (ended_if_due p system).system
-unfolding ended_if_due
+pub whole_if_due : (p : ℕ) (system : System) → IsWhole system → IsWhole (terminated_if_due p system).system
+unfolding terminated_if_due
 whole_if_due p system w =
-    whole_change (is_due system.kernel p) _ _ (λ due.
+    either (λ (c : Change). IsWhole c.system) (is_due system.kernel p) _ _
+    (λ due.
     let aborted = (and_parts (is_aborted system.kernel.procs p) _ due).0 in
-    whole_finishing _ (ended p system) (whole_ended p system w (and_parts (lives system.kernel.procs p) _ aborted).0) refl) w
+    whole_finishing _ (terminated p system) (whole_terminated p system w (and_parts (lives system.kernel.procs p) _ aborted).0) refl)
+    (λ _. w)
 
-whole_due_ended : (ps : List ℕ) (system : System) → IsWhole system → IsWhole (due_ended ps system).system
-unfolding due_ended
-whole_due_ended [] system w = w
-whole_due_ended (p ∷ ps) system w = whole_due_ended ps (ended_if_due p system).system (whole_if_due p system w)
+pub whole_due_terminated : (ps : List ℕ) (system : System) → IsWhole system → IsWhole (due_terminated ps system).system
+unfolding due_terminated
+whole_due_terminated [] system w = w
+whole_due_terminated (p ∷ ps) system w = whole_due_terminated ps (terminated_if_due p system).system (whole_if_due p system w)
 
 -- a process whose end is due lives, and all is whole behind its end
 pub due_lives : (kernel : Kernel) (p : ℕ) → is_due kernel p ≡ true → Lives kernel.procs p
 due_lives kernel p due = (and_parts (lives kernel.procs p) _ (and_parts (is_aborted kernel.procs p) _ due).0).0
 
-pub whole_due_end : (system behind : System) (p : ℕ) → IsWhole system → is_due system.kernel p ≡ true → behind ≡ ended p system → IsWhole behind
-whole_due_end system behind p w due is = subst IsWhole (sym is) (whole_ended p system w (due_lives system.kernel p due))
+pub whole_due_end : (system behind : System) (p : ℕ) → IsWhole system → is_due system.kernel p ≡ true → behind ≡ terminated p system → IsWhole behind
+whole_due_end system behind p w due is = subst IsWhole (sym is) (whole_terminated p system w (due_lives system.kernel p due))
 
 -- nobody is aborted where none of the slots has one who is
 
@@ -203,7 +201,7 @@ whole_noted system w = record {
   homes = w.homes;
   lived = w.lived;
   script = w.script;
-  settled = λ off. elim (either_off system.put_off _ off) [
+  settled = λ off. elim (either_off system.abort_deferred _ off) [
     | inl was ↦ w.settled was
     | inr none ↦ none_aborted system w none
   ];
@@ -211,7 +209,7 @@ whole_noted system w = record {
 
 whole_with_ends : (system : System) → IsWhole system → IsWhole (with_ends system).system
 unfolding with_ends
-whole_with_ends system w = whole_noted _ (whole_due_ended (range_with_len 0 32) system w)
+whole_with_ends system w = whole_noted _ (whole_due_terminated (range_with_len 0 32) system w)
 
 whole_settled : (system : System) → IsWhole system → IsWhole (settled system).system
 unfolding settled
@@ -228,33 +226,15 @@ whole_settled_all event system may w = whole_settled (begun_by event system).sys
 
 -- the event that comes may come
 
-coming_if : (b : Bool) (event : Option Event) → IfSome event MayCome → IfSome (if b then event else None) MayCome
-coming_if true event may = may
-coming_if false event may = tt
-
 coming_may : (system : System) → IsWhole system → IfSome (coming system) MayCome
 unfolding coming
 coming_may system w =
-    coming_if (lets_in system.kernel.running system.kernel) (due system.steps system.interrupts) (due_may system.steps system.interrupts w.script)
-
--- who is picked leaves whose calls were completed
-live_if : (b : Bool) (one other : Kernel) → CompletedLive one → CompletedLive other → CompletedLive (if b then one else other)
-live_if true one other is was = is
-live_if false one other is was = was
-
-pub live_picked : (instruction : Bool) (kernel : Kernel) → CompletedLive kernel → CompletedLive (picked instruction kernel)
-unfolding picked
-live_picked instruction kernel live = live_if (instruction && stays kernel kernel.running) kernel _ live live
+    either (λ (event : Option Event). IfSome event MayCome) (lets_in system.kernel.running system.kernel) _ _ (λ _. due_may system.steps system.interrupts w.script) (λ _. tt)
 
 -- behind the beginning of a step, and behind its answers
 
 pub whole_behind_begun : (system behind : System) → IsWhole system → behind ≡ (begun_by (coming system) system).system → IsWhole behind
 whole_behind_begun system behind w is = subst IsWhole (sym is) (whole_begun (coming system) system (coming_may system w) w)
-
-pub live_begun : (system behind : System) → IsWhole system → behind ≡ (begun_by (coming system) system).system → CompletedLive behind.kernel
-live_begun system behind w is =
-    let P : System → Type 0 = λ s. CompletedLive s.kernel in
-    subst P (sym is) (whole_begun (coming system) system (coming_may system w) w).live
 
 pub sound_settled : (system begun behind : System) → IsWhole system → begun ≡ (begun_by (coming system) system).system
     → behind ≡ (settled begun).system → IsSound behind.kernel
@@ -263,20 +243,11 @@ sound_settled system begun behind w is was =
     subst P (sym was) (whole_settled begun (whole_behind_begun system begun w is)).sound
 
 -- nobody is left to be handed out behind a step
-
-same_if : (b : Bool) (one other : Kernel) → other.completed ≡ one.completed → (if b then one else other).completed ≡ one.completed
-same_if true one other e = refl
-same_if false one other e = e
-
-pub same_picked : (instruction : Bool) (kernel : Kernel) → (picked instruction kernel).completed ≡ kernel.completed
-unfolding picked
-same_picked instruction kernel = same_if (instruction && stays kernel kernel.running) kernel _ refl
-
-pub handed_step : (begun behind : System) (kernel : Kernel) (instruction : Bool) → behind ≡ (settled begun).system
+pub no_completions_step : (begun behind : System) (kernel : Kernel) (instruction : Bool) → behind ≡ (settled begun).system
     → kernel ≡ picked instruction behind.kernel → kernel.completed ≡ []
-handed_step begun behind kernel instruction is was =
-    ap (λ (k : Kernel). k.completed) was ∙ same_picked instruction behind.kernel ∙ ap (λ (s : System). s.kernel.completed) is
-    ∙ handed_settled begun
+no_completions_step begun behind kernel instruction is was =
+    ap (λ (k : Kernel). k.completed) was ∙ ap (λ (s : System). s.kernel.completed) is
+    ∙ no_completions_settled begun
 
 pub whole_step : (system : System) → IsWhole system → IsWhole (step_of system).system
 unfolding step_of
@@ -286,4 +257,4 @@ whole_step system w =
     let counts = whole_counted system w in
     let instruction = instruction_unless event begun in
     let behind = whole_settled_all event begun (coming_may begun counts) counts in
-    whole_kernel _ _ behind (sound_picked _ instruction behind.sound) (live_picked instruction _ behind.live) (homes_stay _ _ (procs_picked instruction _))
+    whole_kernel _ _ behind (sound_picked _ instruction behind.sound) behind.live (homes_stay _ _ refl)

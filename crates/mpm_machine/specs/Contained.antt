@@ -15,9 +15,9 @@ use Rattle.mpm_machine.specs.declared.system.System.{System}
 use Rattle.mpm_processor.specs.declared.gate.Gate.{Gate}
 use Rattle.mpm_processor.specs.declared.gate.Gate.TheVariants.{End, Call, Return}
 use Rattle.mpm_machine.specs.Serving.{with_regs, asked, keeping, Served, served, string_of, said_by, popped, reply_at_entry}
-use Rattle.mpm_machine.specs.Ending.{ended}
-use Rattle.mpm_machine.specs.Finishing.{finished, handed, all_finished}
-use Rattle.mpm_machine.specs.Due.{is_due, ended_if_due, with_ends}
+use Rattle.mpm_machine.specs.Ending.{terminated}
+use Rattle.mpm_machine.specs.Finishing.{finished, completion_dequeued, all_finished}
+use Rattle.mpm_machine.specs.Due.{is_due, terminated_if_due, with_ends}
 use Rattle.mpm_machine.specs.Step.{instruction_at, gate_before, coming, begun_by, counted, dispatched}
 
 -- the reply that is placed where a call is done: for one that enters a resident procedure the gate that it pushes
@@ -65,7 +65,7 @@ pub record Answers (p : ℕ) (system : System) (seg at : ℕ) : Type 0 where
 unfoldable pub AnswersAmong : List ℕ → System → ℕ → ℕ → Type 0
 AnswersAmong [] system seg at = ⊥
 AnswersAmong (p ∷ ps) system seg at =
-    Answers p (handed system) seg at ⊎ AnswersAmong ps (finished (process_in system.kernel.procs p).seg p (handed system)).system seg at
+    Answers p (completion_dequeued system) seg at ⊎ AnswersAmong ps (finished (process_in system.kernel.procs p).seg p (completion_dequeued system)).system seg at
 
 -- one of those whose held calls were completed
 abbrev pub AnswersOne : System → ℕ → ℕ → Type 0
@@ -73,12 +73,12 @@ AnswersOne system seg at = AnswersAmong system.kernel.completed system seg at
 
 -- a process ends, as that is due, whose end completes such a call
 abbrev pub AnswersAtEnd : ℕ → System → ℕ → ℕ → Type 0
-AnswersAtEnd p system seg at = (is_due system.kernel p ≡ true) × AnswersOne (ended p system) seg at
+AnswersAtEnd p system seg at = (is_due system.kernel p ≡ true) × AnswersOne (terminated p system) seg at
 
 -- so does one of several, as their ends come
 unfoldable pub AnswersAtEnds : List ℕ → System → ℕ → ℕ → Type 0
 AnswersAtEnds [] system seg at = ⊥
-AnswersAtEnds (p ∷ ps) system seg at = AnswersAtEnd p system seg at ⊎ AnswersAtEnds ps (ended_if_due p system).system seg at
+AnswersAtEnds (p ∷ ps) system seg at = AnswersAtEnd p system seg at ⊎ AnswersAtEnds ps (terminated_if_due p system).system seg at
 
 -- in this step such a call is completed, by what the step begins with or by an end that is due
 unfoldable pub IsAnswered : System → ℕ → ℕ → Type 0

@@ -8,23 +8,24 @@ use Rattle.mpm_kernel.specs.Waiting.{completion_reply}
 use Rattle.mpm_machine.specs.declared.system.System.{System}
 use Rattle.mpm_machine.specs.State.{Change, silent}
 use Rattle.mpm_machine.specs.Serving.{fulfilling}
+use Rattle.mpm_machine.specs.Residing.{taking}
 
--- the held call of a process is completed: it is fulfilled in its segment
+-- the held call of a process is completed: it is fulfilled in its segment, and a resident, which has none, takes the answer
 abbrev pub finished : Option ℕ → ℕ → System → Change
-finished None p system = silent system
+finished None p system = silent (taking (completion_reply system.kernel p) p system)
 finished (Some seg) p system = fulfilling (completion_reply system.kernel p) (call_of system.kernel.procs p) p seg system
 
 -- the next process is handed out
-abbrev pub handed : System → System
-handed system = record system { kernel = handed_out system.kernel }
+abbrev pub completion_dequeued : System → System
+completion_dequeued system = record system { kernel = handed_out system.kernel }
 
 -- the held calls of processes, in order
 unfoldable pub finishing : List ℕ → System → Change
 finishing [] system = silent system
 finishing (p ∷ ps) system =
-    let first = finished (process_in system.kernel.procs p).seg p (handed system) in
+    let first = finished (process_in system.kernel.procs p).seg p (completion_dequeued system) in
     let others = finishing ps first.system in
-    record { system = others.system; news = others.news ++ first.news }
+    record { system = others.system; emitted = others.emitted ++ first.emitted }
 
 -- all that were completed
 abbrev pub all_finished : System → Change

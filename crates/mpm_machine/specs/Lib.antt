@@ -1,5 +1,4 @@
 pub mod Gates
-pub mod Writing
 pub mod State
 pub mod Opening
 pub mod Ending

@@ -34,8 +34,8 @@ pub record RunsOn (system : System) (p seg : ℕ) : Type 0 where
   pub running : system.kernel.running ≡ Some p
   pub first : first_of (list_at system.kernel.lists ready) ≡ Some p
   pub home : (process_in system.kernel.procs p).seg ≡ Some seg
-  pub handed : system.kernel.completed ≡ []
-  pub put_off : system.put_off ≡ false
+  pub no_completions : system.kernel.completed ≡ []
+  pub none_deferred : system.abort_deferred ≡ false
   pub settled : NobodyAborted system.kernel
 
 -- a system ran n instructions of a process

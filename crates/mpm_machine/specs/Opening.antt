@@ -70,7 +70,7 @@ booted file events = record {
   interrupts = record { tick_every = file.tick_every; ticks = 0; script = events };
   kernel = new_kernel file.consoles file.printers (moment_of file);
   memory = new_memory file.segments;
-  put_off = false;
+  abort_deferred = false;
   residents = [];
 }
 
@@ -86,7 +86,7 @@ is_occupied segment = is_lived_in segment.allocation
 -- a machine into which programs may be placed: no step was done, and no more processes live than segments are lived in
 pub record IsBare (system : System) : Type 0 where
   pub whole : IsWhole system
-  pub handed : system.kernel.completed ≡ []
+  pub no_completions : system.kernel.completed ≡ []
   pub start : system.steps ≡ 0
   pub few : length system.memory.segments ≤ 16
   pub counted : living system.kernel.procs ≤ count_by is_occupied system.memory.segments

@@ -1,27 +1,19 @@
 -- Residents: processes of the system that run no instructions. In its step each makes one call, whose bytes it has itself, and
 -- goes on by the answer; it reads and writes no memory. (MP/M II System Guide, "Resident System Processes"; User's Guide,
 -- "Terminal Message Processor".)
-use Rattle.std.specs.Prelude.{ℕ, ◌-◌, List, [], Option, Some, None, ◌==◌, slice_get, slice_set, if◌then◌else◌}
+use Rattle.std.specs.Prelude.{ℕ, Option, Some, None}
 use Rattle.mpm_base.specs.Calls.{Taken, Answer}
 use Rattle.mpm_base.specs.declared.call.Outcome.{Outcome}
 use Rattle.mpm_base.specs.declared.call.Outcome.TheVariants.{Done, Held, Retry, Ended}
 use Rattle.mpm_procs.specs.Table.{with_call}
-use Rattle.mpm_residents.specs.Natives.{native_call, native_took}
+use Rattle.mpm_residents.specs.Natives.{native_call, native_in, answer_taken}
 use Rattle.mpm_residents.specs.declared.native.Native.{Native}
 use Rattle.mpm_machine.specs.declared.system.System.{System}
 use Rattle.mpm_machine.specs.State.{Change, silent}
-use Rattle.mpm_machine.specs.Ending.{ended}
+use Rattle.mpm_machine.specs.Ending.{terminated}
 use Rattle.mpm_machine.specs.Serving.{calling, said_by, behind_echo}
 
--- the resident of a slot, if one acts there: they have the slots from 1 on
-abbrev pub native_in : List Native → ℕ → Option Native
-native_in natives p = if p == 0 then None else (slice_get natives (p - 1))
-
--- the residents once the one of a slot took an answer
-abbrev pub answer_taken : Option Native → Answer → ℕ → List Native → List Native
-answer_taken None reply p natives = natives
-answer_taken (Some native) reply p natives = slice_set natives (p - 1) (native_took native reply)
-
+-- the resident of a slot takes the answer to its call
 abbrev pub taking : Answer → ℕ → System → System
 taking reply p system = record system { residents = answer_taken (native_in system.residents p) reply p system.residents }
 
@@ -40,7 +32,7 @@ abbrev pub native_outcome : Outcome → Answer → Taken → ℕ → System → 
 native_outcome Done reply call p system =
     let spoke = said_by call call.bytes p system in
     record spoke { system = taking reply p spoke.system }
-native_outcome Ended reply call p system = silent (ended p system)
+native_outcome Ended reply call p system = silent (terminated p system)
 native_outcome Held reply call p system = silent system
 native_outcome Retry reply call p system = silent system
 

@@ -16,19 +16,19 @@ use Rattle.mpm_gate.specs.Texts.{text_from}
 use Rattle.mpm_gate.specs.declared.take.TextEnd.TheVariants.{Dollar}
 use Rattle.mpm_procs.specs.Table.{process_in, with_call}
 use Rattle.mpm_kernel.specs.Kernel.{Kernel, with_changed}
-use Rattle.mpm_kernel.specs.Calls.{called, refusal}
+use Rattle.mpm_kernel.specs.Calls.{called, failure_code}
 use Rattle.mpm_kernel.specs.Columns.{column_of, expanded, tab_text}
 use Rattle.mpm_kernel.specs.Called.{low_parameter}
 use Rattle.mpm_kernel.specs.ConsoleInput.{writes}
 use Rattle.mpm_xdos.specs.Creating.{home_base, created, create_answer}
 use Rattle.mpm_xdos.specs.Aborting.{waits_to_end, target, behind_abort, memory_behind_abort}
-use Rattle.mpm_xdos.specs.Procedures.{entered, entry_reply, left}
+use Rattle.mpm_xdos.specs.Procedures.{entered, entry_reply, returned_from_procedure}
 use Rattle.mpm_render.specs.declared.unit.Unit2.TheVariants.{Printer}
 use Rattle.mpm_render.specs.Outputs.{Output, Completed, said}
 use Rattle.mpm_machine.specs.declared.system.System.{System}
-use Rattle.mpm_machine.specs.Writing.{spoken}
+use Rattle.mpm_output.specs.Writing.{spoken}
 use Rattle.mpm_machine.specs.State.{Change, silent, speaking}
-use Rattle.mpm_machine.specs.Ending.{ended}
+use Rattle.mpm_machine.specs.Ending.{terminated}
 
 -- a process with its registers changed
 abbrev pub with_regs : Kernel → ℕ → Regs → Kernel
@@ -63,7 +63,7 @@ descriptor_of memory seg = (segment_of memory seg).base ∷ (segment_of memory s
 
 -- the reply to a call that reserves a segment: the descriptor of the one that was found, where the call's parameter points
 abbrev pub reserve_reply : Memory → Taken → Option ℕ → Answer
-reserve_reply memory call None = answering refusal
+reserve_reply memory call None = answering failure_code
 reserve_reply memory call (Some seg) = record (answering 0) { at = call.word; bytes = descriptor_of memory seg }
 
 -- a segment is reserved, of the base page that is given
@@ -83,7 +83,7 @@ releasing call p system =
     record {
       system = record system { memory = released system.memory p seg };
       outcome = Done;
-      reply = answering (if is_reserved system.memory p seg then 0 else refusal);
+      reply = answering (if is_reserved system.memory p seg then 0 else failure_code);
     }
 
 -- processes are created in the caller's segment
@@ -101,12 +101,12 @@ unfoldable pub aborted : ℕ → System → System
 aborted p system = record system {
   kernel = behind_abort system.kernel p false;
   memory = memory_behind_abort system.memory system.kernel p false;
-  put_off = system.put_off || waits_to_end system.kernel p false;
+  abort_deferred = system.abort_deferred || waits_to_end system.kernel p false;
 }
 
 -- the process that a call names is aborted; one that aborts itself ends as by function 143, unless its end is put off
 abbrev pub aborting_this : Option ℕ → ℕ → System → Served
-aborting_this None p system = record { system = system; outcome = Done; reply = answering refusal }
+aborting_this None p system = record { system = system; outcome = Done; reply = answering failure_code }
 aborting_this (Some other) p system =
     if other == p && not (waits_to_end system.kernel p false) then record { system = system; outcome = Ended; reply = answering 0 }
     else (record { system = aborted other system; outcome = Done; reply = answering 0 })
@@ -184,7 +184,7 @@ unfoldable pub said_by : Taken → List ℕ → ℕ → System → Change
 said_by call string p system =
     let process = process_in system.kernel.procs p in
     let spoke = speaking process.console (call_text call (column_of system.kernel process.console) string) system in
-    record spoke { news = said (Printer process.printer) (printed call system.kernel) spoke.news }
+    record spoke { emitted = said (Printer process.printer) (printed call system.kernel) spoke.emitted }
 
 -- what the kernel itself wrote to the console of a process in its call: functions 1 and 10 echo the key that they take
 abbrev pub echo_of : Taken → Kernel → List ℕ
@@ -193,13 +193,13 @@ echo_of call kernel = if call.function == 1 || call.function == 10 then kernel.e
 -- that comes before what else the call brings about
 abbrev pub behind_echo : Taken → ℕ → System → Change → Change
 behind_echo call p system change =
-    record change { news = change.news ++ spoken (process_in system.kernel.procs p).console (echo_of call system.kernel) }
+    record change { emitted = change.emitted ++ spoken (process_in system.kernel.procs p).console (echo_of call system.kernel) }
 
 -- a call whose reply is placed, and then its record
 unfoldable pub answering_call : Answer → Taken → ℕ → ℕ → System → Change
 answering_call reply call p seg system =
     let behind = replied reply call p seg system in
-    record { system = behind; news = completion call p behind ∷ [] }
+    record { system = behind; emitted = completion call p behind ∷ [] }
 
 -- a call 151 got its message, since it is refused by FFFFh alone: its process enters the resident procedure
 abbrev pub is_entry : Taken → Answer → Bool
@@ -224,17 +224,17 @@ unfoldable pub completing : Answer → Taken → ℕ → ℕ → System → Chan
 completing reply call p seg system =
     let spoke = said_by call (string_of call seg system.memory) p system in
     let behind = fulfilling reply call p seg (popped p seg spoke.system) in
-    record { system = behind.system; news = behind.news ++ spoke.news }
+    record { system = behind.system; emitted = behind.emitted ++ spoke.emitted }
 
 -- a process leaves the resident procedure that it is in
 unfoldable pub returning : ℕ → System → System
-returning p system = record system { kernel = left p system.kernel }
+returning p system = record system { kernel = returned_from_procedure p system.kernel }
 
 -- what a served call brings about: the return address is taken as it is done or held, and one that is to be tried again stays
 -- at the gate
 abbrev pub outcome_of : Outcome → Answer → Taken → ℕ → ℕ → System → Change
 outcome_of Done reply call p seg system = completing reply call p seg system
-outcome_of Ended reply call p seg system = silent (ended p system)
+outcome_of Ended reply call p seg system = silent (terminated p system)
 outcome_of Held reply call p seg system = silent (popped p seg system)
 outcome_of Retry reply call p seg system = silent system
 

@@ -7,7 +7,7 @@ use Rattle.mpm_residents.specs.Terminals.{opening}
 use Rattle.mpm_residents.specs.declared.native.Native.TheVariants.{Tmp}
 use Rattle.mpm_machine.specs.declared.system.System.{System}
 use Rattle.mpm_machine.specs.Opening.{terminal_name}
-use Rattle.mpm_machine.specs.Residing.{native_in}
+use Rattle.mpm_residents.specs.Natives.{native_in}
 
 -- slot 0 has the process of the command line interpreter, which stands in no list
 pub record HasInterpreter (system : System) : Type 0 where

@@ -10,7 +10,7 @@ use Rattle.mpm_kernel.specs.Columns.{spoke}
 use Rattle.mpm_render.specs.Outputs.{Output}
 use Rattle.mpm_render.specs.Shown.{Kept, Shows}
 use Rattle.mpm_machine.specs.declared.system.System.{System}
-use Rattle.mpm_machine.specs.Writing.{spoken}
+use Rattle.mpm_output.specs.Writing.{spoken}
 
 -- the system, and all outputs so far, newest first
 pub record State : Type 0 where
@@ -20,21 +20,21 @@ pub record State : Type 0 where
 -- what a part of a step makes of the system, and the outputs that it adds, newest first
 pub record Change : Type 0 where
   pub system : System
-  pub news : List Output
+  pub emitted : List Output
 
 -- nothing is said
 abbrev pub silent : System → Change
-silent system = record { system = system; news = [] }
+silent system = record { system = system; emitted = [] }
 
 -- bytes come to a console as they are
 unfoldable pub speaking : ℕ → List ℕ → System → Change
 speaking console bytes system =
-    record { system = record system { kernel = spoke system.kernel console bytes }; news = spoken console bytes }
+    record { system = record system { kernel = spoke system.kernel console bytes }; emitted = spoken console bytes }
 
 -- a machine, what its renderer keeps and what its sink was told stand for a state, behind a first text
-pub record StandsFor (system : System) (kept : Kept) (told : Option (List ℕ)) (s : State) (first : Option (List ℕ)) : Type 0 where
+pub record StandsFor (system : System) (kept : Kept) (written : Option (List ℕ)) (s : State) (first : Option (List ℕ)) : Type 0 where
   pub parts : system ≡ s.system
-  pub shown : Shows kept told s.outputs first
+  pub shown : Shows kept written s.outputs first
 
 -- processes live in the segment
 abbrev pub IsOccupied : Memory → ℕ → Type 0
@@ -53,4 +53,4 @@ pub record IsWhole (system : System) : Type 0 where
   pub homes : (p seg : ℕ) → Lives system.kernel.procs p → (process_in system.kernel.procs p).seg ≡ Some seg → IsHome system.memory seg
   pub lived : (p seg : ℕ) → Lives system.kernel.procs p → (process_in system.kernel.procs p).seg ≡ Some seg → IsOccupied system.memory seg
   pub script : All IsTimed system.interrupts.script
-  pub settled : system.put_off ≡ false → NobodyAborted system.kernel
+  pub settled : system.abort_deferred ≡ false → NobodyAborted system.kernel

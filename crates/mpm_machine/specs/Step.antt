@@ -1,5 +1,5 @@
 -- One step, and n steps.
-use Rattle.std.specs.Prelude.{ℕ, zero, suc, ◌+◌, ◌-◌, ◌<◌, ◌≤◌, Bool, true, false, not, ◌&&◌, if◌then◌else◌, List, [], ◌∷◌, ◌++◌, Option, Some, None, codes}
+use Rattle.std.specs.Prelude.{ℕ, zero, suc, ◌+◌, ◌-◌, ◌<◌, ◌≤◌, Bool, true, false, not, ◌&&◌, ◌||◌, if◌then◌else◌, List, [], ◌++◌, Option, Some, None, is_none}
 use Rattle.z80_regs.specs.Outcome.{Outcome}
 use Rattle.z80_ext.specs.Instruction.{instruction, registers_after, actions_of}
 use Rattle.mpm_banks.specs.Memory.{byte_at}
@@ -12,7 +12,6 @@ use Rattle.mpm_kernel.specs.Kernel.{Kernel}
 use Rattle.mpm_kernel.specs.Dispatch.{picked}
 use Rattle.mpm_kernel.specs.Events.{happened}
 use Rattle.mpm_kernel.specs.Consoling.{abort_taken}
-use Rattle.mpm_render.specs.Lines.{hex_word}
 use Rattle.mpm_render.specs.Outputs.{Output, rendered}
 use Rattle.mpm_render.specs.Shown.{EndsBetween}
 use Rattle.mpm_processor.specs.Gates.{gate_of}
@@ -20,24 +19,22 @@ use Rattle.mpm_processor.specs.declared.gate.Gate.{Gate}
 use Rattle.mpm_processor.specs.declared.gate.Gate.TheVariants.{End, Call, Return}
 use Rattle.mpm_machine.specs.Gates.{is_inside}
 use Rattle.mpm_machine.specs.declared.system.System.{System}
-use Rattle.mpm_machine.specs.Writing.{spoken}
+use Rattle.mpm_output.specs.Writing.{spoken}
+use Rattle.mpm_output.specs.Texts.{illegal_text}
 use Rattle.mpm_machine.specs.State.{State, Change, silent, speaking}
-use Rattle.mpm_machine.specs.Ending.{ended}
+use Rattle.mpm_machine.specs.Ending.{terminated}
 use Rattle.mpm_machine.specs.Serving.{with_regs, aborted, gate_step, returning}
-use Rattle.mpm_machine.specs.Residing.{native_in, resided}
+use Rattle.mpm_residents.specs.Natives.{native_in}
+use Rattle.mpm_machine.specs.Residing.{resided}
 use Rattle.mpm_machine.specs.Due.{settled}
 use Rattle.mpm_interrupts.specs.Interrupts.{due, behind_due}
-
--- what the kernel writes where a process comes to an unlisted opcode
-unfoldable pub illegal_text : ℕ → List ℕ
-illegal_text address = codes "Illegal instruction at " ++ (hex_word address ++ (13 ∷ 10 ∷ []))
 
 -- a process comes to an unlisted opcode: a text on its console, and its end
 unfoldable pub illegal : ℕ → System → Change
 illegal p system =
     let process = process_in system.kernel.procs p in
     let spoke = speaking process.console (illegal_text process.regs.pc) system in
-    record spoke { system = ended p spoke.system }
+    record spoke { system = terminated p spoke.system }
 
 -- the system behind an instruction of a process
 unfoldable pub ran : Option Outcome → ℕ → ℕ → System → System
@@ -61,7 +58,7 @@ instruction_at p seg system =
 -- what a process of a segment does: at its gates it ends, calls the kernel, or leaves its resident procedure; elsewhere an
 -- instruction stands
 abbrev pub acted_at : Option Gate → ℕ → ℕ → System → Change
-acted_at (Some End) p seg system = silent (ended p system)
+acted_at (Some End) p seg system = silent (terminated p system)
 acted_at (Some Call) p seg system = gate_step p seg system
 acted_at (Some Return) p seg system = silent (returning p system)
 acted_at None p seg system = instructed (instruction_at p seg system) p seg system
@@ -98,10 +95,13 @@ instruction_by (Some p) (Some seg) system = is_no_gate (gate_before p seg system
 unfoldable pub at_instruction : System → Bool
 at_instruction system = instruction_by system.kernel.running (running_segment system.kernel.running system) system
 
--- an interrupt may come: no process runs, or the one that runs has interrupts on, and no EI that has not taken effect yet
+-- an interrupt may come: no process runs, or a resident does, which has no segment, or the process that runs has interrupts on
+-- and no EI that has not taken effect yet
 abbrev pub lets_in : Option ℕ → Kernel → Bool
 lets_in None kernel = true
-lets_in (Some p) kernel = let regs = (process_in kernel.procs p).regs in regs.iff1 && not regs.shadow
+lets_in (Some p) kernel =
+    let process = process_in kernel.procs p in
+    is_none process.seg || (process.regs.iff1 && not process.regs.shadow)
 
 -- the event that comes in a step
 unfoldable pub coming : System → Option Event
@@ -109,9 +109,9 @@ coming system =
     if lets_in system.kernel.running system.kernel then due system.steps system.interrupts else None
 
 -- the process that runs waits for an interrupt no more
-abbrev pub roused : Option ℕ → Kernel → Kernel
-roused None kernel = kernel
-roused (Some p) kernel = with_regs kernel p (record (process_in kernel.procs p).regs { halted = false })
+abbrev pub unhalted : Option ℕ → Kernel → Kernel
+unhalted None kernel = kernel
+unhalted (Some p) kernel = with_regs kernel p (record (process_in kernel.procs p).regs { halted = false })
 
 -- the process that a key aborts, if any: it ends, or its end is put off
 abbrev pub key_aborted : Option ℕ → System → System
@@ -127,13 +127,13 @@ event_text (Int flag) kernel = []
 
 -- an event comes, and who waits for it becomes ready
 abbrev pub happened_to : Event → System → System
-happened_to event system = record system { kernel = happened event (roused system.kernel.running system.kernel) }
+happened_to event system = record system { kernel = happened event (unhalted system.kernel.running system.kernel) }
 
 -- the change that an event brings about
 unfoldable pub event_come : Event → System → Change
 event_come event system =
     let behind = happened_to event system in
-    record { system = key_aborted behind.kernel.aborted behind; news = event_text event behind.kernel }
+    record { system = key_aborted behind.kernel.aborted behind; emitted = event_text event behind.kernel }
 
 -- the event that is due comes
 unfoldable pub interrupted : Event → System → Change
@@ -158,7 +158,7 @@ instruction_unless (Some event) system = false
 unfoldable pub with_settled : Change → Change
 with_settled change =
     let behind = settled change.system in
-    record { system = behind.system; news = behind.news ++ change.news }
+    record { system = behind.system; emitted = behind.emitted ++ change.emitted }
 
 -- one more step counted
 abbrev pub counted : System → System
@@ -177,17 +177,21 @@ step_of system =
 
 -- one step
 unfoldable pub next : State → State
-next s = record { system = (step_of s.system).system; outputs = (step_of s.system).news ++ s.outputs }
+next s = record { system = (step_of s.system).system; outputs = (step_of s.system).emitted ++ s.outputs }
 
 -- n steps
 unfoldable pub after : ℕ → State → State
 after zero s = s
 after (suc n) s = next (after n s)
 
+-- a system behind n steps, whatever was written before them
+abbrev pub system_after : ℕ → System → System
+system_after n system = (after n (record { system = system; outputs = [] })).system
+
 -- writing stopped in that step, one of the n steps behind a state: all of the steps before it was written, and then a
 -- part of what it writes, which isn't empty
-pub record EndsInStep (trace : Bool) (told first : Option (List ℕ)) (s : State) (n step : ℕ) : Type 0 where
+pub record EndsInStep (trace : Bool) (written first : Option (List ℕ)) (s : State) (n step : ℕ) : Type 0 where
   pub later : s.system.steps < step
   pub within : step ≤ s.system.steps + n
-  pub text : EndsBetween told first (rendered trace (after (step - 1 - s.system.steps) s).outputs)
+  pub text : EndsBetween written first (rendered trace (after (step - 1 - s.system.steps) s).outputs)
       (rendered trace (after (step - s.system.steps) s).outputs)

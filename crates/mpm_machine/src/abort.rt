@@ -40,6 +40,6 @@ impl System {
     {
         let waits = self.kernel.holds(p);
         mpm_xdos::abort(&mut self.kernel, &mut self.memory, p, false);
-        self.put_off = self.put_off || waits;
+        self.abort_deferred = self.abort_deferred || waits;
     }
 }

@@ -1,14 +1,13 @@
-ghost use Rattle.std.specs.Prelude.{◌∷◌, [], ◌≡◌, ◌≢◌, List, ◌<◌, ◌≤◌, ◌%◌, ℕ, Some, OnOk, OnErr, length, slice_index};
+ghost use Rattle.std.specs.Prelude.{◌∷◌, [], ◌≡◌, ◌≢◌, List, ◌<◌, ◌≤◌, ◌%◌, ℕ, Some, OnOk, OnErr, length};
 ghost use Rattle.mpm_port.specs.Causes.{HasCause};
 ghost use Rattle.mpm_base.specs.declared.call.Outcome.TheVariants.{Done};
-ghost use Rattle.mpm_base.specs.Calls.{answering};
 ghost use Rattle.mpm_procs.specs.Table.{Lives, process_in, call_of};
 ghost use Rattle.mpm_kernel.specs.Kernel.{IsReady};
-ghost use Rattle.mpm_machine.specs.Writing.{spoken, Showed, Stopped};
+ghost use Rattle.mpm_output.specs.Writing.{spoken, Showed, Stopped};
 
-use crate::console::{put_bytes, write_bytes, write_string, write_tabbed};
 use crate::system::System;
 use mpm_base::{Outcome, Pid, Reply, Seg};
+use mpm_output::{put_bytes, write_bytes, write_string, write_tabbed};
 use mpm_port::{Failed, Sink};
 use mpm_render::{Render, Unit2};
 
@@ -23,10 +22,9 @@ const ALLOCATED: u8 = 0x80;
 
 impl System {
     ghost use Rattle.mpm_banks.specs.Allocations.{released, is_reserved};
-    ghost use Rattle.mpm_processor.specs.Gates.{IsHome};
     ghost use Rattle.mpm_machine.specs.State.{IsWhole};
-    ghost use Rattle.mpm_machine.specs.Serving.{asked, keeping, IsTaken, served, reserving, releasing, creating, calling, base_asked, string_of, said_by, echo_of, popped, replied, answering_call, fulfilling, completing, completion, outcome_of, gate_step};
-    ghost use Rattle.mpm_machine.specs.Ending.{ended};
+    ghost use Rattle.mpm_machine.specs.Serving.{asked, keeping, IsTaken, served, reserving, releasing, creating, base_asked, string_of, said_by, echo_of, popped, replied, answering_call, fulfilling, completing, completion, outcome_of, gate_step};
+    ghost use Rattle.mpm_machine.specs.Ending.{terminated};
 
     /// The gate step of a kernel call of a process of a segment.
     pub fn call<S: Sink>(
@@ -42,8 +40,8 @@ impl System {
         requires ready { IsReady self.old.kernel p }
         requires home { (process_in self.old.kernel.procs p).seg ≡ Some seg }
         ensures system { OnOk result (self.new ≡ (gate_step p seg self.old).system) }
-        ensures ok { OnOk result (Showed render.old (S.written sink.old) render.new (S.written sink.new) (gate_step p seg self.old).news) }
-        ensures err { OnErr result (Stopped render.old (S.written sink.old) (S.written sink.new) (gate_step p seg self.old).news) }
+        ensures ok { OnOk result (Showed render.old (S.written sink.old) render.new (S.written sink.new) (gate_step p seg self.old).emitted) }
+        ensures err { OnErr result (Stopped render.old (S.written sink.old) (S.written sink.new) (gate_step p seg self.old).emitted) }
         ensures cause { HasCause (S.faults sink.old) (S.faults sink.new) result }
         ensures trace { render.new.trace ≡ render.old.trace }
     {
@@ -66,8 +64,8 @@ impl System {
         requires whole { IsWhole self.old }
         requires lives { Lives self.old.kernel.procs p }
         ensures system { OnOk result (self.new ≡ (outcome_of outcome reply.old (call_of self.old.kernel.procs p) p seg self.old).system) }
-        ensures ok { OnOk result (Showed render.old (S.written sink.old) render.new (S.written sink.new) (outcome_of outcome reply.old (call_of self.old.kernel.procs p) p seg self.old).news) }
-        ensures err { OnErr result (Stopped render.old (S.written sink.old) (S.written sink.new) (outcome_of outcome reply.old (call_of self.old.kernel.procs p) p seg self.old).news) }
+        ensures ok { OnOk result (Showed render.old (S.written sink.old) render.new (S.written sink.new) (outcome_of outcome reply.old (call_of self.old.kernel.procs p) p seg self.old).emitted) }
+        ensures err { OnErr result (Stopped render.old (S.written sink.old) (S.written sink.new) (outcome_of outcome reply.old (call_of self.old.kernel.procs p) p seg self.old).emitted) }
         ensures cause { HasCause (S.faults sink.old) (S.faults sink.new) result }
         ensures trace { render.new.trace ≡ render.old.trace }
     {
@@ -197,8 +195,8 @@ impl System {
         requires whole { IsWhole self.old }
         requires lives { Lives self.old.kernel.procs p }
         ensures system { OnOk result (self.new ≡ (completing reply.old (call_of self.old.kernel.procs p) p seg self.old).system) }
-        ensures ok { OnOk result (Showed render.old (S.written sink.old) render.new (S.written sink.new) (completing reply.old (call_of self.old.kernel.procs p) p seg self.old).news) }
-        ensures err { OnErr result (Stopped render.old (S.written sink.old) (S.written sink.new) (completing reply.old (call_of self.old.kernel.procs p) p seg self.old).news) }
+        ensures ok { OnOk result (Showed render.old (S.written sink.old) render.new (S.written sink.new) (completing reply.old (call_of self.old.kernel.procs p) p seg self.old).emitted) }
+        ensures err { OnErr result (Stopped render.old (S.written sink.old) (S.written sink.new) (completing reply.old (call_of self.old.kernel.procs p) p seg self.old).emitted) }
         ensures cause { HasCause (S.faults sink.old) (S.faults sink.new) result }
         ensures trace { render.new.trace ≡ render.old.trace }
     {
@@ -222,8 +220,8 @@ impl System {
         requires whole { IsWhole self.old }
         requires lives { Lives self.old.kernel.procs p }
         ensures system { OnOk result (self.new ≡ (fulfilling reply.old (call_of self.old.kernel.procs p) p seg self.old).system) }
-        ensures ok { OnOk result (Showed render.old (S.written sink.old) render.new (S.written sink.new) (fulfilling reply.old (call_of self.old.kernel.procs p) p seg self.old).news) }
-        ensures err { OnErr result (Stopped render.old (S.written sink.old) (S.written sink.new) (fulfilling reply.old (call_of self.old.kernel.procs p) p seg self.old).news) }
+        ensures ok { OnOk result (Showed render.old (S.written sink.old) render.new (S.written sink.new) (fulfilling reply.old (call_of self.old.kernel.procs p) p seg self.old).emitted) }
+        ensures err { OnErr result (Stopped render.old (S.written sink.old) (S.written sink.new) (fulfilling reply.old (call_of self.old.kernel.procs p) p seg self.old).emitted) }
         ensures cause { HasCause (S.faults sink.old) (S.faults sink.new) result }
         ensures trace { render.new.trace ≡ render.old.trace }
     {
@@ -244,8 +242,8 @@ impl System {
     ) -> Result<(), Failed>
         requires lives { Lives self.old.kernel.procs p }
         ensures system { OnOk result (self.new ≡ (answering_call reply.now (call_of self.old.kernel.procs p) p seg self.old).system) }
-        ensures ok { OnOk result (Showed render.old (S.written sink.old) render.new (S.written sink.new) (answering_call reply.now (call_of self.old.kernel.procs p) p seg self.old).news) }
-        ensures err { OnErr result (Stopped render.old (S.written sink.old) (S.written sink.new) (answering_call reply.now (call_of self.old.kernel.procs p) p seg self.old).news) }
+        ensures ok { OnOk result (Showed render.old (S.written sink.old) render.new (S.written sink.new) (answering_call reply.now (call_of self.old.kernel.procs p) p seg self.old).emitted) }
+        ensures err { OnErr result (Stopped render.old (S.written sink.old) (S.written sink.new) (answering_call reply.now (call_of self.old.kernel.procs p) p seg self.old).emitted) }
         ensures cause { HasCause (S.faults sink.old) (S.faults sink.new) result }
         ensures trace { render.new.trace ≡ render.old.trace }
     {
@@ -265,9 +263,9 @@ impl System {
         requires lives { Lives self.old.kernel.procs p }
         ensures system { OnOk result (self.new ≡ (said_by (call_of self.old.kernel.procs p) (string_of (call_of self.old.kernel.procs p) seg self.old.memory) p self.old).system) }
         ensures ok { OnOk result (Showed render.old (S.written sink.old) render.new (S.written sink.new)
-            (said_by (call_of self.old.kernel.procs p) (string_of (call_of self.old.kernel.procs p) seg self.old.memory) p self.old).news) }
+            (said_by (call_of self.old.kernel.procs p) (string_of (call_of self.old.kernel.procs p) seg self.old.memory) p self.old).emitted) }
         ensures err { OnErr result (Stopped render.old (S.written sink.old) (S.written sink.new)
-            (said_by (call_of self.old.kernel.procs p) (string_of (call_of self.old.kernel.procs p) seg self.old.memory) p self.old).news) }
+            (said_by (call_of self.old.kernel.procs p) (string_of (call_of self.old.kernel.procs p) seg self.old.memory) p self.old).emitted) }
         ensures cause { HasCause (S.faults sink.old) (S.faults sink.new) result }
         ensures trace { render.new.trace ≡ render.old.trace }
     {
@@ -300,9 +298,9 @@ impl System {
         requires byte { (call_of self.old.kernel.procs p).function ≢ 9 }
         ensures system { (string : List ℕ) → OnOk result (self.new ≡ (said_by (call_of self.old.kernel.procs p) string p self.old).system) }
         ensures ok { (string : List ℕ) → OnOk result (Showed render.old (S.written sink.old) render.new (S.written sink.new)
-            (said_by (call_of self.old.kernel.procs p) string p self.old).news) }
+            (said_by (call_of self.old.kernel.procs p) string p self.old).emitted) }
         ensures err { (string : List ℕ) → OnErr result (Stopped render.old (S.written sink.old) (S.written sink.new)
-            (said_by (call_of self.old.kernel.procs p) string p self.old).news) }
+            (said_by (call_of self.old.kernel.procs p) string p self.old).emitted) }
         ensures cause { HasCause (S.faults sink.old) (S.faults sink.new) result }
         ensures trace { render.new.trace ≡ render.old.trace }
     {
@@ -398,11 +396,11 @@ impl System {
     }
 
     /// A process ends, and gives back what it had.
-    #[tactic(auto, using(crate::proofs::WholeLaws::segment_is_there), unfolding(crate::specs::Ending::ended))]
+    #[tactic(auto, using(crate::proofs::WholeLaws::segment_is_there), unfolding(crate::specs::Ending::terminated))]
     pub fn end(&mut self, p: Pid)
         requires whole { IsWhole self.old }
         requires lives { Lives self.old.kernel.procs p }
-        ensures { self.new ≡ ended p self.old }
+        ensures { self.new ≡ terminated p self.old }
     {
         mpm_xdos::end(&mut self.kernel, &mut self.memory, p);
     }

@@ -1,6 +1,6 @@
 ghost use Rattle.std.specs.Prelude.{◌≡◌, OnOk, OnErr};
 ghost use Rattle.mpm_port.specs.Causes.{HasCause};
-ghost use Rattle.mpm_machine.specs.Writing.{Showed, Stopped};
+ghost use Rattle.mpm_output.specs.Writing.{Showed, Stopped};
 
 use crate::system::System;
 use mpm_base::{Pid, Reply};
@@ -10,7 +10,7 @@ use mpm_render::Render;
 impl System {
     ghost use Rattle.mpm_kernel.specs.Kernel.{is_aborted};
     ghost use Rattle.mpm_machine.specs.State.{IsWhole};
-    ghost use Rattle.mpm_machine.specs.Due.{is_due, is_any_aborted, noted, ended_if_due, all_due_ended, with_ends, settled};
+    ghost use Rattle.mpm_machine.specs.Due.{is_due, is_any_aborted, noted, terminated_if_due, all_due_terminated, with_ends, settled};
 
     /// The end of a step: the held calls that were completed are answered, and then the ends that are due come.
     #[tactic(auto, using(crate::proofs::WholeStepLaws::whole_answered), unfolding(crate::specs::Due::settled))]
@@ -22,8 +22,8 @@ impl System {
     ) -> Result<(), Failed>
         requires whole { IsWhole self.old }
         ensures system { OnOk result (self.new ≡ (settled self.old).system) }
-        ensures ok { OnOk result (Showed render.old (S.written sink.old) render.new (S.written sink.new) (settled self.old).news) }
-        ensures err { OnErr result (Stopped render.old (S.written sink.old) (S.written sink.new) (settled self.old).news) }
+        ensures ok { OnOk result (Showed render.old (S.written sink.old) render.new (S.written sink.new) (settled self.old).emitted) }
+        ensures err { OnErr result (Stopped render.old (S.written sink.old) (S.written sink.new) (settled self.old).emitted) }
         ensures cause { HasCause (S.faults sink.old) (S.faults sink.new) result }
         ensures trace { render.new.trace ≡ render.old.trace }
     {
@@ -41,12 +41,12 @@ impl System {
     ) -> Result<(), Failed>
         requires whole { IsWhole self.old }
         ensures system { OnOk result (self.new ≡ (with_ends self.old).system) }
-        ensures ok { OnOk result (Showed render.old (S.written sink.old) render.new (S.written sink.new) (with_ends self.old).news) }
-        ensures err { OnErr result (Stopped render.old (S.written sink.old) (S.written sink.new) (with_ends self.old).news) }
+        ensures ok { OnOk result (Showed render.old (S.written sink.old) render.new (S.written sink.new) (with_ends self.old).emitted) }
+        ensures err { OnErr result (Stopped render.old (S.written sink.old) (S.written sink.new) (with_ends self.old).emitted) }
         ensures cause { HasCause (S.faults sink.old) (S.faults sink.new) result }
         ensures trace { render.new.trace ≡ render.old.trace }
     {
-        if self.put_off {
+        if self.abort_deferred {
             self.end_each_due(reply, render, sink)?;
             self.note();
         }
@@ -61,9 +61,9 @@ impl System {
         sink: &mut S,
     ) -> Result<(), Failed>
         requires whole { IsWhole self.old }
-        ensures system { OnOk result (self.new ≡ (all_due_ended self.old).system) }
-        ensures ok { OnOk result (Showed render.old (S.written sink.old) render.new (S.written sink.new) (all_due_ended self.old).news) }
-        ensures err { OnErr result (Stopped render.old (S.written sink.old) (S.written sink.new) (all_due_ended self.old).news) }
+        ensures system { OnOk result (self.new ≡ (all_due_terminated self.old).system) }
+        ensures ok { OnOk result (Showed render.old (S.written sink.old) render.new (S.written sink.new) (all_due_terminated self.old).emitted) }
+        ensures err { OnErr result (Stopped render.old (S.written sink.old) (S.written sink.new) (all_due_terminated self.old).emitted) }
         ensures cause { HasCause (S.faults sink.old) (S.faults sink.new) result }
         ensures trace { render.new.trace ≡ render.old.trace }
     {
@@ -76,7 +76,7 @@ impl System {
     }
 
     /// A process ends, where that is due, and the held calls that its end completes are answered.
-    #[tactic(auto, using(crate::proofs::WholeStepLaws::whole_due_end), unfolding(crate::specs::Due::ended_if_due))]
+    #[tactic(auto, using(crate::proofs::WholeStepLaws::whole_due_end), unfolding(crate::specs::Due::terminated_if_due))]
     fn end_if_due<S: Sink>(
         &mut self,
         p: Pid,
@@ -85,9 +85,9 @@ impl System {
         sink: &mut S,
     ) -> Result<(), Failed>
         requires whole { IsWhole self.old }
-        ensures system { OnOk result (self.new ≡ (ended_if_due p self.old).system) }
-        ensures ok { OnOk result (Showed render.old (S.written sink.old) render.new (S.written sink.new) (ended_if_due p self.old).news) }
-        ensures err { OnErr result (Stopped render.old (S.written sink.old) (S.written sink.new) (ended_if_due p self.old).news) }
+        ensures system { OnOk result (self.new ≡ (terminated_if_due p self.old).system) }
+        ensures ok { OnOk result (Showed render.old (S.written sink.old) render.new (S.written sink.new) (terminated_if_due p self.old).emitted) }
+        ensures err { OnErr result (Stopped render.old (S.written sink.old) (S.written sink.new) (terminated_if_due p self.old).emitted) }
         ensures cause { HasCause (S.faults sink.old) (S.faults sink.new) result }
         ensures trace { render.new.trace ≡ render.old.trace }
     {
@@ -116,7 +116,7 @@ impl System {
     fn note(&mut self)
         ensures { self.new ≡ noted self.old }
     {
-        self.put_off = self.put_off && self.is_any_aborted();
+        self.abort_deferred = self.abort_deferred && self.is_any_aborted();
     }
 
     /// Whether an end by an abort is put off.

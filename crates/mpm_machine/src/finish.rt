@@ -1,6 +1,6 @@
 ghost use Rattle.std.specs.Prelude.{◌≡◌, OnOk, OnErr};
 ghost use Rattle.mpm_port.specs.Causes.{HasCause};
-ghost use Rattle.mpm_machine.specs.Writing.{Showed, Stopped};
+ghost use Rattle.mpm_output.specs.Writing.{Showed, Stopped};
 
 use crate::system::System;
 use mpm_base::{Pid, Reply};
@@ -13,7 +13,8 @@ impl System {
     ghost use Rattle.mpm_kernel.specs.Waiting.{completion_reply};
     ghost use Rattle.mpm_kernel.specs.Events.{first_completed};
     ghost use Rattle.mpm_machine.specs.State.{IsWhole};
-    ghost use Rattle.mpm_machine.specs.Finishing.{finished, handed, all_finished};
+    ghost use Rattle.mpm_machine.specs.Residing.{taking};
+    ghost use Rattle.mpm_machine.specs.Finishing.{finished, completion_dequeued, all_finished};
 
     /// The held calls that were completed are answered: mostly there are none.
     #[inline(always)]
@@ -26,8 +27,8 @@ impl System {
     ) -> Result<(), Failed>
         requires whole { IsWhole self.old }
         ensures system { OnOk result (self.new ≡ (all_finished self.old).system) }
-        ensures ok { OnOk result (Showed render.old (S.written sink.old) render.new (S.written sink.new) (all_finished self.old).news) }
-        ensures err { OnErr result (Stopped render.old (S.written sink.old) (S.written sink.new) (all_finished self.old).news) }
+        ensures ok { OnOk result (Showed render.old (S.written sink.old) render.new (S.written sink.new) (all_finished self.old).emitted) }
+        ensures err { OnErr result (Stopped render.old (S.written sink.old) (S.written sink.new) (all_finished self.old).emitted) }
         ensures cause { HasCause (S.faults sink.old) (S.faults sink.new) result }
         ensures trace { render.new.trace ≡ render.old.trace }
     {
@@ -47,8 +48,8 @@ impl System {
     ) -> Result<(), Failed>
         requires whole { IsWhole self.old }
         ensures system { OnOk result (self.new ≡ (all_finished self.old).system) }
-        ensures ok { OnOk result (Showed render.old (S.written sink.old) render.new (S.written sink.new) (all_finished self.old).news) }
-        ensures err { OnErr result (Stopped render.old (S.written sink.old) (S.written sink.new) (all_finished self.old).news) }
+        ensures ok { OnOk result (Showed render.old (S.written sink.old) render.new (S.written sink.new) (all_finished self.old).emitted) }
+        ensures err { OnErr result (Stopped render.old (S.written sink.old) (S.written sink.new) (all_finished self.old).emitted) }
         ensures cause { HasCause (S.faults sink.old) (S.faults sink.new) result }
         ensures trace { render.new.trace ≡ render.old.trace }
     {
@@ -61,11 +62,11 @@ impl System {
     }
 
     /// Hands out the next process whose held call was completed, with its reply.
-    #[tactic(auto, using(crate::proofs::WholeStepLaws::whole_handed, crate::proofs::FinishLaws::handed_nobody, crate::proofs::FinishLaws::handed_lives, crate::proofs::FinishLaws::handed_reply))]
+    #[tactic(auto, using(crate::proofs::WholeStepLaws::whole_dequeued, crate::proofs::FinishLaws::dequeued_nobody, crate::proofs::FinishLaws::dequeued_lives, crate::proofs::FinishLaws::dequeued_reply))]
     fn next_completed(&mut self, reply: &mut Reply) -> Option<Pid>
         requires { IsWhole self.old }
         ensures process { result ≡ first_completed self.old.kernel.completed }
-        ensures system { self.new ≡ handed self.old }
+        ensures system { self.new ≡ completion_dequeued self.old }
         ensures whole { IsWhole self.new }
         ensures nothing { IfNone result (self.new ≡ self.old) }
         ensures lives { IfSome result (λ p. Lives self.new.kernel.procs p) }
@@ -74,7 +75,7 @@ impl System {
         self.kernel.completed(reply)
     }
 
-    /// The held call of a process is completed, with its reply.
+    /// The held call of a process is completed, with its reply. A resident takes the answer.
     fn finish<S: Sink>(
         &mut self,
         p: Pid,
@@ -86,14 +87,27 @@ impl System {
         requires lives { Lives self.old.kernel.procs p }
         requires reply { reply.old ≡ completion_reply self.old.kernel p }
         ensures system { OnOk result (self.new ≡ (finished (process_in self.old.kernel.procs p).seg p self.old).system) }
-        ensures ok { OnOk result (Showed render.old (S.written sink.old) render.new (S.written sink.new) (finished (process_in self.old.kernel.procs p).seg p self.old).news) }
-        ensures err { OnErr result (Stopped render.old (S.written sink.old) (S.written sink.new) (finished (process_in self.old.kernel.procs p).seg p self.old).news) }
+        ensures ok { OnOk result (Showed render.old (S.written sink.old) render.new (S.written sink.new) (finished (process_in self.old.kernel.procs p).seg p self.old).emitted) }
+        ensures err { OnErr result (Stopped render.old (S.written sink.old) (S.written sink.new) (finished (process_in self.old.kernel.procs p).seg p self.old).emitted) }
         ensures cause { HasCause (S.faults sink.old) (S.faults sink.new) result }
         ensures trace { render.new.trace ≡ render.old.trace }
     {
         match self.kernel.segment(p) {
             Some(seg) => self.fulfil(p, seg, reply, render, sink),
-            None => Ok(()),
+            None => {
+                self.take_answer(p, reply);
+                Ok(())
+            }
+        }
+    }
+
+    /// The resident of a slot, if one acts there, takes the answer to its call.
+    #[tactic(auto, using(crate::proofs::ResidingLaws::nobody_takes))]
+    fn take_answer(&mut self, p: Pid, reply: &Reply)
+        ensures { self.new ≡ taking reply.now p self.old }
+    {
+        if self.residents.has(p) {
+            self.residents.take(p, reply);
         }
     }
 }

@@ -1,5 +1,5 @@
-use crate::console::put_bytes;
 use crate::system::System;
+use mpm_output::put_bytes;
 use mpm_port::{Failed, Sink};
 use mpm_render::Render;
 use mpm_script::Event;
@@ -12,8 +12,8 @@ impl System {
     ghost use Rattle.mpm_kernel.specs.Consoling.{AbortLives};
     ghost use Rattle.mpm_interrupts.specs.Interrupts.{due};
     ghost use Rattle.mpm_machine.specs.State.{IsWhole};
-    ghost use Rattle.mpm_machine.specs.Writing.{Showed, Stopped};
-    ghost use Rattle.mpm_machine.specs.Step.{lets_in, coming, roused, interrupted_by, event_come, key_aborted, event_text};
+    ghost use Rattle.mpm_output.specs.Writing.{Showed, Stopped};
+    ghost use Rattle.mpm_machine.specs.Step.{lets_in, coming, unhalted, interrupted_by, event_come, key_aborted, event_text};
 
     /// The event that is due in this step comes, if one is and it may; answers whether one did.
     #[tactic(auto, unfolding(crate::specs::Step::interrupted))]
@@ -22,8 +22,8 @@ impl System {
         requires most { self.old.steps ≤ 4000000000 }
         ensures came { IfOk result (λ came. came ≡ is_some (coming self.old)) }
         ensures system { OnOk result (self.new ≡ (interrupted_by (coming self.old) self.old).system) }
-        ensures ok { OnOk result (Showed render.old (S.written sink.old) render.new (S.written sink.new) (interrupted_by (coming self.old) self.old).news) }
-        ensures err { OnErr result (Stopped render.old (S.written sink.old) (S.written sink.new) (interrupted_by (coming self.old) self.old).news) }
+        ensures ok { OnOk result (Showed render.old (S.written sink.old) render.new (S.written sink.new) (interrupted_by (coming self.old) self.old).emitted) }
+        ensures err { OnErr result (Stopped render.old (S.written sink.old) (S.written sink.new) (interrupted_by (coming self.old) self.old).emitted) }
         ensures cause { HasCause (S.faults sink.old) (S.faults sink.new) result }
         ensures trace { render.new.trace ≡ render.old.trace }
     {
@@ -50,12 +50,12 @@ impl System {
         requires whole { IsWhole self.old }
         requires is { IsEvent event }
         ensures system { OnOk result (self.new ≡ (event_come event self.old).system) }
-        ensures ok { OnOk result (Showed render.old (S.written sink.old) render.new (S.written sink.new) (event_come event self.old).news) }
-        ensures err { OnErr result (Stopped render.old (S.written sink.old) (S.written sink.new) (event_come event self.old).news) }
+        ensures ok { OnOk result (Showed render.old (S.written sink.old) render.new (S.written sink.new) (event_come event self.old).emitted) }
+        ensures err { OnErr result (Stopped render.old (S.written sink.old) (S.written sink.new) (event_come event self.old).emitted) }
         ensures cause { HasCause (S.faults sink.old) (S.faults sink.new) result }
         ensures trace { render.new.trace ≡ render.old.trace }
     {
-        self.rouse();
+        self.unhalt();
         self.kernel.event(event);
         self.put_event(event, render, sink)?;
         self.abort_by_key();
@@ -111,7 +111,7 @@ impl System {
         self.lets_in()
     }
 
-    /// Whether an interrupt may come: no process runs, or the one that runs doesn't hold it off.
+    /// Whether an interrupt may come: no process runs, or a resident, or the process that runs doesn't hold it off.
     #[tactic(auto, using(mpm_kernel::proofs::SoundLaws::runner_lives))]
     fn lets_in(&self) -> bool
         requires whole { IsWhole self.now }
@@ -120,7 +120,7 @@ impl System {
         match self.kernel.running() {
             Some(p) => {
                 let regs = self.kernel.regs(p);
-                regs.iff1 && !regs.shadow
+                self.kernel.segment(p).is_none() || (regs.iff1 && !regs.shadow)
             }
             None => true,
         }
@@ -128,9 +128,9 @@ impl System {
 
     /// The process that runs waits for an interrupt no more.
     #[tactic(auto, using(mpm_kernel::proofs::SoundLaws::runner_lives))]
-    fn rouse(&mut self)
+    fn unhalt(&mut self)
         requires whole { IsWhole self.old }
-        ensures { self.new ≡ record self.old { kernel = roused self.old.kernel.running self.old.kernel } }
+        ensures { self.new ≡ record self.old { kernel = unhalted self.old.kernel.running self.old.kernel } }
     {
         if let Some(p) = self.kernel.running() {
             let regs = self.kernel.regs_mut(p);

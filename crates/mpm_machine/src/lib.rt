@@ -3,18 +3,15 @@
 
 mod abort;
 mod call;
-mod console;
 mod due;
 mod finish;
 mod interrupts;
 mod machine;
 mod opening;
 mod procedures;
-mod residents;
 mod residing;
 #[cfg(test)]
 mod scenes;
 mod system;
-mod unlisted;
 
 pub use machine::{BootError, Machine, RunFault, StepFault};

@@ -1,9 +1,8 @@
-ghost use Rattle.std.specs.Prelude.{◌≡◌, ℕ, ◌+◌, ◌-◌, ◌*◌, ◌<◌, ◌≤◌, List, [], Option, Some, None, IfOk, OnOk, IfErr, OnErr, MatchOption, All, length, option_map};
+ghost use Rattle.std.specs.Prelude.{◌≡◌, ℕ, ◌+◌, ◌-◌, ◌*◌, ◌<◌, ◌≤◌, List, [], Option, Some, None, IfOk, OnOk, IfErr, OnErr, MatchOption, length, option_map};
 ghost use Rattle.mpm_port.specs.Causes.{HasCause};
 ghost use Rattle.mpm_port.specs.Texts.{appended};
 
 use crate::opening::{moment_of, program_file};
-use crate::residents::Residents;
 use crate::system::System;
 use mpm_banks::Banks;
 use mpm_base::{Name8, Pid, Reply, Seg};
@@ -12,6 +11,7 @@ use mpm_kernel::Kernel;
 use mpm_machine_file::MachineFile;
 use mpm_port::{Failed, Sink};
 use mpm_render::Render;
+use mpm_residents::Residents;
 use mpm_script::Script;
 use std::alloc::{AllocError, Global};
 use std::marker::Model;
@@ -54,7 +54,7 @@ impl Model for Machine {
 }
 
 impl Machine {
-    ghost use Rattle.mpm_banks.specs.Memory.{byte_at, segment_of};
+    ghost use Rattle.mpm_banks.specs.Memory.{byte_at};
     ghost use Rattle.mpm_procs.specs.Table.{process_at, lowest_free};
     ghost use Rattle.mpm_kernel.specs.Kernel.{HasConsole};
     ghost use Rattle.mpm_consoles.specs.Consoles.{console_at};
@@ -62,12 +62,13 @@ impl Machine {
     ghost use Rattle.mpm_render.specs.Shown.{Kept, EndsBetween};
     ghost use Rattle.mpm_machine_file.specs.MachineFiles.{IsMachine};
     ghost use Rattle.mpm_machine.specs.State.{State, StandsFor, IsWhole};
+    ghost use Rattle.mpm_machine.specs.Due.{NobodyDue};
     ghost use Rattle.mpm_machine.specs.Slots.{HasResidents};
     ghost use Rattle.mpm_machine.specs.Opening.{booted, opened, IsBare, MayPlace, with_placed, opening_system, command_queue, with_residents};
     ghost use Rattle.mpm_kernel.specs.Queueing.{OnlySystems};
-    ghost use Rattle.mpm_queues.specs.Queues.{refusal};
+    ghost use Rattle.mpm_queues.specs.Queues.{make_error};
     ghost use Rattle.mpm_machine.specs.Contained.{IsContained, Instructs, OnlyInstructed, IsServedByValue};
-    ghost use Rattle.mpm_machine.specs.Step.{step_of, next, after, EndsInStep};
+    ghost use Rattle.mpm_machine.specs.Step.{step_of, next, after, system_after, EndsInStep};
 
     /// The machine of a machine file, and of its script's events, as it is run: the command queue, the command line
     /// interpreter, and a terminal message processor for each console.
@@ -80,7 +81,7 @@ impl Machine {
         ensures residents { IfOk result (λ machine. HasResidents file.now.consoles machine) }
         ensures start { IfOk result (λ machine. machine.steps ≡ 0) }
         ensures whole { IfOk result (λ machine. IsWhole machine) }
-        ensures handed { IfOk result (λ machine. machine.kernel.completed ≡ []) }
+        ensures no_completions { IfOk result (λ machine. machine.kernel.completed ≡ []) }
     {
         let mut machine = Machine::boot_bare(alloc, file, script)?;
         match machine.begin_residents(file.consoles) {
@@ -95,13 +96,13 @@ impl Machine {
     /// Where no memory is found.
     fn begin_residents(&mut self, consoles: u8) -> Result<(), AllocError>
         requires whole { IsWhole self.old }
-        requires handed { self.old.kernel.completed ≡ [] }
+        requires no_completions { self.old.kernel.completed ≡ [] }
         requires consoles { consoles ≡ self.old.kernel.consoles }
         requires queues { OnlySystems self.old.kernel }
-        requires room { refusal self.old.kernel.queues command_queue 130 15 ≡ None }
+        requires room { make_error self.old.kernel.queues command_queue 130 15 ≡ None }
         ensures system { OnOk result (self.new ≡ with_residents consoles self.old) }
         ensures whole { OnOk result (IsWhole self.new) }
-        ensures handed { OnOk result (self.new.kernel.completed ≡ []) }
+        ensures no_completions { OnOk result (self.new.kernel.completed ≡ []) }
         ensures steps { OnOk result (self.new.steps ≡ self.old.steps) }
     {
         self.system.begin_residents(consoles)
@@ -135,7 +136,7 @@ impl Machine {
                 interrupts: Schedule::new(file.tick_every, script),
                 kernel,
                 memory,
-                put_off: false,
+                abort_deferred: false,
                 residents: Residents::none(alloc),
             },
             reply: Reply::new(),
@@ -150,7 +151,7 @@ impl Machine {
         ensures opening { IfOk result (λ machine. machine ≡ opening_system program.now) }
         ensures start { IfOk result (λ machine. machine.steps ≡ 0) }
         ensures whole { IfOk result (λ machine. IsWhole machine) }
-        ensures handed { IfOk result (λ machine. machine.kernel.completed ≡ []) }
+        ensures no_completions { IfOk result (λ machine. machine.kernel.completed ≡ []) }
     {
         let file = match program_file(alloc) {
             Ok(file) => file,
@@ -208,7 +209,7 @@ impl Machine {
     pub fn step<S: Sink>(&mut self, render: &mut Render, sink: &mut S) -> Result<(), StepFault>
         requires most { self.old.steps < 4000000000 }
         requires whole { IsWhole self.old }
-        requires handed { self.old.kernel.completed ≡ [] }
+        requires no_completions { self.old.kernel.completed ≡ [] }
         ensures ok { (s : State) (first : Option (List ℕ)) → StandsFor self.old render.old (S.written sink.old) s first
             → OnOk result (StandsFor self.new render.new (S.written sink.new) (next s) first) }
         ensures err { (s : State) (first : Option (List ℕ)) → StandsFor self.old render.old (S.written sink.old) s first
@@ -217,8 +218,9 @@ impl Machine {
         ensures contained { OnOk result (IsContained self.old self.new) }
         ensures instruction { (p seg : ℕ) → Instructs self.old p seg → OnOk result (OnlyInstructed p self.old self.new) }
         ensures calls { (p seg : ℕ) → IsServedByValue self.old p seg }
+        ensures due { OnOk result (NobodyDue self.new.kernel) }
         ensures whole { OnOk result (IsWhole self.new) }
-        ensures handed { OnOk result (self.new.kernel.completed ≡ []) }
+        ensures no_completions { OnOk result (self.new.kernel.completed ≡ []) }
         ensures count { OnOk result (self.new.steps ≡ self.old.steps + 1) }
         ensures trace { render.new.trace ≡ render.old.trace }
         ensures cause { HasCause (S.faults sink.old) (S.faults sink.new) result }
@@ -238,13 +240,15 @@ impl Machine {
     ) -> Result<(), RunFault>
         requires most { self.old.steps + n ≤ 4000000000 }
         requires whole { IsWhole self.old }
-        requires handed { self.old.kernel.completed ≡ [] }
+        requires no_completions { self.old.kernel.completed ≡ [] }
         ensures ok { (s : State) (first : Option (List ℕ)) → StandsFor self.old render.old (S.written sink.old) s first
             → OnOk result (StandsFor self.new render.new (S.written sink.new) (after n s) first) }
         ensures err { (s : State) (first : Option (List ℕ)) → StandsFor self.old render.old (S.written sink.old) s first
             → IfErr result (λ fault. EndsInStep render.old.trace (S.written sink.new) first s n fault.step) }
+        ensures system { OnOk result (self.new ≡ system_after n self.old) }
+        ensures due { 0 < n → OnOk result (NobodyDue self.new.kernel) }
         ensures whole { OnOk result (IsWhole self.new) }
-        ensures handed { OnOk result (self.new.kernel.completed ≡ []) }
+        ensures no_completions { OnOk result (self.new.kernel.completed ≡ []) }
         ensures count { OnOk result (self.new.steps ≡ self.old.steps + n) }
         ensures trace { render.new.trace ≡ render.old.trace }
         ensures cause { HasCause (S.faults sink.old) (S.faults sink.new) result }
@@ -269,15 +273,16 @@ impl Machine {
         requires some { 0 < most }
         requires room { self.old.steps + most ≤ 4000000000 }
         requires whole { IsWhole self.old }
-        requires handed { self.old.kernel.completed ≡ [] }
+        requires no_completions { self.old.kernel.completed ≡ [] }
         ensures ok { (s : State) (first : Option (List ℕ)) → StandsFor self.old render.old (S.written sink.old) s first
             → IfOk result (λ steps. StandsFor self.new render.new (S.written sink.new) (after steps s) first) }
         ensures err { (s : State) (first : Option (List ℕ)) → StandsFor self.old render.old (S.written sink.old) s first
             → IfErr result (λ fault. EndsInStep render.old.trace (S.written sink.new) first s most fault.step) }
+        ensures system { IfOk result (λ steps. self.new ≡ system_after steps self.old) }
         ensures some { IfOk result (λ steps. 0 < steps) }
         ensures few { IfOk result (λ steps. steps ≤ most) }
         ensures whole { OnOk result (IsWhole self.new) }
-        ensures handed { OnOk result (self.new.kernel.completed ≡ []) }
+        ensures no_completions { OnOk result (self.new.kernel.completed ≡ []) }
         ensures count { IfOk result (λ steps. self.new.steps ≡ self.old.steps + steps) }
         ensures trace { render.new.trace ≡ render.old.trace }
         ensures cause { HasCause (S.faults sink.old) (S.faults sink.new) result }
@@ -296,13 +301,14 @@ impl Machine {
     /// Instructions of the running process, at most so many, each of which is a step. Answers how many were done.
     fn run_on(&mut self, most: u64) -> u64
         requires whole { IsWhole self.old }
-        requires handed { self.old.kernel.completed ≡ [] }
+        requires no_completions { self.old.kernel.completed ≡ [] }
         requires room { self.old.steps + most ≤ 4000000000 }
         ensures count { result ≤ most }
-        ensures stands { (s : State) (kept : Kept) (told : Option (List ℕ)) (first : Option (List ℕ)) → StandsFor self.old kept told s first
-            → StandsFor self.new kept told (after result s) first }
+        ensures stands { (s : State) (kept : Kept) (written : Option (List ℕ)) (first : Option (List ℕ)) → StandsFor self.old kept written s first
+            → StandsFor self.new kept written (after result s) first }
+        ensures system { self.new ≡ system_after result self.old }
         ensures whole { IsWhole self.new }
-        ensures handed { self.new.kernel.completed ≡ [] }
+        ensures no_completions { self.new.kernel.completed ≡ [] }
         ensures steps { self.new.steps ≡ self.old.steps + result }
     {
         self.system.run_on(most)

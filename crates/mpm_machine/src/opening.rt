@@ -5,7 +5,7 @@ ghost use Rattle.mpm_kernel.specs.Kernel.{IsSound};
 ghost use Rattle.mpm_kernel.specs.Dispatch.{admitted, picked};
 ghost use Rattle.mpm_kernel.specs.Consoling.{given};
 ghost use Rattle.mpm_kernel.specs.Queueing.{OnlySystems};
-ghost use Rattle.mpm_queues.specs.Queues.{refusal};
+ghost use Rattle.mpm_queues.specs.Queues.{make_error};
 ghost use Rattle.mpm_machine.specs.State.{IsWhole};
 ghost use Rattle.mpm_machine.specs.Opening.{IsBare, MayPlace, with_placed, base_page as base_page_of, laid_out, placed_process as process_placed, moment_of as moment_said, program_file as program_said, command_queue, terminal_name as name_of_terminal, resident_process as process_of_resident, begun_by_interpreter, with_terminal, with_terminals, with_residents};
 
@@ -42,13 +42,13 @@ impl System {
     /// Where no memory is found.
     pub fn begin_residents(&mut self, consoles: u8) -> Result<(), AllocError>
         requires whole { IsWhole self.old }
-        requires handed { self.old.kernel.completed ≡ [] }
+        requires no_completions { self.old.kernel.completed ≡ [] }
         requires consoles { consoles ≡ self.old.kernel.consoles }
         requires queues { OnlySystems self.old.kernel }
-        requires room { refusal self.old.kernel.queues command_queue 130 15 ≡ None }
+        requires room { make_error self.old.kernel.queues command_queue 130 15 ≡ None }
         ensures system { OnOk result (self.new ≡ with_residents consoles self.old) }
         ensures whole { OnOk result (IsWhole self.new) }
-        ensures handed { OnOk result (self.new.kernel.completed ≡ []) }
+        ensures no_completions { OnOk result (self.new.kernel.completed ≡ []) }
         ensures steps { OnOk result (self.new.steps ≡ self.old.steps) }
     {
         self.begin_interpreter();
@@ -61,7 +61,7 @@ impl System {
     fn begin_interpreter(&mut self)
         requires whole { IsWhole self.old }
         requires queues { OnlySystems self.old.kernel }
-        requires room { refusal self.old.kernel.queues command_queue 130 15 ≡ None }
+        requires room { make_error self.old.kernel.queues command_queue 130 15 ≡ None }
         ensures { self.new ≡ begun_by_interpreter self.old }
     {
         self.kernel

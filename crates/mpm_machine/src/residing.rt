@@ -2,18 +2,19 @@ ghost use Rattle.std.specs.Prelude.{◌≡◌, is_some, true, OnOk, OnErr};
 ghost use Rattle.mpm_port.specs.Causes.{HasCause};
 ghost use Rattle.mpm_procs.specs.Table.{Lives, call_of};
 ghost use Rattle.mpm_kernel.specs.Kernel.{IsReady};
-ghost use Rattle.mpm_machine.specs.Writing.{Showed, Stopped};
+ghost use Rattle.mpm_output.specs.Writing.{Showed, Stopped};
 
-use crate::console::write_kept;
 use crate::system::System;
 use mpm_base::{Outcome, Pid, Reply};
+use mpm_output::write_kept;
 use mpm_port::{Failed, Sink};
 use mpm_render::Render;
 
 impl System {
     ghost use Rattle.mpm_machine.specs.State.{IsWhole};
     ghost use Rattle.mpm_machine.specs.Serving.{said_by};
-    ghost use Rattle.mpm_machine.specs.Residing.{native_in, asked_by, resided, native_outcome};
+    ghost use Rattle.mpm_residents.specs.Natives.{native_in};
+    ghost use Rattle.mpm_machine.specs.Residing.{asked_by, resided, native_outcome};
 
     /// The step of a process that has no segment: that of the resident of its slot, if one acts there.
     pub fn reside<S: Sink>(
@@ -27,8 +28,8 @@ impl System {
         requires lives { Lives self.old.kernel.procs p }
         requires ready { IsReady self.old.kernel p }
         ensures system { OnOk result (self.new ≡ (resided (native_in self.old.residents p) p self.old).system) }
-        ensures ok { OnOk result (Showed render.old (S.written sink.old) render.new (S.written sink.new) (resided (native_in self.old.residents p) p self.old).news) }
-        ensures err { OnErr result (Stopped render.old (S.written sink.old) (S.written sink.new) (resided (native_in self.old.residents p) p self.old).news) }
+        ensures ok { OnOk result (Showed render.old (S.written sink.old) render.new (S.written sink.new) (resided (native_in self.old.residents p) p self.old).emitted) }
+        ensures err { OnErr result (Stopped render.old (S.written sink.old) (S.written sink.new) (resided (native_in self.old.residents p) p self.old).emitted) }
         ensures cause { HasCause (S.faults sink.old) (S.faults sink.new) result }
         ensures trace { render.new.trace ≡ render.old.trace }
     {
@@ -52,8 +53,8 @@ impl System {
         requires ready { IsReady self.old.kernel p }
         requires has { is_some (native_in self.old.residents p) ≡ true }
         ensures system { OnOk result (self.new ≡ (resided (native_in self.old.residents p) p self.old).system) }
-        ensures ok { OnOk result (Showed render.old (S.written sink.old) render.new (S.written sink.new) (resided (native_in self.old.residents p) p self.old).news) }
-        ensures err { OnErr result (Stopped render.old (S.written sink.old) (S.written sink.new) (resided (native_in self.old.residents p) p self.old).news) }
+        ensures ok { OnOk result (Showed render.old (S.written sink.old) render.new (S.written sink.new) (resided (native_in self.old.residents p) p self.old).emitted) }
+        ensures err { OnErr result (Stopped render.old (S.written sink.old) (S.written sink.new) (resided (native_in self.old.residents p) p self.old).emitted) }
         ensures cause { HasCause (S.faults sink.old) (S.faults sink.new) result }
         ensures trace { render.new.trace ≡ render.old.trace }
     {
@@ -85,8 +86,8 @@ impl System {
         requires lives { Lives self.old.kernel.procs p }
         requires has { is_some (native_in self.old.residents p) ≡ true }
         ensures system { OnOk result (self.new ≡ (native_outcome outcome reply.now (call_of self.old.kernel.procs p) p self.old).system) }
-        ensures ok { OnOk result (Showed render.old (S.written sink.old) render.new (S.written sink.new) (native_outcome outcome reply.now (call_of self.old.kernel.procs p) p self.old).news) }
-        ensures err { OnErr result (Stopped render.old (S.written sink.old) (S.written sink.new) (native_outcome outcome reply.now (call_of self.old.kernel.procs p) p self.old).news) }
+        ensures ok { OnOk result (Showed render.old (S.written sink.old) render.new (S.written sink.new) (native_outcome outcome reply.now (call_of self.old.kernel.procs p) p self.old).emitted) }
+        ensures err { OnErr result (Stopped render.old (S.written sink.old) (S.written sink.new) (native_outcome outcome reply.now (call_of self.old.kernel.procs p) p self.old).emitted) }
         ensures cause { HasCause (S.faults sink.old) (S.faults sink.new) result }
         ensures trace { render.new.trace ≡ render.old.trace }
     {
@@ -111,8 +112,8 @@ impl System {
         requires whole { IsWhole self.old }
         requires lives { Lives self.old.kernel.procs p }
         ensures system { OnOk result (self.new ≡ (said_by (call_of self.old.kernel.procs p) (call_of self.old.kernel.procs p).bytes p self.old).system) }
-        ensures ok { OnOk result (Showed render.old (S.written sink.old) render.new (S.written sink.new) (said_by (call_of self.old.kernel.procs p) (call_of self.old.kernel.procs p).bytes p self.old).news) }
-        ensures err { OnErr result (Stopped render.old (S.written sink.old) (S.written sink.new) (said_by (call_of self.old.kernel.procs p) (call_of self.old.kernel.procs p).bytes p self.old).news) }
+        ensures ok { OnOk result (Showed render.old (S.written sink.old) render.new (S.written sink.new) (said_by (call_of self.old.kernel.procs p) (call_of self.old.kernel.procs p).bytes p self.old).emitted) }
+        ensures err { OnErr result (Stopped render.old (S.written sink.old) (S.written sink.new) (said_by (call_of self.old.kernel.procs p) (call_of self.old.kernel.procs p).bytes p self.old).emitted) }
         ensures cause { HasCause (S.faults sink.old) (S.faults sink.new) result }
         ensures trace { render.new.trace ≡ render.old.trace }
     {

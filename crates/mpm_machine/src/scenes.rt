@@ -1,139 +1,266 @@
-//! Runs of two programs, for the tests of several modules.
-ghost use Rattle.std.specs.Prelude.{◌≡◌, ◌<◌, ◌≤◌, ◌⊎◌, IfOk, length, replicate};
+//! Scenes: runs of one or two programs, and what is seen of the machine behind so many steps.
+ghost use Rattle.std.specs.Prelude.{ℕ, ◌≡◌, ◌<◌, ◌≤◌, ◌+◌, ◌*◌, [], OnOk, length, get_or};
+ghost use Rattle.std.specs.Bool.{OnTrue};
 ghost use Rattle.mpm_machine_file.specs.MachineFiles.{IsMachine};
-ghost use Rattle.mpm_machine.specs.Opening.{IsBare};
+ghost use Rattle.mpm_machine.specs.State.{IsWhole};
+ghost use Rattle.mpm_machine.specs.Opening.{IsBare, MayPlace};
 
 use crate::Machine;
-use mpm_base::{Name8, Pid, Seg, SegmentSpec};
-use mpm_machine_file::{DriveSpecs, MachineFile, Segments};
+use mpm_base::{Name8, Pid, Seg};
+use mpm_machine_file::{MachineFile, read_machine};
 use mpm_port::MemorySink;
 use mpm_render::Render;
 use mpm_script::read_script;
+use std::alloc::Global;
 use std::test::Fail;
 use z80_regs::Regs;
 
-/// A machine file of one console and two segments of 16 pages, in banks of their own.
-fn two_segments(rt: &HostRuntime, tick_every: u32) -> Result<MachineFile, Fail>
-    requires { (tick_every ≡ 0) ⊎ ((100 ≤ tick_every) × (tick_every ≤ 1000000)) }
-    ensures limits { IfOk result IsMachine }
-    ensures consoles { IfOk result (λ file. file.consoles ≡ 1) }
-    ensures segments { IfOk result (λ file. file.segments ≡ replicate 2 (record { base = 64; pages = 16 })) }
-{
-    let mut segments = Vec::new(rt.alloc());
-    segments.resize(
-        2,
-        SegmentSpec {
-            base: 0x40,
-            pages: 16,
-        },
-    )?;
-    Ok(MachineFile {
-        consoles: 1,
-        printers: 1,
-        tick_every,
-        disk_turn: 0,
-        date: 1,
-        hour: 0,
-        minute: 0,
-        second: 0,
-        segments: Segments::of(segments),
-        drives: DriveSpecs::of(Vec::new(rt.alloc())),
-        script: None,
-    })
-}
+/// A machine file of one console and two segments of 16 pages, in banks of their own, without ticks.
+pub(crate) const TWO_SEGMENTS: &[u8] = b"version = 1
+consoles = 1
+[[segment]]
+base = 64
+pages = 16
+[[segment]]
+base = 64
+pages = 16
+";
 
-/// A machine with two programs at 4100h, processes 0 and 1 of equal priority.
-fn two_programs(
-    rt: &HostRuntime,
-    tick_every: u32,
-    script: &[u8],
-    first: &[u8],
-    second: &[u8],
-) -> Result<Machine, Fail>
-    requires ticks { (tick_every ≡ 0) ⊎ ((100 ≤ tick_every) × (tick_every ≤ 1000000)) }
-    requires script { length script.now ≤ 1048576 }
-    requires first { length first.now ≤ 3456 }
-    requires second { length second.now ≤ 3456 }
-    ensures { IfOk result IsBare }
-{
-    let file = two_segments(rt, tick_every)?;
-    let script = read_script(rt.alloc(), script)?;
-    let mut machine = Machine::boot_bare(rt.alloc(), &file, script)?;
-    let _first = machine.place(Seg(0), Name8(*b"FIRST   "), 200, 0, first);
-    let _second = machine.place(Seg(1), Name8(*b"SECOND  "), 200, 0, second);
-    Ok(machine)
-}
-
-/// What a run is made of: the steps between two ticks, the script, and the programs of two processes of equal priority.
+/// What a run is made of.
 #[derive(Clone, Copy)]
 pub(crate) struct Scene<'a> {
-    pub tick_every: u32,
+    /// The machine file; an empty one stands for the machine of one program.
+    pub machine: &'a [u8],
     pub script: &'a [u8],
+    /// The program of process 0 in the first segment, and that of process 1 in the last one, of equal priority; there is none
+    /// where it is empty.
     pub first: &'a [u8],
     pub second: &'a [u8],
+    pub trace: bool,
 }
 
-/// The registers of a process behind so many steps, in which just this text was written.
-pub(crate) fn regs_after(
-    rt: &HostRuntime,
-    scene: &Scene,
-    steps: u64,
-    p: u8,
-    text: &[u8],
-) -> Result<Regs, Fail>
-    requires ticks { (scene.now.tick_every ≡ 0) ⊎ ((100 ≤ scene.now.tick_every) × (scene.now.tick_every ≤ 1000000)) }
-    requires script { length scene.now.script.now ≤ 1048576 }
-    requires first { length scene.now.first.now ≤ 3456 }
-    requires second { length scene.now.second.now ≤ 3456 }
-    requires steps { steps ≤ 10000 }
-    requires p { p < 32 }
+/// What is looked at of the registers of a process.
+#[derive(Clone, Copy)]
+pub(crate) enum Register {
+    A,
+    B,
+    C,
+    De,
+    Hl,
+    Pc,
+    Sp,
+    /// 1 where the process stands in a HALT.
+    Halted,
+}
+
+/// What is seen of a machine.
+#[derive(Clone, Copy)]
+pub(crate) enum Sight {
+    /// Whether a process lives.
+    Lives(u8, bool),
+    /// A register of a process that lives.
+    Has(u8, Register, u16),
+    /// The byte that an address names in a segment.
+    Byte(u8, u16, u8),
+    /// How many keys of console 0 were lost.
+    Lost(u64),
+}
+
+/// What is seen behind so many steps, in which just that text was written.
+#[derive(Clone, Copy)]
+pub(crate) struct Behind<'a>(pub u64, pub &'a [u8], pub &'a [Sight]);
+
+/// Two programs without a script, whose calls are traced.
+pub(crate) fn traced<'a>(first: &'a [u8], second: &'a [u8]) -> Scene<'a> {
+    Scene {
+        machine: TWO_SEGMENTS,
+        script: b"",
+        first,
+        second,
+        trace: true,
+    }
+}
+
+impl Scene<'_> {
+    /// A run shows what is said of it, in one go and with its last step apart.
+    ///
+    /// # Errors
+    /// The number of the first of the looks at which it doesn't.
+    pub(crate) fn shows(&self, alloc: Global, looks: &[Behind]) -> Result<(), Fail> {
+        for (number, look) in looks.iter().enumerate() {
+            if !self.is_so(alloc, look, false)? || !self.is_so(alloc, look, true)? {
+                return Err(Fail::new(format_args!("look {number} of the scene, from 0")));
+            }
+        }
+        Ok(())
+    }
+
+    /// Whether a new run shows what is said of it.
+    fn is_so(&self, alloc: Global, look: &Behind, apart: bool) -> Result<bool, Fail> {
+        if self.machine.is_empty() {
+            return self.is_so_alone(alloc, look, apart);
+        }
+        let file = read_machine(alloc, self.machine)?;
+        self.is_so_in(alloc, &file, look, apart)
+    }
+
+    /// The same of the machine of one program.
+    fn is_so_alone(&self, alloc: Global, look: &Behind, apart: bool) -> Result<bool, Fail> {
+        if 48512 < self.first.len() {
+            return Err(Fail::from("the program is too long"));
+        }
+        match Machine::boot_program(alloc, self.first) {
+            Ok(mut machine) => is_seen(alloc, &mut machine, self.trace, look, apart),
+            Err(error) => Err(Fail::from(error)),
+        }
+    }
+
+    /// The same of the machine of a machine file.
+    fn is_so_in(
+        &self,
+        alloc: Global,
+        file: &MachineFile,
+        look: &Behind,
+        apart: bool,
+    ) -> Result<bool, Fail>
+        requires { IsMachine file.now }
+    {
+        if 1048576 < self.script.len() {
+            return Err(Fail::from("the script is too long"));
+        }
+        let script = read_script(alloc, self.script)?;
+        match Machine::boot_bare(alloc, file, script) {
+            Ok(mut machine) => {
+                let placed = place_both(&mut machine, file, self.first, self.second);
+                let seen = is_seen(alloc, &mut machine, self.trace, look, apart)?;
+                Ok(placed && seen)
+            }
+            Err(error) => Err(Fail::from(error)),
+        }
+    }
+}
+
+/// Whether a segment is there with room for a program.
+fn has_room(file: &MachineFile, seg: u8, program: &[u8]) -> bool
+    ensures there { OnTrue result (seg < length file.now.segments) }
+    ensures room { OnTrue result (length program.now + 640 ≤ 256 * (get_or file.now.segments seg (record { base = 0; pages = 0 })).pages) }
 {
-    let mut machine = two_programs(
-        rt,
-        scene.tick_every,
-        scene.script,
-        scene.first,
-        scene.second,
-    )?;
-    let mut render = Render::new(true);
-    let mut sink = MemorySink::new(rt.alloc(), 512)?;
-    machine.run(steps, &mut render, &mut sink)?;
-    if sink.written() != text {
-        return Err(Fail::from("another text was written"));
+    let segments = file.segments.as_slice();
+    let place = usize::from(seg);
+    if segments.len() <= place || 48512 < program.len() {
+        return false;
     }
-    match machine.regs(Pid(p)) {
-        Some(regs) => Ok(*regs),
-        None => Err(Fail::from("the process doesn't live")),
-    }
+    program.len() + 640 <= 256 * usize::from(segments[place].pages)
 }
 
-/// Whether a process lives behind so many steps, in which just this text was written.
-pub(crate) fn lives_after(
-    rt: &HostRuntime,
-    scene: &Scene,
-    steps: u64,
-    p: u8,
-    text: &[u8],
+/// Places a program in the first segment, and another one in the last: whether they are processes 0 and 1. There is none where
+/// it is empty.
+fn place_both(machine: &mut Machine, file: &MachineFile, first: &[u8], second: &[u8]) -> bool
+    requires file { IsMachine file.now }
+    requires bare { IsBare machine.old }
+    requires free { (seg size : ℕ) → seg < length file.now.segments → size + 640 ≤ 256 * (get_or file.now.segments seg (record { base = 0; pages = 0 })).pages
+        → MayPlace machine.old seg 0 size }
+    ensures { IsBare machine.new }
+{
+    if first.is_empty() {
+        return true;
+    }
+    if !has_room(file, 0, first) {
+        return false;
+    }
+    let p = machine.place(Seg(0), Name8(*b"FIRST   "), 200, 0, first);
+    if second.is_empty() {
+        return p.0 == 0;
+    }
+    let last = (file.segments.as_slice().len() - 1) as u8;
+    if last == 0 || !has_room(file, last, second) {
+        return false;
+    }
+    let q = machine.place(Seg(last), Name8(*b"SECOND  "), 200, 0, second);
+    p.0 == 0 && q.0 == 1
+}
+
+/// Whether a machine that has done no step shows what is said of its run.
+fn is_seen(
+    alloc: Global,
+    machine: &mut Machine,
+    trace: bool,
+    look: &Behind,
+    apart: bool,
 ) -> Result<bool, Fail>
-    requires ticks { (scene.now.tick_every ≡ 0) ⊎ ((100 ≤ scene.now.tick_every) × (scene.now.tick_every ≤ 1000000)) }
-    requires script { length scene.now.script.now ≤ 1048576 }
-    requires first { length scene.now.first.now ≤ 3456 }
-    requires second { length scene.now.second.now ≤ 3456 }
-    requires steps { steps ≤ 10000 }
-    requires p { p < 32 }
+    requires whole { IsWhole machine.old }
+    requires no_completions { machine.old.kernel.completed ≡ [] }
+    requires start { machine.old.steps ≡ 0 }
 {
-    let mut machine = two_programs(
-        rt,
-        scene.tick_every,
-        scene.script,
-        scene.first,
-        scene.second,
-    )?;
-    let mut render = Render::new(true);
-    let mut sink = MemorySink::new(rt.alloc(), 512)?;
-    machine.run(steps, &mut render, &mut sink)?;
-    if sink.written() != text {
-        return Err(Fail::from("another text was written"));
+    let Behind(steps, text, sights) = *look;
+    let mut render = Render::new(trace);
+    let mut sink = MemorySink::new(alloc, 512)?;
+    go(machine, steps, apart, &mut render, &mut sink)?;
+    machine.settle(&mut render, &mut sink)?;
+    for sight in sights {
+        if !sees(machine, *sight) {
+            return Ok(false);
+        }
     }
-    Ok(machine.regs(Pid(p)).is_some())
+    Ok(machine.steps_done() == steps && sink.written() == text)
+}
+
+/// Does so many steps, at most 10,000, the last of them apart or not.
+fn go(
+    machine: &mut Machine,
+    steps: u64,
+    apart: bool,
+    render: &mut Render,
+    sink: &mut MemorySink,
+) -> Result<(), Fail>
+    requires whole { IsWhole machine.old }
+    requires no_completions { machine.old.kernel.completed ≡ [] }
+    requires start { machine.old.steps ≡ 0 }
+    ensures { OnOk result (IsWhole machine.new) }
+{
+    if 10000 < steps {
+        return Err(Fail::from("there are too many steps"));
+    }
+    if apart && 0 < steps {
+        machine.run(steps - 1, render, sink)?;
+        machine.step(render, sink)?;
+    } else {
+        machine.run(steps, render, sink)?;
+    }
+    Ok(())
+}
+
+/// Whether that is seen of a machine.
+#[tactic(auto, using(mpm_kernel::proofs::UnitLaws::has_first_console))]
+fn sees(machine: &Machine, sight: Sight) -> bool
+    requires { IsWhole machine.now }
+{
+    match sight {
+        Sight::Lives(p, lives) => p < 32 && machine.regs(Pid(p)).is_some() == lives,
+        Sight::Has(p, register, value) => {
+            if 32 <= p {
+                return false;
+            }
+            match machine.regs(Pid(p)) {
+                Some(regs) => value_of(regs, register) == value,
+                None => false,
+            }
+        }
+        Sight::Byte(seg, address, byte) => seg < 16 && machine.byte(Seg(seg), address) == byte,
+        Sight::Lost(count) => machine.lost(0) == count,
+    }
+}
+
+/// The value of a register.
+fn value_of(regs: &Regs, register: Register) -> u16 {
+    match register {
+        Register::A => u16::from(regs.a),
+        Register::B => u16::from(regs.b),
+        Register::C => u16::from(regs.c),
+        Register::De => u16::from_be_bytes([regs.d, regs.e]),
+        Register::Hl => u16::from_be_bytes([regs.h, regs.l]),
+        Register::Pc => regs.pc,
+        Register::Sp => regs.sp,
+        Register::Halted => u16::from(regs.halted),
+    }
 }

@@ -1,20 +1,19 @@
-ghost use Rattle.std.specs.Prelude.{◌≡◌, ◌↔◌, ◌<◌, ◌≤◌, ◌+◌, ℕ, true, List, [], Option, Some, None, is_some, IfSome, IfOk, OnOk, OnErr};
+ghost use Rattle.std.specs.Prelude.{◌≡◌, ◌<◌, ◌≤◌, ◌+◌, ℕ, true, List, [], Option, Some, None, is_some, IfSome, IfOk, OnOk, OnErr};
 ghost use Rattle.mpm_port.specs.Causes.{HasCause};
 ghost use Rattle.mpm_procs.specs.Table.{Lives, process_in};
 ghost use Rattle.mpm_kernel.specs.Kernel.{IsReady};
 ghost use Rattle.mpm_render.specs.Shown.{Kept};
-ghost use Rattle.mpm_machine.specs.Writing.{Showed, Stopped};
+ghost use Rattle.mpm_output.specs.Writing.{Showed, Stopped};
 
-use crate::console::write_bytes;
-use crate::residents::Residents;
-use crate::unlisted::illegal_text;
 use mpm_banks::Banks;
 use mpm_base::{Pid, Reply, Seg};
 use mpm_interrupts::Schedule;
 use mpm_kernel::Kernel;
+use mpm_output::{illegal_text, write_bytes};
 use mpm_port::{Failed, Sink};
 use mpm_processor::{Gate, execute, gate_at, page_of_gates, run_instructions};
 use mpm_render::Render;
+use mpm_residents::Residents;
 
 /// What a machine keeps from step to step.
 #[derive(Drop)]
@@ -25,7 +24,7 @@ pub(crate) struct System {
     pub kernel: Kernel,
     pub memory: Banks,
     /// Whether an end by an abort may be put off: where this is false, none is.
-    pub put_off: bool,
+    pub abort_deferred: bool,
     pub residents: Residents,
 }
 
@@ -39,23 +38,24 @@ impl System {
     ghost use Rattle.mpm_machine.specs.Moving.{Moved, IsIdle, later};
     ghost use Rattle.mpm_interrupts.specs.Interrupts.{due};
     ghost use Rattle.mpm_processor.specs.declared.gate.Gate.TheVariants.{Return};
-    ghost use Rattle.mpm_machine.specs.Step.{acted, acted_at, at_instruction, gate_before, is_no_gate, coming, begun_by, instruction_unless, step_of, instruction_at, ran, instructed, illegal, after};
+    ghost use Rattle.mpm_machine.specs.Step.{acted, acted_at, at_instruction, gate_before, is_no_gate, coming, begun_by, instruction_unless, step_of, instruction_at, ran, instructed, illegal, after, system_after};
 
     /// Steps at most so many, that need no look at anything between them. Answers how many were done. They are instructions of
     /// the running process, up to a gate or an unlisted opcode, as long as it runs on; where no process runs and none is
     /// ready, nothing is done in them.
     pub fn run_on(&mut self, most: u64) -> u64
         requires whole { IsWhole self.old }
-        requires handed { self.old.kernel.completed ≡ [] }
+        requires no_completions { self.old.kernel.completed ≡ [] }
         requires room { self.old.steps + most ≤ 4000000000 }
         ensures count { result ≤ most }
-        ensures stands { (s : State) (kept : Kept) (told : Option (List ℕ)) (first : Option (List ℕ)) → StandsFor self.old kept told s first
-            → StandsFor self.new kept told (after result s) first }
+        ensures stands { (s : State) (kept : Kept) (written : Option (List ℕ)) (first : Option (List ℕ)) → StandsFor self.old kept written s first
+            → StandsFor self.new kept written (after result s) first }
+        ensures system { self.new ≡ system_after result self.old }
         ensures whole { IsWhole self.new }
-        ensures handed { self.new.kernel.completed ≡ [] }
+        ensures no_completions { self.new.kernel.completed ≡ [] }
         ensures steps { self.new.steps ≡ self.old.steps + result }
     {
-        if self.put_off {
+        if self.abort_deferred {
             return 0;
         }
         let most = most.min(self.quiet());
@@ -131,12 +131,12 @@ impl System {
     ) -> Result<(), Failed>
         requires most { self.old.steps < 4000000000 }
         requires whole { IsWhole self.old }
-        requires handed { self.old.kernel.completed ≡ [] }
+        requires no_completions { self.old.kernel.completed ≡ [] }
         ensures system { OnOk result (self.new ≡ (step_of self.old).system) }
-        ensures ok { OnOk result (Showed render.old (S.written sink.old) render.new (S.written sink.new) (step_of self.old).news) }
-        ensures err { OnErr result (Stopped render.old (S.written sink.old) (S.written sink.new) (step_of self.old).news) }
+        ensures ok { OnOk result (Showed render.old (S.written sink.old) render.new (S.written sink.new) (step_of self.old).emitted) }
+        ensures err { OnErr result (Stopped render.old (S.written sink.old) (S.written sink.new) (step_of self.old).emitted) }
         ensures whole { OnOk result (IsWhole self.new) }
-        ensures handed { OnOk result (self.new.kernel.completed ≡ []) }
+        ensures no_completions { OnOk result (self.new.kernel.completed ≡ []) }
         ensures count { OnOk result (self.new.steps ≡ self.old.steps + 1) }
         ensures cause { HasCause (S.faults sink.old) (S.faults sink.new) result }
         ensures trace { render.new.trace ≡ render.old.trace }
@@ -160,8 +160,8 @@ impl System {
         requires whole { IsWhole self.old }
         ensures system { OnOk result (self.new ≡ (begun_by (coming self.old) self.old).system) }
         ensures instruction { IfOk result (λ instruction. instruction ≡ instruction_unless (coming self.old) self.old) }
-        ensures ok { OnOk result (Showed render.old (S.written sink.old) render.new (S.written sink.new) (begun_by (coming self.old) self.old).news) }
-        ensures err { OnErr result (Stopped render.old (S.written sink.old) (S.written sink.new) (begun_by (coming self.old) self.old).news) }
+        ensures ok { OnOk result (Showed render.old (S.written sink.old) render.new (S.written sink.new) (begun_by (coming self.old) self.old).emitted) }
+        ensures err { OnErr result (Stopped render.old (S.written sink.old) (S.written sink.new) (begun_by (coming self.old) self.old).emitted) }
         ensures cause { HasCause (S.faults sink.old) (S.faults sink.new) result }
         ensures trace { render.new.trace ≡ render.old.trace }
     {
@@ -183,8 +183,8 @@ impl System {
         requires whole { IsWhole self.old }
         ensures system { OnOk result (self.new ≡ (acted self.old).system) }
         ensures instruction { IfOk result (λ instruction. instruction ≡ at_instruction self.old) }
-        ensures ok { OnOk result (Showed render.old (S.written sink.old) render.new (S.written sink.new) (acted self.old).news) }
-        ensures err { OnErr result (Stopped render.old (S.written sink.old) (S.written sink.new) (acted self.old).news) }
+        ensures ok { OnOk result (Showed render.old (S.written sink.old) render.new (S.written sink.new) (acted self.old).emitted) }
+        ensures err { OnErr result (Stopped render.old (S.written sink.old) (S.written sink.new) (acted self.old).emitted) }
         ensures cause { HasCause (S.faults sink.old) (S.faults sink.new) result }
         ensures trace { render.new.trace ≡ render.old.trace }
     {
@@ -215,8 +215,8 @@ impl System {
         requires home { (process_in self.old.kernel.procs p).seg ≡ Some seg }
         ensures system { OnOk result (self.new ≡ (acted_at (gate_before p seg self.old) p seg self.old).system) }
         ensures instruction { IfOk result (λ instruction. instruction ≡ is_no_gate (gate_before p seg self.old)) }
-        ensures ok { OnOk result (Showed render.old (S.written sink.old) render.new (S.written sink.new) (acted_at (gate_before p seg self.old) p seg self.old).news) }
-        ensures err { OnErr result (Stopped render.old (S.written sink.old) (S.written sink.new) (acted_at (gate_before p seg self.old) p seg self.old).news) }
+        ensures ok { OnOk result (Showed render.old (S.written sink.old) render.new (S.written sink.new) (acted_at (gate_before p seg self.old) p seg self.old).emitted) }
+        ensures err { OnErr result (Stopped render.old (S.written sink.old) (S.written sink.new) (acted_at (gate_before p seg self.old) p seg self.old).emitted) }
         ensures cause { HasCause (S.faults sink.old) (S.faults sink.new) result }
         ensures trace { render.new.trace ≡ render.old.trace }
     {
@@ -266,8 +266,8 @@ impl System {
         requires home { IsHome self.old.memory seg }
         requires gate { gate_before p seg self.old ≡ None }
         ensures system { OnOk result (self.new ≡ (instructed (instruction_at p seg self.old) p seg self.old).system) }
-        ensures ok { OnOk result (Showed render.old (S.written sink.old) render.new (S.written sink.new) (instructed (instruction_at p seg self.old) p seg self.old).news) }
-        ensures err { OnErr result (Stopped render.old (S.written sink.old) (S.written sink.new) (instructed (instruction_at p seg self.old) p seg self.old).news) }
+        ensures ok { OnOk result (Showed render.old (S.written sink.old) render.new (S.written sink.new) (instructed (instruction_at p seg self.old) p seg self.old).emitted) }
+        ensures err { OnErr result (Stopped render.old (S.written sink.old) (S.written sink.new) (instructed (instruction_at p seg self.old) p seg self.old).emitted) }
         ensures cause { HasCause (S.faults sink.old) (S.faults sink.new) result }
         ensures trace { render.new.trace ≡ render.old.trace }
     {
@@ -296,13 +296,13 @@ impl System {
     }
 
     /// A process comes to an unlisted opcode: a text on its console, and its end.
-    #[tactic(auto, using(crate::proofs::WholeLaws::lives_behind_text), unfolding(crate::specs::Step::illegal, crate::specs::State::speaking))]
+    #[tactic(auto, using(mpm_output::proofs::KernelLaws::lives_behind_text), unfolding(crate::specs::Step::illegal, crate::specs::State::speaking))]
     fn illegal<S: Sink>(&mut self, p: Pid, render: &mut Render, sink: &mut S) -> Result<(), Failed>
         requires whole { IsWhole self.old }
         requires lives { Lives self.old.kernel.procs p }
         ensures system { OnOk result (self.new ≡ (illegal p self.old).system) }
-        ensures ok { OnOk result (Showed render.old (S.written sink.old) render.new (S.written sink.new) (illegal p self.old).news) }
-        ensures err { OnErr result (Stopped render.old (S.written sink.old) (S.written sink.new) (illegal p self.old).news) }
+        ensures ok { OnOk result (Showed render.old (S.written sink.old) render.new (S.written sink.new) (illegal p self.old).emitted) }
+        ensures err { OnErr result (Stopped render.old (S.written sink.old) (S.written sink.new) (illegal p self.old).emitted) }
         ensures cause { HasCause (S.faults sink.old) (S.faults sink.new) result }
         ensures trace { render.new.trace ≡ render.old.trace }
     {

@@ -15,4 +15,4 @@ appended (Some text) more = Some (text ++ more)
 pub record AppendsPart (old : Option (List ℕ)) (more : List ℕ) (new : Option (List ℕ)) : Type 0 where
   pub part : List ℕ
   pub begins : Begins part more
-  pub told : new ≡ appended old part
+  pub new_is : new ≡ appended old part

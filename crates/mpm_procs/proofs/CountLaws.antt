@@ -5,7 +5,7 @@ use Rattle.std.specs.List.{position_or_len}
 use Rattle.std.proofs.lemmas.Bool.{false≢true, cases_lt, lt-ltb, le-ltb}
 use Rattle.std.proofs.lemmas.List.Sums.{sum_by-set, sum_by-cons, count_by-le-length}
 use Rattle.mpm_procs.specs.declared.process.NewProcess.{NewProcess}
-use Rattle.mpm_procs.specs.Table.{Table, HasSlots, lives, Lives, lowest_free, free_slots, living, added, without}
+use Rattle.mpm_procs.specs.Table.{Table, HasSlots, lives, lowest_free, free_slots, living, added}
 use Rattle.mpm_procs.proofs.MapLaws.{free_below}
 
 abbrev bit : Bool → ℕ
@@ -20,11 +20,6 @@ pub living_added : (table : Table) (p : ℕ) (new : NewProcess) → p < length t
 unfolding living added
 living_added table p new within free =
     omega (arith, sum_by-set bit table.alive p true false within, ap bit free)
-
-pub living_without : (table : Table) (p : ℕ) → p < length table.alive → Lives table p → living (without table p) + 1 ≡ living table
-unfolding living without
-living_without table p within alive =
-    omega (arith, sum_by-set bit table.alive p false false within, ap bit alive)
 
 -- the slots are those where a process lives and the free ones
 abbrev live_count : List Bool → ℕ

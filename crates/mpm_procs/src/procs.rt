@@ -3,9 +3,10 @@ ghost use Rattle.mpm_base.specs.Calls.{no_call};
 ghost use Rattle.std.specs.Borrow.{sem};
 ghost use Rattle.mpm_procs.specs.Opening.{blank};
 
+use crate::OutOfMemory;
 use crate::process::{NewProcess, Process};
 use mpm_base::{Call, Pid};
-use std::alloc::{AllocError, Global};
+use std::alloc::Global;
 use std::marker::Model;
 
 /// The number of slots.
@@ -39,7 +40,7 @@ impl Procs {
 
     /// No processes. All memory that they will need is taken here.
     #[tactic(auto, using(crate::proofs::BlankLaws::map_blank), unfolding(crate::specs::Table::no_processes))]
-    pub fn new(alloc: Global) -> Result<Procs, AllocError>
+    pub fn new(alloc: Global) -> Result<Procs, OutOfMemory>
         ensures { IfOk result (λ procs. procs ≡ no_processes) }
     {
         let alive = nobody(alloc)?;
@@ -156,7 +157,7 @@ fn first_free(alive: &[bool]) -> Option<usize>
 }
 
 /// That nobody lives, for each slot.
-fn nobody(alloc: Global) -> Result<Vec<bool>, AllocError>
+fn nobody(alloc: Global) -> Result<Vec<bool>, OutOfMemory>
     ensures { IfOk result (λ alive. alive.items ≡ replicate 32 false) }
 {
     let mut alive = Vec::with_capacity(alloc, SLOTS)?;
@@ -165,7 +166,7 @@ fn nobody(alloc: Global) -> Result<Vec<bool>, AllocError>
 }
 
 /// A blank process for each slot.
-fn blank_processes(alloc: Global) -> Result<Vec<Process>, AllocError>
+fn blank_processes(alloc: Global) -> Result<Vec<Process>, OutOfMemory>
     ensures { IfOk result (λ processes. processes.items ≡ replicate 32 blank) }
 {
     let mut processes = Vec::with_capacity(alloc, SLOTS)?;
@@ -174,7 +175,7 @@ fn blank_processes(alloc: Global) -> Result<Vec<Process>, AllocError>
 }
 
 /// A call with nothing in it for each slot.
-fn empty_calls(alloc: Global) -> Result<Vec<Call>, AllocError>
+fn empty_calls(alloc: Global) -> Result<Vec<Call>, OutOfMemory>
     ensures { IfOk result (λ calls. calls.items ≡ replicate 32 no_call) }
 {
     let mut calls = Vec::with_capacity(alloc, SLOTS)?;

@@ -4,20 +4,20 @@ use Rattle.mpm_base.specs.Lists.{zeros}
 use Rattle.mpm_base.specs.Calls.{no_call}
 use Rattle.mpm_base.specs.declared.number.Name8.{Name8}
 use Rattle.mpm_queues.specs.Queue.{Queue, first_message, read_by, held_by, shortened, with_message, message_of, in_width}
-use Rattle.mpm_queues.specs.Queues.{no_queues, refusal, lowest}
+use Rattle.mpm_queues.specs.Queues.{no_queues, make_error, lowest}
 use Rattle.mpm_queues.specs.declared.queues.MakeRefused.TheVariants.{NoQueueRoom, BadCount}
 
 -- three messages of 1,024 bytes have no room; two have
-pub three_messages_of_1024 : (name : Name8) → refusal no_queues name 1024 3 ≡ Some NoQueueRoom
-unfolding refusal no_queues lowest
+pub three_messages_of_1024 : (name : Name8) → make_error no_queues name 1024 3 ≡ Some NoQueueRoom
+unfolding make_error no_queues lowest
 three_messages_of_1024 name = refl
 
-pub two_messages_of_1024 : (name : Name8) → refusal no_queues name 1024 2 ≡ None
-unfolding refusal no_queues lowest
+pub two_messages_of_1024 : (name : Name8) → make_error no_queues name 1024 2 ≡ None
+unfolding make_error no_queues lowest
 two_messages_of_1024 name = refl
 
-pub no_messages_of_1024 : (name : Name8) → refusal no_queues name 1024 0 ≡ Some BadCount
-unfolding refusal no_queues lowest
+pub no_messages_of_1024 : (name : Name8) → make_error no_queues name 1024 0 ≡ Some BadCount
+unfolding make_error no_queues lowest
 no_messages_of_1024 name = refl
 
 -- a queue of two messages of one byte, which is full; 41h is read, and 43h of the writer that waited is let in

@@ -6,10 +6,10 @@ use Rattle.std.proofs.lemmas.List.{append-nil, append_assoc}
 use Rattle.mpm_procs.specs.Table.{Table}
 use Rattle.mpm_queues.specs.Queue.{Queue, is_drained, is_full, first_message, held_by, shortened, read_by, with_message}
 use Rattle.mpm_queues.specs.Queues.{Queues, IsMade, queue_in, IsSound}
-use Rattle.mpm_queues.specs.Handling.{first_reader, first_writer, written_by, released, let_in, handed, behind_read, behind_write, enlisted, left}
-use Rattle.mpm_queues.specs.Runs.{out_by_read, in_by_read, waiting_message, out_by_write, in_by_write, handed_message, Conserves, Deed, Reads, Writes, Waits, Leaves, behind_deed, out_by, in_by, MayBe, behind_all, all_out, all_in, AllMayBe}
+use Rattle.mpm_queues.specs.Handling.{first_reader, first_writer, written_by, dequeued, let_in, delivered, behind_read, behind_write, enlisted, queues_without_waiter}
+use Rattle.mpm_queues.specs.Runs.{out_by_read, in_by_read, waiting_message, out_by_write, in_by_write, delivered_message, Conserves, Operation, Reads, Writes, Waits, Leaves, behind_operation, out_by, in_by, MayBe, behind_all, all_out, all_in, AllMayBe}
 use Rattle.mpm_queues.proofs.QueueLaws.{drained_empty}
-use Rattle.mpm_queues.proofs.SoundLaws.{changed, queue_there, reader_drained, sound_read, sound_write, sound_enlisted, sound_left}
+use Rattle.mpm_queues.proofs.SoundLaws.{changed, queue_there, reader_drained, sound_read, sound_write, sound_enlisted, sound_queues_without}
 
 -- nothing happened
 nothing : (t : Queues) (q : ℕ) → Conserves t t q [] []
@@ -27,9 +27,9 @@ read_messages t p q procs None some =
 read_messages t p q procs (Some w) some =
     ap (λ (ms : List (List ℕ)). ms ++ written_by t q procs w ∷ []) (first_rest (queue_in t q).messages some)
 
-read_done : (t : Queues) (p q : ℕ) (procs : Table) → IsSound t → IsMade t q → is_drained (queue_in t q) ≡ false → (first_message (queue_in t q) ∷ []) ++ (queue_in (changed t q (let_in procs (first_writer t q) (read_by p (queue_in t q))) (released (first_writer t q) t.waiters)) q).messages ≡ (queue_in t q).messages ++ waiting_message t q procs (first_writer t q)
+read_done : (t : Queues) (p q : ℕ) (procs : Table) → IsSound t → IsMade t q → is_drained (queue_in t q) ≡ false → (first_message (queue_in t q) ∷ []) ++ (queue_in (changed t q (let_in procs (first_writer t q) (read_by p (queue_in t q))) (dequeued (first_writer t q) t.waiters)) q).messages ≡ (queue_in t q).messages ++ waiting_message t q procs (first_writer t q)
 read_done t p q procs sound is some =
-    ap (λ (x : Queue). (first_message (queue_in t q) ∷ []) ++ x.messages) (queue_there t q _ (released (first_writer t q) t.waiters) sound is)
+    ap (λ (x : Queue). (first_message (queue_in t q) ∷ []) ++ x.messages) (queue_there t q _ (dequeued (first_writer t q) t.waiters) sound is)
     ∙ read_messages t p q procs (first_writer t q) some
 
 pub conserves_read : (t : Queues) (p q : ℕ) (procs : Table) → IsSound t → IsMade t q → Conserves t (behind_read t p q procs) q (out_by_read t q) (in_by_read t q procs)
@@ -40,19 +40,19 @@ conserves_read t p q procs sound is = elim (cases_Bool (is_drained (queue_in t q
 ]
   where
     P : Bool → Type 0
-    P b = cond b [] (first_message (queue_in t q) ∷ []) ++ (queue_in (cond b t (changed t q (let_in procs (first_writer t q) (read_by p (queue_in t q))) (released (first_writer t q) t.waiters))) q).messages ≡ (queue_in t q).messages ++ cond b [] (waiting_message t q procs (first_writer t q))
+    P b = cond b [] (first_message (queue_in t q) ∷ []) ++ (queue_in (cond b t (changed t q (let_in procs (first_writer t q) (read_by p (queue_in t q))) (dequeued (first_writer t q) t.waiters))) q).messages ≡ (queue_in t q).messages ++ cond b [] (waiting_message t q procs (first_writer t q))
 
 -- a message written
-written_messages : (t : Queues) (q : ℕ) (message : List ℕ) (o : Option ℕ) → ((r : ℕ) → o ≡ Some r → is_drained (queue_in t q) ≡ true) → handed_message message o ++ (handed o message (queue_in t q)).messages ≡ (queue_in t q).messages ++ message ∷ []
+written_messages : (t : Queues) (q : ℕ) (message : List ℕ) (o : Option ℕ) → ((r : ℕ) → o ≡ Some r → is_drained (queue_in t q) ≡ true) → delivered_message message o ++ (delivered o message (queue_in t q)).messages ≡ (queue_in t q).messages ++ message ∷ []
 unfolding held_by with_message
 written_messages t q message None none = refl
 written_messages t q message (Some r) none =
     let empty = drained_empty (queue_in t q) (none r refl) in
     ap (λ (ms : List (List ℕ)). message ∷ ms) empty ∙ sym (ap (λ (ms : List (List ℕ)). ms ++ message ∷ []) empty)
 
-write_done : (t : Queues) (p q : ℕ) (procs : Table) → IsSound t → IsMade t q → handed_message (written_by t q procs p) (first_reader t q) ++ (queue_in (changed t q (handed (first_reader t q) (written_by t q procs p) (queue_in t q)) (released (first_reader t q) t.waiters)) q).messages ≡ (queue_in t q).messages ++ written_by t q procs p ∷ []
+write_done : (t : Queues) (p q : ℕ) (procs : Table) → IsSound t → IsMade t q → delivered_message (written_by t q procs p) (first_reader t q) ++ (queue_in (changed t q (delivered (first_reader t q) (written_by t q procs p) (queue_in t q)) (dequeued (first_reader t q) t.waiters)) q).messages ≡ (queue_in t q).messages ++ written_by t q procs p ∷ []
 write_done t p q procs sound is =
-    ap (λ (x : Queue). handed_message (written_by t q procs p) (first_reader t q) ++ x.messages) (queue_there t q _ (released (first_reader t q) t.waiters) sound is)
+    ap (λ (x : Queue). delivered_message (written_by t q procs p) (first_reader t q) ++ x.messages) (queue_there t q _ (dequeued (first_reader t q) t.waiters) sound is)
     ∙ written_messages t q (written_by t q procs p) (first_reader t q) (λ r first. reader_drained t q r sound is first)
 
 pub conserves_write : (t : Queues) (p q : ℕ) (procs : Table) → IsSound t → IsMade t q → Conserves t (behind_write t p q procs) q (out_by_write t p q procs) (in_by_write t p q procs)
@@ -60,46 +60,46 @@ unfolding behind_write out_by_write in_by_write
 conserves_write t p q procs sound is =
     by_test (is_full (queue_in t q)) (nothing t q) (write_done t p q procs sound is)
   where
-    by_test : (b : Bool) → Conserves t t q [] [] → handed_message (written_by t q procs p) (first_reader t q) ++ (queue_in (changed t q (handed (first_reader t q) (written_by t q procs p) (queue_in t q)) (released (first_reader t q) t.waiters)) q).messages ≡ (queue_in t q).messages ++ written_by t q procs p ∷ [] → cond b [] (handed_message (written_by t q procs p) (first_reader t q)) ++ (queue_in (cond b t (changed t q (handed (first_reader t q) (written_by t q procs p) (queue_in t q)) (released (first_reader t q) t.waiters))) q).messages ≡ (queue_in t q).messages ++ cond b [] (written_by t q procs p ∷ [])
+    by_test : (b : Bool) → Conserves t t q [] [] → delivered_message (written_by t q procs p) (first_reader t q) ++ (queue_in (changed t q (delivered (first_reader t q) (written_by t q procs p) (queue_in t q)) (dequeued (first_reader t q) t.waiters)) q).messages ≡ (queue_in t q).messages ++ written_by t q procs p ∷ [] → cond b [] (delivered_message (written_by t q procs p) (first_reader t q)) ++ (queue_in (cond b t (changed t q (delivered (first_reader t q) (written_by t q procs p) (queue_in t q)) (dequeued (first_reader t q) t.waiters))) q).messages ≡ (queue_in t q).messages ++ cond b [] (written_by t q procs p ∷ [])
     by_test true full room = full
     by_test false full room = room
 
--- one deed
-pub conserves_deed : (t : Queues) (q : ℕ) (deed : Deed) → IsSound t → IsMade t q → Conserves t (behind_deed t q deed) q (out_by t q deed) (in_by t q deed)
-unfolding enlisted left
-conserves_deed t q (Reads p procs) sound is = conserves_read t p q procs sound is
-conserves_deed t q (Writes p procs) sound is = conserves_write t p q procs sound is
-conserves_deed t q (Waits p priority reader) sound is = nothing t q
-conserves_deed t q (Leaves p) sound is = nothing t q
+-- one operation
+pub conserves_operation : (t : Queues) (q : ℕ) (operation : Operation) → IsSound t → IsMade t q → Conserves t (behind_operation t q operation) q (out_by t q operation) (in_by t q operation)
+unfolding enlisted queues_without_waiter
+conserves_operation t q (Reads p procs) sound is = conserves_read t p q procs sound is
+conserves_operation t q (Writes p procs) sound is = conserves_write t p q procs sound is
+conserves_operation t q (Waits p priority reader) sound is = nothing t q
+conserves_operation t q (Leaves p) sound is = nothing t q
 
-pub sound_deed : (t : Queues) (q : ℕ) (deed : Deed) → IsSound t → IsMade t q → MayBe t q deed → IsSound (behind_deed t q deed)
-sound_deed t q (Reads p procs) sound is may = sound_read t p q procs sound is
-sound_deed t q (Writes p procs) sound is may = sound_write t p q procs sound is
-sound_deed t q (Waits p priority reader) sound is may = sound_enlisted t p priority q reader sound is may.0 may.1 may.2
-sound_deed t q (Leaves p) sound is may = sound_left t p sound
+pub sound_operation : (t : Queues) (q : ℕ) (operation : Operation) → IsSound t → IsMade t q → MayBe t q operation → IsSound (behind_operation t q operation)
+sound_operation t q (Reads p procs) sound is may = sound_read t p q procs sound is
+sound_operation t q (Writes p procs) sound is may = sound_write t p q procs sound is
+sound_operation t q (Waits p priority reader) sound is may = sound_enlisted t p priority q reader sound is may.0 may.1 may.2
+sound_operation t q (Leaves p) sound is may = sound_queues_without t p sound
 
 alive_kept : (b : Bool) (t other : Queues) → other.alive ≡ t.alive → (cond b t other).alive ≡ t.alive
 alive_kept true t other same = refl
 alive_kept false t other same = same
 
-pub made_deed : (t : Queues) (q : ℕ) (deed : Deed) → (behind_deed t q deed).alive ≡ t.alive
-unfolding behind_read behind_write enlisted left
-made_deed t q (Reads p procs) = alive_kept (is_drained (queue_in t q)) t _ refl
-made_deed t q (Writes p procs) = alive_kept (is_full (queue_in t q)) t _ refl
-made_deed t q (Waits p priority reader) = refl
-made_deed t q (Leaves p) = refl
+pub made_operation : (t : Queues) (q : ℕ) (operation : Operation) → (behind_operation t q operation).alive ≡ t.alive
+unfolding behind_read behind_write enlisted queues_without_waiter
+made_operation t q (Reads p procs) = alive_kept (is_drained (queue_in t q)) t _ refl
+made_operation t q (Writes p procs) = alive_kept (is_full (queue_in t q)) t _ refl
+made_operation t q (Waits p priority reader) = refl
+made_operation t q (Leaves p) = refl
 
--- all deeds
+-- all operations
 joined : (given rest now before : List (List ℕ)) (into more : List (List ℕ)) (middle : List (List ℕ)) → given ++ middle ≡ before ++ into → rest ++ now ≡ middle ++ more → (given ++ rest) ++ now ≡ before ++ (into ++ more)
 joined given rest now before into more middle one all =
     append_assoc given rest now ∙ ap (λ (ms : List (List ℕ)). given ++ ms) all ∙ sym (append_assoc given middle more)
     ∙ ap (λ (ms : List (List ℕ)). ms ++ more) one ∙ append_assoc before into more
 
-pub conserves_all : (t : Queues) (q : ℕ) (deeds : List Deed) → IsSound t → IsMade t q → AllMayBe t q deeds → Conserves t (behind_all t q deeds) q (all_out t q deeds) (all_in t q deeds)
+pub conserves_all : (t : Queues) (q : ℕ) (operations : List Operation) → IsSound t → IsMade t q → AllMayBe t q operations → Conserves t (behind_all t q operations) q (all_out t q operations) (all_in t q operations)
 unfolding behind_all all_out all_in AllMayBe
 conserves_all t q [] sound is may = nothing t q
-conserves_all t q (deed ∷ deeds) sound is may =
-    let still = ap (λ (alive : List Bool). get_or alive q false) (made_deed t q deed) ∙ is in
-    joined (out_by t q deed) (all_out (behind_deed t q deed) q deeds) _ (queue_in t q).messages (in_by t q deed) (all_in (behind_deed t q deed) q deeds) _
-    (conserves_deed t q deed sound is)
-    (conserves_all (behind_deed t q deed) q deeds (sound_deed t q deed sound is may.0) still may.1)
+conserves_all t q (operation ∷ operations) sound is may =
+    let still = ap (λ (alive : List Bool). get_or alive q false) (made_operation t q operation) ∙ is in
+    joined (out_by t q operation) (all_out (behind_operation t q operation) q operations) _ (queue_in t q).messages (in_by t q operation) (all_in (behind_operation t q operation) q operations) _
+    (conserves_operation t q operation sound is)
+    (conserves_all (behind_operation t q operation) q operations (sound_operation t q operation sound is may.0) still may.1)

@@ -13,7 +13,7 @@ use Rattle.mpm_ready.proofs.TableLaws.{in_list_removed, in_list_inserted, table_
 use Rattle.mpm_procs.specs.Table.{Table, call_of}
 use Rattle.mpm_queues.specs.Queue.{Queue, new_queue, no_queue, is_drained, is_full, first_message, held_by, read_by, with_message, message_of, IsProper}
 use Rattle.mpm_queues.specs.Queues.{Queues, waits_at, IsMade, is_made, is_free, is_named, found, lowest_free, queue_in, readers_of, writers_of, no_queues, made, may_end, without, behind_delete, IsSound}
-use Rattle.mpm_queues.specs.Handling.{released, let_in, handed, first_reader, first_writer, behind_read, behind_write, written_by, taken_out, told, procs_behind_write, left, enlisted, may_wait}
+use Rattle.mpm_queues.specs.Handling.{dequeued, let_in, delivered, first_reader, first_writer, behind_read, behind_write, written_by, read_by_waiter, delivered_to, procs_behind_write, queues_without_waiter, enlisted, may_wait}
 use Rattle.mpm_queues.proofs.QueueLaws.{length_message, proper_none, proper_new, new_count, new_name, proper_read, proper_held, proper_written, room_behind, full_again, read_at_once, first_written}
 
 -- a number that names a queue is below 32
@@ -28,13 +28,13 @@ and_right : (a b : Bool) → (a && b) ≡ true → b ≡ true
 and_right true b h = h
 and_right false b h = absurd (cc)
 
-pub in_released : (o : Option ℕ) (lists : List (List Member)) (p k : ℕ) → in_list p (list_at (released o lists) k) ≡ true → in_list p (list_at lists k) ≡ true
-in_released None lists p k there = there
-in_released (Some w) lists p k there = and_right _ _ (sym (in_list_removed lists w p k) ∙ there)
+pub in_dequeued : (o : Option ℕ) (lists : List (List Member)) (p k : ℕ) → in_list p (list_at (dequeued o lists) k) ≡ true → in_list p (list_at lists k) ≡ true
+in_dequeued None lists p k there = there
+in_dequeued (Some w) lists p k there = and_right _ _ (sym (in_list_removed lists w p k) ∙ there)
 
-pub table_released : (o : Option ℕ) (lists : List (List Member)) → IsTable lists → IsTable (released o lists)
-table_released None lists table = table
-table_released (Some w) lists table = table_removed lists w table
+pub table_dequeued : (o : Option ℕ) (lists : List (List Member)) → IsTable lists → IsTable (dequeued o lists)
+table_dequeued None lists table = table
+table_dequeued (Some w) lists table = table_removed lists w table
 
 -- where nobody is first, nobody waits
 pub nobody_there : (ms : List Member) (p : ℕ) → first_of ms ≡ None → in_list p ms ≡ false
@@ -104,14 +104,14 @@ read_keeps : (p : ℕ) (queue : Queue) → ((read_by p queue).name ≡ queue.nam
 unfolding Rattle.mpm_queues.specs.Queue.held_by Rattle.mpm_queues.specs.Queue.shortened
 read_keeps p queue = (refl, refl)
 
-writers_full : (t : Queues) (p q : ℕ) (procs : Table) (o : Option ℕ) → IsSound t → IsMade t q → is_drained (queue_in t q) ≡ false → first_writer t q ≡ o → (w : ℕ) → in_list w (list_at (released o t.waiters) (32 + q)) ≡ true → is_full (let_in procs o (read_by p (queue_in t q))) ≡ true
+writers_full : (t : Queues) (p q : ℕ) (procs : Table) (o : Option ℕ) → IsSound t → IsMade t q → is_drained (queue_in t q) ≡ false → first_writer t q ≡ o → (w : ℕ) → in_list w (list_at (dequeued o t.waiters) (32 + q)) ≡ true → is_full (let_in procs o (read_by p (queue_in t q))) ≡ true
 writers_full t p q procs None sound is some first w there =
     absurd (false≢true (sym (nobody_there (writers_of t q) w first) ∙ there))
 writers_full t p q procs (Some f) sound is some first w there =
-    let was = in_released (Some f) t.waiters w (32 + q) there in
+    let was = in_dequeued (Some f) t.waiters w (32 + q) there in
     full_again (queue_in t q) p _ some (sound.writers q w (made_below t q sound is) was).1
 
-pub read_changes : (t : Queues) (p q : ℕ) (procs : Table) → IsSound t → IsMade t q → is_drained (queue_in t q) ≡ false → IsChange t q (let_in procs (first_writer t q) (read_by p (queue_in t q))) (released (first_writer t q) t.waiters)
+pub read_changes : (t : Queues) (p q : ℕ) (procs : Table) → IsSound t → IsMade t q → is_drained (queue_in t q) ≡ false → IsChange t q (let_in procs (first_writer t q) (read_by p (queue_in t q))) (dequeued (first_writer t q) t.waiters)
 read_changes t p q procs sound is some =
     let o = first_writer t q in
     let read = read_by p (queue_in t q) in
@@ -121,21 +121,21 @@ read_changes t p q procs sound is some =
       proper = proper_let_in procs o read (proper_read (queue_in t q) p (sound.proper q)) (room_behind (queue_in t q) p (sound.proper q) some);
       some = subst (λ (n : ℕ). 1 ≤ n) (sym (kept.1 ∙ same.1)) (sound.some q is);
       name = kept.0 ∙ same.0;
-      table = table_released o t.waiters sound.table;
-      fewer = λ r k there. in_released o t.waiters r k there;
-      readers = λ r there. absurd (false≢true (sym some ∙ (sound.readers q r (made_below t q sound is) (in_released o t.waiters r q there)).1));
+      table = table_dequeued o t.waiters sound.table;
+      fewer = λ r k there. in_dequeued o t.waiters r k there;
+      readers = λ r there. absurd (false≢true (sym some ∙ (sound.readers q r (made_below t q sound is) (in_dequeued o t.waiters r q there)).1));
       writers = writers_full t p q procs o sound is some refl;
     }
 
 -- a message written
-proper_handed : (o : Option ℕ) (message : List ℕ) (queue : Queue) → IsProper queue → is_full queue ≡ false → length message ≡ queue.width → ((r : ℕ) → o ≡ Some r → is_drained queue ≡ true) → IsProper (handed o message queue)
-proper_handed None message queue proper room size empty = proper_written queue message proper room size
-proper_handed (Some r) message queue proper room size empty = proper_held queue r proper (empty r refl)
+proper_delivered : (o : Option ℕ) (message : List ℕ) (queue : Queue) → IsProper queue → is_full queue ≡ false → length message ≡ queue.width → ((r : ℕ) → o ≡ Some r → is_drained queue ≡ true) → IsProper (delivered o message queue)
+proper_delivered None message queue proper room size empty = proper_written queue message proper room size
+proper_delivered (Some r) message queue proper room size empty = proper_held queue r proper (empty r refl)
 
-handed_keeps : (o : Option ℕ) (message : List ℕ) (queue : Queue) → ((handed o message queue).name ≡ queue.name) × ((handed o message queue).count ≡ queue.count)
+delivered_keeps : (o : Option ℕ) (message : List ℕ) (queue : Queue) → ((delivered o message queue).name ≡ queue.name) × ((delivered o message queue).count ≡ queue.count)
 unfolding with_message held_by
-handed_keeps None message queue = (refl, refl)
-handed_keeps (Some r) message queue = (refl, refl)
+delivered_keeps None message queue = (refl, refl)
+delivered_keeps (Some r) message queue = (refl, refl)
 
 first_there : (ms : List Member) (p : ℕ) → first_of ms ≡ Some p → in_list p ms ≡ true
 unfolding first_of in_list
@@ -148,39 +148,39 @@ pub reader_drained : (t : Queues) (q r : ℕ) → IsSound t → IsMade t q → f
 reader_drained t q r sound is first =
     (sound.readers q r (made_below t q sound is) (first_there (readers_of t q) r first)).1
 
-readers_drained : (t : Queues) (q : ℕ) (message : List ℕ) (o : Option ℕ) → IsSound t → IsMade t q → first_reader t q ≡ o → (r : ℕ) → in_list r (list_at (released o t.waiters) q) ≡ true → is_drained (handed o message (queue_in t q)) ≡ true
+readers_drained : (t : Queues) (q : ℕ) (message : List ℕ) (o : Option ℕ) → IsSound t → IsMade t q → first_reader t q ≡ o → (r : ℕ) → in_list r (list_at (dequeued o t.waiters) q) ≡ true → is_drained (delivered o message (queue_in t q)) ≡ true
 unfolding held_by
 readers_drained t q message None sound is first r there =
     absurd (false≢true (sym (nobody_there (readers_of t q) r first) ∙ there))
 readers_drained t q message (Some f) sound is first r there = reader_drained t q f sound is first
 
-pub write_changes : (t : Queues) (q : ℕ) (message : List ℕ) → IsSound t → IsMade t q → is_full (queue_in t q) ≡ false → length message ≡ (queue_in t q).width → IsChange t q (handed (first_reader t q) message (queue_in t q)) (released (first_reader t q) t.waiters)
+pub write_changes : (t : Queues) (q : ℕ) (message : List ℕ) → IsSound t → IsMade t q → is_full (queue_in t q) ≡ false → length message ≡ (queue_in t q).width → IsChange t q (delivered (first_reader t q) message (queue_in t q)) (dequeued (first_reader t q) t.waiters)
 write_changes t q message sound is room size =
     let o = first_reader t q in
-    let same = handed_keeps o message (queue_in t q) in
+    let same = delivered_keeps o message (queue_in t q) in
     record {
-      proper = proper_handed o message (queue_in t q) (sound.proper q) room size (λ r first. reader_drained t q r sound is first);
+      proper = proper_delivered o message (queue_in t q) (sound.proper q) room size (λ r first. reader_drained t q r sound is first);
       some = subst (λ (n : ℕ). 1 ≤ n) (sym same.1) (sound.some q is);
       name = same.0;
-      table = table_released o t.waiters sound.table;
-      fewer = λ r k there. in_released o t.waiters r k there;
+      table = table_dequeued o t.waiters sound.table;
+      fewer = λ r k there. in_dequeued o t.waiters r k there;
       readers = readers_drained t q message o sound is refl;
-      writers = λ w there. absurd (false≢true (sym room ∙ (sound.writers q w (made_below t q sound is) (in_released o t.waiters w (32 + q) there)).1));
+      writers = λ w there. absurd (false≢true (sym room ∙ (sound.writers q w (made_below t q sound is) (in_dequeued o t.waiters w (32 + q) there)).1));
     }
 
 -- behind the calls
 pub sound_read : (t : Queues) (p q : ℕ) (procs : Table) → IsSound t → IsMade t q → IsSound (behind_read t p q procs)
 unfolding behind_read
 sound_read t p q procs sound is = elim (cases_Bool (is_drained (queue_in t q))) [
-  | inl none ↦ subst IsSound (sym (ap (λ (b : Bool). cond b t (changed t q (let_in procs (first_writer t q) (read_by p (queue_in t q))) (released (first_writer t q) t.waiters))) none)) sound
-  | inr some ↦ subst IsSound (sym (ap (λ (b : Bool). cond b t (changed t q (let_in procs (first_writer t q) (read_by p (queue_in t q))) (released (first_writer t q) t.waiters))) some)) (sound_changed t q _ _ sound is (read_changes t p q procs sound is some))
+  | inl none ↦ subst IsSound (sym (ap (λ (b : Bool). cond b t (changed t q (let_in procs (first_writer t q) (read_by p (queue_in t q))) (dequeued (first_writer t q) t.waiters))) none)) sound
+  | inr some ↦ subst IsSound (sym (ap (λ (b : Bool). cond b t (changed t q (let_in procs (first_writer t q) (read_by p (queue_in t q))) (dequeued (first_writer t q) t.waiters))) some)) (sound_changed t q _ _ sound is (read_changes t p q procs sound is some))
 ]
 
 pub sound_write : (t : Queues) (p q : ℕ) (procs : Table) → IsSound t → IsMade t q → IsSound (behind_write t p q procs)
 unfolding behind_write
 sound_write t p q procs sound is = elim (cases_Bool (is_full (queue_in t q))) [
-  | inl full ↦ subst IsSound (sym (ap (λ (b : Bool). cond b t (changed t q (handed (first_reader t q) (written_by t q procs p) (queue_in t q)) (released (first_reader t q) t.waiters))) full)) sound
-  | inr room ↦ subst IsSound (sym (ap (λ (b : Bool). cond b t (changed t q (handed (first_reader t q) (written_by t q procs p) (queue_in t q)) (released (first_reader t q) t.waiters))) room)) (sound_changed t q _ _ sound is (write_changes t q _ sound is room (length_message _ _)))
+  | inl full ↦ subst IsSound (sym (ap (λ (b : Bool). cond b t (changed t q (delivered (first_reader t q) (written_by t q procs p) (queue_in t q)) (dequeued (first_reader t q) t.waiters))) full)) sound
+  | inr room ↦ subst IsSound (sym (ap (λ (b : Bool). cond b t (changed t q (delivered (first_reader t q) (written_by t q procs p) (queue_in t q)) (dequeued (first_reader t q) t.waiters))) room)) (sound_changed t q _ _ sound is (write_changes t q _ sound is room (length_message _ _)))
 ]
 
 -- the first of those who wait waits
@@ -214,14 +214,14 @@ pub record IsRead (t : Queues) (p q k : ℕ) (procs : Table) (queue behind store
   pub reading : behind ≡ read_by p queue
   pub first : other ≡ first_writer t q
   pub letting : store ≡ let_in procs other behind
-  pub leaving : left ≡ released other t.waiters
+  pub leaving : left ≡ dequeued other t.waiters
 
 pub sound_read_parts : (t : Queues) (p q k : ℕ) (procs : Table) (queue behind store : Queue) (other : Option ℕ) (left : List (List Member)) → IsSound t → IsMade t q → IsRead t p q k procs queue behind store other left → IsSound (changed t k store left)
 sound_read_parts t p q k procs queue behind store other left sound is parts =
     let it = picked t q k queue sound is parts.number parts.value in
     let some = ap is_drained (sym it) ∙ parts.some in
     let after : store ≡ let_in procs (first_writer t q) (read_by p (queue_in t q)) = parts.letting ∙ ap (λ (o : Option ℕ). let_in procs o behind) parts.first ∙ ap (let_in procs (first_writer t q)) (parts.reading ∙ ap (read_by p) it) in
-    let less = parts.leaving ∙ ap (λ (o : Option ℕ). released o t.waiters) parts.first in
+    let less = parts.leaving ∙ ap (λ (o : Option ℕ). dequeued o t.waiters) parts.first in
     subst IsSound (sym (same_change t k q store _ left _ parts.number after less)) (sound_changed t q _ _ sound is (read_changes t p q procs sound is some))
 
 -- the parts of a write: the message was added, and handed to a reader
@@ -231,31 +231,31 @@ pub record IsWritten (t : Queues) (p q k : ℕ) (procs new : Table) (queue behin
   pub room : is_full queue ≡ false
   pub adding : behind ≡ with_message (message_of queue.width (call_of procs p)) queue
   pub first : other ≡ first_reader t q
-  pub taking : store ≡ taken_out other behind
-  pub telling : new ≡ told other (first_message behind) procs
-  pub leaving : left ≡ released other t.waiters
+  pub taking : store ≡ read_by_waiter other behind
+  pub telling : new ≡ delivered_to other (first_message behind) procs
+  pub leaving : left ≡ dequeued other t.waiters
 
-handed_is : (o : Option ℕ) (message : List ℕ) (queue : Queue) → ((r : ℕ) → o ≡ Some r → is_drained queue ≡ true) → taken_out o (with_message message queue) ≡ handed o message queue
-handed_is None message queue none = refl
-handed_is (Some r) message queue none = read_at_once queue r message (none r refl)
+delivered_is : (o : Option ℕ) (message : List ℕ) (queue : Queue) → ((r : ℕ) → o ≡ Some r → is_drained queue ≡ true) → read_by_waiter o (with_message message queue) ≡ delivered o message queue
+delivered_is None message queue none = refl
+delivered_is (Some r) message queue none = read_at_once queue r message (none r refl)
 
-told_is : (o : Option ℕ) (message : List ℕ) (queue : Queue) (procs : Table) → ((r : ℕ) → o ≡ Some r → is_drained queue ≡ true) → told o (first_message (with_message message queue)) procs ≡ told o message procs
-told_is None message queue procs none = refl
-told_is (Some r) message queue procs none =
-    ap (λ (m : List ℕ). told (Some r) m procs) (first_written queue message (none r refl))
+delivered_to_is : (o : Option ℕ) (message : List ℕ) (queue : Queue) (procs : Table) → ((r : ℕ) → o ≡ Some r → is_drained queue ≡ true) → delivered_to o (first_message (with_message message queue)) procs ≡ delivered_to o message procs
+delivered_to_is None message queue procs none = refl
+delivered_to_is (Some r) message queue procs none =
+    ap (λ (m : List ℕ). delivered_to (Some r) m procs) (first_written queue message (none r refl))
 
-pub write_is_change : (t : Queues) (p q k : ℕ) (procs new : Table) (queue behind store : Queue) (other : Option ℕ) (left : List (List Member)) → IsSound t → IsMade t q → IsWritten t p q k procs new queue behind store other left → (is_full (queue_in t q) ≡ false) × (changed t k store left ≡ changed t q (handed (first_reader t q) (written_by t q procs p) (queue_in t q)) (released (first_reader t q) t.waiters)) × (new ≡ told (first_reader t q) (written_by t q procs p) procs)
+pub write_is_change : (t : Queues) (p q k : ℕ) (procs new : Table) (queue behind store : Queue) (other : Option ℕ) (left : List (List Member)) → IsSound t → IsMade t q → IsWritten t p q k procs new queue behind store other left → (is_full (queue_in t q) ≡ false) × (changed t k store left ≡ changed t q (delivered (first_reader t q) (written_by t q procs p) (queue_in t q)) (dequeued (first_reader t q) t.waiters)) × (new ≡ delivered_to (first_reader t q) (written_by t q procs p) procs)
 write_is_change t p q k procs new queue behind store other left sound is parts =
     let it = picked t q k queue sound is parts.number parts.value in
     let message = written_by t q procs p in
     let o = first_reader t q in
     let none = λ (r : ℕ) (first : o ≡ Some r). reader_drained t q r sound is first in
     let added : behind ≡ with_message message (queue_in t q) = parts.adding ∙ ap (λ (x : Queue). with_message (message_of x.width (call_of procs p)) x) it in
-    let after : store ≡ handed o message (queue_in t q) = parts.taking ∙ ap (λ (f : Option ℕ). taken_out f behind) parts.first ∙ ap (taken_out o) added ∙ handed_is o message (queue_in t q) none in
-    let less = parts.leaving ∙ ap (λ (f : Option ℕ). released f t.waiters) parts.first in (
+    let after : store ≡ delivered o message (queue_in t q) = parts.taking ∙ ap (λ (f : Option ℕ). read_by_waiter f behind) parts.first ∙ ap (read_by_waiter o) added ∙ delivered_is o message (queue_in t q) none in
+    let less = parts.leaving ∙ ap (λ (f : Option ℕ). dequeued f t.waiters) parts.first in (
       ap is_full (sym it) ∙ parts.room,
       same_change t k q store _ left _ parts.number after less,
-      parts.telling ∙ ap (λ (f : Option ℕ). told f (first_message behind) procs) parts.first ∙ ap (λ (x : Queue). told o (first_message x) procs) added ∙ told_is o message (queue_in t q) procs none,
+      parts.telling ∙ ap (λ (f : Option ℕ). delivered_to f (first_message behind) procs) parts.first ∙ ap (λ (x : Queue). delivered_to o (first_message x) procs) added ∙ delivered_to_is o message (queue_in t q) procs none,
     )
 
 pub sound_write_parts : (t : Queues) (p q k : ℕ) (procs new : Table) (queue behind store : Queue) (other : Option ℕ) (left : List (List Member)) → IsSound t → IsMade t q → IsWritten t p q k procs new queue behind store other left → IsSound (changed t k store left)
@@ -269,8 +269,8 @@ write_parts t p q k procs new queue behind store other left sound is parts =
     let all = write_is_change t p q k procs new queue behind store other left sound is parts in
     let o = first_reader t q in
     let message = written_by t q procs p in (
-      all.1 ∙ sym (ap (λ (b : Bool). cond b t (changed t q (handed o message (queue_in t q)) (released o t.waiters))) all.0),
-      all.2 ∙ sym (ap (λ (b : Bool). cond b procs (told o message procs)) all.0),
+      all.1 ∙ sym (ap (λ (b : Bool). cond b t (changed t q (delivered o message (queue_in t q)) (dequeued o t.waiters))) all.0),
+      all.2 ∙ sym (ap (λ (b : Bool). cond b procs (delivered_to o message procs)) all.0),
     )
 
 -- no queues
@@ -313,13 +313,13 @@ sound_fewer alive queues waiters left p sound is = record {
   proper = sound.proper;
   some = sound.some;
   names = sound.names;
-  readers = λ q r below there. sound.readers q r below (in_released (Some p) waiters r q (ap (λ (ws : List (List Member)). in_list r (list_at ws q)) (sym is) ∙ there));
-  writers = λ q w below there. sound.writers q w below (in_released (Some p) waiters w (32 + q) (ap (λ (ws : List (List Member)). in_list w (list_at ws (32 + q))) (sym is) ∙ there));
+  readers = λ q r below there. sound.readers q r below (in_dequeued (Some p) waiters r q (ap (λ (ws : List (List Member)). in_list r (list_at ws q)) (sym is) ∙ there));
+  writers = λ q w below there. sound.writers q w below (in_dequeued (Some p) waiters w (32 + q) (ap (λ (ws : List (List Member)). in_list w (list_at ws (32 + q))) (sym is) ∙ there));
 }
 
-pub sound_left : (t : Queues) (p : ℕ) → IsSound t → IsSound (left t p)
-unfolding left
-sound_left t p sound = sound_fewer t.alive t.queues t.waiters (removed t.waiters p) p sound refl
+pub sound_queues_without : (t : Queues) (p : ℕ) → IsSound t → IsSound (queues_without_waiter t p)
+unfolding queues_without_waiter
+sound_queues_without t p sound = sound_fewer t.alive t.queues t.waiters (removed t.waiters p) p sound refl
 
 -- who is in a list behind an insertion was there before, or was put in
 or_none : (b : Bool) → (b || false) ≡ b

@@ -1,32 +1,23 @@
 -- Who waits behind each call: only its own process, and the one whose wait it ends, come to wait or cease to. And who holds a
 -- message.
-use Rattle.std.proofs.Common.{◌≡◌, ◌≢◌, ◌∙◌, ℕ, ◌+◌, ◌<◌, ◌≤◌, Bool, true, false, not, cond, List, Option, Some, None, ◌&&◌, ◌||◌, ◌⊎◌, inl, inr, refl, sym, ap, subst, arith}
+use Rattle.std.proofs.Common.{◌≡◌, ◌≢◌, ◌∙◌, ℕ, ◌+◌, ◌<◌, Bool, true, false, not, cond, List, Option, Some, None, ◌&&◌, ◌||◌, ◌⊎◌, inl, inr, refl, sym, ap, subst, arith}
 use Rattle.std.specs.Option.{option_map_or}
 use Rattle.std.proofs.lemmas.Bool.{false≢true, cases_Bool, cases_eq, ne_eqb}
-use Rattle.mpm_queues.proofs.Finding.{lowest_passes, lowest_none}
 use Rattle.mpm_base.specs.declared.number.Name8.{Name8}
 use Rattle.mpm_ready.specs.Order.{Member, in_list}
 use Rattle.mpm_ready.specs.Tables.{list_of, removed, IsTable}
-use Rattle.mpm_ready.proofs.TableLaws.{list_of_known, list_of_removed, list_of_removed_other, list_of_inserted, list_of_inserted_other, unlisted}
+use Rattle.mpm_ready.proofs.TableLaws.{list_of_known, list_of_removed, list_of_removed_other, list_of_inserted, list_of_inserted_other}
 use Rattle.mpm_ready.proofs.Circles.{slot_has}
 use Rattle.mpm_procs.specs.Table.{Table}
 use Rattle.mpm_queues.specs.Queue.{Queue, no_queue, is_drained, is_full, is_exclusive, held_by, shortened, read_by, with_message}
-use Rattle.mpm_queues.specs.Queues.{Queues, is_free, lowest_free, IsMade, is_made, is_named, is_holder, holds, queue_in, readers_of, writers_of, waits_at, waits, WaitsNowhere, made, may_end, without, behind_delete, IsSound}
-use Rattle.mpm_queues.specs.Handling.{first_reader, first_writer, written_by, released, let_in, handed, behind_read, read_outcome, behind_write, write_outcome, ended, enlisted, left, place_for}
+use Rattle.mpm_queues.specs.Queues.{Queues, IsMade, is_made, is_named, is_holder, holds, queue_in, readers_of, writers_of, waits_at, waits, WaitsNowhere, made, may_end, without, behind_delete, IsSound}
+use Rattle.mpm_queues.specs.Handling.{first_reader, first_writer, written_by, dequeued, let_in, delivered, behind_read, read_outcome, behind_write, write_outcome, woken_by, enlisted, queues_without_waiter, place_for}
 use Rattle.mpm_queues.specs.declared.queues.QueueOutcome.TheVariants.{Done, NotNow}
 use Rattle.mpm_queues.proofs.SoundLaws.{made_below, changed, queue_there, queue_else, reader_waits, writer_waits}
 
 -- a process waits at one queue, or at none
 abbrev one_at : Option ℕ → ℕ
 one_at o = option_map_or (λ _. 1) o 0
-
-at_most_one : (o : Option ℕ) → one_at o ≤ 1
-at_most_one None = omega arith
-at_most_one (Some list) = omega arith
-
-pub waits_few : (t : Queues) (p : ℕ) → waits t p ≤ 1
-unfolding waits
-waits_few t p = at_most_one (list_of t.waiters p)
 
 pub waits_nowhere : (t : Queues) (p : ℕ) → WaitsNowhere t p → waits t p ≡ 0
 unfolding waits
@@ -61,43 +52,25 @@ waiter_below t q p sound there = elim (either (in_list p (readers_of t q)) (in_l
   | inr writes ↦ slot_has (λ s. s < 32) (writers_of t q) p (sound.table.slots (32 + q)) writes
 ]
 
-pub waits_at_one : (t : Queues) (q r p : ℕ) → IsSound t → q < 32 → r < 32 → waits_at t q p ≡ true → waits_at t r p ≡ true → q ≡ r
-waits_at_one t q r p sound below low there too =
-    elim (either (in_list p (readers_of t q)) (in_list p (writers_of t q)) there) [
-      | inl reads ↦ elim (either (in_list p (readers_of t r)) (in_list p (writers_of t r)) too) [
-        | inl here ↦ sound.table.one_list p q r reads here
-        | inr here ↦ absurd (let same = sound.table.one_list p q (32 + r) reads here in omega arith)
-      ]
-      | inr writes ↦ elim (either (in_list p (readers_of t r)) (in_list p (writers_of t r)) too) [
-        | inl here ↦ absurd (let same = sound.table.one_list p (32 + q) r writes here in omega arith)
-        | inr here ↦ let same = sound.table.one_list p (32 + q) (32 + r) writes here in omega arith
-      ]
-    ]
-
--- who waits nowhere waits at no queue
-pub nowhere_at : (t : Queues) (q p : ℕ) → WaitsNowhere t p → waits_at t q p ≡ false
-nowhere_at t q p none =
-    ap (λ (b : Bool). b || in_list p (writers_of t q)) (unlisted t.waiters p q none) ∙ unlisted t.waiters p (32 + q) none
-
 -- a process waits no more
-pub left_nowhere : (t : Queues) (p : ℕ) → WaitsNowhere (left t p) p
-unfolding left
-left_nowhere t p = list_of_removed t.waiters p
+pub waits_nowhere_without : (t : Queues) (p : ℕ) → WaitsNowhere (queues_without_waiter t p) p
+unfolding queues_without_waiter
+waits_nowhere_without t p = list_of_removed t.waiters p
 
-pub left_other : (t : Queues) (p r : ℕ) → IsSound t → r ≢ p → list_of (left t p).waiters r ≡ list_of t.waiters r
-unfolding left
-left_other t p r sound apart =
+pub waits_elsewhere_without : (t : Queues) (p r : ℕ) → IsSound t → r ≢ p → list_of (queues_without_waiter t p).waiters r ≡ list_of t.waiters r
+unfolding queues_without_waiter
+waits_elsewhere_without t p r sound apart =
     list_of_removed_other t.waiters p r sound.table (ne_eqb p r (λ same. apart (sym same)))
 
 same_place : (t new : Queues) (p : ℕ) → list_of new.waiters p ≡ list_of t.waiters p → waits new p ≡ waits t p
 unfolding waits
 same_place t new p same = ap one_at same
 
-pub waits_left : (t : Queues) (p : ℕ) → waits (left t p) p ≡ 0
-waits_left t p = waits_nowhere (left t p) p (left_nowhere t p)
+pub waits_without_waiter : (t : Queues) (p : ℕ) → waits (queues_without_waiter t p) p ≡ 0
+waits_without_waiter t p = waits_nowhere (queues_without_waiter t p) p (waits_nowhere_without t p)
 
-pub waits_left_other : (t : Queues) (p r : ℕ) → IsSound t → r ≢ p → waits (left t p) r ≡ waits t r
-waits_left_other t p r sound apart = same_place t (left t p) r (left_other t p r sound apart)
+pub waits_without_other : (t : Queues) (p r : ℕ) → IsSound t → r ≢ p → waits (queues_without_waiter t p) r ≡ waits t r
+waits_without_other t p r sound apart = same_place t (queues_without_waiter t p) r (waits_elsewhere_without t p r sound apart)
 
 -- a process waits
 place_below : (q : ℕ) (reader : Bool) → q < 32 → place_for q reader < 96
@@ -136,68 +109,68 @@ unfolding behind_delete without
 waiters_delete t q = waiters_chosen (may_end t q) t (without t q) refl
 
 -- a message is read or written: who was first waits no more, all others as before
-read_at : (b : Bool) (t : Queues) (o : Option ℕ) (queues : List Queue) → (cond b t (record t { queues = queues; waiters = released o t.waiters })).waiters ≡ released (ended (cond b NotNow (Done o))) t.waiters
+read_at : (b : Bool) (t : Queues) (o : Option ℕ) (queues : List Queue) → (cond b t (record t { queues = queues; waiters = dequeued o t.waiters })).waiters ≡ dequeued (woken_by (cond b NotNow (Done o))) t.waiters
 read_at true t o queues = refl
 read_at false t o queues = refl
 
-pub waiters_read : (t : Queues) (p q : ℕ) (procs : Table) → (behind_read t p q procs).waiters ≡ released (ended (read_outcome t q)) t.waiters
+pub waiters_read : (t : Queues) (p q : ℕ) (procs : Table) → (behind_read t p q procs).waiters ≡ dequeued (woken_by (read_outcome t q)) t.waiters
 unfolding behind_read read_outcome
 waiters_read t p q procs = read_at (is_drained (queue_in t q)) t (first_writer t q) _
 
-pub waiters_write : (t : Queues) (p q : ℕ) (procs : Table) → (behind_write t p q procs).waiters ≡ released (ended (write_outcome t q)) t.waiters
+pub waiters_write : (t : Queues) (p q : ℕ) (procs : Table) → (behind_write t p q procs).waiters ≡ dequeued (woken_by (write_outcome t q)) t.waiters
 unfolding behind_write write_outcome
 waiters_write t p q procs = read_at (is_full (queue_in t q)) t (first_reader t q) _
 
-released_nowhere : (o : Option ℕ) (lists : List (List Member)) (w : ℕ) → o ≡ Some w → list_of (released o lists) w ≡ None
-released_nowhere None lists w is = absurd (cc)
-released_nowhere (Some f) lists w is =
+dequeued_nowhere : (o : Option ℕ) (lists : List (List Member)) (w : ℕ) → o ≡ Some w → list_of (dequeued o lists) w ≡ None
+dequeued_nowhere None lists w is = absurd (cc)
+dequeued_nowhere (Some f) lists w is =
     let same : f ≡ w = cc in subst (λ (x : ℕ). list_of (removed lists f) x ≡ None) same (list_of_removed lists f)
 
-released_other : (o : Option ℕ) (lists : List (List Member)) (r : ℕ) → IsTable lists → o ≢ Some r → list_of (released o lists) r ≡ list_of lists r
-released_other None lists r table apart = refl
-released_other (Some f) lists r table apart =
+dequeued_other : (o : Option ℕ) (lists : List (List Member)) (r : ℕ) → IsTable lists → o ≢ Some r → list_of (dequeued o lists) r ≡ list_of lists r
+dequeued_other None lists r table apart = refl
+dequeued_other (Some f) lists r table apart =
     list_of_removed_other lists f r table (ne_eqb f r (λ same. apart (ap (λ (x : ℕ). Some x) same)))
 
-pub read_ended : (t : Queues) (p q : ℕ) (procs : Table) (w : ℕ) → ended (read_outcome t q) ≡ Some w → WaitsNowhere (behind_read t p q procs) w
-read_ended t p q procs w is =
-    ap (λ (ls : List (List Member)). list_of ls w) (waiters_read t p q procs) ∙ released_nowhere (ended (read_outcome t q)) t.waiters w is
+pub read_woken : (t : Queues) (p q : ℕ) (procs : Table) (w : ℕ) → woken_by (read_outcome t q) ≡ Some w → WaitsNowhere (behind_read t p q procs) w
+read_woken t p q procs w is =
+    ap (λ (ls : List (List Member)). list_of ls w) (waiters_read t p q procs) ∙ dequeued_nowhere (woken_by (read_outcome t q)) t.waiters w is
 
-pub read_other : (t : Queues) (p q : ℕ) (procs : Table) (r : ℕ) → IsSound t → ended (read_outcome t q) ≢ Some r → list_of (behind_read t p q procs).waiters r ≡ list_of t.waiters r
+pub read_other : (t : Queues) (p q : ℕ) (procs : Table) (r : ℕ) → IsSound t → woken_by (read_outcome t q) ≢ Some r → list_of (behind_read t p q procs).waiters r ≡ list_of t.waiters r
 read_other t p q procs r sound apart =
-    ap (λ (ls : List (List Member)). list_of ls r) (waiters_read t p q procs) ∙ released_other (ended (read_outcome t q)) t.waiters r sound.table apart
+    ap (λ (ls : List (List Member)). list_of ls r) (waiters_read t p q procs) ∙ dequeued_other (woken_by (read_outcome t q)) t.waiters r sound.table apart
 
-pub write_ended : (t : Queues) (p q : ℕ) (procs : Table) (r : ℕ) → ended (write_outcome t q) ≡ Some r → WaitsNowhere (behind_write t p q procs) r
-write_ended t p q procs r is =
-    ap (λ (ls : List (List Member)). list_of ls r) (waiters_write t p q procs) ∙ released_nowhere (ended (write_outcome t q)) t.waiters r is
+pub write_woken : (t : Queues) (p q : ℕ) (procs : Table) (r : ℕ) → woken_by (write_outcome t q) ≡ Some r → WaitsNowhere (behind_write t p q procs) r
+write_woken t p q procs r is =
+    ap (λ (ls : List (List Member)). list_of ls r) (waiters_write t p q procs) ∙ dequeued_nowhere (woken_by (write_outcome t q)) t.waiters r is
 
-pub write_other : (t : Queues) (p q : ℕ) (procs : Table) (r : ℕ) → IsSound t → ended (write_outcome t q) ≢ Some r → list_of (behind_write t p q procs).waiters r ≡ list_of t.waiters r
+pub write_other : (t : Queues) (p q : ℕ) (procs : Table) (r : ℕ) → IsSound t → woken_by (write_outcome t q) ≢ Some r → list_of (behind_write t p q procs).waiters r ≡ list_of t.waiters r
 write_other t p q procs r sound apart =
-    ap (λ (ls : List (List Member)). list_of ls r) (waiters_write t p q procs) ∙ released_other (ended (write_outcome t q)) t.waiters r sound.table apart
+    ap (λ (ls : List (List Member)). list_of ls r) (waiters_write t p q procs) ∙ dequeued_other (woken_by (write_outcome t q)) t.waiters r sound.table apart
 
-pub waits_read_ended : (t : Queues) (p q : ℕ) (procs : Table) (w : ℕ) → ended (read_outcome t q) ≡ Some w → waits (behind_read t p q procs) w ≡ 0
-waits_read_ended t p q procs w is = waits_nowhere (behind_read t p q procs) w (read_ended t p q procs w is)
+pub waits_read_woken : (t : Queues) (p q : ℕ) (procs : Table) (w : ℕ) → woken_by (read_outcome t q) ≡ Some w → waits (behind_read t p q procs) w ≡ 0
+waits_read_woken t p q procs w is = waits_nowhere (behind_read t p q procs) w (read_woken t p q procs w is)
 
-pub waits_read_other : (t : Queues) (p q : ℕ) (procs : Table) (r : ℕ) → IsSound t → ended (read_outcome t q) ≢ Some r → waits (behind_read t p q procs) r ≡ waits t r
+pub waits_read_other : (t : Queues) (p q : ℕ) (procs : Table) (r : ℕ) → IsSound t → woken_by (read_outcome t q) ≢ Some r → waits (behind_read t p q procs) r ≡ waits t r
 waits_read_other t p q procs r sound apart = same_place t (behind_read t p q procs) r (read_other t p q procs r sound apart)
 
-pub waits_write_ended : (t : Queues) (p q : ℕ) (procs : Table) (r : ℕ) → ended (write_outcome t q) ≡ Some r → waits (behind_write t p q procs) r ≡ 0
-waits_write_ended t p q procs r is = waits_nowhere (behind_write t p q procs) r (write_ended t p q procs r is)
+pub waits_write_woken : (t : Queues) (p q : ℕ) (procs : Table) (r : ℕ) → woken_by (write_outcome t q) ≡ Some r → waits (behind_write t p q procs) r ≡ 0
+waits_write_woken t p q procs r is = waits_nowhere (behind_write t p q procs) r (write_woken t p q procs r is)
 
-pub waits_write_other : (t : Queues) (p q : ℕ) (procs : Table) (r : ℕ) → IsSound t → ended (write_outcome t q) ≢ Some r → waits (behind_write t p q procs) r ≡ waits t r
+pub waits_write_other : (t : Queues) (p q : ℕ) (procs : Table) (r : ℕ) → IsSound t → woken_by (write_outcome t q) ≢ Some r → waits (behind_write t p q procs) r ≡ waits t r
 waits_write_other t p q procs r sound apart = same_place t (behind_write t p q procs) r (write_other t p q procs r sound apart)
 
 -- who was ended waited at that queue
-ended_first : (b : Bool) (o : Option ℕ) (w : ℕ) → ended (cond b NotNow (Done o)) ≡ Some w → o ≡ Some w
-ended_first true o w is = absurd (cc)
-ended_first false o w is = is
+woken_by_first : (b : Bool) (o : Option ℕ) (w : ℕ) → woken_by (cond b NotNow (Done o)) ≡ Some w → o ≡ Some w
+woken_by_first true o w is = absurd (cc)
+woken_by_first false o w is = is
 
-pub read_ends_waiter : (t : Queues) (q w : ℕ) → ended (read_outcome t q) ≡ Some w → waits_at t q w ≡ true
+pub read_ends_waiter : (t : Queues) (q w : ℕ) → woken_by (read_outcome t q) ≡ Some w → waits_at t q w ≡ true
 unfolding read_outcome
-read_ends_waiter t q w is = writer_waits t q w (ended_first (is_drained (queue_in t q)) (first_writer t q) w is)
+read_ends_waiter t q w is = writer_waits t q w (woken_by_first (is_drained (queue_in t q)) (first_writer t q) w is)
 
-pub write_ends_waiter : (t : Queues) (q r : ℕ) → ended (write_outcome t q) ≡ Some r → waits_at t q r ≡ true
+pub write_ends_waiter : (t : Queues) (q r : ℕ) → woken_by (write_outcome t q) ≡ Some r → waits_at t q r ≡ true
 unfolding write_outcome
-write_ends_waiter t q r is = reader_waits t q r (ended_first (is_full (queue_in t q)) (first_reader t q) r is)
+write_ends_waiter t q r is = reader_waits t q r (woken_by_first (is_full (queue_in t q)) (first_reader t q) r is)
 
 -- a number that is found names a queue
 pub named_made : (t : Queues) (name : Name8) (q : ℕ) → is_named t name q ≡ true → IsMade t q
@@ -238,34 +211,30 @@ read_holder p queue = refl
 pub holder_read : (t : Queues) (p q : ℕ) (procs : Table) → IsSound t → IsMade t q → is_drained (queue_in t q) ≡ false → (queue_in (behind_read t p q procs) q).holder ≡ option_map_or (λ _. None) (first_writer t q) (cond (is_exclusive (queue_in t q)) (Some p) None)
 unfolding behind_read
 holder_read t p q procs sound is some =
-    ap (λ (x : Queue). x.holder) (there_behind t q (is_drained (queue_in t q)) _ (released (first_writer t q) t.waiters) sound is some)
+    ap (λ (x : Queue). x.holder) (there_behind t q (is_drained (queue_in t q)) _ (dequeued (first_writer t q) t.waiters) sound is some)
     ∙ let_in_holder procs (first_writer t q) (read_by p (queue_in t q))
     ∙ ap (λ (o : Option ℕ). option_map_or (λ _. None) (first_writer t q) o) (read_holder p (queue_in t q))
 
 -- and a write makes it nobody's, or the waiting reader's that gets it
-handed_holder : (o : Option ℕ) (message : List ℕ) (queue : Queue) → (handed o message queue).holder ≡ option_map_or (λ r. cond (is_exclusive queue) (Some r) None) o None
+delivered_holder : (o : Option ℕ) (message : List ℕ) (queue : Queue) → (delivered o message queue).holder ≡ option_map_or (λ r. cond (is_exclusive queue) (Some r) None) o None
 unfolding with_message held_by
-handed_holder None message queue = refl
-handed_holder (Some r) message queue = refl
+delivered_holder None message queue = refl
+delivered_holder (Some r) message queue = refl
 
 pub holder_write : (t : Queues) (p q : ℕ) (procs : Table) → IsSound t → IsMade t q → is_full (queue_in t q) ≡ false → (queue_in (behind_write t p q procs) q).holder ≡ option_map_or (λ r. cond (is_exclusive (queue_in t q)) (Some r) None) (first_reader t q) None
 unfolding behind_write
 holder_write t p q procs sound is room =
-    ap (λ (x : Queue). x.holder) (there_behind t q (is_full (queue_in t q)) _ (released (first_reader t q) t.waiters) sound is room)
-    ∙ handed_holder (first_reader t q) (written_by t q procs p) (queue_in t q)
+    ap (λ (x : Queue). x.holder) (there_behind t q (is_full (queue_in t q)) _ (dequeued (first_reader t q) t.waiters) sound is room)
+    ∙ delivered_holder (first_reader t q) (written_by t q procs p) (queue_in t q)
 
 -- other queues stay
 else_behind : (t : Queues) (q k : ℕ) (b : Bool) (queue : Queue) (waiters : List (List Member)) → k ≢ q → queue_in (behind_one t q b queue waiters) k ≡ queue_in t k
 else_behind t q k true queue waiters apart = refl
 else_behind t q k false queue waiters apart = queue_else t q k queue waiters apart
 
-pub read_else : (t : Queues) (p q k : ℕ) (procs : Table) → k ≢ q → queue_in (behind_read t p q procs) k ≡ queue_in t k
-unfolding behind_read
-read_else t p q k procs apart = else_behind t q k (is_drained (queue_in t q)) _ (released (first_writer t q) t.waiters) apart
-
 pub write_else : (t : Queues) (p q k : ℕ) (procs : Table) → k ≢ q → queue_in (behind_write t p q procs) k ≡ queue_in t k
 unfolding behind_write
-write_else t p q k procs apart = else_behind t q k (is_full (queue_in t q)) _ (released (first_reader t q) t.waiters) apart
+write_else t p q k procs apart = else_behind t q k (is_full (queue_in t q)) _ (dequeued (first_reader t q) t.waiters) apart
 
 -- a queue keeps its name, the length of its messages, and how many it has room for
 pub record IsKept (old new : Queue) : Type 0 where
@@ -278,10 +247,10 @@ unfolding held_by shortened with_message
 kept_let_in p procs None queue = record { name = refl; width = refl; count = refl }
 kept_let_in p procs (Some w) queue = record { name = refl; width = refl; count = refl }
 
-kept_handed : (o : Option ℕ) (message : List ℕ) (queue : Queue) → IsKept queue (handed o message queue)
+kept_delivered : (o : Option ℕ) (message : List ℕ) (queue : Queue) → IsKept queue (delivered o message queue)
 unfolding held_by with_message
-kept_handed None message queue = record { name = refl; width = refl; count = refl }
-kept_handed (Some r) message queue = record { name = refl; width = refl; count = refl }
+kept_delivered None message queue = record { name = refl; width = refl; count = refl }
+kept_delivered (Some r) message queue = record { name = refl; width = refl; count = refl }
 
 kept_same : (queue : Queue) → IsKept queue queue
 kept_same queue = record { name = refl; width = refl; count = refl }
@@ -296,26 +265,9 @@ kept_behind t q k false queue waiters sound is kept = elim (cases_eq k q) [
 pub kept_read : (t : Queues) (p q k : ℕ) (procs : Table) → IsSound t → IsMade t q → IsKept (queue_in t k) (queue_in (behind_read t p q procs) k)
 unfolding behind_read
 kept_read t p q k procs sound is =
-    kept_behind t q k (is_drained (queue_in t q)) _ (released (first_writer t q) t.waiters) sound is (kept_let_in p procs (first_writer t q) (queue_in t q))
+    kept_behind t q k (is_drained (queue_in t q)) _ (dequeued (first_writer t q) t.waiters) sound is (kept_let_in p procs (first_writer t q) (queue_in t q))
 
 pub kept_write : (t : Queues) (p q k : ℕ) (procs : Table) → IsSound t → IsMade t q → IsKept (queue_in t k) (queue_in (behind_write t p q procs) k)
 unfolding behind_write
 kept_write t p q k procs sound is =
-    kept_behind t q k (is_full (queue_in t q)) _ (released (first_reader t q) t.waiters) sound is (kept_handed (first_reader t q) (written_by t q procs p) (queue_in t q))
-
--- there is no free number exactly where all 32 name a queue
-not_false : (b : Bool) → not b ≡ false → b ≡ true
-not_false true h = refl
-not_false false h = absurd (cc)
-
-pub all_made : (t : Queues) → lowest_free t ≡ None → (k : ℕ) → k < 32 → IsMade t k
-all_made t none k below = not_false (is_made t k) (lowest_none (is_free t) none k below)
-
-none_found : (t : Queues) (o : Option ℕ) → lowest_free t ≡ o → ((k : ℕ) → k < 32 → IsMade t k) → o ≡ None
-none_found t None is all = refl
-none_found t (Some q) is all =
-    let passes = lowest_passes (is_free t) q is in
-    absurd (false≢true (ap not (sym (all q passes.1)) ∙ passes.0))
-
-pub no_number : (t : Queues) → ((k : ℕ) → k < 32 → IsMade t k) → lowest_free t ≡ None
-no_number t all = none_found t (lowest_free t) refl all
+    kept_behind t q k (is_full (queue_in t q)) _ (dequeued (first_reader t q) t.waiters) sound is (kept_delivered (first_reader t q) (written_by t q procs p) (queue_in t q))

@@ -23,9 +23,9 @@ abbrev pub written_by : Queues → ℕ → Table → ℕ → List ℕ
 written_by t q procs p = message_of (queue_in t q).width (call_of procs p)
 
 -- the waiters without the one whose wait is over, if any
-abbrev pub released : Option ℕ → List (List Member) → List (List Member)
-released None waiters = waiters
-released (Some p) waiters = removed waiters p
+abbrev pub dequeued : Option ℕ → List (List Member) → List (List Member)
+dequeued None waiters = waiters
+dequeued (Some p) waiters = removed waiters p
 
 -- the message of a writer that waited, if any, goes in last
 abbrev pub let_in : Table → Option ℕ → Queue → Queue
@@ -38,7 +38,7 @@ behind_read t p q procs =
     if is_drained (queue_in t q) then t
     else (record t {
       queues = slice_set t.queues q (let_in procs (first_writer t q) (read_by p (queue_in t q)));
-      waiters = released (first_writer t q) t.waiters;
+      waiters = dequeued (first_writer t q) t.waiters;
     })
 
 unfoldable pub read_outcome : Queues → ℕ → QueueOutcome
@@ -50,39 +50,39 @@ read_reply t q reply =
     if is_drained (queue_in t q) then reply else (record reply { bytes = first_message (queue_in t q) })
 
 -- a reader that waited, if any, reads the first message
-abbrev pub taken_out : Option ℕ → Queue → Queue
-taken_out None queue = queue
-taken_out (Some r) queue = read_by r queue
+abbrev pub read_by_waiter : Option ℕ → Queue → Queue
+read_by_waiter None queue = queue
+read_by_waiter (Some r) queue = read_by r queue
 
 -- a message goes to a reader that waited, if any, or else into the queue
-abbrev pub handed : Option ℕ → List ℕ → Queue → Queue
-handed None message queue = with_message message queue
-handed (Some r) message queue = held_by r queue
+abbrev pub delivered : Option ℕ → List ℕ → Queue → Queue
+delivered None message queue = with_message message queue
+delivered (Some r) message queue = held_by r queue
 
 -- a process writes a message, where there is room
 unfoldable pub behind_write : Queues → ℕ → ℕ → Table → Queues
 behind_write t p q procs =
     if is_full (queue_in t q) then t
     else (record t {
-      queues = slice_set t.queues q (handed (first_reader t q) (written_by t q procs p) (queue_in t q));
-      waiters = released (first_reader t q) t.waiters;
+      queues = slice_set t.queues q (delivered (first_reader t q) (written_by t q procs p) (queue_in t q));
+      waiters = dequeued (first_reader t q) t.waiters;
     })
 
 unfoldable pub write_outcome : Queues → ℕ → QueueOutcome
 write_outcome t q = if is_full (queue_in t q) then NotNow else (Done (first_reader t q))
 
 -- a message that a reader waited for stands in the call that it keeps
-abbrev pub told : Option ℕ → List ℕ → Table → Table
-told None message procs = procs
-told (Some r) message procs = with_call procs r (with_given message (call_of procs r))
+abbrev pub delivered_to : Option ℕ → List ℕ → Table → Table
+delivered_to None message procs = procs
+delivered_to (Some r) message procs = with_call procs r (with_given message (call_of procs r))
 
 unfoldable pub procs_behind_write : Queues → ℕ → ℕ → Table → Table
 procs_behind_write t p q procs =
-    if is_full (queue_in t q) then procs else (told (first_reader t q) (written_by t q procs p) procs)
+    if is_full (queue_in t q) then procs else (delivered_to (first_reader t q) (written_by t q procs p) procs)
 
 -- a process waits no more
-unfoldable pub left : Queues → ℕ → Queues
-left t p = record t { waiters = removed t.waiters p }
+unfoldable pub queues_without_waiter : Queues → ℕ → Queues
+queues_without_waiter t p = record t { waiters = removed t.waiters p }
 
 -- the list in which a process waits to read from a queue, or to write to it
 abbrev pub place_for : ℕ → Bool → ℕ
@@ -98,6 +98,6 @@ abbrev pub may_wait : Queues → ℕ → Bool → Bool
 may_wait t q reader = if reader then is_drained (queue_in t q) else is_full (queue_in t q)
 
 -- the process whose wait was ended, if any
-abbrev pub ended : QueueOutcome → Option ℕ
-ended (Done other) = other
-ended NotNow = None
+abbrev pub woken_by : QueueOutcome → Option ℕ
+woken_by (Done other) = other
+woken_by NotNow = None

@@ -77,12 +77,12 @@ is_holder (Some holder) p = holder == p
 abbrev pub holds : Queues → ℕ → ℕ → Bool
 holds t p q = is_holder (queue_in t q).holder p
 
-abbrev pub held : Queues → ℕ → Option ℕ
-held t p = lowest (holds t p)
+abbrev pub lowest_held : Queues → ℕ → Option ℕ
+lowest_held t p = lowest (holds t p)
 
 -- why a queue isn't made
-unfoldable pub refusal : Queues → Name8 → ℕ → ℕ → Option MakeRefused
-refusal t name width count =
+unfoldable pub make_error : Queues → Name8 → ℕ → ℕ → Option MakeRefused
+make_error t name width count =
     if count == 0 then Some BadCount
     else (if is_some (found t name) then Some Exists
     else (if is_none (lowest_free t) || nat_lt 2048 (width * count) then Some NoQueueRoom

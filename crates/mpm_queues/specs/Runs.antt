@@ -4,7 +4,7 @@ use Rattle.std.specs.Prelude.{◌≡◌, ℕ, ◌<◌, Bool, true, List, [], ◌
 use Rattle.mpm_procs.specs.Table.{Table}
 use Rattle.mpm_queues.specs.Queue.{is_drained, is_full, first_message}
 use Rattle.mpm_queues.specs.Queues.{Queues, WaitsNowhere, queue_in}
-use Rattle.mpm_queues.specs.Handling.{first_reader, first_writer, written_by, behind_read, behind_write, enlisted, left, may_wait}
+use Rattle.mpm_queues.specs.Handling.{first_reader, first_writer, written_by, behind_read, behind_write, enlisted, queues_without_waiter, may_wait}
 
 -- the message that a read takes out, and that of a waiting writer, which it lets in
 unfoldable pub out_by_read : Queues → ℕ → List (List ℕ)
@@ -22,13 +22,13 @@ in_by_read t q procs =
 unfoldable pub in_by_write : Queues → ℕ → ℕ → Table → List (List ℕ)
 in_by_write t p q procs = if is_full (queue_in t q) then [] else (written_by t q procs p ∷ [])
 
-abbrev pub handed_message : List ℕ → Option ℕ → List (List ℕ)
-handed_message message None = []
-handed_message message (Some r) = message ∷ []
+abbrev pub delivered_message : List ℕ → Option ℕ → List (List ℕ)
+delivered_message message None = []
+delivered_message message (Some r) = message ∷ []
 
 unfoldable pub out_by_write : Queues → ℕ → ℕ → Table → List (List ℕ)
 out_by_write t p q procs =
-    if is_full (queue_in t q) then [] else (handed_message (written_by t q procs p) (first_reader t q))
+    if is_full (queue_in t q) then [] else (delivered_message (written_by t q procs p) (first_reader t q))
 
 -- what came out, followed by what is there now, is what was there before, followed by what went in
 abbrev pub Conserves : Queues → Queues → ℕ → List (List ℕ) → List (List ℕ) → Type 0
@@ -36,50 +36,50 @@ Conserves before now q out into = out ++ (queue_in now q).messages ≡ (queue_in
 
 -- what is done at one queue, with the processes as they are then: a process reads, a process writes, a process waits with a
 -- priority to read or to write, a process waits no more
-pub data Deed : Type 0 where
-  Reads : ℕ → Table → Deed
-  Writes : ℕ → Table → Deed
-  Waits : ℕ → ℕ → Bool → Deed
-  Leaves : ℕ → Deed
+pub data Operation : Type 0 where
+  Reads : ℕ → Table → Operation
+  Writes : ℕ → Table → Operation
+  Waits : ℕ → ℕ → Bool → Operation
+  Leaves : ℕ → Operation
 
-abbrev pub behind_deed : Queues → ℕ → Deed → Queues
-behind_deed t q (Reads p procs) = behind_read t p q procs
-behind_deed t q (Writes p procs) = behind_write t p q procs
-behind_deed t q (Waits p priority reader) = enlisted t p priority q reader
-behind_deed t q (Leaves p) = left t p
+abbrev pub behind_operation : Queues → ℕ → Operation → Queues
+behind_operation t q (Reads p procs) = behind_read t p q procs
+behind_operation t q (Writes p procs) = behind_write t p q procs
+behind_operation t q (Waits p priority reader) = enlisted t p priority q reader
+behind_operation t q (Leaves p) = queues_without_waiter t p
 
-abbrev pub out_by : Queues → ℕ → Deed → List (List ℕ)
+abbrev pub out_by : Queues → ℕ → Operation → List (List ℕ)
 out_by t q (Reads p procs) = out_by_read t q
 out_by t q (Writes p procs) = out_by_write t p q procs
 out_by t q (Waits p priority reader) = []
 out_by t q (Leaves p) = []
 
-abbrev pub in_by : Queues → ℕ → Deed → List (List ℕ)
+abbrev pub in_by : Queues → ℕ → Operation → List (List ℕ)
 in_by t q (Reads p procs) = in_by_read t q procs
 in_by t q (Writes p procs) = in_by_write t p q procs
 in_by t q (Waits p priority reader) = []
 in_by t q (Leaves p) = []
 
 -- who waits may do so
-abbrev pub MayBe : Queues → ℕ → Deed → Type 0
+abbrev pub MayBe : Queues → ℕ → Operation → Type 0
 MayBe t q (Reads p procs) = ⊤
 MayBe t q (Writes p procs) = ⊤
 MayBe t q (Waits p priority reader) = (p < 32) × WaitsNowhere t p × (may_wait t q reader ≡ true)
 MayBe t q (Leaves p) = ⊤
 
--- the same for deeds in order
-unfoldable pub behind_all : Queues → ℕ → List Deed → Queues
+-- the same for operations in order
+unfoldable pub behind_all : Queues → ℕ → List Operation → Queues
 behind_all t q [] = t
-behind_all t q (deed ∷ deeds) = behind_all (behind_deed t q deed) q deeds
+behind_all t q (operation ∷ operations) = behind_all (behind_operation t q operation) q operations
 
-unfoldable pub all_out : Queues → ℕ → List Deed → List (List ℕ)
+unfoldable pub all_out : Queues → ℕ → List Operation → List (List ℕ)
 all_out t q [] = []
-all_out t q (deed ∷ deeds) = out_by t q deed ++ all_out (behind_deed t q deed) q deeds
+all_out t q (operation ∷ operations) = out_by t q operation ++ all_out (behind_operation t q operation) q operations
 
-unfoldable pub all_in : Queues → ℕ → List Deed → List (List ℕ)
+unfoldable pub all_in : Queues → ℕ → List Operation → List (List ℕ)
 all_in t q [] = []
-all_in t q (deed ∷ deeds) = in_by t q deed ++ all_in (behind_deed t q deed) q deeds
+all_in t q (operation ∷ operations) = in_by t q operation ++ all_in (behind_operation t q operation) q operations
 
-unfoldable pub AllMayBe : Queues → ℕ → List Deed → Type 0
+unfoldable pub AllMayBe : Queues → ℕ → List Operation → Type 0
 AllMayBe t q [] = ⊤
-AllMayBe t q (deed ∷ deeds) = MayBe t q deed × AllMayBe (behind_deed t q deed) q deeds
+AllMayBe t q (operation ∷ operations) = MayBe t q operation × AllMayBe (behind_operation t q operation) q operations

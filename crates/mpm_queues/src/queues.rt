@@ -4,13 +4,14 @@ ghost use Rattle.mpm_ready.specs.Order.{first_of};
 ghost use Rattle.mpm_ready.specs.Tables.{list_at};
 ghost use Rattle.mpm_procs.specs.Table.{Lives as LivesProcess};
 ghost use Rattle.mpm_queues.specs.Queue.{no_queue, is_drained, is_full, first_message};
-ghost use Rattle.mpm_queues.specs.Handling.{place_for, let_in as message_let_in, taken_out, told, released};
+ghost use Rattle.mpm_queues.specs.Handling.{place_for, let_in as message_let_in, read_by_waiter, delivered_to, dequeued};
 
+use crate::OutOfMemory;
 use crate::store::{ROOM, Store};
 use mpm_base::{Name8, Pid, Reply};
 use mpm_procs::Procs;
 use mpm_ready::Lists;
-use std::alloc::{AllocError, Global};
+use std::alloc::Global;
 use std::marker::Model;
 
 /// How many queues there are at most.
@@ -61,13 +62,13 @@ impl Queues {
     ghost use Rattle.std.specs.Prelude.{is_some, is_none, ◌&&◌};
     ghost use Rattle.mpm_ready.specs.Tables.{list_of};
     ghost use Rattle.mpm_queues.specs.Queue.{is_drained, is_full};
-    ghost use Rattle.mpm_queues.specs.Queues.{no_queues, IsMade, is_made, IsSound, WaitsNowhere, waits_at, queue_in, found, is_named, lowest_free, is_free, holds, width_of, held, refusal, made, may_end, behind_delete};
-    ghost use Rattle.mpm_queues.specs.Handling.{behind_read, read_outcome, read_reply, behind_write, write_outcome, procs_behind_write, enlisted, left, may_wait};
+    ghost use Rattle.mpm_queues.specs.Queues.{no_queues, IsMade, is_made, IsSound, WaitsNowhere, waits_at, queue_in, found, is_named, lowest_free, is_free, holds, width_of, lowest_held, make_error, made, may_end, behind_delete};
+    ghost use Rattle.mpm_queues.specs.Handling.{behind_read, read_outcome, read_reply, behind_write, write_outcome, procs_behind_write, enlisted, queues_without_waiter, may_wait};
     ghost use Rattle.mpm_queues.specs.Runs.{Conserves, out_by_read, in_by_read, out_by_write, in_by_write};
 
     /// No queues. All memory that they will need is taken here.
     #[tactic(auto, using(crate::proofs::SoundLaws::sound_blank), unfolding(crate::specs::Queues::no_queues))]
-    pub fn new(alloc: Global) -> Result<Queues, AllocError>
+    pub fn new(alloc: Global) -> Result<Queues, OutOfMemory>
         ensures { IfOk result (λ queues. queues ≡ no_queues) }
     {
         let alive = none_made(alloc)?;
@@ -85,12 +86,12 @@ impl Queues {
     /// # Errors
     /// `BadCount` where `count` is 0; else `Exists` where a queue has the name; else `NoQueueRoom` where there are 32 queues
     /// or the messages have more than 2,048 bytes together. Then nothing changes.
-    #[tactic(auto, using(crate::proofs::SoundLaws::sound_made), unfolding(crate::specs::Queues::refusal, crate::specs::Queues::made))]
+    #[tactic(auto, using(crate::proofs::SoundLaws::sound_made), unfolding(crate::specs::Queues::make_error, crate::specs::Queues::made))]
     pub fn make(&mut self, name: Name8, message_length: u16, count: u16) -> Result<u8, MakeRefused>
         ensures number { IfOk result (λ q. lowest_free self.old ≡ Some q) }
         ensures made { IfOk result (λ q. self.new ≡ made self.old q name message_length count) }
-        ensures accepted { IfOk result (λ q. refusal self.old name message_length count ≡ None) }
-        ensures refused { IfErr result (λ why. refusal self.old name message_length count ≡ Some why) }
+        ensures accepted { IfOk result (λ q. make_error self.old name message_length count ≡ None) }
+        ensures refused { IfErr result (λ why. make_error self.old name message_length count ≡ Some why) }
         ensures unchanged { IfErr result (λ why. self.new ≡ self.old) }
     {
         if count == 0 {
@@ -287,9 +288,9 @@ impl Queues {
     }
 
     /// A process waits at no queue any more.
-    #[tactic(auto, using(crate::proofs::SoundLaws::sound_fewer), unfolding(crate::specs::Handling::left))]
+    #[tactic(auto, using(crate::proofs::SoundLaws::sound_fewer), unfolding(crate::specs::Handling::queues_without_waiter))]
     pub fn leave(&mut self, p: Pid)
-        ensures { self.new ≡ left self.old p }
+        ensures { self.new ≡ queues_without_waiter self.old p }
     {
         self.waiters.remove(p);
     }
@@ -319,7 +320,7 @@ impl Queues {
     /// "Mutual Exclusion Queues".)
     #[tactic(auto, using(crate::proofs::Finding::failed_none, crate::proofs::Finding::failed_more, crate::proofs::Finding::found_lowest, crate::proofs::Finding::found_none, crate::proofs::WaitLaws::holds_made))]
     pub fn held(&self, p: Pid) -> Option<u8>
-        ensures number { result ≡ held self.now p }
+        ensures number { result ≡ lowest_held self.now p }
         ensures made { IfSome result (λ q. IsMade self.now q) }
         ensures sound { IsSound self.now }
     {
@@ -368,7 +369,7 @@ fn let_in(store: &mut Store, waiters: &mut Lists, q: u8, procs: &Procs) -> Optio
     requires lives { ForSome (first_of (list_at waiters.old (32 + q))) (λ w. LivesProcess procs.now w) }
     ensures first { result ≡ first_of (list_at waiters.old (32 + q)) }
     ensures queue { store.new ≡ message_let_in procs.now result store.old }
-    ensures waiters { waiters.new ≡ released result waiters.old }
+    ensures waiters { waiters.new ≡ dequeued result waiters.old }
 {
     let other = waiters.first(WRITERS + q);
     if let Some(writer) = other {
@@ -384,9 +385,9 @@ fn hand_over(store: &mut Store, waiters: &mut Lists, q: u8, procs: &mut Procs) -
     requires some { is_drained store.old ≡ false }
     requires lives { ForSome (first_of (list_at waiters.old q)) (λ r. LivesProcess procs.old r) }
     ensures first { result ≡ first_of (list_at waiters.old q) }
-    ensures queue { store.new ≡ taken_out result store.old }
-    ensures procs { procs.new ≡ told result (first_message store.old) procs.old }
-    ensures waiters { waiters.new ≡ released result waiters.old }
+    ensures queue { store.new ≡ read_by_waiter result store.old }
+    ensures procs { procs.new ≡ delivered_to result (first_message store.old) procs.old }
+    ensures waiters { waiters.new ≡ dequeued result waiters.old }
 {
     let other = waiters.first(q);
     if let Some(reader) = other {
@@ -397,7 +398,7 @@ fn hand_over(store: &mut Store, waiters: &mut Lists, q: u8, procs: &mut Procs) -
 }
 
 /// That no number names a queue.
-fn none_made(alloc: Global) -> Result<Vec<bool>, AllocError>
+fn none_made(alloc: Global) -> Result<Vec<bool>, OutOfMemory>
     ensures { IfOk result (λ alive. alive.items ≡ replicate 32 false) }
 {
     let mut alive = Vec::with_capacity(alloc, QUEUES)?;
@@ -406,7 +407,7 @@ fn none_made(alloc: Global) -> Result<Vec<bool>, AllocError>
 }
 
 /// What stands for no queue, for each number.
-fn empty_stores(alloc: Global) -> Result<Vec<Store>, AllocError>
+fn empty_stores(alloc: Global) -> Result<Vec<Store>, OutOfMemory>
     ensures { IfOk result (λ queues. queues.items ≡ replicate 32 no_queue) }
 {
     let mut queues = Vec::with_capacity(alloc, QUEUES)?;

@@ -2,10 +2,11 @@ ghost use Rattle.std.specs.Prelude.{◌≡◌, ◌+◌, ◌*◌, ◌≤◌, ◌+
 ghost use Rattle.circular_buffer.specs.Buffer.{buffer};
 ghost use Rattle.mpm_queues.specs.Queue.{no_queue, new_queue, is_drained, is_full, is_exclusive, first_message, shortened, held_by, read_by, with_message, in_width, message_of, with_given, block_size};
 
+use crate::OutOfMemory;
 use crate::blocks::BLOCK_SIZE;
 use circular_buffer::HeapCircularBuffer;
 use mpm_base::{Call, Name8, Pid, Reply};
-use std::alloc::{AllocError, Global};
+use std::alloc::Global;
 use std::marker::Model;
 
 /// How many bytes all messages of a queue may have together.
@@ -37,7 +38,7 @@ impl Model for Store {
 impl Store {
     /// What stands for no queue, with a ring that takes all memory that it will need.
     #[tactic(auto, unfolding(crate::specs::Queue::no_queue, crate::specs::Queue::new_queue, crate::specs::Messages::parted))]
-    pub fn new(alloc: Global) -> Result<Store, AllocError>
+    pub fn new(alloc: Global) -> Result<Store, OutOfMemory>
         ensures { IfOk result (λ store. store ≡ no_queue) }
     {
         Ok(Store {

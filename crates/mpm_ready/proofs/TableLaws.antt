@@ -5,9 +5,9 @@ use Rattle.std.proofs.lemmas.Bool.{false≢true, eqb-true, eq-eqb, ne_eqb, cases
 use Rattle.std.proofs.lemmas.List.{length-map, get_or_past, get_or-replicate, length-replicate, ext_get_or}
 use Rattle.std.proofs.lemmas.List.Quantifiers.{position-Some}
 use Rattle.std.proofs.lemmas.List.Sums.{position_or_len_is, fails_before_first}
-use Rattle.mpm_ready.specs.Order.{Member, put_in, taken_out, in_list, IsInOrder, IsOnce}
+use Rattle.mpm_ready.specs.Order.{Member, put_in, without_slot, in_list, IsInOrder, IsOnce}
 use Rattle.mpm_ready.specs.Tables.{list_at, list_of, no_lists, inserted, removed, IsTable}
-use Rattle.mpm_ready.proofs.OrderLaws.{in_list_put_in, all_put_in, in_order_put_in, once_put_in, in_list_taken_out, all_taken_out, in_order_taken_out, once_taken_out, taken_out_absent}
+use Rattle.mpm_ready.proofs.OrderLaws.{in_list_put_in, all_put_in, in_order_put_in, once_put_in, in_list_without_slot, all_without_slot, in_order_without_slot, once_without_slot, without_slot_absent}
 
 -- which lists an insertion and a removal change
 pub length_inserted : (lists : List (List Member)) (list : ℕ) (member : Member) → length (inserted lists list member) ≡ length lists
@@ -24,10 +24,10 @@ list_at_inserted_other lists list other member apart = get_or-set_other lists li
 
 pub length_removed : (lists : List (List Member)) (slot : ℕ) → length (removed lists slot) ≡ length lists
 unfolding removed
-length_removed lists slot = length-map lists (taken_out slot)
+length_removed lists slot = length-map lists (without_slot slot)
 
-pub list_at_removed : (lists : List (List Member)) (slot list : ℕ) → list_at (removed lists slot) list ≡ taken_out slot (list_at lists list)
-unfolding removed taken_out
+pub list_at_removed : (lists : List (List Member)) (slot list : ℕ) → list_at (removed lists slot) list ≡ without_slot slot (list_at lists list)
+unfolding removed without_slot
 list_at_removed [] slot list = refl
 list_at_removed (ms ∷ rest) slot zero = refl
 list_at_removed (ms ∷ rest) slot (suc list) = list_at_removed rest slot list
@@ -95,7 +95,7 @@ each_inserted P lists list member within here each other =
       | inr apart ↦ subst P (sym (list_at_inserted_other lists list other member apart)) (each other)
     ]
 
-pub each_removed : (P : List Member → Type 0) (lists : List (List Member)) (slot : ℕ) → ((list : ℕ) → P (taken_out slot (list_at lists list))) → (list : ℕ) → P (list_at (removed lists slot) list)
+pub each_removed : (P : List Member → Type 0) (lists : List (List Member)) (slot : ℕ) → ((list : ℕ) → P (without_slot slot (list_at lists list))) → (list : ℕ) → P (list_at (removed lists slot) list)
 each_removed P lists slot each list = subst P (sym (list_at_removed lists slot list)) (each list)
 
 -- who is in the lists with one more
@@ -115,7 +115,7 @@ in_list_inserted lists list member slot other within =
     there false c x h = refl
 
 pub in_list_removed : (lists : List (List Member)) (slot other list : ℕ) → in_list other (list_at (removed lists slot) list) ≡ (not (eqb slot other) && in_list other (list_at lists list))
-in_list_removed lists slot other list = ap (in_list other) (list_at_removed lists slot list) ∙ in_list_taken_out (list_at lists list) slot other
+in_list_removed lists slot other list = ap (in_list other) (list_at_removed lists slot list) ∙ in_list_without_slot (list_at lists list) slot other
 
 -- one who was in no list is in one afterwards
 only_there : (b c x : Bool) → ((b && c) || x) ≡ true → x ≡ false → b ≡ true
@@ -153,9 +153,9 @@ pub table_removed : (lists : List (List Member)) (slot : ℕ) → IsTable lists 
 table_removed lists slot table =
     record {
       size = length_removed lists slot ∙ table.size;
-      in_order = each_removed IsInOrder lists slot (λ list. in_order_taken_out (list_at lists list) slot (table.in_order list));
-      once = each_removed IsOnce lists slot (λ list. once_taken_out (list_at lists list) slot (table.once list));
-      slots = each_removed (AllByRecursion (λ m. m.slot < 32)) lists slot (λ list. all_taken_out (λ m. m.slot < 32) (list_at lists list) slot (table.slots list));
+      in_order = each_removed IsInOrder lists slot (λ list. in_order_without_slot (list_at lists list) slot (table.in_order list));
+      once = each_removed IsOnce lists slot (λ list. once_without_slot (list_at lists list) slot (table.once list));
+      slots = each_removed (AllByRecursion (λ m. m.slot < 32)) lists slot (λ list. all_without_slot (λ m. m.slot < 32) (list_at lists list) slot (table.slots list));
       one_list = λ other a b x y. table.one_list other a b (stays_out _ _ (sym (in_list_removed lists slot other a) ∙ x)) (stays_out _ _ (sym (in_list_removed lists slot other b) ∙ y));
     }
 
@@ -206,7 +206,7 @@ list_of_removed_other lists slot other table apart =
 -- the lists without one who is in none of them
 pub removed_unlisted : (lists : List (List Member)) (slot : ℕ) → list_of lists slot ≡ None → removed lists slot ≡ lists
 removed_unlisted lists slot none =
-    ext_get_or [] (removed lists slot) lists (length_removed lists slot) (λ list _. list_at_removed lists slot list ∙ taken_out_absent (list_at lists list) slot (unlisted lists slot list none))
+    ext_get_or [] (removed lists slot) lists (length_removed lists slot) (λ list _. list_at_removed lists slot list ∙ without_slot_absent (list_at lists list) slot (unlisted lists slot list none))
 
 -- the lists without anybody
 abbrev empty_list : List Member

@@ -1,7 +1,7 @@
 -- Ninety-six lists of processes, of which a process is in at most one.
 use Rattle.std.specs.Prelude.{◌≡◌, ℕ, ◌<◌, true, List, [], Option, Some, None, length, map, replicate, position, slice_index_or, slice_set}
 use Rattle.std.specs.List.{AllByRecursion}
-use Rattle.mpm_ready.specs.Order.{Member, put_in, taken_out, in_list, IsInOrder, IsOnce}
+use Rattle.mpm_ready.specs.Order.{Member, put_in, without_slot, in_list, IsInOrder, IsOnce}
 
 -- one of the lists, by its number
 abbrev pub list_at : List (List Member) → ℕ → List Member
@@ -21,15 +21,15 @@ inserted lists list member = slice_set lists list (put_in (list_at lists list) m
 
 -- the lists without a process
 unfoldable pub removed : List (List Member) → ℕ → List (List Member)
-removed lists slot = map (taken_out slot) lists
+removed lists slot = map (without_slot slot) lists
 
 -- the lists with a process taken out of its list and put back in with a priority
-unfoldable pub put_back : List (List Member) → ℕ → ℕ → Option ℕ → List (List Member)
-put_back lists slot priority None = lists
-put_back lists slot priority (Some list) = inserted (removed lists slot) list (record { slot = slot; priority = priority })
+unfoldable pub reinserted : List (List Member) → ℕ → ℕ → Option ℕ → List (List Member)
+reinserted lists slot priority None = lists
+reinserted lists slot priority (Some list) = inserted (removed lists slot) list (record { slot = slot; priority = priority })
 
 abbrev pub rotated : List (List Member) → ℕ → ℕ → List (List Member)
-rotated lists slot priority = put_back lists slot priority (list_of lists slot)
+rotated lists slot priority = reinserted lists slot priority (list_of lists slot)
 
 -- what is so of the lists at any time: each is in ready order, and a process is in at most one of them, and once
 pub record IsTable (lists : List (List Member)) : Type 0 where

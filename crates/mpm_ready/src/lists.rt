@@ -83,7 +83,7 @@ impl Lists {
     }
 
     /// Takes a process that is in a list out of it and puts it back in with a priority, behind its equals.
-    #[tactic(auto, using(crate::proofs::TableLaws::list_of_removed), unfolding(crate::specs::Tables::put_back))]
+    #[tactic(auto, using(crate::proofs::TableLaws::list_of_removed), unfolding(crate::specs::Tables::reinserted))]
     pub fn rotate(&mut self, p: Pid, priority: u8)
         requires { list_of self.old p ≢ None }
         ensures { self.new ≡ rotated self.old p priority }

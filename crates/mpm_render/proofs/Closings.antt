@@ -39,26 +39,26 @@ unfolding closings
 closings_all line = simp (append_assoc, append-nil)
 
 -- all the lines that stand for outputs, closed
-closed_is : (kept : Kept) (told first : Option (List ℕ)) (os : List Output) → Shows kept told os first → rendered kept.trace os ++ closings (line_of kept) 12 ≡ closed kept.trace os
+closed_is : (kept : Kept) (written first : Option (List ℕ)) (os : List Output) → Shows kept written os first → rendered kept.trace os ++ closings (line_of kept) 12 ≡ closed kept.trace os
 unfolding closed
-closed_is kept told first os s =
+closed_is kept written first os s =
     ap (λ text. rendered kept.trace os ++ text) (closings_same (line_of kept) (λ place. pending place os) 12 s.lines ∙ closings_all (λ place. pending place os))
 
 -- once each line is closed, all is told
-pub told_closed : (kept : Kept) (told now first : Option (List ℕ)) (os : List Output) → now ≡ appended told (closings (line_of kept) 12) → Shows kept told os first → now ≡ appended first (closed kept.trace os)
-told_closed kept told now first os written s =
-    written ∙ ap (λ t. appended t (closings (line_of kept) 12)) s.told_is
+pub written_closed : (kept : Kept) (written now first : Option (List ℕ)) (os : List Output) → now ≡ appended written (closings (line_of kept) 12) → Shows kept written os first → now ≡ appended first (closed kept.trace os)
+written_closed kept written now first os writes s =
+    writes ∙ ap (λ t. appended t (closings (line_of kept) 12)) s.written_is
     ∙ appended_twice first (rendered kept.trace os) (closings (line_of kept) 12)
-    ∙ ap (appended first) (closed_is kept told first os s)
+    ∙ ap (appended first) (closed_is kept written first os s)
 
 -- a failed write of a line stops before all is closed
-pub ends_closed : (kept : Kept) (told before now first : Option (List ℕ)) (place : ℕ) (os : List Output) → place < 12 → before ≡ appended told (closings (line_of kept) place) → AppendsPart before (closing place (line_of kept place)) now → 0 < length (closing place (line_of kept place)) → Shows kept told os first → EndsBetween now first (rendered kept.trace os) (closed kept.trace os)
-ends_closed kept told before now first place os small written part some s =
+pub ends_closed : (kept : Kept) (written before now first : Option (List ℕ)) (place : ℕ) (os : List Output) → place < 12 → before ≡ appended written (closings (line_of kept) place) → AppendsPart before (closing place (line_of kept place)) now → 0 < length (closing place (line_of kept place)) → Shows kept written os first → EndsBetween now first (rendered kept.trace os) (closed kept.trace os)
+ends_closed kept written before now first place os small writes part some s =
     let line = line_of kept in
     let shown = rendered kept.trace os in
     let text = shown ++ closings line place in
     let next = closing place (line place) in
-    let e : before ≡ appended first text = written ∙ ap (λ t. appended t (closings line place)) s.told_is ∙ appended_twice first shown (closings line place) in
+    let e : before ≡ appended first text = writes ∙ ap (λ t. appended t (closings line place)) s.written_is ∙ appended_twice first shown (closings line place) in
     let joined : text ++ next ≡ shown ++ closings line (place + 1) = append_assoc shown (closings line place) next ∙ ap (λ x. shown ++ x) (sym (closings_more line place)) in
     let all : place + 1 + (11 - place) ≡ 12 = omega arith in
     let P : ℕ → Type 0 = λ n. Begins (shown ++ closings line (place + 1)) (shown ++ closings line n) in
@@ -66,23 +66,30 @@ ends_closed kept told before now first place os small written part some s =
     let R : List ℕ → Type 0 = λ x. Begins x (shown ++ closings line 12) in
     widened now first shown text (text ++ next) (closed kept.trace os)
     (begins_more shown (closings line place))
-    (subst Q (closed_is kept told first os s) (subst R (sym joined) (subst P all (begins_behind shown _ _ (closings_begin line (place + 1) (11 - place))))))
+    (subst Q (closed_is kept written first os s) (subst R (sym joined) (subst P all (begins_behind shown _ _ (closings_begin line (place + 1) (11 - place))))))
     (ends_within before now first text next e part some)
 
 -- the same, as a line answers that has been picked by its place
-pub err_closed : {A E : Type 0} (result : Result A E) (kept : Kept) (told before now first : Option (List ℕ)) (place : ℕ) (line : List ℕ) (os : List Output) → place < 12 → line ≡ line_of kept place → before ≡ appended told (closings (line_of kept) place) → AppendsPart before (closing place line) now → 0 < length (closing place line) → Shows kept told os first → OnErr result (EndsBetween now first (rendered kept.trace os) (closed kept.trace os))
-err_closed (Ok x) kept told before now first place line os small same written part some s = tt
-err_closed (Err e) kept told before now first place line os small same written part some s =
+pub err_closed : {A E : Type 0} (result : Result A E) (kept : Kept) (written before now first : Option (List ℕ)) (place : ℕ) (line : List ℕ) (os : List Output) → place < 12 → line ≡ line_of kept place → before ≡ appended written (closings (line_of kept) place) → AppendsPart before (closing place line) now → 0 < length (closing place line) → Shows kept written os first → OnErr result (EndsBetween now first (rendered kept.trace os) (closed kept.trace os))
+err_closed (Ok x) kept written before now first place line os small same writes part some s = tt
+err_closed (Err e) kept written before now first place line os small same writes part some s =
     let P : List ℕ → Type 0 = λ l. AppendsPart before (closing place l) now in
     let Q : List ℕ → Type 0 = λ l. 0 < length (closing place l) in
-    ends_closed kept told before now first place os small written (subst P same part) (subst Q same some) s
+    ends_closed kept written before now first place os small writes (subst P same part) (subst Q same some) s
 
 -- one more line is closed
-pub written_more : (kept : Kept) (told before now : Option (List ℕ)) (place : ℕ) (line : List ℕ) → line ≡ line_of kept place → before ≡ appended told (closings (line_of kept) place) → now ≡ appended before (closing place line) → now ≡ appended told (closings (line_of kept) (place + 1))
-written_more kept told before now place line same written more =
-    more ∙ ap (λ t. appended t (closing place line)) written ∙ appended_twice told _ _
-    ∙ ap (λ l. appended told (closings (line_of kept) place ++ closing place l)) same
-    ∙ ap (appended told) (sym (closings_more (line_of kept) place))
+pub written_more : (kept : Kept) (written before now : Option (List ℕ)) (place : ℕ) (line : List ℕ) → line ≡ line_of kept place → before ≡ appended written (closings (line_of kept) place) → now ≡ appended before (closing place line) → now ≡ appended written (closings (line_of kept) (place + 1))
+written_more kept written before now place line same writes more =
+    more ∙ ap (λ t. appended t (closing place line)) writes ∙ appended_twice written _ _
+    ∙ ap (λ l. appended written (closings (line_of kept) place ++ closing place l)) same
+    ∙ ap (appended written) (sym (closings_more (line_of kept) place))
+
+-- with a line that stays as it is, so do all
+pub all_stay : (lines : List (List ℕ)) (n : ℕ) (line : List ℕ) → n < length lines → line ≡ get_or lines n [] → (place : ℕ) → get_or (set lines n line) place [] ≡ get_or lines place []
+all_stay lines n line inside same place = elim (cases_eq place n) [
+  | inl equal ↦ ap (λ p. get_or (set lines n line) p []) equal ∙ get_or-set_same lines n line [] inside ∙ same ∙ ap (λ p. get_or lines p []) (sym equal)
+  | inr other ↦ get_or-set_other lines n place line [] other
+]
 
 -- with one more line emptied, the first lines are empty
 pub none_below : (lines : List (List ℕ)) (n : ℕ) (line : List ℕ) → n < length lines → line ≡ [] → ((place : ℕ) → place < n → get_or lines place [] ≡ []) → (place : ℕ) → place < n + 1 → get_or (set lines n line) place [] ≡ []

@@ -27,11 +27,11 @@ pub begins_length : (a b : List ℕ) → Begins a b → length a ≤ length b
 begins_length a b p = omega (arith, ap length p.whole_is, length-append a p.rest)
 
 -- nothing more is told of a text behind which nothing stands
-pub appended_nil : (told : Option (List ℕ)) → appended told [] ≡ told
+pub appended_nil : (written : Option (List ℕ)) → appended written [] ≡ written
 appended_nil None = refl
 appended_nil (Some text) = ap Some (append-nil text)
 
-pub appended_twice : (told : Option (List ℕ)) (a b : List ℕ) → appended (appended told a) b ≡ appended told (a ++ b)
+pub appended_twice : (written : Option (List ℕ)) (a b : List ℕ) → appended (appended written a) b ≡ appended written (a ++ b)
 appended_twice None a b = refl
 appended_twice (Some text) a b = ap Some (append_assoc text a b)
 
@@ -39,26 +39,26 @@ appended_twice (Some text) a b = ap Some (append_assoc text a b)
 pub ends_within : (old new first : Option (List ℕ)) (from more : List ℕ) → old ≡ appended first from → AppendsPart old more new → 0 < length more → EndsBetween new first from (from ++ more)
 ends_within old new first from more e p some = record {
   text = from ++ p.part;
-  told_is = p.told ∙ ap (λ told. appended told p.part) e ∙ appended_twice first from p.part;
+  written_is = p.new_is ∙ ap (λ written. appended written p.part) e ∙ appended_twice first from p.part;
   all_before = begins_more from p.part;
   part = begins_behind from p.part more p.begins;
   more = omega (arith, length-append from more);
 }
 
 -- what ends between two texts ends between wider ones
-pub widened : (told first : Option (List ℕ)) (a from to b : List ℕ) → Begins a from → Begins to b → EndsBetween told first from to → EndsBetween told first a b
-widened told first a from to b p q e = record {
+pub widened : (written first : Option (List ℕ)) (a from to b : List ℕ) → Begins a from → Begins to b → EndsBetween written first from to → EndsBetween written first a b
+widened written first a from to b p q e = record {
   text = e.text;
-  told_is = e.told_is;
+  written_is = e.written_is;
   all_before = begins_trans a from e.text p e.all_before;
   part = begins_trans e.text to b e.part q;
   more = omega (arith, begins_length a from p, begins_length to b q, e.more);
 }
 
 -- nothing is a part of all that was to be written
-pub appends_none : (told : Option (List ℕ)) (more : List ℕ) → AppendsPart told more told
-appends_none told more = record {
+pub appends_none : (written : Option (List ℕ)) (more : List ℕ) → AppendsPart written more written
+appends_none written more = record {
   part = [];
   begins = record { rest = more; whole_is = refl };
-  told = sym (appended_nil told);
+  new_is = sym (appended_nil written);
 }

@@ -36,10 +36,6 @@ said_grows trace unit [] os = begins_refl (rendered trace os)
 said_grows trace unit (byte ∷ bytes) os =
     begins_trans _ (rendered trace (Said unit byte ∷ os)) _ (rendered_grows trace (Said unit byte) os) (said_grows trace unit bytes (Said unit byte ∷ os))
 
--- one more byte at the end
-pub said_push : (unit : Unit2) (bytes : List ℕ) (byte : ℕ) (os : List Output) → said unit (bytes ++ byte ∷ []) os ≡ Said unit byte ∷ said unit bytes os
-said_push unit bytes byte os = said_append unit bytes (byte ∷ []) os ∙ said_cons unit byte [] (said unit bytes os) ∙ said_nil unit (Said unit byte ∷ said unit bytes os)
-
 -- a unit's place is one of the twelve
 pub place_small : (unit : Unit2) → IsUnit unit → place_of unit < 12
 place_small (Console n) h = omega arith
@@ -127,15 +123,15 @@ unfolding rendered
 rendered_none trace = refl
 
 -- empty lines show that nothing was said
-pub shows_none : (kept : Kept) (told : Option (List ℕ)) → ((place : ℕ) → place < 12 → line_of kept place ≡ []) → Shows kept told [] told
-shows_none kept told none = record {
+pub shows_none : (kept : Kept) (written : Option (List ℕ)) → ((place : ℕ) → place < 12 → line_of kept place ≡ []) → Shows kept written [] written
+shows_none kept written none = record {
   lines = λ place h. none place h ∙ sym (pending_none place);
-  told_is = sym (ap (appended told) (rendered_none kept.trace) ∙ appended_nil told);
+  written_is = sym (ap (appended written) (rendered_none kept.trace) ∙ appended_nil written);
 }
 
 -- a byte that is put to its line, and the text that it writes, keep what is shown
-pub shows_said : (old new : Kept) (told now first : Option (List ℕ)) (unit : Unit2) (byte : ℕ) (os : List Output) → IsUnit unit → length old.lines ≡ 12 → new.trace ≡ old.trace → new.lines ≡ set old.lines (place_of unit) (line_with byte (line_of old (place_of unit))) → now ≡ appended told (text_with (place_of unit) byte (line_of old (place_of unit))) → Shows old told os first → Shows new now (Said unit byte ∷ os) first
-shows_said old new told now first unit byte os is twelve traces changed written s =
+pub shows_said : (old new : Kept) (written now first : Option (List ℕ)) (unit : Unit2) (byte : ℕ) (os : List Output) → IsUnit unit → length old.lines ≡ 12 → new.trace ≡ old.trace → new.lines ≡ set old.lines (place_of unit) (line_with byte (line_of old (place_of unit))) → now ≡ appended written (text_with (place_of unit) byte (line_of old (place_of unit))) → Shows old written os first → Shows new now (Said unit byte ∷ os) first
+shows_said old new written now first unit byte os is twelve traces changed writes s =
     let here = place_of unit in
     let small : here < 12 = place_small unit is in
     let line : line_of old here ≡ pending here os = s.lines here small in
@@ -145,17 +141,17 @@ shows_said old new told now first unit byte os is twelve traces changed written 
         | inl same ↦ ap (λ at. get_or (set old.lines here (line_with byte (line_of old here))) at []) same ∙ get_or-set_same old.lines here _ [] inside ∙ ap (line_with byte) line ∙ sym (pending_same unit byte os) ∙ ap (λ at. pending at (Said unit byte ∷ os)) (sym same)
         | inr other ↦ get_or-set_other old.lines here place _ [] other ∙ s.lines place h ∙ sym (pending_other place unit byte os (λ e. other (sym e)))
       ];
-      told_is = written ∙ ap (λ line. appended told (text_with here byte line)) line ∙ ap (λ t. appended t (text_with here byte (pending here os))) s.told_is ∙ appended_twice first (rendered old.trace os) _ ∙ ap (appended first) (sym (rendered_said old.trace unit byte os)) ∙ ap (λ trace. appended first (rendered trace (Said unit byte ∷ os))) (sym traces);
+      written_is = writes ∙ ap (λ line. appended written (text_with here byte line)) line ∙ ap (λ t. appended t (text_with here byte (pending here os))) s.written_is ∙ appended_twice first (rendered old.trace os) _ ∙ ap (appended first) (sym (rendered_said old.trace unit byte os)) ∙ ap (λ trace. appended first (rendered trace (Said unit byte ∷ os))) (sym traces);
     }
 
 -- a failed write of a byte's text stops between the texts before and after it
-pub ends_said : (old : Kept) (told now first : Option (List ℕ)) (unit : Unit2) (byte : ℕ) (os : List Output) → IsUnit unit → AppendsPart told (text_with (place_of unit) byte (line_of old (place_of unit))) now → 0 < length (text_with (place_of unit) byte (line_of old (place_of unit))) → Shows old told os first → EndsBetween now first (rendered old.trace os) (rendered old.trace (Said unit byte ∷ os))
-ends_said old told now first unit byte os is part some s =
+pub ends_said : (old : Kept) (written now first : Option (List ℕ)) (unit : Unit2) (byte : ℕ) (os : List Output) → IsUnit unit → AppendsPart written (text_with (place_of unit) byte (line_of old (place_of unit))) now → 0 < length (text_with (place_of unit) byte (line_of old (place_of unit))) → Shows old written os first → EndsBetween now first (rendered old.trace os) (rendered old.trace (Said unit byte ∷ os))
+ends_said old written now first unit byte os is part some s =
     let here = place_of unit in
     let line : line_of old here ≡ pending here os = s.lines here (place_small unit is) in
     let before = rendered old.trace os in
     let P : List ℕ → Type 0 = λ text. EndsBetween now first before text in
-    subst P (ap (λ line. before ++ text_with here byte line) line ∙ sym (rendered_said old.trace unit byte os)) (ends_within told now first before _ s.told_is part some)
+    subst P (ap (λ line. before ++ text_with here byte line) line ∙ sym (rendered_said old.trace unit byte os)) (ends_within written now first before _ s.written_is part some)
 
 -- the same, as a line answers that has been picked by its place
 same_line : (lines : List (List ℕ)) (unit : Unit2) (place : ℕ) (other : List ℕ) → IsUnit unit → place ≡ place_of unit → length lines ≡ 12 → get_or lines place other ≡ get_or lines (place_of unit) []
@@ -163,37 +159,37 @@ same_line lines unit place other is at twelve =
     let small = place_small unit is in
     get_or_default lines place other [] (omega arith) ∙ ap (λ p. get_or lines p []) at
 
-pub ok_said : {A E : Type 0} (result : Result A E) (old new : Kept) (told now first : Option (List ℕ)) (unit : Unit2) (byte place : ℕ) (other after : List ℕ) (os : List Output) → IsUnit unit → place ≡ place_of unit → length old.lines ≡ 12 → new.trace ≡ old.trace → OnOk result (after ≡ line_with byte (get_or old.lines place other)) → new.lines ≡ set old.lines place after → OnOk result (now ≡ appended told (text_with place byte (get_or old.lines place other))) → Shows old told os first → OnOk result (Shows new now (Said unit byte ∷ os) first)
-ok_said (Err e) old new told now first unit byte place other after os is at twelve traces kept changed written s = tt
-ok_said (Ok x) old new told now first unit byte place other after os is at twelve traces kept changed written s =
+pub ok_said : {A E : Type 0} (result : Result A E) (old new : Kept) (written now first : Option (List ℕ)) (unit : Unit2) (byte place : ℕ) (other after : List ℕ) (os : List Output) → IsUnit unit → place ≡ place_of unit → length old.lines ≡ 12 → new.trace ≡ old.trace → OnOk result (after ≡ line_with byte (get_or old.lines place other)) → new.lines ≡ set old.lines place after → OnOk result (now ≡ appended written (text_with place byte (get_or old.lines place other))) → Shows old written os first → OnOk result (Shows new now (Said unit byte ∷ os) first)
+ok_said (Err e) old new written now first unit byte place other after os is at twelve traces kept changed writes s = tt
+ok_said (Ok x) old new written now first unit byte place other after os is at twelve traces kept changed writes s =
     let line = same_line old.lines unit place other is at twelve in
-    shows_said old new told now first unit byte os is twelve traces
+    shows_said old new written now first unit byte os is twelve traces
     (changed ∙ ap (λ p. set old.lines p after) at ∙ ap (set old.lines (place_of unit)) (kept ∙ ap (line_with byte) line))
-    (written ∙ ap (λ p. appended told (text_with p byte (get_or old.lines place other))) at ∙ ap (λ l. appended told (text_with (place_of unit) byte l)) line)
+    (writes ∙ ap (λ p. appended written (text_with p byte (get_or old.lines place other))) at ∙ ap (λ l. appended written (text_with (place_of unit) byte l)) line)
     s
 
-pub err_said : {A E : Type 0} (result : Result A E) (old : Kept) (told now first : Option (List ℕ)) (unit : Unit2) (byte place : ℕ) (other : List ℕ) (os : List Output) → IsUnit unit → place ≡ place_of unit → length old.lines ≡ 12 → OnErr result (AppendsPart told (text_with place byte (get_or old.lines place other)) now) → OnErr result (0 < length (text_with place byte (get_or old.lines place other))) → Shows old told os first → OnErr result (EndsBetween now first (rendered old.trace os) (rendered old.trace (Said unit byte ∷ os)))
-err_said (Ok x) old told now first unit byte place other os is at twelve part some s = tt
-err_said (Err e) old told now first unit byte place other os is at twelve part some s =
-    let P : List ℕ → Type 0 = λ text. AppendsPart told text now in
+pub err_said : {A E : Type 0} (result : Result A E) (old : Kept) (written now first : Option (List ℕ)) (unit : Unit2) (byte place : ℕ) (other : List ℕ) (os : List Output) → IsUnit unit → place ≡ place_of unit → length old.lines ≡ 12 → OnErr result (AppendsPart written (text_with place byte (get_or old.lines place other)) now) → OnErr result (0 < length (text_with place byte (get_or old.lines place other))) → Shows old written os first → OnErr result (EndsBetween now first (rendered old.trace os) (rendered old.trace (Said unit byte ∷ os)))
+err_said (Ok x) old written now first unit byte place other os is at twelve part some s = tt
+err_said (Err e) old written now first unit byte place other os is at twelve part some s =
+    let P : List ℕ → Type 0 = λ text. AppendsPart written text now in
     let Q : List ℕ → Type 0 = λ text. 0 < length text in
     let text = ap (λ p. text_with p byte (get_or old.lines place other)) at ∙ ap (text_with (place_of unit) byte) (same_line old.lines unit place other is at twelve) in
-    ends_said old told now first unit byte os is (subst P text part) (subst Q text some) s
+    ends_said old written now first unit byte os is (subst P text part) (subst Q text some) s
 
 -- the record of a completed call, and the text that it writes, keep what is shown
-pub ok_completed : {A E : Type 0} (result : Result A E) (kept : Kept) (told now first : Option (List ℕ)) (call : Completion) (text : List ℕ) (os : List Output) → text ≡ record_text kept.trace call → OnOk result (now ≡ appended told text) → Shows kept told os first → OnOk result (Shows kept now (Completed call ∷ os) first)
-ok_completed (Err e) kept told now first call text os is written s = tt
-ok_completed (Ok x) kept told now first call text os is written s =
+pub ok_completed : {A E : Type 0} (result : Result A E) (kept : Kept) (written now first : Option (List ℕ)) (call : Completion) (text : List ℕ) (os : List Output) → text ≡ record_text kept.trace call → OnOk result (now ≡ appended written text) → Shows kept written os first → OnOk result (Shows kept now (Completed call ∷ os) first)
+ok_completed (Err e) kept written now first call text os is writes s = tt
+ok_completed (Ok x) kept written now first call text os is writes s =
     let before = rendered kept.trace os in
     record {
       lines = λ place h. s.lines place h ∙ sym (pending_completed place call os);
-      told_is = written ∙ ap (λ t. appended t text) s.told_is ∙ appended_twice first before text ∙ ap (λ t. appended first (before ++ t)) is ∙ ap (appended first) (sym (rendered_completed kept.trace call os));
+      written_is = writes ∙ ap (λ t. appended t text) s.written_is ∙ appended_twice first before text ∙ ap (λ t. appended first (before ++ t)) is ∙ ap (appended first) (sym (rendered_completed kept.trace call os));
     }
 
 -- a failed write of a record's text stops between the texts before and after it
-pub err_completed : {A E : Type 0} (result : Result A E) (kept : Kept) (told now first : Option (List ℕ)) (call : Completion) (text : List ℕ) (os : List Output) → text ≡ record_text kept.trace call → OnErr result (AppendsPart told text now) → 0 < length text → Shows kept told os first → OnErr result (EndsBetween now first (rendered kept.trace os) (rendered kept.trace (Completed call ∷ os)))
-err_completed (Ok x) kept told now first call text os is part some s = tt
-err_completed (Err e) kept told now first call text os is part some s =
+pub err_completed : {A E : Type 0} (result : Result A E) (kept : Kept) (written now first : Option (List ℕ)) (call : Completion) (text : List ℕ) (os : List Output) → text ≡ record_text kept.trace call → OnErr result (AppendsPart written text now) → 0 < length text → Shows kept written os first → OnErr result (EndsBetween now first (rendered kept.trace os) (rendered kept.trace (Completed call ∷ os)))
+err_completed (Ok x) kept written now first call text os is part some s = tt
+err_completed (Err e) kept written now first call text os is part some s =
     let before = rendered kept.trace os in
     let P : List ℕ → Type 0 = λ all. EndsBetween now first before all in
-    subst P (ap (λ t. before ++ t) is ∙ sym (rendered_completed kept.trace call os)) (ends_within told now first before text s.told_is part some)
+    subst P (ap (λ t. before ++ t) is ∙ sym (rendered_completed kept.trace call os)) (ends_within written now first before text s.written_is part some)

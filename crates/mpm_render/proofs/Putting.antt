@@ -1,10 +1,10 @@
 -- Laws on the puts that write lines.
-use Rattle.std.proofs.Common.{◌≡◌, ℕ, ◌+◌, ◌<◌, List, [], ◌∷◌, ◌++◌, Result, Ok, Err, OnErr, length, take, get_or, refl, sym, ap, ◌∙◌, subst, arith}
+use Rattle.std.proofs.Common.{◌≡◌, ℕ, ◌+◌, ◌<◌, ◌≤◌, List, [], ◌∷◌, ◌++◌, Result, Ok, Err, OnErr, length, take, get_or, refl, sym, ap, ◌∙◌, subst, arith}
 use Rattle.std.proofs.lemmas.List.{take_more}
 use Rattle.std.proofs.lemmas.List.FromFn.{get_or-map-range_with_len}
 use Rattle.mpm_render.specs.Outputs.{closing}
 use Rattle.mpm_render.specs.Shown.{Kept, line_of}
-use Rattle.mpm_render.specs.Puts.{PutsLine, PutsEach, StopsAt, texts_closed}
+use Rattle.mpm_render.specs.Puts.{PutsLine, PutsEach, StopsClosing, texts_closed}
 
 pub puts_none : {S : Type 0} (took : S → List ℕ → S → Type 0) (text : List ℕ) (old new : S) → text ≡ [] → new ≡ old → PutsLine took text old new
 unfolding PutsLine
@@ -33,9 +33,6 @@ text_of : (kept : Kept) (place : ℕ) → place < 12 → get_or (texts_closed ke
 text_of kept place h =
     get_or-map-range_with_len (λ place. closing place (line_of kept place)) 0 12 place place [] h (omega arith)
 
-twelve_texts : (kept : Kept) → length (texts_closed kept) ≡ 12
-twelve_texts kept = refl
-
 pub all_texts : (kept : Kept) → take 12 (texts_closed kept) ≡ texts_closed kept
 all_texts kept = refl
 
@@ -48,16 +45,20 @@ each_closed took kept place line old middle new small same each put =
     subst P (sym (take_more (texts_closed kept) place [] small)) (each_more took _ _ old middle new each (subst Q text put))
 
 -- a line isn't closed
-pub stops_closed : {A E S : Type 0} (result : Result A E) (took dropped : S → List ℕ → S → Type 0) (kept : Kept) (place : ℕ) (line : List ℕ) (old middle new : S) → place < 12 → line ≡ line_of kept place → PutsEach took (take place (texts_closed kept)) old middle → 0 < length (closing place line) → dropped middle (closing place line) new → OnErr result (StopsAt took dropped (texts_closed kept) old new)
-stops_closed (Ok x) took dropped kept place line old middle new small same each some put = tt
-stops_closed (Err e) took dropped kept place line old middle new small same each some put =
+pub stops_closed : {A E S : Type 0} (result : Result A E) (took dropped : S → List ℕ → S → Type 0) (kept kept' : Kept) (place : ℕ) (line : List ℕ) (old middle new : S) → place < 12 → line ≡ line_of kept place → PutsEach took (take place (texts_closed kept)) old middle → 0 < length (closing place line) → dropped middle (closing place line) new → ((p : ℕ) → p < place → line_of kept' p ≡ []) → ((p : ℕ) → place ≤ p → line_of kept' p ≡ line_of kept p) → OnErr result (StopsClosing took dropped kept kept' old new)
+stops_closed (Ok x) took dropped kept kept' place line old middle new small same each some put empty others = tt
+stops_closed (Err e) took dropped kept kept' place line old middle new small same each some put empty others =
     let P : List ℕ → Type 0 = λ text. dropped middle text new in
     let text = ap (closing place) same ∙ sym (text_of kept place small) in
     record {
-      number = place;
-      inside = small;
-      middle = middle;
-      before = each;
-      some = λ none. omega (arith, ap length text, ap length none, some);
-      failed = subst P text put;
+      stops = record {
+        number = place;
+        inside = small;
+        middle = middle;
+        before = each;
+        some = λ none. omega (arith, ap length text, ap length none, some);
+        failed = subst P text put;
+      };
+      empty = empty;
+      others = others;
     }

@@ -1,5 +1,5 @@
 -- The puts of a sink that write lines, by what a put leaves of it.
-use Rattle.std.specs.Prelude.{◌≡◌, ◌≢◌, ℕ, ◌<◌, List, [], ◌∷◌, length, take, map, slice_index_or}
+use Rattle.std.specs.Prelude.{◌≡◌, ◌≢◌, ℕ, ◌<◌, ◌≤◌, List, [], ◌∷◌, length, take, map, slice_index_or}
 use Rattle.mpm_render.specs.declared.unit.Unit2.{Unit2}
 use Rattle.mpm_render.specs.Lines.{place_of, places, text_with}
 use Rattle.mpm_render.specs.Completions.{Completion}
@@ -36,3 +36,9 @@ text_traced call kept = record_text kept.trace call
 -- what closing writes of each place, in order
 abbrev pub texts_closed : Kept → List (List ℕ)
 texts_closed kept = map (λ place. closing place (line_of kept place)) places
+
+-- closing stopped at the line of a place, whose put failed: the lines before it are empty, and all others as they were
+pub record StopsClosing {S : Type 0} (took dropped : S → List ℕ → S → Type 0) (kept kept' : Kept) (old new : S) : Type 0 where
+  pub stops : StopsAt took dropped (texts_closed kept) old new
+  pub empty : (place : ℕ) → place < stops.number → line_of kept' place ≡ []
+  pub others : (place : ℕ) → stops.number ≤ place → line_of kept' place ≡ line_of kept place

@@ -13,15 +13,15 @@ abbrev pub line_of : Kept → ℕ → List ℕ
 line_of kept place = slice_index_or kept.lines place []
 
 -- each place's line is what is pending there, and the sink was told the first text and then the outputs' text
-pub record Shows (kept : Kept) (told : Option (List ℕ)) (outputs : List Output) (first : Option (List ℕ)) : Type 0 where
+pub record Shows (kept : Kept) (written : Option (List ℕ)) (outputs : List Output) (first : Option (List ℕ)) : Type 0 where
   pub lines : (place : ℕ) → place < 12 → line_of kept place ≡ pending place outputs
-  pub told_is : told ≡ appended first (rendered kept.trace outputs)
+  pub written_is : written ≡ appended first (rendered kept.trace outputs)
 
 -- writing stopped: the sink was told the first text, then all of one text and a part of what another adds to it,
 -- which isn't empty
-pub record EndsBetween (told first : Option (List ℕ)) (from to : List ℕ) : Type 0 where
+pub record EndsBetween (written first : Option (List ℕ)) (from to : List ℕ) : Type 0 where
   pub text : List ℕ
-  pub told_is : told ≡ appended first text
+  pub written_is : written ≡ appended first text
   pub all_before : Begins from text
   pub part : Begins text to
   pub more : length from < length to

@@ -30,11 +30,11 @@ impl Render {
     ghost use Rattle.mpm_render.specs.Completions.{completion};
     ghost use Rattle.mpm_render.specs.Outputs.{Output, Said, Completed, rendered, closed};
     ghost use Rattle.mpm_render.specs.Shown.{Shows, EndsBetween, line_of};
-    ghost use Rattle.mpm_render.specs.Puts.{PutsLine, PutsEach, StopsAt, text_put, text_traced, texts_closed};
+    ghost use Rattle.mpm_render.specs.Puts.{PutsLine, PutsEach, StopsClosing, text_put, text_traced, texts_closed};
 
     /// Empty lines; `trace` says whether the records of completed calls are written.
     pub fn new(trace: bool) -> Render
-        ensures fresh { (told : Option (List ℕ)) → Shows result told [] told }
+        ensures fresh { (written : Option (List ℕ)) → Shows result written [] written }
         ensures trace { result.trace ≡ trace }
     {
         Render {
@@ -95,14 +95,15 @@ impl Render {
         write_record(step, p, function, a, bc, de, hl, sink)
     }
 
-    /// Writes each line that isn't empty, consoles first, by number, each with one `put`, up to the first that fails.
+    /// Writes each line that isn't empty, consoles first, by number, each with one `put`, up to the first that fails. Each line
+    /// that was written is empty then; the one that failed and those behind it stay.
     pub fn finish<S: Sink>(&mut self, sink: &mut S) -> Result<(), Failed>
         ensures ok { (os : List Output) (first : Option (List ℕ)) → Shows self.old (S.written sink.old) os first
             → OnOk result (S.written sink.new ≡ appended first (closed self.old.trace os)) }
         ensures err { (os : List Output) (first : Option (List ℕ)) → Shows self.old (S.written sink.old) os first
             → OnErr result (EndsBetween (S.written sink.new) first (rendered self.old.trace os) (closed self.old.trace os)) }
         ensures puts { OnOk result (PutsEach S.took (texts_closed self.old) sink.old sink.new) }
-        ensures stops { OnErr result (StopsAt S.took S.dropped (texts_closed self.old) sink.old sink.new) }
+        ensures stops { OnErr result (StopsClosing S.took S.dropped self.old self.new sink.old sink.new) }
         ensures cause { HasCause (S.faults sink.old) (S.faults sink.new) result }
         ensures empty { OnOk result ((place : ℕ) → place < 12 → line_of self.new place ≡ []) }
         ensures trace { self.new.trace ≡ self.old.trace }

@@ -4,9 +4,11 @@
 
 mod line;
 mod native;
+mod residents;
 mod tmp;
 
 pub use native::{Act, Native};
+pub use residents::Residents;
 pub use tmp::Tmp;
 
 #[cfg(test)]

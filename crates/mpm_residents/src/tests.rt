@@ -1,5 +1,6 @@
 use super::*;
-use mpm_base::{Call, Reply};
+use mpm_base::{Call, Pid, Reply};
+use std::test::Fail;
 
 /// A processor, and the call and the reply with which it is driven.
 #[derive(Drop)]
@@ -150,4 +151,33 @@ fn a_call_that_is_held_is_made_again(rt: HostRuntime) {
     native.took(&reply);
     assert_eq!(rt; native.next(&mut call), Act::Ask);
     assert_eq!(rt; call.function, 9);
+}
+
+/// The function that the resident of a slot calls next, 0 where none acts there.
+fn next_function(residents: &mut Residents, p: Pid) -> u8 {
+    let mut call = Call::new();
+    if residents.has(p) {
+        residents.ask(p, &mut call);
+    }
+    call.function
+}
+
+/// The resident of a slot, if one acts there, takes an answer.
+fn answer(residents: &mut Residents, p: Pid) {
+    if residents.has(p) {
+        residents.take(p, &Reply::new());
+    }
+}
+
+#[test]
+fn each_resident_goes_on_by_its_own_answers(rt: HostRuntime) -> Result<(), Fail> {
+    let mut residents = Residents::none(rt.alloc());
+    residents.add_terminal(0)?;
+    residents.add_terminal(1)?;
+    answer(&mut residents, Pid(2));
+    assert_eq!(rt; next_function(&mut residents, Pid(0)), 0);
+    assert_eq!(rt; next_function(&mut residents, Pid(1)), 146);
+    assert_eq!(rt; next_function(&mut residents, Pid(2)), 9);
+    assert_eq!(rt; next_function(&mut residents, Pid(3)), 0);
+    Ok(())
 }

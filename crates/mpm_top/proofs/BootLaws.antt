@@ -28,19 +28,19 @@ pub system_of_file : (bytes : List ℕ) (events : List Timed) (file : MachineFil
 unfolding system_of
 system_of_file bytes events file is = ap (option_map (λ f. opened f events)) is
 
-pub no_machine : (bytes : List ℕ) → machine_of_text bytes ≡ None → IsNoMachine Run (λ held. held ≡ bytes)
-no_machine bytes none = record { bytes = bytes; held = refl; none = no_system bytes [] none }
+pub no_machine : (bytes : List ℕ) → machine_of_text bytes ≡ None → IsNoMachine Run (λ content. content ≡ bytes)
+no_machine bytes none = record { bytes = bytes; contents_are = refl; none = no_system bytes [] none }
 
 pub names_nothing : (bytes script : List ℕ) → machine_of_text bytes ≡ None → script_name Run bytes ≡ Some script → ⊥
 names_nothing bytes script none named =
     let e : Some script ≡ None = sym named ∙ no_script bytes none in absurd (cc)
 
 pub begins_of_file : (contents : Contents) (bytes : List ℕ) (file : MachineFile) (events : List Timed) (system : System) → machine_of_text bytes ≡ Some file
-    → Scripted contents file.script events → system ≡ opened file events → BeginsOf contents Run (λ held. held ≡ bytes) system
+    → Scripted contents file.script events → system ≡ opened file events → BeginsOf contents Run (λ content. content ≡ bytes) system
 begins_of_file contents bytes file events system is scripted was = record {
   bytes = bytes;
   events = events;
-  held = refl;
+  contents_are = refl;
   scripted = subst (λ (script : Option (List ℕ)). Scripted contents script events) (sym (script_of_file bytes file is)) scripted;
   is = system_of_file bytes events file is ∙ ap Some (sym was);
 }
@@ -48,23 +48,23 @@ begins_of_file contents bytes file events system is scripted was = record {
 -- the script that a machine file names wasn't read
 
 by_status : (contents : Contents) (bytes name : List ℕ) (old new : List (List ℕ)) (status : Status) → script_name Run bytes ≡ Some name
-    → Unread contents name old new status → EndsBehind contents Run (λ held. held ≡ bytes) old new status
+    → Unread contents name old new status → EndsBehind contents Run (λ content. content ≡ bytes) old new status
 by_status contents bytes name old new Ran is unread = absurd unread
 by_status contents bytes name old new Usage is unread = absurd unread
 by_status contents bytes name old new MachineFault is unread = absurd unread
-by_status contents bytes name old new (ScriptFault line) is unread = record { bytes = bytes; held = refl; script = name; named = is; unread = unread }
-by_status contents bytes name old new (TooLong what) is unread = record { bytes = bytes; held = refl; script = name; named = is; unread = unread }
-by_status contents bytes name old new ReadFault is unread = record { bytes = bytes; held = refl; script = name; named = is; unread = unread }
+by_status contents bytes name old new (ScriptFault line) is unread = record { bytes = bytes; contents_are = refl; script = name; named = is; unread = unread }
+by_status contents bytes name old new (TooLong what) is unread = record { bytes = bytes; contents_are = refl; script = name; named = is; unread = unread }
+by_status contents bytes name old new ReadFault is unread = record { bytes = bytes; contents_are = refl; script = name; named = is; unread = unread }
 by_status contents bytes name old new (WriteFault step) is unread = absurd unread
 by_status contents bytes name old new OutOfMemory is unread = unread
 
 unread_behind : (contents : Contents) (bytes : List ℕ) (script : Option (List ℕ)) (old new : List (List ℕ)) (status : Status) → script_name Run bytes ≡ script
-    → IsSome script → IfSome script (λ name. Unread contents name old new status) → EndsBehind contents Run (λ held. held ≡ bytes) old new status
+    → IsSome script → IfSome script (λ name. Unread contents name old new status) → EndsBehind contents Run (λ content. content ≡ bytes) old new status
 unread_behind contents bytes None old new status is some unread = absurd (cc)
 unread_behind contents bytes (Some name) old new status is some unread = by_status contents bytes name old new status is unread
 
 pub ends_unread : (contents : Contents) (bytes : List ℕ) (file : MachineFile) (old new : List (List ℕ)) (status : Status) → machine_of_text bytes ≡ Some file
-    → IsSome file.script → IfSome file.script (λ name. Unread contents name old new status) → EndsBehind contents Run (λ held. held ≡ bytes) old new status
+    → IsSome file.script → IfSome file.script (λ name. Unread contents name old new status) → EndsBehind contents Run (λ content. content ≡ bytes) old new status
 ends_unread contents bytes file old new status is some unread =
     unread_behind contents bytes file.script old new status (script_of_file bytes file is) some unread
 
@@ -75,15 +75,15 @@ unfolding script_name
 program_names_nothing Program bytes script is named = absurd (cc)
 program_names_nothing Run bytes script is named = absurd (cc)
 
-pub begins_held : (contents : Contents) (form : Form) (name bytes : List ℕ) (result : Result System Status) → form ≡ Program
-    → Holds contents (input_of form) name bytes → IfOk result (λ machine. BeginsOf contents Program (λ held. held ≡ bytes) machine)
+pub begins_with_contents : (contents : Contents) (form : Form) (name bytes : List ℕ) (result : Result System Status) → form ≡ Program
+    → Holds contents (input_of form) name bytes → IfOk result (λ machine. BeginsOf contents Program (λ content. content ≡ bytes) machine)
     → IfOk result (λ machine. Begins contents form name machine)
-begins_held contents Run name bytes result is held begins = absurd (cc)
-begins_held contents Program name bytes (Err status) is held begins = begins
-begins_held contents Program name bytes (Ok machine) is held begins = record {
+begins_with_contents contents Run name bytes result is from_file begins = absurd (cc)
+begins_with_contents contents Program name bytes (Err status) is from_file begins = begins
+begins_with_contents contents Program name bytes (Ok machine) is from_file begins = record {
   bytes = begins.bytes;
   events = begins.events;
-  held = subst (Holds contents (input_of Program) name) (sym begins.held) held;
+  contents_are = subst (Holds contents (input_of Program) name) (sym begins.contents_are) from_file;
   scripted = begins.scripted;
   is = begins.is;
 }

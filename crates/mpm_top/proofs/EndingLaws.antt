@@ -15,16 +15,16 @@ use Rattle.mpm_top.specs.declared.status.Status.{Status}
 use Rattle.mpm_top.specs.declared.status.Status.TheVariants.{Ran, Usage, MachineFault, ScriptFault, TooLong, ReadFault, WriteFault, OutOfMemory}
 use Rattle.mpm_top.specs.declared.words.Asked.{Asked}
 use Rattle.mpm_top.specs.Words.{Command, IsAsked}
-use Rattle.mpm_top.specs.Runs.{Contents, command_on, input_of, room_for, system_of, script_name, Holds, Scripted, Begins, Unread, IsNoMachine, LacksScript, Ends, EndsAs, ending_read, ending_told, ending_scripted, ending_stood, ending_held, ending}
+use Rattle.mpm_top.specs.Runs.{Contents, command_on, input_of, room_for, system_of, script_name, Holds, Scripted, Begins, Unread, IsNoMachine, LacksScript, Ends, EndsAs, ending_read, ending_told, ending_scripted, ending_stood, ending_by_contents, ending}
 
 -- a name that joins a list makes it longer
 nothing_joins : (names : List (List ℕ)) (name : List ℕ) → names ≡ names ++ (name ∷ []) → ⊥
 nothing_joins names name e = omega (arith, ap (λ (n : List (List ℕ)). length n) e, length-append names (name ∷ []))
 
 -- what may be held of a told file is what it holds
-held_is : (told : Option (List ℕ)) (bytes file : List ℕ) → told ≡ Some file → MatchOption told ⊤ (λ f. bytes ≡ f) → bytes ≡ file
-held_is None bytes file e h = absurd (cc)
-held_is (Some other) bytes file e h = h ∙ (cc)
+known_contents : (told : Option (List ℕ)) (bytes file : List ℕ) → told ≡ Some file → MatchOption told ⊤ (λ f. bytes ≡ f) → bytes ≡ file
+known_contents None bytes file e h = absurd (cc)
+known_contents (Some other) bytes file e h = h ∙ (cc)
 
 some_is : (one other : Status) → Some one ≡ Some other → one ≡ other
 some_is one other e = cc
@@ -49,14 +49,14 @@ ending_fits : (contents : Contents) (form : Form) (name bytes : List ℕ) → co
     → ending contents form name ≡ ending_stood contents (script_name form bytes) (system_of form bytes [])
 unfolding ending
 ending_fits contents form name bytes told fits =
-    ap (option_and_then (ending_held contents form)) told
+    ap (option_and_then (ending_by_contents contents form)) told
     ∙ when_false (nat_lt (room_for (input_of form)) (length bytes)) _ _ (within (room_for (input_of form)) (length bytes) fits)
 
 ending_long : (contents : Contents) (form : Form) (name bytes : List ℕ) → contents name ≡ Some bytes → room_for (input_of form) < length bytes
     → ending contents form name ≡ Some (TooLong (input_of form))
 unfolding ending
 ending_long contents form name bytes told long =
-    ap (option_and_then (ending_held contents form)) told
+    ap (option_and_then (ending_by_contents contents form)) told
     ∙ when_true (nat_lt (room_for (input_of form)) (length bytes)) _ _ (beyond (room_for (input_of form)) (length bytes) long)
 
 -- where a command begins, or its file names a script, its file stands for a system
@@ -118,12 +118,12 @@ was_some (Some a) f b e = refl
 -- with events there is none but `Ran`
 events_run : (contents : Contents) (script : Option (List ℕ)) (events : List Timed) (status : Status) → Scripted contents script events
     → ending_scripted contents script ≡ Some status → status ≡ Ran
-events_run contents None events status held e = some_is status Ran (sym e)
-events_run contents (Some script) events status held e =
+events_run contents None events status from_file e = some_is status Ran (sym e)
+events_run contents (Some script) events status from_file e =
     let found = some_given (contents script) (script_told contents script status e) in
-    let same : held.text ≡ found.0 = held_is (contents script) held.text found.0 found.1 held.held.told in
-    let fits : length found.0 ≤ room_for ScriptText = subst (λ (t : List ℕ). length t ≤ room_for ScriptText) same held.held.fits in
-    let read : ending_read (script_of found.0) ≡ Ran = ap (λ t. ending_read (script_of t)) (sym same) ∙ ap ending_read held.read in
+    let same : from_file.text ≡ found.0 = known_contents (contents script) from_file.text found.0 found.1 from_file.contents_are.told in
+    let fits : length found.0 ≤ room_for ScriptText = subst (λ (t : List ℕ). length t ≤ room_for ScriptText) same from_file.contents_are.fits in
+    let read : ending_read (script_of found.0) ≡ Ran = ap (λ t. ending_read (script_of t)) (sym same) ∙ ap ending_read from_file.read in
     some_is status Ran (sym e ∙ script_fits contents script found.0 found.1 fits ∙ ap Some read)
 
 -- what a script that wasn't read says
@@ -134,8 +134,8 @@ unread_says contents script old new status Usage unread e same = absurd unread
 unread_says contents script old new status MachineFault unread e same = absurd unread
 unread_says contents script old new status (ScriptFault line) unread e same =
     let found = some_given (contents script) (script_told contents script status e) in
-    let is : unread.text ≡ found.0 = held_is (contents script) unread.text found.0 found.1 unread.held.told in
-    let fits : length found.0 ≤ room_for ScriptText = subst (λ (t : List ℕ). length t ≤ room_for ScriptText) is unread.held.fits in
+    let is : unread.text ≡ found.0 = known_contents (contents script) unread.text found.0 found.1 unread.contents_are.told in
+    let fits : length found.0 ≤ room_for ScriptText = subst (λ (t : List ℕ). length t ≤ room_for ScriptText) is unread.contents_are.fits in
     let read : ending_read (script_of found.0) ≡ ScriptFault line = ap (λ t. ending_read (script_of t)) (sym is) ∙ ap ending_read unread.bad in
     inl (some_is (ScriptFault line) status (ap Some (sym read) ∙ sym (script_fits contents script found.0 found.1 fits) ∙ e))
 unread_says contents script old new status (TooLong what) unread e same =
@@ -150,8 +150,8 @@ lacks_says : (contents : Contents) (form : Form) (name file : List ℕ) (old new
     → LacksScript contents form (Holds contents (input_of form) name) old new result → contents name ≡ Some file
     → ending contents form name ≡ Some status → new ≡ old → EndsAs status result
 lacks_says contents form name file old new status result lacks told e same =
-    let is : lacks.bytes ≡ file = held_is (contents name) lacks.bytes file told lacks.held.told in
-    let fits : length file ≤ room_for (input_of form) = subst (λ (b : List ℕ). length b ≤ room_for (input_of form)) is lacks.held.fits in
+    let is : lacks.bytes ≡ file = known_contents (contents name) lacks.bytes file told lacks.contents_are.told in
+    let fits : length file ≤ room_for (input_of form) = subst (λ (b : List ℕ). length b ≤ room_for (input_of form)) is lacks.contents_are.fits in
     let named : script_name form file ≡ Some lacks.script = ap (script_name form) (sym is) ∙ lacks.named in
     let whole : ending contents form name ≡ ending_scripted contents (Some lacks.script) =
     ending_fits contents form name file told fits
@@ -162,8 +162,8 @@ lacks_says contents form name file old new status result lacks told e same =
 begins_says : (contents : Contents) (form : Form) (name file : List ℕ) (system : System) (status : Status) → Begins contents form name system
     → contents name ≡ Some file → ending contents form name ≡ Some status → status ≡ Ran
 begins_says contents form name file system status begins told e =
-    let is : begins.bytes ≡ file = held_is (contents name) begins.bytes file told begins.held.told in
-    let fits : length file ≤ room_for (input_of form) = subst (λ (b : List ℕ). length b ≤ room_for (input_of form)) is begins.held.fits in
+    let is : begins.bytes ≡ file = known_contents (contents name) begins.bytes file told begins.contents_are.told in
+    let fits : length file ≤ room_for (input_of form) = subst (λ (b : List ℕ). length b ≤ room_for (input_of form)) is begins.contents_are.fits in
     let some = begins_some form file begins.events [] system (ap (λ b. system_of form b begins.events) (sym is) ∙ begins.is) in
     let scripted : Scripted contents (script_name form file) begins.events =
     subst (λ (b : List ℕ). Scripted contents (script_name form b) begins.events) is begins.scripted in
@@ -173,14 +173,14 @@ begins_says contents form name file system status begins told e =
 no_machine_says : (contents : Contents) (form : Form) (name file : List ℕ) (status : Status) → IsNoMachine form (Holds contents (input_of form) name)
     → contents name ≡ Some file → ending contents form name ≡ Some status → status ≡ MachineFault
 no_machine_says contents form name file status fails told e =
-    let is : fails.bytes ≡ file = held_is (contents name) fails.bytes file told fails.held.told in
-    let fits : length file ≤ room_for (input_of form) = subst (λ (b : List ℕ). length b ≤ room_for (input_of form)) is fails.held.fits in
+    let is : fails.bytes ≡ file = known_contents (contents name) fails.bytes file told fails.contents_are.told in
+    let fits : length file ≤ room_for (input_of form) = subst (λ (b : List ℕ). length b ≤ room_for (input_of form)) is fails.contents_are.fits in
     let none : system_of form file [] ≡ None = ap (λ b. system_of form b []) (sym is) ∙ fails.none in
     some_is status MachineFault (sym e ∙ ending_fits contents form name file told fits ∙ ap (ending_stood contents (script_name form file)) none)
 
 file_told : (contents : Contents) (form : Form) (name : List ℕ) (status : Status) → ending contents form name ≡ Some status → IsSome (contents name)
 unfolding ending
-file_told contents form name status e = was_some (contents name) (ending_held contents form) status e
+file_told contents form name status e = was_some (contents name) (ending_by_contents contents form) status e
 
 -- an ending that has its reason is the one that the files tell
 pub told_ending : (contents : Contents) (form : Form) (name : List ℕ) (old new : List (List ℕ)) (status result : Status)

@@ -61,7 +61,7 @@ pub record Holds (contents : Contents) (input : Input) (name bytes : List ℕ) :
 -- the file of a script holds these events
 pub record HoldsEvents (contents : Contents) (script : List ℕ) (events : List Timed) : Type 0 where
   pub text : List ℕ
-  pub held : Holds contents ScriptText script text
+  pub contents_are : Holds contents ScriptText script text
   pub read : script_of text ≡ Ok events
 
 -- the events of a script; without one there are none
@@ -73,7 +73,7 @@ Scripted contents (Some script) events = HoldsEvents contents script events
 pub record BeginsOf (contents : Contents) (form : Form) (Of : List ℕ → Type 0) (system : System) : Type 0 where
   pub bytes : List ℕ
   pub events : List Timed
-  pub held : Of bytes
+  pub contents_are : Of bytes
   pub scripted : Scripted contents (script_name form bytes) events
   pub is : system_of form bytes events ≡ Some system
 
@@ -82,22 +82,22 @@ abbrev pub Begins : Contents → Form → List ℕ → System → Type 0
 Begins contents form name system = BeginsOf contents form (Holds contents (input_of form) name) system
 
 -- behind the first text stands the closed text of the outputs of all steps, and nothing else
-pub record WritesAll (contents : Contents) (command : Command) (first told : Option (List ℕ)) : Type 0 where
+pub record WritesAll (contents : Contents) (command : Command) (first written : Option (List ℕ)) : Type 0 where
   pub system : System
   pub begins : Begins contents command.form command.name system
-  pub text : told ≡ appended first (closed command.trace (after command.steps (begun system)).outputs)
+  pub text : written ≡ appended first (closed command.trace (after command.steps (begun system)).outputs)
 
 -- writing stopped at a step of so many behind a state, in the text of that step, or as the unfinished lines were closed
 abbrev pub StopsAt : Bool → State → ℕ → Option (List ℕ) → Option (List ℕ) → ℕ → Type 0
-StopsAt trace s steps first told step =
-    EndsInStep trace told first s steps step
-    ⊎ ((step ≡ steps) × EndsBetween told first (rendered trace (after steps s).outputs) (closed trace (after steps s).outputs))
+StopsAt trace s steps first written step =
+    EndsInStep trace written first s steps step
+    ⊎ ((step ≡ steps) × EndsBetween written first (rendered trace (after steps s).outputs) (closed trace (after steps s).outputs))
 
 -- writing stopped at a step
-pub record WritesPart (contents : Contents) (command : Command) (first told : Option (List ℕ)) (step : ℕ) : Type 0 where
+pub record WritesPart (contents : Contents) (command : Command) (first written : Option (List ℕ)) (step : ℕ) : Type 0 where
   pub system : System
   pub begins : Begins contents command.form command.name system
-  pub text : StopsAt command.trace (begun system) command.steps first told step
+  pub text : StopsAt command.trace (begun system) command.steps first written step
 
 -- why a file wasn't fetched as an input: it is longer than it may be, its name joined the failed names, or there was no
 -- memory. A file that isn't told may have been longer
@@ -114,7 +114,7 @@ Unfetched contents input name old new OutOfMemory = Unit {0}
 -- that line is the first of a script's file that is none of a script
 pub record HasBadLine (contents : Contents) (script : List ℕ) (line : ℕ) : Type 0 where
   pub text : List ℕ
-  pub held : Holds contents ScriptText script text
+  pub contents_are : Holds contents ScriptText script text
   pub bad : script_of text ≡ Err line
 
 -- why a script wasn't read: its file wasn't fetched, or has a bad line
@@ -131,13 +131,13 @@ Unread contents script old new OutOfMemory = Unit {0}
 -- a command of a form whose file holds bytes of which `Of` holds, and that are no machine file
 pub record IsNoMachine (form : Form) (Of : List ℕ → Type 0) : Type 0 where
   pub bytes : List ℕ
-  pub held : Of bytes
+  pub contents_are : Of bytes
   pub none : system_of form bytes [] ≡ None
 
 -- they are a machine file, and the script that it names wasn't read
 pub record LacksScript (contents : Contents) (form : Form) (Of : List ℕ → Type 0) (old new : List (List ℕ)) (status : Status) : Type 0 where
   pub bytes : List ℕ
-  pub held : Of bytes
+  pub contents_are : Of bytes
   pub script : List ℕ
   pub named : script_name form bytes ≡ Some script
   pub unread : Unread contents script old new status
@@ -180,13 +180,13 @@ ending_stood contents script None = Some MachineFault
 ending_stood contents script (Some system) = ending_scripted contents script
 
 -- by what its file holds
-abbrev pub ending_held : Contents → Form → List ℕ → Option Status
-ending_held contents form bytes =
+abbrev pub ending_by_contents : Contents → Form → List ℕ → Option Status
+ending_by_contents contents form bytes =
     if nat_lt (room_for (input_of form)) (length bytes) then Some (TooLong (input_of form))
     else ending_stood contents (script_name form bytes) (system_of form bytes [])
 
 unfoldable pub ending : Contents → Form → List ℕ → Option Status
-ending contents form name = option_and_then (ending_held contents form) (contents name)
+ending contents form name = option_and_then (ending_by_contents contents form) (contents name)
 
 -- the program ended before the first step: nothing is written then
 abbrev pub IsRefusal : Status → Type 0

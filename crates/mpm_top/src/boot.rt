@@ -31,7 +31,7 @@ pub(crate) fn boot<F: Files>(
 ) -> Result<Machine, Status>
     ensures begins { IfOk result (λ machine. Begins (F.contents files.old) form name.now machine) }
     ensures whole { IfOk result (λ machine. IsWhole machine) }
-    ensures handed { IfOk result (λ machine. machine.kernel.completed ≡ []) }
+    ensures no_completions { IfOk result (λ machine. machine.kernel.completed ≡ []) }
     ensures start { IfOk result (λ machine. machine.steps ≡ 0) }
     ensures refusal { IfErr result (λ status. IsRefusal status) }
     ensures reason { IfErr result (λ status. Ends (F.contents files.old) form name.now (F.failed_names files.old) (F.failed_names files.new) status) }
@@ -59,7 +59,7 @@ fn fetch<F: Files>(
     input: Input,
     files: &mut F,
 ) -> Result<Vec<u8>, Status>
-    ensures held { IfOk result (λ bytes. Holds (F.contents files.old) input name.now bytes.items) }
+    ensures contents_are { IfOk result (λ bytes. Holds (F.contents files.old) input name.now bytes.items) }
     ensures refusal { IfErr result (λ status. IsRefusal status) }
     ensures reason { IfErr result (λ status. Unfetched (F.contents files.old) input name.now (F.failed_names files.old) (F.failed_names files.new) status) }
     ensures names { MatchResult result (λ _. F.failed_names files.new ≡ F.failed_names files.old)
@@ -81,9 +81,9 @@ fn fetch<F: Files>(
 #[tactic(auto, unfolding(crate::specs::Runs::system_of, crate::specs::Runs::script_name))]
 fn boot_program(alloc: Global, bytes: &[u8]) -> Result<Machine, Status>
     requires { length bytes.now ≤ 48512 }
-    ensures begins { (contents : Contents) → IfOk result (λ machine. BeginsOf contents Form.Program (λ held. held ≡ bytes.now) machine) }
+    ensures begins { (contents : Contents) → IfOk result (λ machine. BeginsOf contents Form.Program (λ content. content ≡ bytes.now) machine) }
     ensures whole { IfOk result (λ machine. IsWhole machine) }
-    ensures handed { IfOk result (λ machine. machine.kernel.completed ≡ []) }
+    ensures no_completions { IfOk result (λ machine. machine.kernel.completed ≡ []) }
     ensures start { IfOk result (λ machine. machine.steps ≡ 0) }
     ensures memory { IfErr result (λ status. status ≡ Status.OutOfMemory) }
 {
@@ -95,12 +95,12 @@ fn boot_program(alloc: Global, bytes: &[u8]) -> Result<Machine, Status>
 
 /// The machine of a machine file's bytes and of the script that it names, or how the command ends without one.
 fn boot_machine<F: Files>(alloc: Global, bytes: &[u8], files: &mut F) -> Result<Machine, Status>
-    ensures begins { IfOk result (λ machine. BeginsOf (F.contents files.old) Form.Run (λ held. held ≡ bytes.now) machine) }
+    ensures begins { IfOk result (λ machine. BeginsOf (F.contents files.old) Form.Run (λ content. content ≡ bytes.now) machine) }
     ensures whole { IfOk result (λ machine. IsWhole machine) }
-    ensures handed { IfOk result (λ machine. machine.kernel.completed ≡ []) }
+    ensures no_completions { IfOk result (λ machine. machine.kernel.completed ≡ []) }
     ensures start { IfOk result (λ machine. machine.steps ≡ 0) }
     ensures refusal { IfErr result (λ status. IsRefusal status) }
-    ensures reason { IfErr result (λ status. EndsBehind (F.contents files.old) Form.Run (λ held. held ≡ bytes.now) (F.failed_names files.old) (F.failed_names files.new) status) }
+    ensures reason { IfErr result (λ status. EndsBehind (F.contents files.old) Form.Run (λ content. content ≡ bytes.now) (F.failed_names files.old) (F.failed_names files.new) status) }
     ensures names { MatchResult result (λ _. F.failed_names files.new ≡ F.failed_names files.old)
         (λ status. UnlessReadFault status (F.failed_names files.new ≡ F.failed_names files.old)) }
     ensures missing { (script : List ℕ) → script_name Form.Run bytes.now ≡ Some script → F.missing files.old script

@@ -113,7 +113,7 @@ fn run_command<F: Files, S: Sink>(
 /// Runs a machine that begins for so many steps, and closes the unfinished lines.
 fn run_to_end<S: Sink>(machine: &mut Machine, asked: Asked, sink: &mut S) -> Result<(), RunFault>
     requires whole { IsWhole machine.old }
-    requires handed { machine.old.kernel.completed ≡ [] }
+    requires no_completions { machine.old.kernel.completed ≡ [] }
     requires start { machine.old.steps ≡ 0 }
     requires limit { asked.steps ≤ 4000000000 }
     ensures ok { OnOk result (S.written sink.new ≡ appended (S.written sink.old) (closed asked.trace (after asked.steps (begun machine.old)).outputs)) }

@@ -1,9 +1,10 @@
 -- What creating processes leaves: a sound kernel, in which every one of them lives.
-use Rattle.std.proofs.Common.{◌≡◌, ◌∙◌, ℕ, ◌+◌, ◌≤◌, Bool, true, false, List, [], ◌∷◌, Option, Some, None, if◌then◌else◌, length, refl, sym, ap, arith}
+use Rattle.std.proofs.Common.{◌≡◌, ◌∙◌, ℕ, ◌+◌, ◌≤◌, true, List, [], ◌∷◌, Option, Some, None, length, refl, sym, ap, arith}
 use Rattle.std.proofs.lemmas.Bool.{and_parts}
 use Rattle.std.proofs.lemmas.Bool.Decides.{nat_tests}
 use Rattle.std.specs.Prelude.{nat_le}
 use Rattle.std.specs.List.{list_all}
+use Rattle.mpm_base.proofs.Choices.{either}
 use Rattle.mpm_procs.specs.Table.{HasSlots, living, lowest_free, free_slots, process_in, call_of}
 use Rattle.mpm_procs.specs.declared.process.NewProcess.{NewProcess}
 use Rattle.mpm_procs.proofs.MapLaws.{free_below, free_is_dead, slots_added}
@@ -25,16 +26,11 @@ sound_all (new ∷ more) kernel s consoles =
     sound_all more next (sound_in_slot kernel new slot s refl (grind (arith, nat_tests, here)))
     (ap (λ n. list_all (has_console n) more) (consoles_in_slot kernel new slot) ∙ parts.1)
 
-sound_if : (b : Bool) (x y : Kernel) → (b ≡ true → IsSound x) → IsSound y → IsSound (if b then x else y)
-sound_if true x y s t = s refl
-sound_if false x y s t = t
-
 pub sound_created : (kernel : Kernel) (p base : ℕ) → IsSound kernel → IsSound (created kernel p base)
 unfolding created may_create
 sound_created kernel p base s =
     let children = children_of (process_in kernel.procs p) base (call_of kernel.procs p).bytes in
-    sound_if (may_create kernel children) _ kernel (λ may.
-    sound_all children kernel s (and_parts (nat_le (length children) (free_slots kernel.procs)) _ may).1) s
+    either IsSound (may_create kernel children) _ _ (λ may. sound_all children kernel s (and_parts (nat_le (length children) (free_slots kernel.procs)) _ may).1) (λ _. s)
 
 -- a process begins where a slot is free
 one_begins : (kernel : Kernel) (new : NewProcess) (slot : Option ℕ) → HasSlots kernel.procs → lowest_free kernel.procs ≡ slot → 1 ≤ free_slots kernel.procs

@@ -1,10 +1,11 @@
 -- What creating processes leaves: the kernel is sound, who lives has a segment in which somebody lived, and who lived lives
 -- on and keeps its call.
-use Rattle.std.proofs.Common.{◌≡◌, ◌∙◌, ℕ, suc, ◌<◌, Bool, true, false, List, [], ◌∷◌, map, if◌then◌else◌, refl, sym, ap, subst, arith}
+use Rattle.std.proofs.Common.{◌≡◌, ◌∙◌, ℕ, suc, ◌<◌, true, List, [], ◌∷◌, map, refl, sym, ap, subst, arith}
 use Rattle.std.proofs.lemmas.Bool.{and_parts}
 use Rattle.std.proofs.lemmas.Bool.Decides.{nat_tests}
 use Rattle.std.specs.List.{AllPass, range_with_len}
 use Rattle.std.proofs.lemmas.List.Sums.{AllPass-from_list_all}
+use Rattle.mpm_base.proofs.Choices.{either}
 use Rattle.mpm_procs.specs.Table.{Lives, process_in, call_of, lowest_free}
 use Rattle.mpm_procs.specs.declared.process.NewProcess.{NewProcess}
 use Rattle.mpm_kernel.specs.Kernel.{Kernel, IsSound}
@@ -74,16 +75,14 @@ made_all f (n ∷ numbers) kernel p s h same consoles =
     made_both kernel next _ first
     (made_all f numbers next p first.sound (first.lives p h) (λ k. same k ∙ ap (λ x. x.seg) (sym (first.process p h))) (subst P (sym first.consoles) (λ k d below. consoles (suc k) d (omega arith))))
 
-made_if : (kernel : Kernel) (b : Bool) (new : Kernel) → IsSound kernel → (b ≡ true → Made kernel new) → Made kernel (if b then new else kernel)
-made_if kernel true new s made = made refl
-made_if kernel false new s made = made_none kernel s
-
 pub made_created : (kernel : Kernel) (p base : ℕ) → IsSound kernel → Lives kernel.procs p → Made kernel (created kernel p base)
 unfolding created may_create children_of child_of
 made_created kernel p base s h =
     let parent = process_in kernel.procs p in
     let bytes = (call_of kernel.procs p).bytes in
     let children = children_of parent base bytes in
-    made_if kernel (may_create kernel children) _ s (λ may.
+    either (Made kernel) (may_create kernel children) _ _
+    (λ may.
     made_all (child_at parent base bytes) (range_with_len 0 (descriptor_count bytes)) kernel p s h (λ n. refl)
     (AllPass-from_list_all (has_console kernel.consoles) children (and_parts _ _ may).1))
+    (λ _. made_none kernel s)

@@ -5,7 +5,7 @@ use Rattle.std.proofs.lemmas.List.{take_all}
 use Rattle.std.proofs.lemmas.List.FromFn.{length-range_with_len, get_or-range_with_len}
 use Rattle.std.proofs.lemmas.List.Folds.{list_any_more, list_any_at}
 use Rattle.mpm_procs.specs.Table.{Table}
-use Rattle.mpm_xdos.specs.Ending.{lives_in, is_home, left_by}
+use Rattle.mpm_xdos.specs.Ending.{lives_in, is_home, vacated_if_empty}
 use Rattle.mpm_banks.specs.Memory.{Memory}
 
 slot_at : (p : ℕ) → p < 32 → get_or (range_with_len 0 32) p 0 ≡ p
@@ -28,6 +28,6 @@ unfolding is_home
 home_nowhere procs seg count h none =
     sym (ap (list_any (lives_in procs seg)) (take_all count (range_with_len 0 32) (omega (arith, length-range_with_len 0 32)))) ∙ none
 
-pub left_by_none : (memory : Memory) (procs : Table) → left_by memory procs None ≡ memory
-unfolding left_by
-left_by_none memory procs = refl
+pub vacated_if_empty_none : (memory : Memory) (procs : Table) → vacated_if_empty memory procs None ≡ memory
+unfolding vacated_if_empty
+vacated_if_empty_none memory procs = refl

@@ -4,3 +4,4 @@ pub mod CreatedLaws
 pub mod Beginning
 pub mod TargetLaws
 pub mod AbortLaws
+pub mod ProcedureLaws

@@ -4,7 +4,7 @@ use Rattle.std.specs.Prelude.{ℕ, ◌+◌, ◌*◌, Bool, true, List, Option, S
 use Rattle.mpm_base.specs.Calls.{Taken, byte_in, word_at, eight_at}
 use Rattle.mpm_procs.specs.Table.{Table, lives, process_in, call_of}
 use Rattle.mpm_procs.specs.declared.process.Process.{Process}
-use Rattle.mpm_queues.specs.Queues.{lowest, held}
+use Rattle.mpm_queues.specs.Queues.{lowest, lowest_held}
 use Rattle.mpm_kernel.specs.Kernel.{Kernel, with_changed}
 use Rattle.mpm_kernel.specs.Ending.{discharged}
 use Rattle.mpm_banks.specs.Memory.{Memory}
@@ -50,7 +50,7 @@ target procs p = unless_resident procs (described (call_of procs p) procs)
 -- the end of a process by an abort is put off while it holds the message of a mutual exclusion queue, and while a call of it is
 -- in service
 abbrev pub waits_to_end : Kernel → ℕ → Bool → Bool
-waits_to_end kernel p in_service = in_service || is_some (held kernel.queues p)
+waits_to_end kernel p in_service = in_service || is_some (lowest_held kernel.queues p)
 
 -- the end of a process is put off
 abbrev pub with_abort_due : Kernel → ℕ → Kernel

@@ -22,11 +22,11 @@ unfoldable pub is_home : Table → ℕ → Bool
 is_home procs seg = list_any (lives_in procs seg) (range_with_len 0 32)
 
 -- a segment that was a process's is free, where nobody lives there
-unfoldable pub left_by : Memory → Table → Option ℕ → Memory
-left_by memory procs None = memory
-left_by memory procs (Some seg) = if is_home procs seg then memory else (vacated memory seg)
+unfoldable pub vacated_if_empty : Memory → Table → Option ℕ → Memory
+vacated_if_empty memory procs None = memory
+vacated_if_empty memory procs (Some seg) = if is_home procs seg then memory else (vacated memory seg)
 
 -- memory behind the end of a process
 unfoldable pub memory_without : Memory → Kernel → ℕ → Memory
 memory_without memory kernel p =
-    left_by (all_released memory p) (discharged kernel p).procs (process_in kernel.procs p).seg
+    vacated_if_empty (all_released memory p) (discharged kernel p).procs (process_in kernel.procs p).seg

@@ -37,7 +37,7 @@ leaving process = record process {
 }
 
 -- it leaves the procedure: the message is written back first
-unfoldable pub left : ℕ → Kernel → Kernel
-left p kernel =
+unfoldable pub returned_from_procedure : ℕ → Kernel → Kernel
+returned_from_procedure p kernel =
     let behind = given_back p kernel in
     with_changed behind p (leaving (process_in behind.procs p))

@@ -3,7 +3,7 @@ ghost use Rattle.mpm_banks.specs.Memory.{HasSegment};
 ghost use Rattle.mpm_procs.specs.Table.{Lives, lives, process_in};
 ghost use Rattle.mpm_kernel.specs.Kernel.{IsSound};
 ghost use Rattle.mpm_kernel.specs.Ending.{discharged};
-ghost use Rattle.mpm_xdos.specs.Ending.{memory_without, left_by, is_home as is_home_in, lives_in as lives_in_segment};
+ghost use Rattle.mpm_xdos.specs.Ending.{memory_without, vacated_if_empty, is_home as is_home_in, lives_in as lives_in_segment};
 
 use mpm_banks::Banks;
 use mpm_base::{Pid, Seg};
@@ -11,7 +11,7 @@ use mpm_kernel::Kernel;
 
 /// Ends a living process: it is taken out of the kernel, to which its messages go back and in which its consoles and printers
 /// pass on, and gives back the segments that it reserved, and its own where nobody else lives there.
-#[tactic(auto, using(mpm_banks::proofs::SegmentLaws::count_all_released, crate::proofs::Homes::left_by_none), unfolding(crate::specs::Ending::memory_without))]
+#[tactic(auto, using(mpm_banks::proofs::SegmentLaws::count_all_released, crate::proofs::Homes::vacated_if_empty_none), unfolding(crate::specs::Ending::memory_without))]
 pub fn end(kernel: &mut Kernel, banks: &mut Banks, p: Pid)
     requires sound { IsSound kernel.old }
     requires lives { Lives kernel.old.procs p }
@@ -28,10 +28,10 @@ pub fn end(kernel: &mut Kernel, banks: &mut Banks, p: Pid)
 }
 
 /// Frees a segment in which nobody lives.
-#[tactic(auto, unfolding(crate::specs::Ending::left_by))]
+#[tactic(auto, unfolding(crate::specs::Ending::vacated_if_empty))]
 fn leave(kernel: &Kernel, banks: &mut Banks, seg: Seg)
     requires { HasSegment banks.old seg }
-    ensures { banks.new ≡ left_by banks.old kernel.now.procs (Some seg) }
+    ensures { banks.new ≡ vacated_if_empty banks.old kernel.now.procs (Some seg) }
 {
     if !is_home(kernel, seg) {
         banks.vacate(seg);

@@ -2,7 +2,7 @@ ghost use Rattle.std.specs.Prelude.{◌≡◌, ℕ, Some, IsSome};
 ghost use Rattle.mpm_banks.specs.Memory.{HasSegment};
 ghost use Rattle.mpm_procs.specs.Table.{Lives, process_in};
 ghost use Rattle.mpm_kernel.specs.Kernel.{IsSound};
-ghost use Rattle.mpm_xdos.specs.Procedures.{entered, entry_reply, left, last_page as page_of};
+ghost use Rattle.mpm_xdos.specs.Procedures.{entered, entry_reply, returned_from_procedure, last_page as page_of};
 
 use mpm_banks::Banks;
 use mpm_base::{Pid, Reply, Seg};
@@ -49,12 +49,12 @@ fn last_page(banks: &Banks, home: Option<Seg>) -> u8
 
 /// A process leaves the resident procedure that it is in: its message is written back, and the process goes on where it
 /// called the procedure, with HL as it is and the same in A and B.
-#[tactic(auto, using(mpm_kernel::proofs::ProcedureLaws::lives_given_back), unfolding(crate::specs::Procedures::left, crate::specs::Procedures::leaving))]
+#[tactic(auto, using(mpm_kernel::proofs::ProcedureLaws::lives_given_back), unfolding(crate::specs::Procedures::returned_from_procedure, crate::specs::Procedures::leaving))]
 pub fn leave_procedure(kernel: &mut Kernel, p: Pid)
     requires sound { IsSound kernel.old }
     requires lives { Lives kernel.old.procs p }
     requires inside { IsSome (process_in kernel.old.procs p).procedure }
-    ensures { kernel.new ≡ left p kernel.old }
+    ensures { kernel.new ≡ returned_from_procedure p kernel.old }
 {
     kernel.put_back(p);
     let process = kernel.process_mut(p);

@@ -1,8 +1,9 @@
 -- The step that reads by the opcode does the instruction that four bytes begin with.
-use Rattle.std.proofs.Common.{◌≡◌, ℕ, List, Option, None, Some, ap, refl, rules}
+use Rattle.std.proofs.Common.{◌≡◌, ℕ, Bool, true, false, List, Option, None, Some, if◌then◌else◌, ap, refl, rules}
 use Rattle.std.specs.Prelude.{IsNone}
 use Rattle.std.proofs.lemmas.Grind.{common_steps}
 use Rattle.z80_regs.specs.Words.{onward}
+use Rattle.z80_regs.specs.Outcome.{Outcome}
 use Rattle.z80_regs.specs.declared.regs.Regs.{Regs}
 use Rattle.z80_decode.specs.declared.instr.Instr.{Instr}
 use Rattle.z80_decode.specs.declared.instr.Page.TheVariants.{Main}
@@ -12,10 +13,11 @@ use Rattle.z80_decode.specs.declared.forms.Tail.TheVariants.{Nothing, Byte, Word
 use Rattle.z80_decode.specs.Opcodes.{form_of}
 use Rattle.z80_decode.specs.Decoding.{tail_of, instr_with, prefixed_instr_of, main_instr_by, main_instr_of, main_or_prefixed, instr_of}
 use Rattle.z80_exec.specs.Performing.{behind, performed, next_by, main_outcome}
+use Rattle.z80_exec.specs.Operands.{quiet}
 use Rattle.z80_ext.specs.declared.index.IndexRegister.{IndexRegister}
 use Rattle.z80_ext.specs.declared.index.IndexRegister.TheVariants.{Ix, Iy}
 use Rattle.z80_ext.specs.Index.{page_of, bits_page_of, index_outcome, index_bits_outcome}
-use Rattle.z80_ext.specs.Instruction.{begun, four_from, page_outcome, outcome_of}
+use Rattle.z80_ext.specs.Instruction.{risen, begun, four_from, page_outcome, outcome_of, instruction, registers_after}
 
 -- the pages of the index registers
 pub index_page : (index : IndexRegister) (instr : Instr) (regs : Regs) (memory ports : ℕ → ℕ) →
@@ -76,3 +78,13 @@ pub listed : (regs : Regs) (memory ports : ℕ → ℕ) → (IsNone (form_of (me
 unfolding instr_of main_instr_of
 listed regs memory ports some =
     by_some (form_of (memory regs.pc)) (memory regs.pc) (four_from memory regs.pc) regs memory ports refl some
+
+-- in a HALT R rises, and that is all
+
+rests : (b : Bool) (outcome : Option Outcome) (regs : Regs) → b ≡ true → registers_after (if b then Some (quiet (risen regs)) else outcome) regs ≡ risen regs
+rests true outcome regs halted = refl
+rests false outcome regs halted = absurd (cc)
+
+pub halted_rises : (regs : Regs) (memory ports : ℕ → ℕ) → regs.halted ≡ true → registers_after (instruction regs memory ports) regs ≡ risen regs
+unfolding instruction
+halted_rises regs memory ports halted = rests regs.halted _ regs halted

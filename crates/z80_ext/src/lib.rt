@@ -7,10 +7,10 @@ mod extended;
 mod index;
 mod stepped;
 
-ghost use Rattle.std.specs.Prelude.{◌≡◌, ◌↔◌, false, IsNone, IsSome, IfSome, MatchOption};
+ghost use Rattle.std.specs.Prelude.{◌≡◌, ◌↔◌, true, false, IsNone, IsSome, IfSome, MatchOption};
 ghost use Rattle.z80_regs.specs.Outcome.{Leaves};
 ghost use Rattle.z80_decode.specs.Decoding.{prefixed_instr_of, instr_of};
-ghost use Rattle.z80_ext.specs.Instruction.{IsPrefixAt, four_from, outcome_of, instruction, registers_after, actions_of};
+ghost use Rattle.z80_ext.specs.Instruction.{IsPrefixAt, risen, four_from, outcome_of, instruction, registers_after, actions_of};
 
 use crate::bits::step_bits;
 use crate::extended::step_extended;
@@ -88,6 +88,7 @@ pub fn step_unprefixed<B: Bus>(regs: &mut Regs, bus: &mut B) -> Option<u8>
 /// One step: the instruction at PC, or, where the processor stands in a HALT, R alone rises. Where no listed instruction
 /// is at PC it answers `Illegal`, and nothing has changed. (UM0080, "Z80 Instruction Description".)
 #[inline(always)]
+#[tactic(auto, using(crate::proofs::Next::halted_rises))]
 pub fn step<B: Bus>(regs: &mut Regs, bus: &mut B) -> Stepped
     ensures illegal { (result ≡ Stepped.Illegal) ↔ IsNone (instruction regs.old (B.byte bus.old) (B.port_byte bus.old)) }
     ensures unlisted { (result ≡ Stepped.Illegal)
@@ -95,6 +96,7 @@ pub fn step<B: Bus>(regs: &mut Regs, bus: &mut B) -> Stepped
     ensures registers { regs.new ≡ registers_after (instruction regs.old (B.byte bus.old) (B.port_byte bus.old)) regs.old }
     ensures bus { Leaves B.wrote B.took (actions_of (instruction regs.old (B.byte bus.old) (B.port_byte bus.old)))
         bus.old bus.new }
+    ensures halted { regs.old.halted ≡ true → regs.new ≡ risen regs.old }
 {
     match step_unprefixed(regs, bus) {
         None => Stepped::Ran,

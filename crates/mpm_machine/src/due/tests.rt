@@ -1,5 +1,7 @@
 //! Aborts, at once and put off: what two programs of a whole machine see of them.
-use crate::scenes::{Scene, lives_after, regs_after};
+use crate::scenes::Register::{Halted, Hl, Pc};
+use crate::scenes::Sight::{Has, Lives};
+use crate::scenes::{Behind, traced};
 use std::test::Fail;
 
 /// Function 142, then JR to itself: the other program runs.
@@ -82,85 +84,62 @@ t 44 1 137 00 0089 4126 0000
 
 #[test]
 fn who_holds_a_message_ends_in_the_step_that_writes_it(rt: HostRuntime) -> Result<(), Fail> {
-    let scene = Scene {
-        tick_every: 0,
-        script: b"",
-        first: HOLDING,
-        second: WAITING_TO_READ,
-    };
-    assert!(rt; lives_after(&rt, &scene, 43, 0, UP_TO_THE_WAIT)?);
-    assert!(rt; !lives_after(&rt, &scene, 44, 0, UP_TO_THE_WRITE)?);
-    let regs = regs_after(&rt, &scene, 45, 1, UP_TO_THE_WRITE)?;
-    assert_eq!(rt; (regs.h, regs.l), (0, 0));
-    assert_eq!(rt; (regs.pc, regs.halted), (0x4119, true));
-    Ok(())
+    traced(HOLDING, WAITING_TO_READ).shows(
+        rt.alloc(),
+        &[
+            Behind(43, UP_TO_THE_WAIT, &[Lives(0, true)]),
+            Behind(44, UP_TO_THE_WRITE, &[Lives(0, false)]),
+            Behind(
+                45,
+                UP_TO_THE_WRITE,
+                &[Has(1, Hl, 0), Has(1, Pc, 0x4119), Has(1, Halted, 1)],
+            ),
+        ],
+    )
 }
 
 #[test]
 fn an_abort_by_name_ends_at_once(rt: HostRuntime) -> Result<(), Fail> {
-    let scene = Scene {
-        tick_every: 0,
-        script: b"",
-        first: YIELDING,
-        second: ABORTING_BY_NAME,
-    };
     let text = b"t 4 0 142 00 008E 0000 0000\nt 9 1 157 00 009D 4109 0000\n";
-    assert!(rt; lives_after(&rt, &scene, 8, 0, b"t 4 0 142 00 008E 0000 0000\n")?);
-    assert!(rt; !lives_after(&rt, &scene, 9, 0, text)?);
-    let regs = regs_after(&rt, &scene, 10, 1, text)?;
-    assert_eq!(rt; (regs.h, regs.l, regs.halted), (0, 0, true));
-    Ok(())
+    traced(YIELDING, ABORTING_BY_NAME).shows(
+        rt.alloc(),
+        &[
+            Behind(8, b"t 4 0 142 00 008E 0000 0000\n", &[Lives(0, true)]),
+            Behind(9, text, &[Lives(0, false)]),
+            Behind(10, text, &[Has(1, Hl, 0), Has(1, Halted, 1)]),
+        ],
+    )
 }
 
 #[test]
 fn an_abort_by_address_looks_at_no_name(rt: HostRuntime) -> Result<(), Fail> {
-    let scene = Scene {
-        tick_every: 0,
-        script: b"",
-        first: YIELDING,
-        second: ABORTING_BY_ADDRESS,
-    };
     let text = b"t 4 0 142 00 008E 0000 0000\nt 9 1 157 00 009D 4109 0000\n";
-    assert!(rt; !lives_after(&rt, &scene, 9, 0, text)?);
-    Ok(())
+    traced(YIELDING, ABORTING_BY_ADDRESS).shows(rt.alloc(), &[Behind(9, text, &[Lives(0, false)])])
 }
 
 #[test]
 fn an_abort_of_nobody_is_refused(rt: HostRuntime) -> Result<(), Fail> {
-    let scene = Scene {
-        tick_every: 0,
-        script: b"",
-        first: YIELDING,
-        second: ABORTING_NOBODY,
-    };
     let text = b"t 4 0 142 00 008E 0000 0000\nt 9 1 157 FF 009D 4109 00FF\n";
-    assert!(rt; lives_after(&rt, &scene, 9, 0, text)?);
-    Ok(())
+    traced(YIELDING, ABORTING_NOBODY).shows(rt.alloc(), &[Behind(9, text, &[Lives(0, true)])])
 }
 
 #[test]
 fn who_aborts_itself_ends_without_an_answer(rt: HostRuntime) -> Result<(), Fail> {
-    let scene = Scene {
-        tick_every: 0,
-        script: b"",
-        first: ABORTING_BY_NAME,
-        second: YIELDING,
-    };
-    assert!(rt; lives_after(&rt, &scene, 4, 0, b"")?);
-    assert!(rt; !lives_after(&rt, &scene, 5, 0, b"")?);
-    Ok(())
+    traced(ABORTING_BY_NAME, YIELDING).shows(
+        rt.alloc(),
+        &[
+            Behind(4, b"", &[Lives(0, true)]),
+            Behind(5, b"", &[Lives(0, false)]),
+        ],
+    )
 }
 
 #[test]
 fn who_aborts_itself_holding_a_message_is_answered_and_goes_on(
     rt: HostRuntime,
 ) -> Result<(), Fail> {
-    let scene = Scene {
-        tick_every: 0,
-        script: b"",
-        first: ABORTING_ITSELF,
-        second: YIELDING,
-    };
-    assert!(rt; !lives_after(&rt, &scene, 30, 0, UP_TO_ITS_END)?);
-    Ok(())
+    traced(ABORTING_ITSELF, YIELDING).shows(
+        rt.alloc(),
+        &[Behind(30, UP_TO_ITS_END, &[Lives(0, false)])],
+    )
 }

@@ -1,13 +1,8 @@
 //! Resident procedures: what programs see of them.
-ghost use Rattle.std.specs.Prelude.{◌≤◌, length};
-
-use crate::Machine;
-use crate::scenes::{Scene, lives_after, regs_after};
-use mpm_base::Pid;
-use mpm_port::MemorySink;
-use mpm_render::Render;
+use crate::scenes::Register::{A, B, C, De, Hl, Pc, Sp};
+use crate::scenes::Sight::{Has, Lives};
+use crate::scenes::{Behind, Scene, traced};
 use std::test::Fail;
-use z80_regs::Regs;
 
 /// Makes the queue `PROC    ` (function 134, its block at 013Ah), opens it (135, its block at 0148h), writes the message 0200h
 /// (139), puts INC DE; EX DE,HL; RET there, and other bytes where the message stood. Calls the procedure with the parameter
@@ -65,60 +60,81 @@ const WAITING: &[u8] = b"\x0E\x97\x11\x0C\x41\xCD\x05\x40\x76\x13\xEB\xC9\x10\x4
 /// Puts INC C at BF09h, and goes there.
 const AT_NO_GATE: &[u8] = b"\x3E\x0C\x32\x09\xBF\xC3\x09\xBF";
 
-/// What a program comes to behind so many steps, in which just this text was written.
-fn regs_of(rt: &HostRuntime, program: &[u8], steps: u64, text: &[u8]) -> Result<Regs, Fail>
-    requires program { length program.now ≤ 32768 }
-    requires steps { steps ≤ 10000 }
-{
-    let mut machine = Machine::boot_program(rt.alloc(), program)?;
-    let mut render = Render::new(true);
-    let mut sink = MemorySink::new(rt.alloc(), 512)?;
-    machine.run(steps, &mut render, &mut sink)?;
-    if sink.written() != text {
-        return Err(Fail::from("another text was written"));
-    }
-    match machine.regs(Pid(0)) {
-        Some(regs) => Ok(*regs),
-        None => Err(Fail::from("the process doesn't live")),
-    }
-}
-
-#[test]
-fn a_procedure_comes_back_with_its_result(rt: HostRuntime) -> Result<(), Fail> {
-    let text = b"t 5 0 134 00 0086 013A 0000
+/// Up to the return of the procedure that it calls.
+const UP_TO_THE_RETURN: &[u8] = b"t 5 0 134 00 0086 013A 0000
 t 10 0 135 00 0087 0148 0000
 t 15 0 139 00 008B 0148 0000
 t 25 0 151 00 0097 1234 0000
 ";
-    let regs = regs_of(&rt, CALLING, 25, text)?;
-    assert_eq!(rt; (regs.pc, regs.sp), (0x0200, 0xBEFC));
-    assert_eq!(rt; (regs.d, regs.e, regs.h, regs.l), (0x12, 0x34, 0, 0));
-    let regs = regs_of(&rt, CALLING, 28, text)?;
-    assert_eq!(rt; (regs.pc, regs.sp), (0xBF09, 0xBEFE));
-    let regs = regs_of(&rt, CALLING, 29, text)?;
-    assert_eq!(rt; (regs.pc, regs.sp), (0x012E, 0xBEFE));
-    assert_eq!(rt; (regs.h, regs.l, regs.a, regs.b), (0x12, 0x35, 0x35, 0x12));
-    Ok(())
-}
 
-#[test]
-fn a_procedure_gives_its_message_back(rt: HostRuntime) -> Result<(), Fail> {
-    let text = b"t 5 0 134 00 0086 013A 0000
+/// And up to its read.
+const UP_TO_THE_READ: &[u8] = b"t 5 0 134 00 0086 013A 0000
 t 10 0 135 00 0087 0148 0000
 t 15 0 139 00 008B 0148 0000
 t 25 0 151 00 0097 1234 0000
 t 34 0 138 00 008A 0148 0000
 ";
-    let regs = regs_of(&rt, CALLING, 35, text)?;
-    assert_eq!(rt; (regs.h, regs.l), (0x02, 0x00));
-    Ok(())
+
+/// A program alone.
+fn alone(program: &[u8]) -> Scene {
+    Scene {
+        machine: b"",
+        script: b"",
+        first: program,
+        second: b"",
+        trace: true,
+    }
+}
+
+#[test]
+fn a_procedure_comes_back_with_its_result(rt: HostRuntime) -> Result<(), Fail> {
+    alone(CALLING).shows(
+        rt.alloc(),
+        &[
+            Behind(
+                25,
+                UP_TO_THE_RETURN,
+                &[
+                    Has(0, Pc, 0x0200),
+                    Has(0, Sp, 0xBEFC),
+                    Has(0, De, 0x1234),
+                    Has(0, Hl, 0),
+                ],
+            ),
+            Behind(
+                28,
+                UP_TO_THE_RETURN,
+                &[Has(0, Pc, 0xBF09), Has(0, Sp, 0xBEFE)],
+            ),
+            Behind(
+                29,
+                UP_TO_THE_RETURN,
+                &[
+                    Has(0, Pc, 0x012E),
+                    Has(0, Sp, 0xBEFE),
+                    Has(0, Hl, 0x1235),
+                    Has(0, A, 0x35),
+                    Has(0, B, 0x12),
+                ],
+            ),
+        ],
+    )
+}
+
+#[test]
+fn a_procedure_gives_its_message_back(rt: HostRuntime) -> Result<(), Fail> {
+    alone(CALLING).shows(
+        rt.alloc(),
+        &[Behind(35, UP_TO_THE_READ, &[Has(0, Hl, 0x0200)])],
+    )
 }
 
 #[test]
 fn nobody_else_has_the_gate_of_a_procedure(rt: HostRuntime) -> Result<(), Fail> {
-    let regs = regs_of(&rt, AT_NO_GATE, 4, b"")?;
-    assert_eq!(rt; (regs.pc, regs.c), (0xBF0A, 1));
-    Ok(())
+    alone(AT_NO_GATE).shows(
+        rt.alloc(),
+        &[Behind(4, b"", &[Has(0, Pc, 0xBF0A), Has(0, C, 1)])],
+    )
 }
 
 /// What the two programs write up to the step in which the second aborts the first.
@@ -164,29 +180,23 @@ t 57 1 142 00 008E 413F 0000
 
 #[test]
 fn an_abort_gives_the_message_of_a_procedure_back(rt: HostRuntime) -> Result<(), Fail> {
-    let scene = Scene {
-        tick_every: 0,
-        script: b"",
-        first: STAYING,
-        second: ABORTING,
-    };
-    assert!(rt; lives_after(&rt, &scene, 52, 0, UP_TO_THE_ABORT)?);
-    assert!(rt; !lives_after(&rt, &scene, 53, 0, BEHIND_THE_ABORT)?);
-    let regs = regs_after(&rt, &scene, 54, 2, BEHIND_THE_ABORT)?;
-    assert_eq!(rt; (regs.pc, regs.h, regs.l), (0x412B, 0, 0));
-    let regs = regs_after(&rt, &scene, 58, 2, BEHIND_THE_READ)?;
-    assert_eq!(rt; (regs.pc, regs.h, regs.l), (0x412E, 0x41, 0x21));
-    Ok(())
+    traced(STAYING, ABORTING).shows(
+        rt.alloc(),
+        &[
+            Behind(52, UP_TO_THE_ABORT, &[Lives(0, true)]),
+            Behind(53, BEHIND_THE_ABORT, &[Lives(0, false)]),
+            Behind(54, BEHIND_THE_ABORT, &[Has(2, Pc, 0x412B), Has(2, Hl, 0)]),
+            Behind(
+                58,
+                BEHIND_THE_READ,
+                &[Has(2, Pc, 0x412E), Has(2, Hl, 0x4121)],
+            ),
+        ],
+    )
 }
 
 #[test]
 fn who_waits_for_a_procedure_enters_it_with_its_message(rt: HostRuntime) -> Result<(), Fail> {
-    let scene = Scene {
-        tick_every: 0,
-        script: b"",
-        first: GIVING,
-        second: WAITING,
-    };
     let text = b"t 5 0 134 00 0086 4123 0000
 t 10 0 135 00 0087 4131 0000
 t 14 0 142 00 008E 4131 0000
@@ -194,10 +204,21 @@ t 24 0 139 00 008B 4131 0000
 t 24 1 151 00 0097 1234 0000
 t 28 0 142 00 008E 4131 0000
 ";
-    let regs = regs_after(&rt, &scene, 28, 1, text)?;
-    assert_eq!(rt; (regs.pc, regs.sp), (0x4109, 0x4EFC));
-    let regs = regs_after(&rt, &scene, 32, 1, text)?;
-    assert_eq!(rt; (regs.pc, regs.sp), (0x4108, 0x4EFE));
-    assert_eq!(rt; (regs.h, regs.l, regs.a, regs.b), (0x12, 0x35, 0x35, 0x12));
-    Ok(())
+    traced(GIVING, WAITING).shows(
+        rt.alloc(),
+        &[
+            Behind(28, text, &[Has(1, Pc, 0x4109), Has(1, Sp, 0x4EFC)]),
+            Behind(
+                32,
+                text,
+                &[
+                    Has(1, Pc, 0x4108),
+                    Has(1, Sp, 0x4EFE),
+                    Has(1, Hl, 0x1235),
+                    Has(1, A, 0x35),
+                    Has(1, B, 0x12),
+                ],
+            ),
+        ],
+    )
 }

@@ -7,10 +7,10 @@ use Rattle.mpm_dispatcher.specs.Dispatch.{all_woken as woken_there, runner_behin
 use Rattle.mpm_dispatcher.specs.declared.dispatcher.Dispatcher.{Dispatcher}
 use Rattle.mpm_kernel.specs.contracts.kernel.Kernel.{the_view}
 use Rattle.mpm_kernel.specs.Kernel.{Kernel, IsSound}
-use Rattle.mpm_kernel.specs.Dispatch.{all_ready, all_woken}
+use Rattle.mpm_kernel.specs.Dispatch.{all_ready}
 use Rattle.mpm_kernel.specs.Events.{with_tick, clock_ticked}
 use Rattle.mpm_kernel.proofs.SoundLaws.{live_by_tick, runner_lives}
-use Rattle.mpm_kernel.proofs.Dispatched.{with_dispatcher, runner_behind_is}
+use Rattle.mpm_kernel.proofs.Dispatched.{with_dispatcher}
 use Rattle.mpm_kernel.proofs.kernel.Kernel.tick.Goals as goal
 
 pub wake-requires : goal.wake-requires
@@ -33,6 +33,5 @@ returns c =
     ap (λ (clock : Clock). with_dispatcher (record kernel { clock = clock }) c.runner_behind.new.self) c.tick-woken.ensures.clock
     ∙ ap (λ (d : Dispatcher). with_dispatcher (with_tick kernel) d)
     (c.runner_behind.ensures
-    ∙ ap (λ (d : Dispatcher). behind_there d.running d) (c.wake.ensures ∙ ap (λ ps. woken_there ps c.self.inside.dispatcher) c.tick-woken.ensures.woken))
-    ∙ runner_behind_is kernel.running (all_woken woken (with_tick kernel))
+    ∙ ap (λ (d : Dispatcher). behind_there d) (c.wake.ensures ∙ ap (λ ps. woken_there ps c.self.inside.dispatcher) c.tick-woken.ensures.woken))
     ∙ ap (λ (k : Kernel). clock_ticked k) c.self.view_is

@@ -2,7 +2,7 @@ use Rattle.std.proofs.Common.{ap, sym, subst, arith, ℕ}
 use Rattle.mpm_machine.specs.declared.system.System.{System}
 use Rattle.mpm_machine.specs.State.{State, StandsFor}
 use Rattle.mpm_machine.specs.Step.{after}
-use Rattle.mpm_machine.proofs.StepLaws.{after_more, ends_in_step}
+use Rattle.mpm_machine.proofs.StepLaws.{after_more, system_after_more, ends_in_step}
 use Rattle.mpm_machine.proofs.machine.Machine.advance.Goals as goal
 
 pub returns-then-done-most-clause-ok : goal.returns-then-done-most-clause-ok
@@ -24,3 +24,7 @@ returns-in-Err-clause-err g c s first stands =
     (omega (arith, c.run_on-done.ensures.count, c.if-done-most.false))
     (omega (arith, c.steps_done-step.ensures, c.run_on-done.ensures.steps, same))
     (c.in-Err.ensures.err (after done s) first (c.run_on-done.ensures.stands s _ _ first stands))
+
+pub returns-clause-system : goal.returns-clause-system
+returns-clause-system g c =
+    system_after_more c.run_on-done.result c.args.self.now c.run_on-done.new.self c.step.new.self c.run_on-done.ensures.system c.in_default.ensures.system

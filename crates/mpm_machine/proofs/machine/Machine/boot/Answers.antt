@@ -8,7 +8,7 @@ begin_residents-requires c =
     let so = boots c.args.file.now c.args.script c.in_ok-machine.machine c.in_ok-machine.ensures.booted in
     record {
       whole = c.in_ok-machine.ensures.bare.whole;
-      handed = c.in_ok-machine.ensures.bare.handed;
+      no_completions = c.in_ok-machine.ensures.bare.no_completions;
       consoles = so.consoles;
       queues = so.queues;
       room = so.room;

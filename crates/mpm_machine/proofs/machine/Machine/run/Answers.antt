@@ -1,7 +1,8 @@
 use Rattle.std.proofs.Common.{◌∙◌, ◌-◌, sym, subst, refl, arith, Bool}
 use Rattle.mpm_machine.specs.State.{State, StandsFor}
 use Rattle.mpm_machine.specs.Step.{after, EndsInStep}
-use Rattle.mpm_machine.proofs.StepLaws.{after_nothing, after_both, ends_later}
+use Rattle.mpm_machine.proofs.StepLaws.{after_nothing, after_both, system_after_nothing, system_after_both, ends_later}
+use Rattle.mpm_machine.proofs.AfterLaws.{nobody_due_run}
 use Rattle.mpm_machine.proofs.machine.Machine.run.Goals as goal
 
 pub loop-done-init : goal.loop-done-init
@@ -9,9 +10,10 @@ loop-done-init g c = record {
   stands = λ s first stands.
       let P : State → Type 0 = λ t. StandsFor c.args.self.now c.args.render.now (g.S.Sink.written c.args.sink.now) t first in
       subst P (sym (after_nothing s)) stands;
+  system = system_after_nothing c.args.self.now;
   few = omega arith;
   whole = c.requires.whole;
-  handed = c.requires.handed;
+  no_completions = c.requires.no_completions;
   steps = omega arith;
   faults = refl;
   trace = refl;
@@ -23,9 +25,11 @@ loop-done-preserved g c = record {
       let P : State → Type 0 = λ t. StandsFor c.advance.new.self c.advance.new.render (g.S.Sink.written c.advance.new.sink) t first in
       subst P (sym (after_both c.loop-done.done c.in-Ok.steps s))
       (c.in-Ok.ensures.ok (after c.loop-done.done s) first (c.loop-done.invariant.stands s first stands));
+  system = system_after_both c.loop-done.done c.in-Ok.steps c.args.self.now c.loop-done.self c.advance.new.self
+      c.loop-done.invariant.system c.in-Ok.ensures.system;
   few = omega (arith, c.in-Ok.ensures.few, c.loop-done.invariant.few);
   whole = c.in-Ok.ensures.whole;
-  handed = c.in-Ok.ensures.handed;
+  no_completions = c.in-Ok.ensures.no_completions;
   steps = omega (arith, c.in-Ok.ensures.count, c.loop-done.invariant.steps);
   faults = c.in-Ok.ensures.cause.stays ∙ c.loop-done.invariant.faults;
   trace = c.in-Ok.ensures.trace ∙ c.loop-done.invariant.trace;
@@ -33,8 +37,13 @@ loop-done-preserved g c = record {
 
 pub returns-in-Err-clause-err : goal.returns-in-Err-clause-err
 returns-in-Err-clause-err g c s first stands =
-    let told = g.S.Sink.written c.advance.new.sink in
+    let written = g.S.Sink.written c.advance.new.sink in
     let done = c.loop-done.done in
-    let P : Bool → Type 0 = λ trace. EndsInStep trace told first (after done s) (c.args.n - done) c.in-Err.fault.step in
-    ends_later c.args.render.now.trace told first s c.args.n done c.in-Err.fault.step c.loop-done.invariant.few
+    let P : Bool → Type 0 = λ trace. EndsInStep trace written first (after done s) (c.args.n - done) c.in-Err.fault.step in
+    ends_later c.args.render.now.trace written first s c.args.n done c.in-Err.fault.step c.loop-done.invariant.few
     (subst P c.loop-done.invariant.trace (c.in-Err.ensures.err (after done s) first (c.loop-done.invariant.stands s first stands)))
+
+pub returns-clause-due : goal.returns-clause-due
+returns-clause-due g c some =
+    nobody_due_run c.loop-done.done c.args.self.now c.loop-done.self c.requires.whole c.loop-done.invariant.system
+    (omega (arith, some, c.loop-done-test.false))

@@ -1,8 +1,9 @@
 use Rattle.std.proofs.Common.{◌∙◌, ◌+◌, ℕ, ap, subst}
 use Rattle.mpm_machine.specs.declared.system.System.{System}
-use Rattle.mpm_machine.specs.Writing.{Showed, Stopped}
+use Rattle.mpm_output.specs.Writing.{Showed, Stopped}
 use Rattle.mpm_machine.specs.Step.{step_of}
 use Rattle.mpm_machine.proofs.StepLaws.{step_stands, step_stops}
+use Rattle.mpm_machine.proofs.NobodyDueLaws.{nobody_due_behind}
 use Rattle.mpm_machine.proofs.Containment.{is_contained}
 use Rattle.mpm_machine.proofs.ServedLaws.{served_by_value}
 use Rattle.mpm_machine.proofs.InstructedLaws.{instructs_only}
@@ -10,13 +11,13 @@ use Rattle.mpm_machine.proofs.machine.Machine.step.Goals as goal
 
 pub returns-in-Err-clause-err : goal.returns-in-Err-clause-err
 returns-in-Err-clause-err g c s first stands =
-    let P : System → Type 0 = λ system. Stopped c.args.render.now (g.S.Sink.written c.args.sink.now) (g.S.Sink.written c.step.new.sink) (step_of system).news in
+    let P : System → Type 0 = λ system. Stopped c.args.render.now (g.S.Sink.written c.args.sink.now) (g.S.Sink.written c.step.new.sink) (step_of system).emitted in
     step_stops c.args.self.now c.args.render.now (g.S.Sink.written c.args.sink.now) (g.S.Sink.written c.step.new.sink) s first
     (subst P c.self.view_is c.in-Err.ensures.err) stands
 
 pub returns-clause-ok : goal.returns-clause-ok
 returns-clause-ok g c s first stands =
-    let P : System → Type 0 = λ system. Showed c.args.render.now (g.S.Sink.written c.args.sink.now) c.step.new.render (g.S.Sink.written c.step.new.sink) (step_of system).news in
+    let P : System → Type 0 = λ system. Showed c.args.render.now (g.S.Sink.written c.args.sink.now) c.step.new.render (g.S.Sink.written c.step.new.sink) (step_of system).emitted in
     step_stands c.args.self.now c.args.render.now (g.S.Sink.written c.args.sink.now) c.step.new.self c.step.new.render
     (g.S.Sink.written c.step.new.sink) s first
     (c.in_default.ensures.system ∙ ap (λ system. (step_of system).system) c.self.view_is)
@@ -29,9 +30,13 @@ pub returns-clause-contained : goal.returns-clause-contained
 returns-clause-contained g c =
     is_contained c.args.self.now c.step.new.self c.requires.whole (c.in_default.ensures.system ∙ ap (λ system. (step_of system).system) c.self.view_is)
 
+pub returns-clause-due : goal.returns-clause-due
+returns-clause-due g c =
+    nobody_due_behind c.args.self.now c.step.new.self c.requires.whole (c.in_default.ensures.system ∙ ap (λ system. (step_of system).system) c.self.view_is)
+
 pub returns-clause-instruction : goal.returns-clause-instruction
 returns-clause-instruction g c p seg stands =
-    instructs_only c.args.self.now c.step.new.self p seg stands c.requires.handed (c.in_default.ensures.system ∙ ap (λ system. (step_of system).system) c.self.view_is)
+    instructs_only c.args.self.now c.step.new.self p seg stands c.requires.no_completions (c.in_default.ensures.system ∙ ap (λ system. (step_of system).system) c.self.view_is)
 
 pub returns-clause-calls : goal.returns-clause-calls
 returns-clause-calls g c p seg = served_by_value c.args.self.now p seg

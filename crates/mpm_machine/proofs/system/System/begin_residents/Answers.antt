@@ -1,5 +1,5 @@
 use Rattle.std.proofs.Common.{◌∙◌, sym}
-use Rattle.mpm_machine.proofs.OpeningLaws.{first_here, residents_here, whole_picked, handed_picked}
+use Rattle.mpm_machine.proofs.OpeningLaws.{first_here, residents_here, whole_picked, no_completions_picked}
 use Rattle.mpm_machine.proofs.system.System.begin_residents.Goals as goal
 
 pub begin_terminals-requires-clause-whole : goal.begin_terminals-requires-clause-whole
@@ -22,12 +22,12 @@ returns-clause-system c =
 pub returns-clause-whole : goal.returns-clause-whole
 returns-clause-whole c = whole_picked c.begin_terminals.new.self c.pick.new.self c.in_ok-begin_terminals.ensures.whole c.pick.ensures
 
-pub returns-clause-handed : goal.returns-clause-handed
-returns-clause-handed c =
-    handed_picked c.begin_terminals.new.self.kernel c.pick.new.self c.pick.ensures
+pub returns-clause-no_completions : goal.returns-clause-no_completions
+returns-clause-no_completions c =
+    no_completions_picked c.begin_terminals.new.self.kernel c.pick.new.self c.pick.ensures
     (c.in_ok-begin_terminals.ensures.completed
     ∙ (first_here c.args.self.now c.begin_interpreter.new.self c.requires.whole c.requires.queues c.requires.room c.begin_interpreter.ensures).completed
-    ∙ c.requires.handed)
+    ∙ c.requires.no_completions)
 
 pub returns-clause-steps : goal.returns-clause-steps
 returns-clause-steps c =

@@ -1,14 +1,14 @@
-use Rattle.mpm_machine.proofs.WholeStepLaws.{sound_roused, whole_happened, aborted_lives}
+use Rattle.mpm_machine.proofs.WholeStepLaws.{sound_unhalted, whole_happened, aborted_lives}
 use Rattle.mpm_machine.proofs.InterruptLaws.{may_be}
 use Rattle.mpm_machine.proofs.system.System.come.Goals as goal
 
 pub event-requires-clause-sound : goal.event-requires-clause-sound
-event-requires-clause-sound g c = sound_roused c.args.self.now c.rouse.new.self c.requires.whole c.rouse.ensures
+event-requires-clause-sound g c = sound_unhalted c.args.self.now c.unhalt.new.self c.requires.whole c.unhalt.ensures
 
 pub abort_by_key-requires-clause-whole : goal.abort_by_key-requires-clause-whole
 abort_by_key-requires-clause-whole g c =
-    whole_happened c.args.event c.args.self.now c.rouse.new.self c.event.new.self (may_be c.args.event c.requires.is) c.requires.whole c.rouse.ensures c.event.ensures
+    whole_happened c.args.event c.args.self.now c.unhalt.new.self c.event.new.self (may_be c.args.event c.requires.is) c.requires.whole c.unhalt.ensures c.event.ensures
 
 pub abort_by_key-requires-clause-lives : goal.abort_by_key-requires-clause-lives
 abort_by_key-requires-clause-lives g c =
-    aborted_lives c.args.event c.args.self.now c.rouse.new.self c.event.new.self c.requires.whole c.rouse.ensures c.event.ensures
+    aborted_lives c.args.event c.args.self.now c.unhalt.new.self c.event.new.self c.requires.whole c.unhalt.ensures c.event.ensures

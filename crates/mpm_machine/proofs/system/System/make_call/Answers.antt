@@ -2,7 +2,7 @@ use Rattle.std.proofs.Common.{◌≡◌, OnOk, rules, subst}
 use Rattle.std.proofs.lemmas.Result.{on_ok_weaker, on_err_weaker}
 use Rattle.mpm_machine.specs.State.{Change}
 use Rattle.mpm_machine.specs.Residing.{native_outcome}
-use Rattle.mpm_machine.specs.Writing.{Showed, Stopped}
+use Rattle.mpm_output.specs.Writing.{Showed, Stopped}
 use Rattle.mpm_procs.specs.Table.{call_of}
 use Rattle.mpm_machine.proofs.CallLaws.{echo_shown, echo_stopped, stopped_later}
 use Rattle.mpm_machine.proofs.ResidingLaws.{asked_whole, call_concludes}
@@ -60,7 +60,7 @@ returns-in_err-put_echo-clause-err g c =
     let done = call_concludes c.args.p c.args.self.now c.ask_call.new.self c.call-outcome.new.self c.call-outcome.result c.call-outcome.new.reply
     c.requires.whole c.requires.lives c.requires.has c.ask_call.ensures c.requires.ready
     c.call-outcome.ensures.kernel c.call-outcome.ensures.outcome c.call-outcome.ensures.reply in
-    let P : Change → Type 0 = λ change. Stopped c.args.render.now (g.S.Sink.written c.args.sink.now) (g.S.Sink.written c.put_echo.new.sink) change.news in
+    let P : Change → Type 0 = λ change. Stopped c.args.render.now (g.S.Sink.written c.args.sink.now) (g.S.Sink.written c.put_echo.new.sink) change.emitted in
     let stopped = subst P done.change (echo_stopped _ _ _ (call_of c.call-outcome.new.self.procs c.args.p) c.args.p (record c.ask_call.new.self { kernel = c.call-outcome.new.self })
     (native_outcome c.call-outcome.result c.call-outcome.new.reply (call_of c.call-outcome.new.self.procs c.args.p) c.args.p (record c.ask_call.new.self { kernel = c.call-outcome.new.self })) c.in_err-put_echo.ensures.err) in
     search rules
@@ -78,7 +78,7 @@ returns-clause-ok g c =
     let done = call_concludes c.args.p c.args.self.now c.ask_call.new.self c.call-outcome.new.self c.call-outcome.result c.call-outcome.new.reply
     c.requires.whole c.requires.lives c.requires.has c.ask_call.ensures c.requires.ready
     c.call-outcome.ensures.kernel c.call-outcome.ensures.outcome c.call-outcome.ensures.reply in
-    let P : Change → Type 0 = λ change. Showed c.args.render.now (g.S.Sink.written c.args.sink.now) c.conclude_residing.new.render (g.S.Sink.written c.conclude_residing.new.sink) change.news in
+    let P : Change → Type 0 = λ change. Showed c.args.render.now (g.S.Sink.written c.args.sink.now) c.conclude_residing.new.render (g.S.Sink.written c.conclude_residing.new.sink) change.emitted in
     on_ok_weaker c.conclude_residing.result
     (λ shown. subst P done.change (echo_shown _ _ _ _ _ _ (call_of c.call-outcome.new.self.procs c.args.p) c.args.p (record c.ask_call.new.self { kernel = c.call-outcome.new.self })
     (native_outcome c.call-outcome.result c.call-outcome.new.reply (call_of c.call-outcome.new.self.procs c.args.p) c.args.p (record c.ask_call.new.self { kernel = c.call-outcome.new.self })) c.in_ok-put_echo.ensures.ok shown)) c.conclude_residing.ensures.ok
@@ -88,7 +88,7 @@ returns-clause-err g c =
     let done = call_concludes c.args.p c.args.self.now c.ask_call.new.self c.call-outcome.new.self c.call-outcome.result c.call-outcome.new.reply
     c.requires.whole c.requires.lives c.requires.has c.ask_call.ensures c.requires.ready
     c.call-outcome.ensures.kernel c.call-outcome.ensures.outcome c.call-outcome.ensures.reply in
-    let P : Change → Type 0 = λ change. Stopped c.args.render.now (g.S.Sink.written c.args.sink.now) (g.S.Sink.written c.conclude_residing.new.sink) change.news in
+    let P : Change → Type 0 = λ change. Stopped c.args.render.now (g.S.Sink.written c.args.sink.now) (g.S.Sink.written c.conclude_residing.new.sink) change.emitted in
     on_err_weaker c.conclude_residing.result
     (λ stopped. subst P done.change (stopped_later _ _ _ _ _ (call_of c.call-outcome.new.self.procs c.args.p) c.args.p (record c.ask_call.new.self { kernel = c.call-outcome.new.self })
     (native_outcome c.call-outcome.result c.call-outcome.new.reply (call_of c.call-outcome.new.self.procs c.args.p) c.args.p (record c.ask_call.new.self { kernel = c.call-outcome.new.self })) c.in_ok-put_echo.ensures.trace c.in_ok-put_echo.ensures.ok stopped))

@@ -1,7 +1,7 @@
 use Rattle.std.proofs.Common.{◌∙◌, sym, ap, subst}
 use Rattle.mpm_machine.specs.State.{Change}
-use Rattle.mpm_machine.specs.Writing.{Showed}
-use Rattle.mpm_machine.proofs.WritingLaws.{showed_nothing}
+use Rattle.mpm_output.specs.Writing.{Showed}
+use Rattle.mpm_output.proofs.WritingLaws.{showed_nothing}
 use Rattle.mpm_machine.proofs.ResidingLaws.{nobody_resides}
 use Rattle.mpm_machine.proofs.system.System.reside.Goals as goal
 
@@ -11,5 +11,5 @@ returns-else-has-clause-system g c =
 
 pub returns-else-has-clause-ok : goal.returns-else-has-clause-ok
 returns-else-has-clause-ok g c =
-    let P : Change → Type 0 = λ change. Showed c.args.render.now (g.S.Sink.written c.args.sink.now) c.args.render.now (g.S.Sink.written c.args.sink.now) change.news in
+    let P : Change → Type 0 = λ change. Showed c.args.render.now (g.S.Sink.written c.args.sink.now) c.args.render.now (g.S.Sink.written c.args.sink.now) change.emitted in
     subst P (sym (nobody_resides c.args.p c.args.self.now (sym c.has.ensures ∙ c.if-has.false))) (showed_nothing c.args.render.now (g.S.Sink.written c.args.sink.now))

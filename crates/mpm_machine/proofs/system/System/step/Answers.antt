@@ -1,7 +1,7 @@
 use Rattle.std.proofs.Common.{rules}
 use Rattle.mpm_machine.specs.Step.{counted}
 use Rattle.mpm_machine.proofs.StepLaws.{stopped_begun, stopped_settled}
-use Rattle.mpm_machine.proofs.WholeStepLaws.{whole_counted, whole_behind_begun, sound_settled, handed_step}
+use Rattle.mpm_machine.proofs.WholeStepLaws.{whole_counted, whole_behind_begun, sound_settled, no_completions_step}
 use Rattle.mpm_machine.proofs.system.System.step.Goals as goal
 
 pub settle-requires : goal.settle-requires
@@ -27,5 +27,5 @@ returns-in_err-settle-clause-err g c =
     c.in_ok-instruction.ensures.system c.in_ok-instruction.ensures.ok c.in_err-settle.ensures.err in
     search rules
 
-pub returns-clause-handed : goal.returns-clause-handed
-returns-clause-handed g c = handed_step c.begin.new.self c.settle.new.self _ _ c.in_ok-settle.ensures.system c.pick.ensures
+pub returns-clause-no_completions : goal.returns-clause-no_completions
+returns-clause-no_completions g c = no_completions_step c.begin.new.self c.settle.new.self _ _ c.in_ok-settle.ensures.system c.pick.ensures

@@ -5,7 +5,7 @@ use Rattle.mpm_render.specs.Shown.{line_of}
 use Rattle.mpm_render.proofs.Grows.{appended_nil}
 use Rattle.mpm_render.specs.Puts.{PutsEach, texts_closed}
 use Rattle.mpm_render.proofs.Putting.{each_none, each_closed, stops_closed, all_texts}
-use Rattle.mpm_render.proofs.Closings.{closings, closings_none, none_below, told_closed, err_closed, written_more}
+use Rattle.mpm_render.proofs.Closings.{closings, closings_none, none_below, all_stay, written_closed, err_closed, written_more}
 use Rattle.mpm_render.proofs.render.Render.finish.Goals as goal
 
 pub loop-place-init : goal.loop-place-init
@@ -49,7 +49,7 @@ pub returns-clause-ok : goal.returns-clause-ok
 returns-clause-ok g c os first s =
     let inv = c.loop-place.invariant in
     let all : c.loop-place.place ≡ 12 = omega arith in
-    told_closed c.args.self.now _ _ first os (inv.written ∙ ap (λ n. appended (g.S.Sink.written c.args.sink.now) (closings (line_of c.args.self.now) n)) all) s
+    written_closed c.args.self.now _ _ first os (inv.written ∙ ap (λ n. appended (g.S.Sink.written c.args.sink.now) (closings (line_of c.args.self.now) n)) all) s
 
 pub returns-in_err-close-clause-stops : goal.returns-in_err-close-clause-stops
 returns-in_err-close-clause-stops g c =
@@ -59,7 +59,10 @@ returns-in_err-close-clause-stops g c =
     let small : place < 12 = omega arith in
     let twelve : length lines ≡ 12 = search rules in
     let inside : place < length lines = omega arith in
-    stops_closed c.from_residual.result g.S.Sink.took g.S.Sink.dropped c.args.self.now place _ _ _ _ small (get_or_default lines place c.index-self-place.result [] inside ∙ inv.above place (omega arith)) inv.puts c.in_err-close.ensures.some c.in_err-close.ensures.drops
+    let item = get_or_default lines place c.index-self-place.result [] inside in
+    let stay = all_stay lines place _ inside (c.in_err-close.ensures.kept ∙ item) in
+    stops_closed c.from_residual.result g.S.Sink.took g.S.Sink.dropped c.args.self.now _ place _ _ _ _ small (item ∙ inv.above place (omega arith)) inv.puts c.in_err-close.ensures.some c.in_err-close.ensures.drops
+    (λ p h. stay p ∙ inv.below p h) (λ p h. stay p ∙ inv.above p h)
 
 pub returns-clause-puts : goal.returns-clause-puts
 returns-clause-puts g c =

@@ -1,0 +1,197 @@
+-- Behind each step nobody's end by an abort is due: the ends that are due come by rising slot, and none makes that of a lower
+-- slot due, since it takes nobody's message of a mutual exclusion queue.
+use Rattle.std.proofs.Common.{◌≡◌, ◌≢◌, ◌∙◌, ℕ, zero, suc, ◌+◌, ◌<◌, Bool, true, false, not, ◌&&◌, List, [], ◌∷◌, Option, Some, None, inl, inr, refl, sym, ap, subst, arith}
+use Rattle.std.proofs.lemmas.Bool.{false≢true, cases_eq, cases_lt}
+use Rattle.std.specs.List.{range_with_len}
+use Rattle.std.specs.Prelude.{is_some}
+use Rattle.mpm_base.specs.Calls.{Taken, Answer}
+use Rattle.mpm_base.proofs.Choices.{either}
+use Rattle.mpm_procs.specs.Table.{Lives, process_in, call_of}
+use Rattle.mpm_procs.specs.declared.process.Process.{Process}
+use Rattle.mpm_procs.proofs.MapLaws.{lives_below}
+use Rattle.mpm_queues.specs.Queues.{Queues, holds, lowest_held}
+use Rattle.mpm_queues.proofs.Finding.{lowest_passes, lowest_none}
+use Rattle.mpm_kernel.specs.Kernel.{Kernel, IsSound, is_aborted, with_changed}
+use Rattle.mpm_kernel.specs.Dispatch.{picked}
+use Rattle.mpm_kernel.specs.Waiting.{completion_reply}
+use Rattle.mpm_kernel.specs.Ending.{discharged}
+use Rattle.mpm_kernel.proofs.HomeLaws.{aborted_changed, aborted_handed_out, queues_handed_out}
+use Rattle.mpm_kernel.proofs.EndingLaws.{homes_discharged, dead_discharged}
+use Rattle.mpm_kernel.proofs.HoldingLaws.{still_held}
+use Rattle.mpm_xdos.specs.Aborting.{waits_to_end}
+use Rattle.mpm_xdos.specs.Procedures.{entering, entered}
+use Rattle.mpm_machine.specs.declared.system.System.{System}
+use Rattle.mpm_machine.specs.State.{Change, IsWhole}
+use Rattle.mpm_machine.specs.Ending.{terminated}
+use Rattle.mpm_machine.specs.Serving.{is_entry, with_entry, reply_at_entry, fulfilling, answering_call, replied}
+use Rattle.mpm_machine.specs.Finishing.{finished, completion_dequeued, finishing, all_finished}
+use Rattle.mpm_machine.specs.Due.{is_due, NobodyDue, terminated_if_due, due_terminated, all_due_terminated, with_ends, settled}
+use Rattle.mpm_machine.specs.Step.{coming, begun_by, instruction_unless, with_settled, counted, step_of}
+use Rattle.mpm_machine.proofs.FinishLaws.{first_finished}
+use Rattle.mpm_machine.proofs.WholeStepLaws.{due_lives, whole_if_due, whole_due_terminated, whole_answered, whole_counted, whole_behind_begun}
+
+-- as many ends are put off as before, and the queues are the same, so that the same ends are due
+record SameEnds (old new : Kernel) : Type 0 where
+  pub aborted : (q : ℕ) → is_aborted new.procs q ≡ is_aborted old.procs q
+  pub queues : new.queues ≡ old.queues
+
+due_same : (old new : Kernel) (q : ℕ) → SameEnds old new → is_due new q ≡ is_due old q
+due_same old new q same =
+    ap (λ b. b && not (waits_to_end new q false)) (same.aborted q)
+    ∙ ap (λ (queues : Queues). is_aborted old.procs q && not (is_some (lowest_held queues q))) same.queues
+
+same_itself : (kernel : Kernel) → SameEnds kernel kernel
+same_itself kernel = record { aborted = λ q. refl; queues = refl }
+
+same_both : (old middle new : Kernel) → SameEnds old middle → SameEnds middle new → SameEnds old new
+same_both old middle new first second =
+    record { aborted = λ q. second.aborted q ∙ first.aborted q; queues = second.queues ∙ first.queues }
+
+same_changed : (kernel : Kernel) (p : ℕ) (process : Process) → process.abort_due ≡ (process_in kernel.procs p).abort_due
+    → SameEnds kernel (with_changed kernel p process)
+same_changed kernel p process same = record { aborted = λ q. aborted_changed kernel p q process same; queues = refl }
+
+-- where held calls that were completed are answered
+
+same_entered : (p : ℕ) (kernel : Kernel) → SameEnds kernel (entered p kernel)
+unfolding entered entering
+same_entered p kernel = same_changed kernel p _ refl
+
+same_entry : (reply : Answer) (call : Taken) (p : ℕ) (system : System) → SameEnds system.kernel (with_entry reply call p system).kernel
+unfolding with_entry
+same_entry reply call p system =
+    either (SameEnds system.kernel) (is_entry call reply) _ system.kernel (λ _. same_entered p system.kernel) (λ _. same_itself system.kernel)
+
+same_replied : (reply : Answer) (call : Taken) (p seg : ℕ) (system : System) → SameEnds system.kernel (answering_call reply call p seg system).system.kernel
+unfolding answering_call replied
+same_replied reply call p seg system = same_changed system.kernel p _ refl
+
+same_fulfilled : (reply : Answer) (call : Taken) (p seg : ℕ) (system : System) → SameEnds system.kernel (fulfilling reply call p seg system).system.kernel
+unfolding fulfilling
+same_fulfilled reply call p seg system =
+    same_both system.kernel (with_entry reply call p system).kernel _ (same_entry reply call p system)
+    (same_replied (reply_at_entry reply call p system) call p seg (with_entry reply call p system))
+
+same_finished : (seg : Option ℕ) (p : ℕ) (system : System) → SameEnds system.kernel (finished seg p system).system.kernel
+same_finished None p system = same_itself system.kernel
+same_finished (Some seg) p system = same_fulfilled (completion_reply system.kernel p) (call_of system.kernel.procs p) p seg system
+
+same_first : (p : ℕ) (system : System) → SameEnds system.kernel (first_finished p system).kernel
+same_first p system =
+    let dequeued = completion_dequeued system in
+    same_both system.kernel dequeued.kernel _ (record { aborted = aborted_handed_out system.kernel; queues = queues_handed_out system.kernel })
+    (same_finished (process_in system.kernel.procs p).seg p dequeued)
+
+same_finishing : (ps : List ℕ) (system : System) → SameEnds system.kernel (finishing ps system).system.kernel
+unfolding finishing
+same_finishing [] system = same_itself system.kernel
+same_finishing (p ∷ ps) system =
+    same_both system.kernel (first_finished p system).kernel _ (same_first p system) (same_finishing ps (first_finished p system))
+
+-- whose end was put off, and who still holds what it held, isn't due where it wasn't
+
+still_some : (old new : Queues) (p : ℕ) (was is : Option ℕ) → lowest_held old p ≡ was → lowest_held new p ≡ is
+    → ((q : ℕ) → holds old p q ≡ true → holds new p q ≡ true) → is_some was ≡ true → is_some is ≡ true
+still_some old new p None is e f kept some = absurd (false≢true some)
+still_some old new p (Some q) (Some other) e f kept some = refl
+still_some old new p (Some q) None e f kept some =
+    let there = lowest_passes (holds old p) q e in
+    absurd (false≢true (sym (lowest_none (holds new p) f q there.1) ∙ kept q there.0))
+
+not_due : (was is held holds_still : Bool) → (is ≡ true → was ≡ true) → (held ≡ true → holds_still ≡ true) → (was && not held) ≡ false
+    → (is && not holds_still) ≡ false
+not_due was false held holds_still aborts keeps none = refl
+not_due was true held true aborts keeps none = refl
+not_due true true true false aborts keeps none = absurd (false≢true (keeps refl))
+not_due true true false false aborts keeps none = absurd (false≢true (sym none))
+not_due false true held false aborts keeps none = absurd (false≢true (aborts refl))
+
+not_due_still : (old new : Kernel) (p : ℕ) → (is_aborted new.procs p ≡ true → is_aborted old.procs p ≡ true)
+    → ((q : ℕ) → holds old.queues p q ≡ true → holds new.queues p q ≡ true) → is_due old p ≡ false → is_due new p ≡ false
+not_due_still old new p aborts kept none =
+    not_due (is_aborted old.procs p) (is_aborted new.procs p) (waits_to_end old p false) (waits_to_end new p false) aborts
+    (still_some old.queues new.queues p (lowest_held old.queues p) (lowest_held new.queues p) refl refl kept) none
+
+-- so an end makes nobody's end due, and its own isn't due behind it
+
+others_stay : (p other : ℕ) (system : System) → IsWhole system → Lives system.kernel.procs p → other ≢ p → is_due system.kernel other ≡ false
+    → is_due (terminated p system).kernel other ≡ false
+unfolding terminated
+others_stay p other system w h apart none =
+    not_due_still system.kernel (discharged system.kernel p) other ((homes_discharged system.kernel p w.sound h).aborts other)
+    (λ q held. still_held system.kernel p other q w.sound h apart held) none
+
+own_is_over : (p : ℕ) (system : System) → IsWhole system → Lives system.kernel.procs p → is_due (terminated p system).kernel p ≡ false
+unfolding terminated
+own_is_over p system w h =
+    let behind = discharged system.kernel p in
+    ap (λ b. (b && (process_in behind.procs p).abort_due) && not (waits_to_end behind p false)) (dead_discharged system.kernel p w.sound h)
+
+-- and nobody of a slot up to its own is
+
+behind_one : (slot p : ℕ) (system : System) → IsWhole system → (p ≢ slot → is_due system.kernel p ≡ false)
+    → is_due (terminated_if_due slot system).system.kernel p ≡ false
+unfolding terminated_if_due
+behind_one slot p system w others =
+    let gone = terminated slot system in
+    either (λ (c : Change). is_due c.system.kernel p ≡ false) (is_due system.kernel slot) _ _
+    (λ due. due_same gone.kernel (all_finished gone).system.kernel p (same_finishing gone.kernel.completed gone) ∙ elim (cases_eq p slot) [
+      | inl same ↦ ap (is_due gone.kernel) same ∙ own_is_over slot system w (due_lives system.kernel slot due)
+      | inr apart ↦ others_stay slot p system w (due_lives system.kernel slot due) apart (others apart)
+    ])
+    (λ none. elim (cases_eq p slot) [
+      | inl same ↦ ap (is_due system.kernel) same ∙ none
+      | inr apart ↦ others apart
+    ])
+
+abbrev NobodyBelow : ℕ → Kernel → Type 0
+NobodyBelow slot kernel = (p : ℕ) → p < slot → is_due kernel p ≡ false
+
+nobody_below : (n slot : ℕ) (system : System) → IsWhole system → NobodyBelow slot system.kernel
+    → NobodyBelow (slot + n) (due_terminated (range_with_len slot n) system).system.kernel
+unfolding due_terminated
+nobody_below zero slot system w none = λ p below. none p (omega (arith, below))
+nobody_below (suc n) slot system w none = λ p below.
+    nobody_below n (slot + 1) (terminated_if_due slot system).system (whole_if_due slot system w)
+    (λ q less. behind_one slot q system w (λ apart. none q (omega (arith, less, apart)))) p (omega (arith, below))
+
+-- there are no more slots
+
+unless_true : (b : Bool) → (b ≡ true → ⊥) → b ≡ false
+unless_true true never = absurd (never refl)
+unless_true false never = refl
+
+nobody_at_all : (kernel : Kernel) → IsSound kernel → NobodyBelow 32 kernel → NobodyDue kernel
+unfolding NobodyDue
+nobody_at_all kernel s none = λ p. elim (cases_lt p 32) [
+  | inl below ↦ none p below
+  | inr past ↦ unless_true (is_due kernel p) (λ due. omega (arith, past, lives_below kernel.procs p s.slots (due_lives kernel p due)))
+]
+
+due_with_ends : (system : System) → IsWhole system → NobodyDue (with_ends system).system.kernel
+unfolding with_ends
+due_with_ends system w =
+    nobody_at_all (all_due_terminated system).system.kernel (whole_due_terminated (range_with_len 0 32) system w).sound
+    (nobody_below 32 0 system w (λ p below. absurd (omega (arith, below))))
+
+due_settled : (system : System) → IsWhole system → NobodyDue (settled system).system.kernel
+unfolding settled
+due_settled system w = due_with_ends (all_finished system).system (whole_answered system (all_finished system).system w refl)
+
+-- a step
+
+due_picked : (instruction : Bool) (kernel : Kernel) → NobodyDue kernel → NobodyDue (picked instruction kernel)
+unfolding NobodyDue
+due_picked instruction kernel none = λ p. none p
+
+pub nobody_due_step : (system : System) → IsWhole system → NobodyDue (step_of system).system.kernel
+unfolding step_of with_settled
+nobody_due_step system w =
+    let begun = counted system in
+    let first = (begun_by (coming begun) begun).system in
+    due_picked (instruction_unless (coming begun) begun) (settled first).system.kernel
+    (due_settled first (whole_behind_begun begun first (whole_counted system w) refl))
+
+pub nobody_due_behind : (old new : System) → IsWhole old → new ≡ (step_of old).system → NobodyDue new.kernel
+nobody_due_behind old new w is =
+    let P : System → Type 0 = λ s. NobodyDue s.kernel in subst P (sym is) (nobody_due_step old w)

@@ -1,0 +1,74 @@
+ghost use Rattle.std.specs.Prelude.{◌≡◌, ◌<◌, ◌++◌, ◌∷◌, [], true, is_some, OnOk, IfSome};
+
+use crate::{Act, Native, Tmp};
+use mpm_base::{Call, Pid, Reply};
+use std::alloc::{AllocError, Global};
+use std::marker::Model;
+
+/// The residents that act, by their slots, of which the first is 1. (The process of the command line interpreter is in slot 0,
+/// and does nothing yet.)
+#[derive(Drop)]
+pub struct Residents {
+    natives: Vec<Native>,
+}
+
+impl Model for Residents {
+    ghost use Rattle.std.specs.Prelude.{List};
+    ghost use Rattle.mpm_residents.specs.declared.native.Native.{Native};
+
+    ghost Value = { List Native };
+
+    ghost view = { λ r. r.natives.items };
+}
+
+impl Residents {
+    ghost use Rattle.mpm_residents.specs.Terminals.{opening};
+    ghost use Rattle.mpm_residents.specs.Natives.{native_call, native_in, answer_taken};
+    ghost use Rattle.mpm_residents.specs.declared.native.Native.TheVariants.{Tmp as Terminal};
+
+    /// None.
+    pub fn none(alloc: Global) -> Residents
+        ensures { result ≡ [] }
+    {
+        Residents {
+            natives: Vec::new(alloc),
+        }
+    }
+
+    /// The terminal message processor of a console comes into the next slot.
+    ///
+    /// # Errors
+    /// Where no memory is found.
+    pub fn add_terminal(&mut self, console: u8) -> Result<(), AllocError>
+        ensures { OnOk result (self.new ≡ self.old ++ Terminal (opening console) ∷ []) }
+    {
+        self.natives.push(Native::Tmp {
+            tmp: Tmp::new(console),
+        })?;
+        Ok(())
+    }
+
+    /// Whether a resident acts in a slot.
+    pub fn has(&self, p: Pid) -> bool
+        ensures { result ≡ is_some (native_in self.now p) }
+    {
+        0 < p.0 && usize::from(p.0) <= self.natives.len()
+    }
+
+    /// The resident of a slot fills in the call that it makes next.
+    pub fn ask(&mut self, p: Pid, call: &mut Call)
+        requires { is_some (native_in self.old p) ≡ true }
+        ensures residents { self.new ≡ self.old }
+        ensures call { IfSome (native_in self.old p) (λ native. call.new ≡ native_call native) }
+    {
+        let Act::Ask = self.natives[usize::from(p.0) - 1].next(call);
+    }
+
+    /// The resident of a slot takes the answer to its call.
+    pub fn take(&mut self, p: Pid, reply: &Reply)
+        requires { is_some (native_in self.old p) ≡ true }
+        ensures { self.new ≡ answer_taken (native_in self.old p) reply.now p self.old }
+    {
+        self.natives[usize::from(p.0) - 1].took(reply);
+    }
+}
