@@ -37,7 +37,7 @@ fn main(rt: HostRuntime) -> ExitCode {
         Ok(words) => {
             let mut files = RealFiles::new(rt);
             let mut drives = MemoryDrives::new(alloc);
-            let mut sink = RealSink::new(&rt);
+            let mut sink = RealSink::new(rt.stdout());
             run_words(alloc, words.as_slice(), &mut files, &mut drives, &mut sink)
         }
         Err(status) => status,

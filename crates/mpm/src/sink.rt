@@ -3,17 +3,18 @@ ghost use Rattle.std.specs.Io.KnownBytes.{Appends};
 ghost use Rattle.mpm.specs.Known.{WritesPart};
 
 use mpm_port::{Failed, Sink};
-use std::io::{Stdout, Write};
+use std::io::Write;
 use std::marker::Model;
 
-/// The standard output, which is written without a buffer: a fault is seen in the put that meets it.
+/// A writer of the host, as the standard output, which is written without a buffer: a fault is seen in the put that meets
+/// it.
 #[derive(Drop)]
-pub struct RealSink {
-    output: Stdout,
+pub struct RealSink<W> {
+    output: W,
     faults: u64,
 }
 
-impl Model for RealSink {
+impl<W> Model for RealSink<W> {
     ghost use Rattle.std.specs.Prelude.{ℕ};
 
     ghost Value = { ℕ };
@@ -21,19 +22,16 @@ impl Model for RealSink {
     ghost view = { λ s. s.faults };
 }
 
-impl RealSink {
+impl<W> RealSink<W> {
     /// No call has failed.
-    pub fn new(host: &HostRuntime) -> RealSink
+    pub fn new(output: W) -> RealSink<W>
         ensures { result ≡ 0 }
     {
-        RealSink {
-            output: host.stdout(),
-            faults: 0,
-        }
+        RealSink { output, faults: 0 }
     }
 }
 
-impl Sink for RealSink {
+impl<W: Write> Sink for RealSink<W> {
     ghost written = { λ _. None };
 
     ghost faults = { λ s. s };

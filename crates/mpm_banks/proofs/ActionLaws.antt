@@ -1,4 +1,4 @@
--- What a process's view of memory and devices is behind the changes of an instruction.
+-- What a process's view of memory and devices is after the changes of an instruction.
 use Rattle.std.proofs.Common.{◌≡◌, ◌≢◌, ℕ, ◌<◌, Bool, false, List, [], ◌∷◌, ◌||◌, ◌==◌, Option, None, Some, ap, refl, ◌∙◌, arith}
 use Rattle.std.proofs.lemmas.Bool.Decides.{nat_tests}
 use Rattle.std.specs.List.{list_any}

@@ -5,13 +5,13 @@ use Rattle.z80_regs.specs.Outcome.{Action, Write, Input}
 use Rattle.mpm_banks.specs.Memory.{Memory, with_byte}
 use Rattle.mpm_banks.specs.Ports.{port_read}
 
--- memory behind the changes of an instruction of the process of a segment
+-- memory after the changes of an instruction of the process of a segment
 unfoldable pub memory_after : List Action → ℕ → Memory → Memory
 memory_after [] seg memory = memory
 memory_after (Write address byte ∷ rest) seg memory = memory_after rest seg (with_byte memory seg address byte)
 memory_after (Input port ∷ rest) seg memory = memory_after rest seg memory
 
--- the devices behind them
+-- the devices after them
 unfoldable pub devices_after : List Action → Devices → Devices
 devices_after [] devices = devices
 devices_after (Write address byte ∷ rest) devices = devices_after rest devices

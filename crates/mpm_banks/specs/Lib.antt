@@ -1,5 +1,6 @@
 pub mod Stretches
 pub mod Memory
+pub mod Gates
 pub mod Ranges
 pub mod Allocations
 pub mod Sides

@@ -126,7 +126,7 @@ pub record SameSegments (old new : Memory) : Type 0 where
   pub pages : (seg : ℕ) → (segment_of new seg).pages ≡ (segment_of old seg).pages
   pub allocation : (seg : ℕ) → (segment_of new seg).allocation ≡ (segment_of old seg).allocation
 
--- bytes written one by one from an address on; behind FFFFh comes 0000h
+-- bytes written one by one from an address on; after FFFFh comes 0000h
 unfoldable pub with_bytes : Memory → ℕ → ℕ → List ℕ → Memory
 with_bytes memory seg address [] = memory
 with_bytes memory seg address (byte ∷ bytes) =

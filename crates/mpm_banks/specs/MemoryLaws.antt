@@ -128,7 +128,7 @@ pub place_of_with_byte : (memory : Memory) (seg address value other at : ℕ)
 unfolding with_byte
 place_of_with_byte memory seg address value other at = put_moves_nothing memory (place_of memory seg address) value other at
 
--- what an address reads behind a put
+-- what an address reads after a put
 read_put : (memory : Memory) (place : Place) (value seg address : ℕ)
     → byte_at (put_to memory place value) seg address ≡ byte_of (put_to memory place value) (place_of memory seg address)
 unfolding byte_at
@@ -251,7 +251,7 @@ pub same_segments_with_byte : (memory : Memory) (seg address value : ℕ) → Sa
 unfolding with_byte
 same_segments_with_byte memory seg address value = put_same_segments memory (place_of memory seg address) value
 
--- two changes of bytes, one behind the other
+-- two changes of bytes, one after the other
 pub same_segments_both : (old middle new : Memory) → SameSegments old middle → SameSegments middle new → SameSegments old new
 same_segments_both old middle new first second = record {
   count = second.count ∙ first.count;

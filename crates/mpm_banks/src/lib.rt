@@ -6,6 +6,7 @@ mod burst;
 mod bus;
 mod bytes;
 mod first_page;
+mod gates;
 mod ports;
 mod range;
 mod segment;
@@ -15,6 +16,7 @@ mod window;
 pub use banks::Banks;
 pub use burst::Burst;
 pub use bus::BankBus;
+pub use gates::{CALL_GATE, END_GATE, RETURN_GATE, last_page};
 pub use slice_bus::SliceBus;
 pub use window::Window;
 

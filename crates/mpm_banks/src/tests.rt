@@ -130,39 +130,6 @@ fn two_slices_are_reached_as_a_segment_and_common_memory(rt: HostRuntime) -> Res
     Ok(())
 }
 
-/// Registers that are all 0.
-fn blank_registers() -> Regs {
-    Regs {
-        a: 0,
-        f: 0,
-        b: 0,
-        c: 0,
-        d: 0,
-        e: 0,
-        h: 0,
-        l: 0,
-        a2: 0,
-        f2: 0,
-        b2: 0,
-        c2: 0,
-        d2: 0,
-        e2: 0,
-        h2: 0,
-        l2: 0,
-        ix: 0,
-        iy: 0,
-        sp: 0,
-        pc: 0,
-        i: 0,
-        r: 0,
-        iff1: false,
-        iff2: false,
-        mode: 0,
-        halted: false,
-        shadow: false,
-    }
-}
-
 /// A burst that fills the segment with 2 and common memory with 4.
 struct Filling;
 
@@ -187,7 +154,7 @@ impl Burst for Filling {
 fn a_burst_leaves_other_segments(rt: HostRuntime) -> Result<(), OutOfMemory> {
     let mut banks = Banks::new(rt.alloc(), &TWO)?;
     let mut devices = Devices::new();
-    let mut regs = blank_registers();
+    let mut regs = Regs::default();
     assert_eq!(rt; banks.segments(), 2);
     assert_eq!(rt; banks.run(&Filling, Seg(1), &mut regs, &mut devices), 2);
     assert_eq!(rt; banks.byte(Seg(1), 0x5FFF), 0xFF);

@@ -11,10 +11,6 @@ one_if b = if b then 1 else 0
 pub count_cons : {X : Type 0} (test : X → Bool) (x : X) (xs : List X) → count_by test (x ∷ xs) ≡ one_if (test x) + count_by test xs
 count_cons test x xs = sum_by-cons (λ y. if test y then 1 else 0) x xs
 
-pub count_append : {X : Type 0} (test : X → Bool) (xs ys : List X) → count_by test (xs ++ ys) ≡ count_by test xs + count_by test ys
-count_append test [] ys = omega arith
-count_append test (x ∷ xs) ys = omega (arith, count_append test xs ys, count_cons test x (xs ++ ys), count_cons test x xs)
-
 pub one_if_true : (b : Bool) → b ≡ true → one_if b ≡ 1
 one_if_true true e = refl
 one_if_true false e = absurd (cc)

@@ -1,6 +1,11 @@
 -- Lists that several crates name.
-use Rattle.std.specs.Prelude.{ℕ, List, replicate}
+use Rattle.std.specs.Prelude.{ℕ, List, [], ◌∷◌, replicate, Bool, false, ◌==◌, ◌||◌}
 
 -- so many zeros
 unfoldable pub zeros : ℕ → List ℕ
 zeros n = replicate n 0
+
+-- whether a number is among some
+abbrev pub is_among : ℕ → List ℕ → Bool
+is_among n [] = false
+is_among n (m ∷ ms) = n == m || is_among n ms

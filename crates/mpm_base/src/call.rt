@@ -162,6 +162,9 @@ fn first_eight(bytes: &[u8]) -> [u8; 8]
     eight
 }
 
+/// The value of a call that is refused, where its function names no other.
+pub const FAILURE_CODE: u16 = 0x00FF;
+
 /// The answer of a kernel call, as it is placed in its caller's registers and memory.
 ///
 /// The file control block goes to DE where `has_fcb` is set; the first `length` of `bytes` go to the address `at`.

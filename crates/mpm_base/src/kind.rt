@@ -5,4 +5,6 @@ pub enum Kind {
     Ibm3740,
     /// A hard disk of 4,194,304 bytes with no tracks for the system.
     Hd4,
+    /// A hard disk of 8,388,608 bytes with no tracks for the system, where a directory entry covers two extents.
+    Hd8,
 }

@@ -3,17 +3,20 @@
 
 mod call;
 mod devices;
+pub mod functions;
 mod kind;
 mod number;
 mod segment;
 mod steps;
+mod tabs;
 
-pub use call::{Call, Outcome, Reply};
+pub use call::{Call, FAILURE_CODE, Outcome, Reply};
 pub use devices::Devices;
 pub use kind::Kind;
 pub use number::{Name8, Pid, Seg};
 pub use segment::SegmentSpec;
 pub use steps::Steps;
+pub use tabs::tab_width;
 
 #[cfg(test)]
 mod tests;

@@ -4,12 +4,13 @@ use super::*;
 fn kinds_are_told_apart(rt: HostRuntime) {
     assert_eq!(rt; Kind::Ibm3740, Kind::Ibm3740);
     assert_ne!(rt; Kind::Ibm3740, Kind::Hd4);
+    assert_ne!(rt; Kind::Hd4, Kind::Hd8);
 }
 
 #[test]
 fn a_cleared_call_is_a_new_one(rt: HostRuntime) {
     let mut call = Call::new();
-    call.function = 137;
+    call.function = functions::READ_QUEUE;
     call.word = 0x0200;
     call.dma = 0x0080;
     call.fcb = [3; 36];
@@ -45,21 +46,21 @@ fn a_cleared_reply_places_nothing(rt: HostRuntime) {
 #[test]
 fn a_call_keeps_what_it_read_in_order(rt: HostRuntime) {
     let mut call = Call::new();
-    call.begin(106, 0x0130, 0x0080);
+    call.begin(functions::SET_DEFAULT_PASSWORD, 0x0130, 0x0080);
     call.push(0x53);
     call.push(0x45);
-    assert_eq!(rt; call.function, 106);
+    assert_eq!(rt; call.function, functions::SET_DEFAULT_PASSWORD);
     assert_eq!(rt; call.word, 0x0130);
     assert_eq!(rt; call.dma, 0x0080);
     assert_eq!(rt; call.taken(), [0x53, 0x45].as_slice());
-    call.begin(12, 0, 0);
+    call.begin(functions::RETURN_VERSION_NUMBER, 0, 0);
     assert_eq!(rt; call.taken().len(), 0);
 }
 
 #[test]
 fn words_and_names_are_read_from_a_call(rt: HostRuntime) {
     let mut call = Call::new();
-    call.begin(134, 0x0200, 0x0080);
+    call.begin(functions::MAKE_QUEUE, 0x0200, 0x0080);
     call.append(b"\x00\x00MXDisk  \x00\x02\x01");
     assert_eq!(rt; call.word(10), 0x0200);
     assert_eq!(rt; call.word(12), 0x0001);
@@ -73,13 +74,13 @@ fn words_and_names_are_read_from_a_call(rt: HostRuntime) {
 #[test]
 fn a_call_takes_several_bytes_at_once(rt: HostRuntime) {
     let mut call = Call::new();
-    call.begin(152, 0x0130, 0x0080);
+    call.begin(functions::PARSE_FILENAME, 0x0130, 0x0080);
     call.append(&[0x00, 0x02, 0x00, 0x03]);
     call.append(b"dir");
     call.set_control_block([7; 36]);
     assert_eq!(rt; call.taken(), b"\x00\x02\x00\x03dir".as_slice());
     assert_eq!(rt; call.fcb, [7; 36]);
-    call.begin(12, 0, 0);
+    call.begin(functions::RETURN_VERSION_NUMBER, 0, 0);
     assert_eq!(rt; call.fcb, [0; 36]);
 }
 

@@ -8,7 +8,7 @@ use Rattle.std.proofs.lemmas.List.FromFn.{length-range_with_len, get_or-range_wi
 use Rattle.std.proofs.lemmas.List.Sums.{AllPass-from_list_all}
 use Rattle.mpm_blocks.specs.Geometries.{skew, place_of}
 use Rattle.mpm_base.specs.declared.kind.Kind.{Kind}
-use Rattle.mpm_base.specs.declared.kind.Kind.TheVariants.{Ibm3740, Hd4}
+use Rattle.mpm_base.specs.declared.kind.Kind.TheVariants.{Ibm3740, Hd4, Hd8}
 
 -- a test that holds of each number from a one on
 holds_within : (test : ℕ → Bool) (from n : ℕ) → list_all test (range_with_len from n) ≡ true → (k : ℕ) → k < n → test (from + k) ≡ true
@@ -78,6 +78,7 @@ skew_injective a b ha hb same =
 -- two logical sectors have different places
 pub place_injective : (kind : Kind) (a b : ℕ) → place_of kind a ≡ place_of kind b → a ≡ b
 place_injective Hd4 a b same = same
+place_injective Hd8 a b same = same
 place_injective Ibm3740 a b same =
     let ra : a % 26 < 26 = omega arith in
     let rb : b % 26 < 26 = omega arith in

@@ -1,5 +1,5 @@
 ghost use Rattle.std.specs.Prelude.{◌≡◌, ◌<◌, ◌≤◌, ℕ, slice_index};
-ghost use Rattle.mpm_blocks.specs.Geometries.{geometry_of, image_sectors, logical_sectors, skew, place_of};
+ghost use Rattle.mpm_blocks.specs.Geometries.{geometry_of, parameters_of, parameter_bytes, image_sectors, logical_sectors, skew, place_of};
 
 use crate::parameters::Geometry;
 use mpm_base::Kind;
@@ -17,6 +17,7 @@ pub fn geometry(kind: Kind) -> Geometry
             drm: 63,
             directory_blocks: 2,
             wide: false,
+            mask: 0,
         },
         Kind::Hd4 => Geometry {
             bytes: 4_194_304,
@@ -25,7 +26,28 @@ pub fn geometry(kind: Kind) -> Geometry
             drm: 511,
             directory_blocks: 8,
             wide: true,
+            mask: 0,
         },
+        Kind::Hd8 => Geometry {
+            bytes: 8_388_608,
+            block: 4_096,
+            dsm: 2_047,
+            drm: 511,
+            directory_blocks: 4,
+            wide: true,
+            mask: 1,
+        },
+    }
+}
+
+/// The disk parameter block of a kind of disk: its fifteen bytes as a program reads them.
+pub fn parameter_block(kind: Kind) -> [u8; 15]
+    ensures { result ≡ parameter_bytes (parameters_of kind) }
+{
+    match kind {
+        Kind::Ibm3740 => [26, 0, 3, 7, 0, 242, 0, 63, 0, 0xC0, 0, 16, 0, 2, 0],
+        Kind::Hd4 => [128, 0, 4, 15, 0, 0xFF, 7, 0xFF, 1, 0xFF, 0, 0, 0, 0, 0],
+        Kind::Hd8 => [128, 0, 5, 31, 1, 0xFF, 7, 0xFF, 1, 0xF0, 0, 0, 0, 0, 0],
     }
 }
 
@@ -39,7 +61,7 @@ pub fn place(kind: Kind, logical: u32) -> u32
 {
     match kind {
         Kind::Ibm3740 => 52 + logical / 26 * 26 + (physical((logical % 26) as u8) - 1),
-        Kind::Hd4 => logical,
+        Kind::Hd4 | Kind::Hd8 => logical,
     }
 }
 

@@ -13,4 +13,6 @@ pub struct Geometry {
     pub directory_blocks: u16,
     /// Whether an entry's map has block numbers of 16 bits; else they have 8.
     pub wide: bool,
+    /// The extent mask: how many extents of 128 records an entry covers, less one.
+    pub mask: u8,
 }

@@ -22,6 +22,35 @@ fn sizes_of_disks(rt: HostRuntime) {
         (2_048, 2_047, 511, 8)
     );
     assert!(rt; hard.wide);
+    let masked = geometry(Kind::Hd8);
+    assert_eq!(rt; masked.bytes, 8_388_608);
+    assert_eq!(rt;
+        (
+            masked.block,
+            masked.dsm,
+            masked.drm,
+            masked.directory_blocks
+        ),
+        (4_096, 2_047, 511, 4)
+    );
+    assert!(rt; masked.wide);
+    assert_eq!(rt; (floppy.mask, hard.mask, masked.mask), (0, 0, 1));
+}
+
+#[test]
+fn parameter_blocks(rt: HostRuntime) {
+    assert_eq!(rt;
+        parameter_block(Kind::Ibm3740),
+        [26, 0, 3, 7, 0, 242, 0, 63, 0, 192, 0, 16, 0, 2, 0]
+    );
+    assert_eq!(rt;
+        parameter_block(Kind::Hd4),
+        [128, 0, 4, 15, 0, 255, 7, 255, 1, 255, 0, 0, 0, 0, 0]
+    );
+    assert_eq!(rt;
+        parameter_block(Kind::Hd8),
+        [128, 0, 5, 31, 1, 255, 7, 255, 1, 240, 0, 0, 0, 0, 0]
+    );
 }
 
 #[test]
@@ -40,6 +69,7 @@ fn sectors_of_a_hard_disk_are_in_order(rt: HostRuntime) {
     assert_eq!(rt; place(Kind::Hd4, 0), 0);
     assert_eq!(rt; place(Kind::Hd4, 16_384), 16_384);
     assert_eq!(rt; place(Kind::Hd4, 32_767), 32_767);
+    assert_eq!(rt; place(Kind::Hd8, 65_535), 65_535);
 }
 
 #[test]

@@ -28,7 +28,7 @@ clock_set clock moment is time = record {
   below = is.below;
 }
 
--- a process's delays behind one more
+-- a process's delays after one more
 delayed_by : (clock : Clock) (p ticks q : ℕ) → IsClock clock → delays_of clock.delays p ≡ 0
     → (delays_of (delayed clock p ticks).delays q ≤ 1) × (0 < delays_of (delayed clock p ticks).delays q → p < 32 → q < 32)
 unfolding delayed
@@ -92,7 +92,7 @@ clock_later clock is =
     (λ e. record { time = is.time; ticks = grind (arith, nat_tests, e); once = is.once; below = is.below })
     (λ _. clock_set clock (second_later (moment_of clock)) is (time_later (moment_of clock) is.time))
 
--- the delays behind a tick
+-- the delays after a tick
 pub clock_delays_ticked : (clock : Clock) → IsClock clock → IsClock (record clock { delays = left_by_tick clock.delays })
 clock_delays_ticked clock is = record {
   time = is.time;
@@ -105,7 +105,7 @@ pub delays_later : (clock : Clock) → (tick_later clock).delays ≡ clock.delay
 unfolding tick_later set_to
 delays_later clock = either (λ (c : Clock). c.delays ≡ clock.delays) (nat_lt clock.ticks 59) _ _ (λ _. refl) (λ _. refl)
 
--- a second is one more second of the day, of which there are 86,400; the date rises behind the last, up to 65,535
+-- a second is one more second of the day, of which there are 86,400; the date rises after the last, up to 65,535
 pub seconds_later : (m : Moment) → IsTime m → seconds_of (second_later m) ≡ (seconds_of m + 1) % 86400
 unfolding second_later
 seconds_later m is =
@@ -126,7 +126,7 @@ ticks_later clock is =
     (λ a. let last : clock.ticks ≡ 59 = grind (arith, nat_tests, is.ticks, a) in
     omega (arith, last, time.hour, time.minute, time.second, seconds_later (moment_of clock) time))
 
--- the date rises exactly behind the day's last second, up to 65,535
+-- the date rises exactly after the day's last second, up to 65,535
 pub date_later : (m : Moment) → IsTime m → (second_later m).date ≡ (if seconds_of m == 86399 then min (m.date + 1) 65535 else m.date)
 unfolding second_later
 date_later m is =

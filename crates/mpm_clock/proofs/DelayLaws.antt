@@ -122,7 +122,7 @@ pub delays_none : (q : ℕ) → delays_of [] q ≡ 0
 unfolding delays_of
 delays_none q = refl
 
--- before a tick as many as are left behind it and are woken by it
+-- before a tick as many as are left after it and are woken by it
 ticked_step : (e : Bool) (d : Delay) (left ended ds : List Delay) (q : ℕ)
     → delays_of left q + count_by (λ p. p == q) (map (λ x. x.slot) ended) ≡ delays_of ds q
     → delays_of (if not e then lowered d ∷ left else left) q + count_by (λ p. p == q) (map (λ x. x.slot) (if e then lowered d ∷ ended else ended))

@@ -7,7 +7,7 @@ use Rattle.mpm_clock.specs.declared.delays.Delay.{Delay}
 unfoldable pub delays_of : List Delay → ℕ → ℕ
 delays_of delays p = count_by (λ d. d.slot == p) delays
 
--- a delay behind a tick
+-- a delay after a tick
 abbrev pub lowered : Delay → Delay
 lowered d = record d { ticks = d.ticks - 1 }
 
@@ -19,7 +19,7 @@ has_ended d = d.ticks == 0
 unfoldable pub woken_by_tick : List Delay → List ℕ
 woken_by_tick delays = map (λ d. d.slot) (filter has_ended (map lowered delays))
 
--- the other delays behind it
+-- the other delays after it
 unfoldable pub left_by_tick : List Delay → List Delay
 left_by_tick delays = filter (λ d. not (has_ended d)) (map lowered delays)
 

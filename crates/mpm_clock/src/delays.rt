@@ -13,7 +13,7 @@ pub(crate) struct Delay {
 }
 
 impl Delay {
-    /// The delay behind a tick.
+    /// The delay after a tick.
     fn lowered(self) -> Delay
         ensures { result ≡ behind_tick self }
     {

@@ -1,6 +1,7 @@
 -- Laws of columns and tabs: texts one behind another.
 use Rattle.std.proofs.Common.{◌≡◌, ◌∙◌, ℕ, List, [], ◌∷◌, ◌++◌, refl, ap, sym, append_assoc, Bool, true, false, ◌==◌, ◌&&◌, if◌then◌else◌, ◌+◌, ◌-◌, ◌*◌, ◌/◌, ◌%◌, ◌<◌, ◌≤◌, zero, suc, min, take, replicate, arith}
 use Rattle.std.proofs.lemmas.List.{take-replicate, append-nil}
+use Rattle.mpm_base.specs.Tabs.{tab_width}
 use Rattle.mpm_consoles.specs.Columns.{column_after, columns_after, spaces_for, tab_text, expanded}
 use Rattle.mpm_consoles.specs.Consoles.{Consoles, console_at}
 use Rattle.mpm_consoles.specs.Handling.{output_spaces}
@@ -57,29 +58,29 @@ columns_spaces zero column h = grind arith
 columns_spaces (suc n) column h = columns_spaces n (min (column + 1) 65535) (omega arith) ∙ omega arith
 
 -- a tab goes to the next column divisible by eight, as far as columns go
-next_stop : (column : ℕ) → column + (8 - column % 8) ≡ 8 * (column / 8 + 1)
+next_stop : (column : ℕ) → column + tab_width column ≡ 8 * (column / 8 + 1)
 next_stop column = omega arith
 
 pub tab_stop : (column : ℕ) → column ≤ 65535 → columns_after column (tab_text column 9) ≡ min (8 * (column / 8 + 1)) 65535
 unfolding tab_text
-tab_stop column few = columns_spaces (8 - column % 8) column few ∙ ap (λ n. min n 65535) (next_stop column)
+tab_stop column few = columns_spaces (tab_width column) column few ∙ ap (λ n. min n 65535) (next_stop column)
 
 -- how many spaces stand for a byte, and what it is written as then
 pub spaces_most : (column byte : ℕ) (tabs : Bool) → spaces_for column byte tabs ≤ 8
 unfolding spaces_for
 spaces_most column byte tabs = by_test (tabs && byte == 9)
   where
-    by_test : (b : Bool) → (if b then 8 - column % 8 else 0) ≤ 8
+    by_test : (b : Bool) → (if b then tab_width column else 0) ≤ 8
     by_test true = omega arith
     by_test false = omega arith
 
-as_spaces : (b : Bool) (column byte spaces : ℕ) → spaces ≡ (if b then 8 - column % 8 else 0) → 0 < spaces
-    → take {A = ℕ} spaces (32 ∷ 32 ∷ 32 ∷ 32 ∷ 32 ∷ 32 ∷ 32 ∷ 32 ∷ []) ≡ (if b then replicate {A = ℕ} (8 - column % 8) 32 else (byte ∷ []))
+as_spaces : (b : Bool) (column byte spaces : ℕ) → spaces ≡ (if b then tab_width column else 0) → 0 < spaces
+    → take {A = ℕ} spaces (32 ∷ 32 ∷ 32 ∷ 32 ∷ 32 ∷ 32 ∷ 32 ∷ 32 ∷ []) ≡ (if b then replicate {A = ℕ} (tab_width column) 32 else (byte ∷ []))
 as_spaces true column byte spaces e some = first_spaces spaces (omega arith) ∙ ap (λ n. replicate {A = ℕ} n 32) e
 as_spaces false column byte spaces e some = absurd (omega arith)
 
-as_itself : (b : Bool) (column byte spaces : ℕ) → spaces ≡ (if b then 8 - column % 8 else 0) → spaces ≡ 0
-    → byte ∷ [] ≡ (if b then replicate {A = ℕ} (8 - column % 8) 32 else (byte ∷ []))
+as_itself : (b : Bool) (column byte spaces : ℕ) → spaces ≡ (if b then tab_width column else 0) → spaces ≡ 0
+    → byte ∷ [] ≡ (if b then replicate {A = ℕ} (tab_width column) 32 else (byte ∷ []))
 as_itself true column byte spaces e none = absurd (omega arith)
 as_itself false column byte spaces e none = refl
 

@@ -1,11 +1,11 @@
--- What is so of a console stays so behind each call.
+-- What is so of a console stays so after each call.
 use Rattle.std.proofs.Common.{◌≡◌, ◌∙◌, ℕ, ◌+◌, ◌-◌, ◌^◌, ◌≤◌, Bool, true, false, List, [], ◌∷◌, ◌++◌, Option, Some, None, if◌then◌else◌, min, length, refl, sym, arith}
 use Rattle.std.proofs.lemmas.Bool.{false≢true}
 use Rattle.std.proofs.lemmas.Bool.Decides.{nat_tests}
 use Rattle.std.proofs.lemmas.List.{length-append, length-drop}
 use Rattle.mpm_base.proofs.Choices.{either}
 use Rattle.mpm_consoles.specs.Columns.{column_after, columns_after, text_of}
-use Rattle.mpm_consoles.specs.Console.{Console, new_console, is_owner, passed_to, with_raw, with_output_stopped, awaiting, is_for, woken, behind_wake, without_wait_of, resumed, has_room, with_key, typed, without_first, spoken, written, IsProper}
+use Rattle.mpm_consoles.specs.Console.{Console, new_console, is_owner, passed_to, with_raw, with_output_stopped, awaiting, is_for, woken, awakened, without_wait_of, resumed, has_room, with_key, typed, without_first, spoken, written, IsProper}
 use Rattle.mpm_consoles.specs.declared.console.Awaited.{Awaited}
 use Rattle.mpm_consoles.specs.declared.console.Awaited.TheVariants.{Key, Output}
 
@@ -20,8 +20,8 @@ pub owner_key : (byte : ℕ) (console : Console) → (with_key byte console).own
 unfolding with_key
 owner_key byte console = either (λ (c : Console). c.owner ≡ console.owner) (has_room console) _ _ (λ _. refl) (λ _. refl)
 
-pub owner_wake : (what : Awaited) (console : Console) → (behind_wake what console).owner ≡ console.owner
-unfolding behind_wake
+pub owner_wake : (what : Awaited) (console : Console) → (awakened what console).owner ≡ console.owner
+unfolding awakened
 owner_wake what console = either (λ (c : Console). c.owner ≡ console.owner) (is_for console.awaits what) _ _ (λ _. refl) (λ _. refl)
 
 pub owner_typed : (byte : ℕ) (console : Console) → (typed byte console).owner ≡ console.owner
@@ -68,8 +68,8 @@ proper_wait what console p proper is = record { keys = proper.keys; lost = prope
 at_rest : (console : Console) → IsProper console → IsProper (record console { awaits = None })
 at_rest console proper = record { keys = proper.keys; lost = proper.lost; column = proper.column; raw = proper.raw; gate = λ none. refl }
 
-pub proper_wake : (what : Awaited) (console : Console) → IsProper console → IsProper (behind_wake what console)
-unfolding behind_wake
+pub proper_wake : (what : Awaited) (console : Console) → IsProper console → IsProper (awakened what console)
+unfolding awakened
 proper_wake what console proper = either IsProper (is_for console.awaits what) _ _ (λ _. at_rest console proper) (λ _. proper)
 
 pub proper_without_wait : (p : ℕ) (console : Console) → IsProper console → IsProper (without_wait_of p console)

@@ -2,7 +2,7 @@
 use Rattle.std.proofs.Common.{◌≡◌, Some, true, refl}
 use Rattle.std.specs.Prelude.{replicate}
 use Rattle.mpm_consoles.specs.Columns.{spaces_for}
-use Rattle.mpm_consoles.specs.Console.{Console, new_console, typed, with_key, behind_wake, woken}
+use Rattle.mpm_consoles.specs.Console.{Console, new_console, typed, with_key, awakened, woken}
 use Rattle.mpm_consoles.specs.Handling.{typed_answer}
 use Rattle.mpm_consoles.specs.declared.console.Awaited.TheVariants.{Key}
 use Rattle.mpm_consoles.specs.declared.keys.KeyDone.TheVariants.{Wakes, Dropped}
@@ -12,11 +12,11 @@ abbrev full : Console
 full = record new_console { owner = Some 3; keys = replicate 64 97 }
 
 pub key_65_is_lost : (typed 65 full).lost ≡ 1
-unfolding typed with_key behind_wake new_console
+unfolding typed with_key awakened new_console
 key_65_is_lost = refl
 
 pub keys_stay : (typed 65 full).keys ≡ replicate 64 97
-unfolding typed with_key behind_wake new_console
+unfolding typed with_key awakened new_console
 keys_stay = refl
 
 pub key_65_is_dropped : typed_answer full ≡ Dropped

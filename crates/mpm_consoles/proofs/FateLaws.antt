@@ -3,10 +3,10 @@ use Rattle.std.proofs.Common.{◌≡◌, ◌⊎◌, inl, inr, ℕ, ◌+◌, ◌-
 use Rattle.std.proofs.lemmas.Bool.Decides.{nat_tests}
 use Rattle.std.proofs.lemmas.List.{get_or-set_same}
 use Rattle.mpm_base.proofs.Choices.{either}
-use Rattle.mpm_consoles.specs.Console.{Console, new_console, passed_to, with_output_stopped, is_for, behind_wake, resumed, has_room, with_key, typed, IsProper}
+use Rattle.mpm_consoles.specs.Console.{Console, new_console, passed_to, with_output_stopped, is_for, awakened, resumed, has_room, with_key, typed, IsProper}
 use Rattle.mpm_consoles.specs.Consoles.{Consoles, console_at, HasConsole, with_console, first_waiter, IsSound}
 use Rattle.mpm_consoles.specs.Keys.{control_of}
-use Rattle.mpm_consoles.specs.Handling.{given, unlisted, pass_to, passed, behind_pass, subject, key_by, behind_key}
+use Rattle.mpm_consoles.specs.Handling.{given, unlisted, pass_to, passed, passed_by_key, subject, key_by, keyed}
 use Rattle.mpm_consoles.specs.Fates.{Stays, Stores, Loses, Fate, FateOf}
 use Rattle.mpm_consoles.specs.declared.console.Awaited.{Awaited}
 use Rattle.mpm_consoles.specs.declared.console.Awaited.TheVariants.{Key, Output}
@@ -27,8 +27,8 @@ set_there t n console has = get_or-set_same t.consoles n console new_console has
 pub stays_itself : (console : Console) → Stays console console
 stays_itself console = record { keys = refl; lost = refl }
 
-pub stays_wake : (what : Awaited) (console : Console) → Stays console (behind_wake what console)
-unfolding behind_wake
+pub stays_wake : (what : Awaited) (console : Console) → Stays console (awakened what console)
+unfolding awakened
 stays_wake what console = either (λ (c : Console). Stays console c) (is_for console.awaits what) _ _ (λ _. record { keys = refl; lost = refl }) (λ _. stays_itself console)
 
 -- a key like others
@@ -46,7 +46,7 @@ unfolding given unlisted passed_to
 stays_pass t n None has = subst (Stays (console_at t n)) (sym (set_there t n (passed_to None (console_at t n)) has)) (record { keys = refl; lost = refl })
 stays_pass t n (Some p) has = subst (Stays (console_at t n)) (sym (set_there (unlisted t p) n (passed_to (Some p) (console_at t n)) has)) (record { keys = refl; lost = refl })
 
-stays_passed : (t : Consoles) (n : ℕ) (o : Option ℕ) → HasConsole t n → Stays (console_at t n) (console_at (behind_pass o t n) n)
+stays_passed : (t : Consoles) (n : ℕ) (o : Option ℕ) → HasConsole t n → Stays (console_at t n) (console_at (passed_by_key o t n) n)
 unfolding passed
 stays_passed t n None has = stays_itself (console_at t n)
 stays_passed t n (Some p) has = stays_pass t n (first_waiter t (ConsoleUnit n)) has
@@ -63,6 +63,6 @@ fate_by (Some Resume) t n byte resident sound has =
 fate_by (Some Abort) t n byte resident sound has = stays_itself (console_at t n)
 fate_by (Some Detach) t n byte resident sound has = stays_passed t n (subject resident (console_at t n).owner) has
 
-pub fate_key : (t : Consoles) (n byte : ℕ) (resident : Bool) → IsSound t → HasConsole t n → FateOf (console_at t n) (console_at (behind_key t n byte resident) n) byte
-unfolding behind_key
+pub fate_key : (t : Consoles) (n byte : ℕ) (resident : Bool) → IsSound t → HasConsole t n → FateOf (console_at t n) (console_at (keyed t n byte resident) n) byte
+unfolding keyed
 fate_key t n byte resident sound has = fate_by (control_of (console_at t n).raw byte) t n byte resident sound has

@@ -6,9 +6,9 @@ use Rattle.mpm_base.proofs.Choices.{either}
 use Rattle.mpm_consoles.specs.Console.{Console, new_console, is_owner, passed_to, with_raw, with_output_stopped, resumed, awaiting, without_wait_of, has_room, with_key, typed, first_key, without_first, spoken, written}
 use Rattle.mpm_consoles.specs.Consoles.{Consoles, console_at, HasConsole, with_console, owner_of, owns, first_waiter, waits_for}
 use Rattle.mpm_consoles.specs.Keys.{control_of}
-use Rattle.mpm_consoles.specs.Handling.{given, unlisted, listed, attach_from, behind_attach, pass_to, passed, behind_detach, behind_assign, subject, behind_pass, key_by, behind_key, behind_take, behind_raw, behind_wait, behind_output, units_without_waiter}
+use Rattle.mpm_consoles.specs.Handling.{given, unlisted, listed, attach_from, unit_attached, pass_to, passed, unit_detached, console_assigned, subject, passed_by_key, key_by, keyed, first_taken, raw_set, gate_wait_begun, put_out, units_without_waiter}
 use Rattle.mpm_consoles.specs.Fates.{Stays}
-use Rattle.mpm_consoles.specs.Runs.{stored, missed, as_list, Change, Attaches, Detaches, Assigns, MakesRaw, Waits, Writes, Leaves, Operation, Types, Takes, Makes, behind_change, behind_operation, Passage, no_passage, type_in, take_out, passage, Conserves, behind_all, passages}
+use Rattle.mpm_consoles.specs.Runs.{stored, missed, as_list, Change, Attaches, Detaches, Assigns, MakesRaw, Waits, Writes, Leaves, Operation, Types, Takes, Makes, change_made, operation_made, Passage, no_passage, type_in, take_out, passage, Conserves, operations_made, passages}
 use Rattle.mpm_consoles.specs.declared.console.Awaited.TheVariants.{Key, Output}
 use Rattle.mpm_consoles.specs.declared.keys.Control.{Control}
 use Rattle.mpm_consoles.specs.declared.keys.Control.TheVariants.{Stop, Resume, Abort, Detach}
@@ -49,8 +49,8 @@ unfolding without_wait_of
 stays_without_wait t n p =
     either (Stays (console_at t n)) (is_owner (console_at t n).owner p) _ _ (λ _. record { keys = refl; lost = refl }) (λ _. stays_itself (console_at t n))
 
-stays_change : (t : Consoles) (n : ℕ) (change : Change) → HasConsole t n → Stays (console_at t n) (console_at (behind_change t change) n)
-unfolding behind_attach behind_detach passed behind_assign behind_raw with_raw behind_wait awaiting behind_output written spoken units_without_waiter unlisted
+stays_change : (t : Consoles) (n : ℕ) (change : Change) → HasConsole t n → Stays (console_at t n) (console_at (change_made t change) n)
+unfolding unit_attached unit_detached passed console_assigned raw_set with_raw gate_wait_begun awaiting put_out written spoken units_without_waiter unlisted
 stays_change t n (Attaches p priority unit wait) has = stays_attached (owner_of t unit) t n p priority unit wait has
 stays_change t n (Detaches p unit) has = either (λ (new : Consoles). Stays (console_at t n) (console_at new n)) (owns t p unit) _ _ (λ _. stays_passed (first_waiter t unit) t n unit has) (λ _. stays_itself (console_at t n))
 stays_change t n (Assigns m to) has = either (λ (new : Consoles). Stays (console_at t n) (console_at new n)) (owns t to (ConsoleUnit m)) _ _ (λ _. stays_itself (console_at t n)) (λ _. stays_called (waits_for t to (ConsoleUnit m)) t n to (ConsoleUnit m) (Some to) has)
@@ -70,7 +70,7 @@ stays_control Resume t n m byte resident has =
 stays_control Abort t n m byte resident has = stays_itself (console_at t n)
 stays_control Detach t n m byte resident has = on_subject (subject resident (console_at t m).owner)
   where
-    on_subject : (o : Option ℕ) → Stays (console_at t n) (console_at (behind_pass o t m) n)
+    on_subject : (o : Option ℕ) → Stays (console_at t n) (console_at (passed_by_key o t m) n)
     on_subject None = stays_itself (console_at t n)
     on_subject (Some p) = stays_passed (first_waiter t (ConsoleUnit m)) t n (ConsoleUnit m) has
 
@@ -107,8 +107,8 @@ first_out : (keys : List ℕ) → as_list (slice_get keys 0) ++ drop 1 keys ≡ 
 first_out [] = refl
 first_out (key ∷ keys) = sym (append-nil (key ∷ keys))
 
-pub in_order : (t : Consoles) (n : ℕ) → HasConsole t n → as_list (first_key (console_at t n)) ++ (console_at (behind_take t n) n).keys ≡ (console_at t n).keys
-unfolding behind_take without_first
+pub in_order : (t : Consoles) (n : ℕ) → HasConsole t n → as_list (first_key (console_at t n)) ++ (console_at (first_taken t n) n).keys ≡ (console_at t n).keys
+unfolding first_taken without_first
 in_order t n has = ap (λ (c : Console). as_list (first_key (console_at t n)) ++ c.keys) (set_there t n _ has) ∙ first_out (console_at t n).keys ∙ append-nil (console_at t n).keys
 
 conserves_take : (console : Console) → IsCounted console → Conserves console (without_first console) (take_out console)
@@ -122,15 +122,15 @@ at_number P n m here same apart = elim (cases_eq n m) [
   | inr is ↦ subst (λ (b : Bool). P (if b then here else no_passage)) (sym (ne_eqb n m is)) (apart is)
 ]
 
-pub conserves_operation : (t : Consoles) (n : ℕ) (operation : Operation) → HasConsole t n → IsCounted (console_at t n) → Conserves (console_at t n) (console_at (behind_operation t operation) n) (passage t n operation)
-unfolding passage behind_key behind_take
+pub conserves_operation : (t : Consoles) (n : ℕ) (operation : Operation) → HasConsole t n → IsCounted (console_at t n) → Conserves (console_at t n) (console_at (operation_made t operation) n) (passage t n operation)
+unfolding passage keyed first_taken
 conserves_operation t n (Types m byte resident) has counted =
-    at_number (Conserves (console_at t n) (console_at (behind_key t m byte resident) n)) n m (type_in (console_at t n) byte)
-    (λ is. subst (λ k. Conserves (console_at t n) (console_at (behind_key t k byte resident) n) (type_in (console_at t n) byte)) is (conserves_by (control_of (console_at t n).raw byte) t n byte resident has counted))
+    at_number (Conserves (console_at t n) (console_at (keyed t m byte resident) n)) n m (type_in (console_at t n) byte)
+    (λ is. subst (λ k. Conserves (console_at t n) (console_at (keyed t k byte resident) n) (type_in (console_at t n) byte)) is (conserves_by (control_of (console_at t n).raw byte) t n byte resident has counted))
     (λ is. conserves_stays _ _ counted (stays_elsewhere (control_of (console_at t m).raw byte) t n m byte resident has is))
 conserves_operation t n (Takes m) has counted =
-    at_number (Conserves (console_at t n) (console_at (behind_take t m) n)) n m (take_out (console_at t n))
-    (λ is. subst (λ k. Conserves (console_at t n) (console_at (behind_take t k) n) (take_out (console_at t n))) is
+    at_number (Conserves (console_at t n) (console_at (first_taken t m) n)) n m (take_out (console_at t n))
+    (λ is. subst (λ k. Conserves (console_at t n) (console_at (first_taken t k) n) (take_out (console_at t n))) is
     (subst (λ (c : Console). Conserves (console_at t n) c (take_out (console_at t n))) (sym (set_there t n _ has)) (conserves_take (console_at t n) counted)))
     (λ is. conserves_stays _ _ counted (subst (Stays (console_at t n)) (sym (get_or-set_other t.consoles m n _ new_console is)) (stays_itself (console_at t n))))
 conserves_operation t n (Makes change) has counted = conserves_stays _ _ counted (stays_change t n change has)
@@ -165,8 +165,8 @@ unfolding unlisted
 keeps_called true t p unit owner = keeps_given (unlisted t p) unit owner
 keeps_called false t p unit owner = keeps_given t unit owner
 
-pub keeps_change : (t : Consoles) (change : Change) → Keeps t (behind_change t change)
-unfolding behind_attach behind_detach passed behind_assign behind_raw behind_wait behind_output units_without_waiter unlisted
+pub keeps_change : (t : Consoles) (change : Change) → Keeps t (change_made t change)
+unfolding unit_attached unit_detached passed console_assigned raw_set gate_wait_begun put_out units_without_waiter unlisted
 keeps_change t (Attaches p priority unit wait) = keeps_attached (owner_of t unit) t p priority unit wait
 keeps_change t (Detaches p unit) = either (Keeps t) (owns t p unit) _ _ (λ _. keeps_passed (first_waiter t unit) t unit) (λ _. keeps_itself t)
 keeps_change t (Assigns m to) = either (Keeps t) (owns t to (ConsoleUnit m)) _ _ (λ _. keeps_itself t) (λ _. keeps_called (waits_for t to (ConsoleUnit m)) t to (ConsoleUnit m) (Some to))
@@ -184,12 +184,12 @@ keeps_key (Some Resume) t n byte resident = keeps_console t n _
 keeps_key (Some Abort) t n byte resident = keeps_itself t
 keeps_key (Some Detach) t n byte resident = on_subject (subject resident (console_at t n).owner)
   where
-    on_subject : (o : Option ℕ) → Keeps t (behind_pass o t n)
+    on_subject : (o : Option ℕ) → Keeps t (passed_by_key o t n)
     on_subject None = keeps_itself t
     on_subject (Some p) = keeps_passed (first_waiter t (ConsoleUnit n)) t (ConsoleUnit n)
 
-pub keeps_operation : (t : Consoles) (operation : Operation) → Keeps t (behind_operation t operation)
-unfolding behind_key behind_take
+pub keeps_operation : (t : Consoles) (operation : Operation) → Keeps t (operation_made t operation)
+unfolding keyed first_taken
 keeps_operation t (Types m byte resident) = keeps_key (control_of (console_at t m).raw byte) t m byte resident
 keeps_operation t (Takes m) = keeps_console t m _
 keeps_operation t (Makes change) = keeps_change t change
@@ -203,13 +203,13 @@ joined given rest now before into more middle one all =
 counted_on : (before misses most now rest last : ℕ) → now ≡ min (before + misses) most → last ≡ min (now + rest) most → last ≡ min (before + (misses + rest)) most
 counted_on before misses most now rest last one all = omega arith
 
-pub conserves_all : (t : Consoles) (n : ℕ) (operations : List Operation) → HasConsole t n → IsCounted (console_at t n) → Conserves (console_at t n) (console_at (behind_all t operations) n) (passages t n operations)
-unfolding behind_all passages
+pub conserves_all : (t : Consoles) (n : ℕ) (operations : List Operation) → HasConsole t n → IsCounted (console_at t n) → Conserves (console_at t n) (console_at (operations_made t operations) n) (passages t n operations)
+unfolding operations_made passages
 conserves_all t n [] has counted = conserves_stays _ _ counted (stays_itself (console_at t n))
 conserves_all t n (operation ∷ operations) has counted =
     let one = conserves_operation t n operation has counted in
     let kept = (keeps_operation t operation).0 in
-    let all = conserves_all (behind_operation t operation) n operations (omega (arith, has, kept)) (let lost = one.lost in omega arith) in
+    let all = conserves_all (operation_made t operation) n operations (omega (arith, has, kept)) (let lost = one.lost in omega arith) in
     record {
       keys = joined (passage t n operation).out _ _ (console_at t n).keys (passage t n operation).into _ _ one.keys all.keys;
       lost = counted_on (console_at t n).lost (passage t n operation).misses (2 ^ 64 - 1) _ _ _ one.lost all.lost;

@@ -1,4 +1,4 @@
--- What is so of the consoles and printers stays so behind each call.
+-- What is so of the consoles and printers stays so after each call.
 use Rattle.std.proofs.Common.{◌≡◌, ◌≢◌, ◌∙◌, inl, inr, ℕ, ◌+◌, ◌<◌, ◌≤◌, Bool, true, false, not, List, [], ◌∷◌, Option, Some, None, ◌&&◌, ◌||◌, eqb, map, length, get_or, set, replicate, refl, sym, ap, subst, arith}
 use Rattle.std.proofs.lemmas.Bool.{false≢true, cases_eq, cases_lt, eq-eqb, ne_eqb}
 use Rattle.std.proofs.lemmas.List.{get_or-set_same, get_or-set_other, get_or_past, get_or_default, get_or-replicate, length-replicate, length-set, length-map}
@@ -9,7 +9,7 @@ use Rattle.mpm_ready.proofs.OrderLaws.{in_list_put_in, in_list_without_slot, wit
 use Rattle.mpm_ready.proofs.TableLaws.{list_at_inserted, list_at_inserted_other, list_at_removed, table_removed, table_inserted, table_none, list_at_none, none_in_none}
 use Rattle.mpm_consoles.specs.Console.{Console, new_console, is_owner, passed_to, with_raw, with_output_stopped, awaited_for, awaiting, without_wait_of, resumed, typed, without_first, spoken, written, IsProper}
 use Rattle.mpm_consoles.specs.Consoles.{Consoles, no_owners, console_at, HasConsole, HasUnit, owner_of, owns, place_of, waiters_of, first_waiter, waits_for, WaitsNowhere, with_console, MayWait, IsSound}
-use Rattle.mpm_consoles.specs.Handling.{given, unlisted, listed, behind_take, behind_raw, behind_wait, behind_output, units_without_waiter}
+use Rattle.mpm_consoles.specs.Handling.{given, unlisted, listed, first_taken, raw_set, gate_wait_begun, put_out, units_without_waiter}
 use Rattle.mpm_consoles.specs.declared.unit.Unit.{Unit}
 use Rattle.mpm_consoles.specs.declared.unit.Unit.TheVariants.{Console as ConsoleUnit, Printer as PrinterUnit}
 use Rattle.mpm_consoles.proofs.ConsoleLaws.{owner_typed, owner_resumed, owner_without_wait, proper_new, proper_passed, proper_raw, proper_stop, proper_wait, proper_without_wait, proper_resumed, proper_typed, proper_taken, proper_written}
@@ -61,20 +61,20 @@ sound_stop t n sound has cooked = sound_kept t n _ sound has refl (proper_stop _
 pub sound_resumed : (t : Consoles) (n : ℕ) → IsSound t → HasConsole t n → IsSound (with_console t n (resumed (console_at t n)))
 sound_resumed t n sound has = sound_kept t n _ sound has (owner_resumed (console_at t n)) (proper_resumed _ (sound.proper n))
 
-pub sound_take : (t : Consoles) (n : ℕ) → IsSound t → HasConsole t n → IsSound (behind_take t n)
-unfolding behind_take without_first
+pub sound_take : (t : Consoles) (n : ℕ) → IsSound t → HasConsole t n → IsSound (first_taken t n)
+unfolding first_taken without_first
 sound_take t n sound has = sound_kept t n _ sound has refl (proper_taken _ (sound.proper n))
 
-pub sound_raw : (t : Consoles) (n : ℕ) (raw : Bool) → IsSound t → HasConsole t n → IsSound (behind_raw t n raw)
-unfolding behind_raw with_raw
+pub sound_raw : (t : Consoles) (n : ℕ) (raw : Bool) → IsSound t → HasConsole t n → IsSound (raw_set t n raw)
+unfolding raw_set with_raw
 sound_raw t n raw sound has = sound_kept t n _ sound has refl (proper_raw raw _ (sound.proper n))
 
-pub sound_wait : (t : Consoles) (p n : ℕ) (key : Bool) → IsSound t → HasConsole t n → owns t p (ConsoleUnit n) ≡ true → IsSound (behind_wait t n key)
-unfolding behind_wait awaiting
+pub sound_wait : (t : Consoles) (p n : ℕ) (key : Bool) → IsSound t → HasConsole t n → owns t p (ConsoleUnit n) ≡ true → IsSound (gate_wait_begun t n key)
+unfolding gate_wait_begun awaiting
 sound_wait t p n key sound has is = sound_kept t n _ sound has refl (proper_wait (awaited_for key) _ p (sound.proper n) is)
 
-pub sound_output : (t : Consoles) (unit : Unit) (byte : ℕ) (tabs : Bool) → IsSound t → HasUnit t unit → IsSound (behind_output t unit byte tabs)
-unfolding behind_output written spoken
+pub sound_output : (t : Consoles) (unit : Unit) (byte : ℕ) (tabs : Bool) → IsSound t → HasUnit t unit → IsSound (put_out t unit byte tabs)
+unfolding put_out written spoken
 sound_output t (ConsoleUnit n) byte tabs sound has = sound_kept t n _ sound has refl (proper_written byte tabs _ (sound.proper n))
 sound_output t (PrinterUnit n) byte tabs sound has = sound
 

@@ -1,15 +1,15 @@
--- Bytes that come to a console one behind another.
+-- Bytes that come to a console one after another.
 use Rattle.std.proofs.Common.{◌≡◌, ◌∙◌, ℕ, true, false, List, [], ◌∷◌, ◌++◌, set, get_or, refl, sym, ap}
 use Rattle.std.proofs.lemmas.List.{get_or-set_same, set-get_or, set-set}
 use Rattle.mpm_consoles.specs.Columns.{columns_after, tab_text}
 use Rattle.mpm_consoles.specs.Console.{Console, new_console, spoken, written}
 use Rattle.mpm_consoles.specs.Consoles.{Consoles, console_at, HasConsole}
-use Rattle.mpm_consoles.specs.Handling.{spoke, behind_output}
+use Rattle.mpm_consoles.specs.Handling.{spoke, put_out}
 use Rattle.mpm_consoles.specs.declared.unit.Unit.TheVariants.{Console as ConsoleUnit}
 use Rattle.mpm_consoles.proofs.ColumnLaws.{columns_nil, columns_append}
 use Rattle.mpm_consoles.proofs.FateLaws.{set_there}
 
--- the column behind some bytes
+-- the column after some bytes
 pub column_spoke : (t : Consoles) (n : ℕ) (bytes : List ℕ) → HasConsole t n → (console_at (spoke t n bytes) n).column ≡ columns_after (console_at t n).column bytes
 unfolding spoke spoken
 column_spoke t n bytes has = ap (λ (c : Console). c.column) (set_there t n (spoken bytes (console_at t n)) has)
@@ -37,10 +37,10 @@ spoke_both t n a b has =
     ∙ ap (set t.consoles n) (ap (spoken b) there ∙ spoken_both (console_at t n) a b))
 
 -- a byte that is written as itself, or with a tab expanded
-pub output_itself : (t : Consoles) (n byte : ℕ) → behind_output t (ConsoleUnit n) byte false ≡ spoke t n (byte ∷ [])
-unfolding behind_output written spoke
+pub output_itself : (t : Consoles) (n byte : ℕ) → put_out t (ConsoleUnit n) byte false ≡ spoke t n (byte ∷ [])
+unfolding put_out written spoke
 output_itself t n byte = refl
 
-pub output_tabbed : (t : Consoles) (n byte : ℕ) → behind_output t (ConsoleUnit n) byte true ≡ spoke t n (tab_text (console_at t n).column byte)
-unfolding behind_output written spoke
+pub output_tabbed : (t : Consoles) (n byte : ℕ) → put_out t (ConsoleUnit n) byte true ≡ spoke t n (tab_text (console_at t n).column byte)
+unfolding put_out written spoke
 output_tabbed t n byte = refl

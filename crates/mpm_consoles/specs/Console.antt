@@ -1,6 +1,7 @@
 -- One console: its owner, the keys that were typed, whether its output is stopped, its column. (MP/M II Programmer's Guide,
 -- "Function 146: Attach Console"; MP/M II User's Guide, control characters of a console.)
 use Rattle.std.specs.Prelude.{◌≡◌, ℕ, ◌+◌, ◌-◌, ◌^◌, ◌≤◌, Bool, true, false, List, [], ◌∷◌, ◌++◌, Option, Some, None, ◌==◌, nat_lt, min, length, drop, slice_get, if◌then◌else◌}
+use Rattle.mpm_consoles.specs.declared.console.TheConstants.{KEYS}
 use Rattle.mpm_consoles.specs.declared.console.Awaited.{Awaited}
 use Rattle.mpm_consoles.specs.declared.console.Awaited.TheVariants.{Key, Output}
 use Rattle.mpm_consoles.specs.Columns.{columns_after, text_of}
@@ -55,8 +56,8 @@ is_for (Some Output) Output = true
 unfoldable pub woken : Awaited → Console → Option ℕ
 woken what console = if is_for console.awaits what then console.owner else None
 
-unfoldable pub behind_wake : Awaited → Console → Console
-behind_wake what console = if is_for console.awaits what then record console { awaits = None } else console
+unfoldable pub awakened : Awaited → Console → Console
+awakened what console = if is_for console.awaits what then record console { awaits = None } else console
 
 -- its owner, if that is the process, waits at its gate no more
 unfoldable pub without_wait_of : ℕ → Console → Console
@@ -64,11 +65,11 @@ without_wait_of p console = if is_owner console.owner p then record console { aw
 
 -- its output goes on
 unfoldable pub resumed : Console → Console
-resumed console = behind_wake Output (record console { stopped = false })
+resumed console = awakened Output (record console { stopped = false })
 
--- it has room for 64 keys; one for which there is no room is counted, as far as the count goes
+-- it has room for so many keys; one for which there is no room is counted, as far as the count goes
 abbrev pub has_room : Console → Bool
-has_room console = nat_lt (length console.keys) 64
+has_room console = nat_lt (length console.keys) KEYS
 
 unfoldable pub with_key : ℕ → Console → Console
 with_key byte console =
@@ -77,7 +78,7 @@ with_key byte console =
 
 -- a key is typed
 unfoldable pub typed : ℕ → Console → Console
-typed byte console = behind_wake Key (with_key byte console)
+typed byte console = awakened Key (with_key byte console)
 
 -- the oldest key, and the console without it
 abbrev pub first_key : Console → Option ℕ
@@ -94,10 +95,10 @@ spoken bytes console = record console { column = columns_after console.column by
 unfoldable pub written : ℕ → Bool → Console → Console
 written byte tabs console = spoken (text_of console.column byte tabs) console
 
--- what is so of a console at any time: at most 64 keys are there, a raw console isn't stopped, and who waits at its gate is
+-- what is so of a console at any time: at most so many keys are there, a raw console isn't stopped, and who waits at its gate is
 -- its owner
 pub record IsProper (console : Console) : Type 0 where
-  pub keys : length console.keys ≤ 64
+  pub keys : length console.keys ≤ KEYS
   pub lost : console.lost ≤ 2 ^ 64 - 1
   pub column : console.column ≤ 65535
   pub raw : console.raw ≡ true → console.stopped ≡ false

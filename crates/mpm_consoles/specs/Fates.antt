@@ -3,20 +3,21 @@
 use Rattle.std.specs.Prelude.{◌≡◌, ℕ, ◌+◌, ◌-◌, ◌^◌, ◌<◌, [], ◌∷◌, ◌++◌, Option, Some, None, ◌⊎◌, length, min}
 use Rattle.mpm_consoles.specs.Console.{Console}
 use Rattle.mpm_consoles.specs.Keys.{control_of}
+use Rattle.mpm_consoles.specs.declared.console.TheConstants.{KEYS}
 use Rattle.mpm_consoles.specs.declared.keys.Control.{Control}
 
--- a console before a key and behind it
+-- a console before a key and after it
 pub record Stays (before now : Console) : Type 0 where
   pub keys : now.keys ≡ before.keys
   pub lost : now.lost ≡ before.lost
 
 pub record Stores (before now : Console) (byte : ℕ) : Type 0 where
-  pub room : length before.keys < 64
+  pub room : length before.keys < KEYS
   pub keys : now.keys ≡ before.keys ++ byte ∷ []
   pub lost : now.lost ≡ before.lost
 
 pub record Loses (before now : Console) : Type 0 where
-  pub full : length before.keys ≡ 64
+  pub full : length before.keys ≡ KEYS
   pub keys : now.keys ≡ before.keys
   pub lost : now.lost ≡ min (before.lost + 1) (2 ^ 64 - 1)
 

@@ -40,8 +40,8 @@ abbrev pub attach_from : Option ℕ → Consoles → ℕ → ℕ → Unit → Bo
 attach_from None t p priority unit wait = given t unit (Some p)
 attach_from (Some owner) t p priority unit wait = if owner == p || not wait then t else listed t p priority unit
 
-unfoldable pub behind_attach : Consoles → ℕ → ℕ → Unit → Bool → Consoles
-behind_attach t p priority unit wait = attach_from (owner_of t unit) t p priority unit wait
+unfoldable pub unit_attached : Consoles → ℕ → ℕ → Unit → Bool → Consoles
+unit_attached t p priority unit wait = attach_from (owner_of t unit) t p priority unit wait
 
 -- a unit passes to the process that waits for it first, who waits no more, or to nobody
 abbrev pub pass_to : Option ℕ → Consoles → Unit → Consoles
@@ -52,8 +52,8 @@ unfoldable pub passed : Consoles → Unit → Consoles
 passed t unit = pass_to (first_waiter t unit) t unit
 
 -- a process detaches a unit
-unfoldable pub behind_detach : Consoles → ℕ → Unit → Consoles
-behind_detach t p unit = if owns t p unit then passed t unit else t
+unfoldable pub unit_detached : Consoles → ℕ → Unit → Consoles
+unit_detached t p unit = if owns t p unit then passed t unit else t
 
 unfoldable pub heir_of : Consoles → ℕ → Unit → Option ℕ
 heir_of t p unit = if owns t p unit then first_waiter t unit else None
@@ -62,8 +62,8 @@ heir_of t p unit = if owns t p unit then first_waiter t unit else None
 abbrev pub called_off : Consoles → ℕ → Unit → Consoles
 called_off t p unit = if waits_for t p unit then unlisted t p else t
 
-unfoldable pub behind_assign : Consoles → ℕ → ℕ → Consoles
-behind_assign t n to =
+unfoldable pub console_assigned : Consoles → ℕ → ℕ → Consoles
+console_assigned t n to =
     if owns t to (ConsoleUnit n) then t else given (called_off t to (ConsoleUnit n)) (ConsoleUnit n) (Some to)
 
 -- the process on which ^C and ^D act: the owner, unless it is a resident
@@ -76,9 +76,9 @@ abort_answer None = Nothing
 abort_answer (Some p) = Aborts p
 
 -- ^D
-abbrev pub behind_pass : Option ℕ → Consoles → ℕ → Consoles
-behind_pass None t n = t
-behind_pass (Some p) t n = passed t (ConsoleUnit n)
+abbrev pub passed_by_key : Option ℕ → Consoles → ℕ → Consoles
+passed_by_key None t n = t
+passed_by_key (Some p) t n = passed t (ConsoleUnit n)
 
 abbrev pub pass_answer : Option ℕ → Consoles → ℕ → KeyDone
 pass_answer None t n = Nothing
@@ -99,7 +99,7 @@ key_by None t n byte resident = with_console t n (typed byte (console_at t n))
 key_by (Some Stop) t n byte resident = with_console t n (with_output_stopped (console_at t n))
 key_by (Some Resume) t n byte resident = with_console t n (resumed (console_at t n))
 key_by (Some Abort) t n byte resident = t
-key_by (Some Detach) t n byte resident = behind_pass (subject resident (console_at t n).owner) t n
+key_by (Some Detach) t n byte resident = passed_by_key (subject resident (console_at t n).owner) t n
 
 abbrev pub answer_by : Option Control → Consoles → ℕ → Bool → KeyDone
 answer_by None t n resident = typed_answer (console_at t n)
@@ -109,32 +109,32 @@ answer_by (Some Abort) t n resident = abort_answer (subject resident (console_at
 answer_by (Some Detach) t n resident = pass_answer (subject resident (console_at t n).owner) t n
 
 -- a key comes to a console, whose owner is a resident or not
-unfoldable pub behind_key : Consoles → ℕ → ℕ → Bool → Consoles
-behind_key t n byte resident = key_by (control_of (console_at t n).raw byte) t n byte resident
+unfoldable pub keyed : Consoles → ℕ → ℕ → Bool → Consoles
+keyed t n byte resident = key_by (control_of (console_at t n).raw byte) t n byte resident
 
 unfoldable pub key_answer : Consoles → ℕ → ℕ → Bool → KeyDone
 key_answer t n byte resident = answer_by (control_of (console_at t n).raw byte) t n resident
 
 -- the oldest key is taken
-unfoldable pub behind_take : Consoles → ℕ → Consoles
-behind_take t n = with_console t n (without_first (console_at t n))
+unfoldable pub first_taken : Consoles → ℕ → Consoles
+first_taken t n = with_console t n (without_first (console_at t n))
 
 -- a console is made raw, or not
-unfoldable pub behind_raw : Consoles → ℕ → Bool → Consoles
-behind_raw t n raw = with_console t n (with_raw raw (console_at t n))
+unfoldable pub raw_set : Consoles → ℕ → Bool → Consoles
+raw_set t n raw = with_console t n (with_raw raw (console_at t n))
 
 -- the owner of a console waits at its gate, for a key or for output to go on
-unfoldable pub behind_wait : Consoles → ℕ → Bool → Consoles
-behind_wait t n key = with_console t n (awaiting (awaited_for key) (console_at t n))
+unfoldable pub gate_wait_begun : Consoles → ℕ → Bool → Consoles
+gate_wait_begun t n key = with_console t n (awaiting (awaited_for key) (console_at t n))
 
 -- bytes come to a console as they are
 unfoldable pub spoke : Consoles → ℕ → List ℕ → Consoles
 spoke t n bytes = with_console t n (spoken bytes (console_at t n))
 
 -- a byte is written to a unit; a printer has no tabs
-unfoldable pub behind_output : Consoles → Unit → ℕ → Bool → Consoles
-behind_output t (ConsoleUnit n) byte tabs = with_console t n (written byte tabs (console_at t n))
-behind_output t (PrinterUnit n) byte tabs = t
+unfoldable pub put_out : Consoles → Unit → ℕ → Bool → Consoles
+put_out t (ConsoleUnit n) byte tabs = with_console t n (written byte tabs (console_at t n))
+put_out t (PrinterUnit n) byte tabs = t
 
 unfoldable pub output_spaces : Consoles → Unit → ℕ → Bool → ℕ
 output_spaces t (ConsoleUnit n) byte tabs = spaces_for (console_at t n).column byte tabs

@@ -4,7 +4,7 @@ use Rattle.std.specs.Prelude.{◌≡◌, ℕ, ◌+◌, ◌-◌, ◌^◌, Bool, t
 use Rattle.mpm_consoles.specs.Console.{Console, has_room, first_key}
 use Rattle.mpm_consoles.specs.Consoles.{Consoles, console_at}
 use Rattle.mpm_consoles.specs.Keys.{control_of}
-use Rattle.mpm_consoles.specs.Handling.{behind_attach, behind_detach, behind_assign, behind_key, behind_take, behind_raw, behind_wait, behind_output, units_without_waiter}
+use Rattle.mpm_consoles.specs.Handling.{unit_attached, unit_detached, console_assigned, keyed, first_taken, raw_set, gate_wait_begun, put_out, units_without_waiter}
 use Rattle.mpm_consoles.specs.declared.keys.Control.{Control}
 use Rattle.mpm_consoles.specs.declared.unit.Unit.{Unit}
 
@@ -39,19 +39,19 @@ pub data Operation : Type 0 where
   Takes : ℕ → Operation
   Makes : Change → Operation
 
-abbrev pub behind_change : Consoles → Change → Consoles
-behind_change t (Attaches p priority unit wait) = behind_attach t p priority unit wait
-behind_change t (Detaches p unit) = behind_detach t p unit
-behind_change t (Assigns n to) = behind_assign t n to
-behind_change t (MakesRaw n raw) = behind_raw t n raw
-behind_change t (Waits n key) = behind_wait t n key
-behind_change t (Writes unit byte tabs) = behind_output t unit byte tabs
-behind_change t (Leaves p) = units_without_waiter t p
+abbrev pub change_made : Consoles → Change → Consoles
+change_made t (Attaches p priority unit wait) = unit_attached t p priority unit wait
+change_made t (Detaches p unit) = unit_detached t p unit
+change_made t (Assigns n to) = console_assigned t n to
+change_made t (MakesRaw n raw) = raw_set t n raw
+change_made t (Waits n key) = gate_wait_begun t n key
+change_made t (Writes unit byte tabs) = put_out t unit byte tabs
+change_made t (Leaves p) = units_without_waiter t p
 
-abbrev pub behind_operation : Consoles → Operation → Consoles
-behind_operation t (Types n byte resident) = behind_key t n byte resident
-behind_operation t (Takes n) = behind_take t n
-behind_operation t (Makes change) = behind_change t change
+abbrev pub operation_made : Consoles → Operation → Consoles
+operation_made t (Types n byte resident) = keyed t n byte resident
+operation_made t (Takes n) = first_taken t n
+operation_made t (Makes change) = change_made t change
 
 -- what a call does to the keys of one console: those that it takes out, those that it stores, how many it loses
 pub record Passage : Type 0 where
@@ -84,13 +84,13 @@ pub record Conserves (before now : Console) (by : Passage) : Type 0 where
   pub lost : now.lost ≡ min (before.lost + by.misses) (2 ^ 64 - 1)
 
 -- the same for calls in order
-unfoldable pub behind_all : Consoles → List Operation → Consoles
-behind_all t [] = t
-behind_all t (operation ∷ operations) = behind_all (behind_operation t operation) operations
+unfoldable pub operations_made : Consoles → List Operation → Consoles
+operations_made t [] = t
+operations_made t (operation ∷ operations) = operations_made (operation_made t operation) operations
 
 unfoldable pub passages : Consoles → ℕ → List Operation → Passage
 passages t n [] = no_passage
 passages t n (operation ∷ operations) =
     let first = passage t n operation in
-    let rest = passages (behind_operation t operation) n operations in
+    let rest = passages (operation_made t operation) n operations in
     record { out = first.out ++ rest.out; into = first.into ++ rest.into; misses = first.misses + rest.misses }

@@ -1,5 +1,5 @@
 ghost use Rattle.std.specs.Prelude.{◌≡◌, length, nat_lt, is_some, IfOk};
-ghost use Rattle.mpm_consoles.specs.Console.{new_console, is_owner, passed_to, with_raw, with_output_stopped, awaited_for, awaiting, is_for as is_one_for, woken, behind_wake, without_wait_of, resumed, has_room, with_key, typed, first_key, without_first, written};
+ghost use Rattle.mpm_consoles.specs.Console.{new_console, is_owner, passed_to, with_raw, with_output_stopped, awaited_for, awaiting, is_for as is_one_for, woken, awakened, without_wait_of, resumed, has_room, with_key, typed, first_key, without_first, written};
 ghost use Rattle.mpm_consoles.specs.declared.console.Awaited.TheVariants.{Output};
 ghost use Rattle.mpm_consoles.specs.Handling.{typed_answer, wake_answer};
 ghost use Rattle.mpm_consoles.specs.Columns.{spaces_for};
@@ -8,7 +8,7 @@ use crate::OutOfMemory;
 use crate::columns::column_after;
 use crate::keys::KeyDone;
 use circular_buffer::HeapCircularBuffer;
-use mpm_base::Pid;
+use mpm_base::{Pid, tab_width};
 use std::alloc::Global;
 use std::marker::Model;
 
@@ -39,12 +39,13 @@ pub struct Console {
 impl Model for Console {
     ghost use Rattle.std.specs.Prelude.{◌≡◌};
     ghost use Rattle.mpm_consoles.specs.Console.{Console};
+    ghost use Rattle.mpm_consoles.specs.declared.console.TheConstants.{KEYS};
 
     ghost Value = { Console };
 
     ghost view = { λ c. record { owner = c.owner; keys = c.keys.items; lost = c.lost; raw = c.raw; stopped = c.stopped; column = c.column; awaits = c.awaits } };
 
-    ghost invariant = { λ c. c.keys.capacity ≡ 64 };
+    ghost invariant = { λ c. c.keys.capacity ≡ KEYS };
 }
 
 impl Console {
@@ -137,7 +138,7 @@ impl Console {
     }
 
     /// Its output goes on. Answers the owner that waited for that.
-    #[tactic(auto, unfolding(crate::specs::Console::resumed, crate::specs::Console::woken, crate::specs::Console::behind_wake))]
+    #[tactic(auto, unfolding(crate::specs::Console::resumed, crate::specs::Console::woken, crate::specs::Console::awakened))]
     pub fn resume(&mut self) -> Option<Pid>
         ensures console { self.new ≡ resumed self.old }
         ensures woken { result ≡ woken Output self.old }
@@ -155,9 +156,9 @@ impl Console {
     }
 
     /// Where its owner waits at its gate for something, it does no more. Answers the owner then.
-    #[tactic(auto, unfolding(crate::specs::Console::woken, crate::specs::Console::behind_wake))]
+    #[tactic(auto, unfolding(crate::specs::Console::woken, crate::specs::Console::awakened))]
     fn wake(&mut self, what: Awaited) -> Option<Pid>
-        ensures console { self.new ≡ behind_wake what self.old }
+        ensures console { self.new ≡ awakened what self.old }
         ensures woken { result ≡ woken what self.old }
     {
         if is_for(self.awaits, what) {
@@ -245,7 +246,7 @@ impl Console {
         ensures spaces { result ≡ spaces_for self.old.column byte tabs }
     {
         if tabs && byte == b'\t' {
-            let spaces = (8 - self.column % 8) as u8;
+            let spaces = tab_width(self.column);
             self.column = self.column.saturating_add(u16::from(spaces));
             spaces
         } else {

@@ -35,7 +35,7 @@ impl Consoles {
     ghost use Rattle.mpm_ready.specs.Tables.{list_of};
     ghost use Rattle.mpm_consoles.specs.Console.{first_key, typed, with_output_stopped, resumed, woken};
     ghost use Rattle.mpm_consoles.specs.Consoles.{no_owners, console_at, with_console, HasConsole, HasUnit, has_unit, owner_of, owns, waits_for, waiters_of, first_waiter, WaitsNowhere, MayWait, IsSound};
-    ghost use Rattle.mpm_consoles.specs.Handling.{given, unlisted, listed, called_off, may_attach, behind_attach, passed, behind_detach, heir_of, behind_assign, behind_key, key_answer, behind_take, behind_raw, behind_wait, behind_output, output_spaces, units_without_waiter, typed_answer, wake_answer, abort_answer, pass_answer, behind_pass, subject as subject_of};
+    ghost use Rattle.mpm_consoles.specs.Handling.{given, unlisted, listed, called_off, may_attach, unit_attached, passed, unit_detached, heir_of, console_assigned, keyed, key_answer, first_taken, raw_set, gate_wait_begun, put_out, output_spaces, units_without_waiter, typed_answer, wake_answer, abort_answer, pass_answer, passed_by_key, subject as subject_of};
     ghost use Rattle.mpm_consoles.specs.declared.keys.KeyDone.TheVariants.{Nothing};
     ghost use Rattle.mpm_consoles.specs.declared.console.Awaited.TheVariants.{Output};
     ghost use Rattle.mpm_consoles.specs.Fates.{FateOf};
@@ -91,12 +91,12 @@ impl Consoles {
     /// behind all of equal or better priority (0 is best, 255 worst), and nothing changes where it isn't. (MP/M II Programmer's
     /// Guide, "Function 146: Attach Console", "Function 158: Attach List", "Function 162: Conditional Attach Console",
     /// "Function 161: Conditional Attach List".)
-    #[tactic(auto, using(crate::proofs::SoundLaws::for_free), unfolding(crate::specs::Handling::behind_attach, crate::specs::Handling::may_attach))]
+    #[tactic(auto, using(crate::proofs::SoundLaws::for_free), unfolding(crate::specs::Handling::unit_attached, crate::specs::Handling::may_attach))]
     pub fn attach(&mut self, p: Pid, priority: u8, unit: Unit, wait: bool) -> bool
         requires unit { HasUnit self.old unit }
         requires nowhere { OnTrue wait (WaitsNowhere self.old p) }
         ensures answer { result ≡ may_attach self.old p unit }
-        ensures consoles { self.new ≡ behind_attach self.old p priority unit wait }
+        ensures consoles { self.new ≡ unit_attached self.old p priority unit wait }
     {
         match self.owner(unit) {
             None => {
@@ -116,11 +116,11 @@ impl Consoles {
     /// A process detaches a unit: where it owns it, the unit passes to the process that waits for it first, which waits no
     /// more. Answers that one; None also where the process doesn't own the unit, and then nothing changes. (MP/M II Programmer's
     /// Guide, "Function 147: Detach Console", "Function 159: Detach List".)
-    #[tactic(auto, unfolding(crate::specs::Handling::behind_detach, crate::specs::Handling::heir_of))]
+    #[tactic(auto, unfolding(crate::specs::Handling::unit_detached, crate::specs::Handling::heir_of))]
     pub fn detach(&mut self, p: Pid, unit: Unit) -> Option<Pid>
         requires { HasUnit self.old unit }
         ensures heir { result ≡ heir_of self.old p unit }
-        ensures consoles { self.new ≡ behind_detach self.old p unit }
+        ensures consoles { self.new ≡ unit_detached self.old p unit }
     {
         if self.is_owner(p, unit) {
             self.pass(unit)
@@ -131,11 +131,11 @@ impl Consoles {
 
     /// A console is assigned to a process, which becomes its owner; true exactly where it waited for that console, which it does
     /// no more. (MP/M II Programmer's Guide, "Function 149: Assign Console".)
-    #[tactic(auto, using(crate::proofs::SoundLaws::for_absent), unfolding(crate::specs::Handling::behind_assign))]
+    #[tactic(auto, using(crate::proofs::SoundLaws::for_absent), unfolding(crate::specs::Handling::console_assigned))]
     pub fn assign(&mut self, console: u8, to: Pid) -> bool
         requires { HasConsole self.old console }
         ensures waited { result ≡ waits_for self.old to (ConsoleUnit console) }
-        ensures consoles { self.new ≡ behind_assign self.old console to }
+        ensures consoles { self.new ≡ console_assigned self.old console to }
     {
         let unit = Unit::Console { n: console };
         let waited = self.waits_for(to, unit);
@@ -153,7 +153,7 @@ impl Consoles {
     #[tactic(auto, using(crate::proofs::FateLaws::fate_key))]
     pub fn key(&mut self, console: u8, byte: u8, resident: bool) -> KeyDone
         requires { HasConsole self.old console }
-        ensures consoles { self.new ≡ behind_key self.old console byte resident }
+        ensures consoles { self.new ≡ keyed self.old console byte resident }
         ensures answer { result ≡ key_answer self.old console byte resident }
         ensures fate { FateOf (console_at self.old console) (console_at self.new console) byte }
     {
@@ -161,10 +161,10 @@ impl Consoles {
     }
 
     /// A key comes to a console, as a control character or as a key like others.
-    #[tactic(auto, using(crate::proofs::FateLaws::cooked), unfolding(crate::specs::Handling::behind_key, crate::specs::Handling::key_answer))]
+    #[tactic(auto, using(crate::proofs::FateLaws::cooked), unfolding(crate::specs::Handling::keyed, crate::specs::Handling::key_answer))]
     fn act_on(&mut self, console: u8, byte: u8, resident: bool) -> KeyDone
         requires { HasConsole self.old console }
-        ensures consoles { self.new ≡ behind_key self.old console byte resident }
+        ensures consoles { self.new ≡ keyed self.old console byte resident }
         ensures answer { result ≡ key_answer self.old console byte resident }
         ensures sound { IsSound self.old }
     {
@@ -182,18 +182,18 @@ impl Consoles {
     pub fn take(&mut self, console: u8) -> Option<u8>
         requires { HasConsole self.old console }
         ensures key { result ≡ first_key (console_at self.old console) }
-        ensures consoles { self.new ≡ behind_take self.old console }
+        ensures consoles { self.new ≡ first_taken self.old console }
         ensures order { as_list result ++ (console_at self.new console).keys ≡ (console_at self.old console).keys }
     {
         self.take_first(console)
     }
 
     /// Takes the oldest key of a console.
-    #[tactic(auto, using(crate::proofs::SoundLaws::sound_take), unfolding(crate::specs::Handling::behind_take))]
+    #[tactic(auto, using(crate::proofs::SoundLaws::sound_take), unfolding(crate::specs::Handling::first_taken))]
     fn take_first(&mut self, console: u8) -> Option<u8>
         requires { HasConsole self.old console }
         ensures key { result ≡ first_key (console_at self.old console) }
-        ensures consoles { self.new ≡ behind_take self.old console }
+        ensures consoles { self.new ≡ first_taken self.old console }
     {
         self.consoles[usize::from(console)].take()
     }
@@ -220,10 +220,10 @@ impl Consoles {
 
     /// Makes a console raw, so that control characters are keys like others, or not. A console that is made raw isn't stopped
     /// any more. (MP/M II Programmer's Guide, "Function 6: Direct Console I/O".)
-    #[tactic(auto, using(crate::proofs::SoundLaws::sound_raw), unfolding(crate::specs::Handling::behind_raw))]
+    #[tactic(auto, using(crate::proofs::SoundLaws::sound_raw), unfolding(crate::specs::Handling::raw_set))]
     pub fn set_raw(&mut self, console: u8, raw: bool)
         requires { HasConsole self.old console }
-        ensures { self.new ≡ behind_raw self.old console raw }
+        ensures { self.new ≡ raw_set self.old console raw }
     {
         self.consoles[usize::from(console)].set_raw(raw);
     }
@@ -262,11 +262,11 @@ impl Consoles {
     }
 
     /// The owner of a console waits at its gate from now on: for a key where `key` is true, else for ^Q.
-    #[tactic(auto, using(crate::proofs::SoundLaws::sound_wait), unfolding(crate::specs::Handling::behind_wait))]
+    #[tactic(auto, using(crate::proofs::SoundLaws::sound_wait), unfolding(crate::specs::Handling::gate_wait_begun))]
     pub fn wait(&mut self, p: Pid, console: u8, key: bool)
         requires console { HasConsole self.old console }
         requires owner { owns self.old p (ConsoleUnit console) ≡ true }
-        ensures { self.new ≡ behind_wait self.old console key }
+        ensures { self.new ≡ gate_wait_begun self.old console key }
     {
         let _slot = p.0;
         self.consoles[usize::from(console)].wait(key);
@@ -278,7 +278,7 @@ impl Consoles {
     #[tactic(auto, using(crate::proofs::ColumnLaws::output_most))]
     pub fn output(&mut self, unit: Unit, byte: u8, tabs: bool) -> u8
         requires { HasUnit self.old unit }
-        ensures consoles { self.new ≡ behind_output self.old unit byte tabs }
+        ensures consoles { self.new ≡ put_out self.old unit byte tabs }
         ensures spaces { result ≡ output_spaces self.old unit byte tabs }
         ensures most { result ≤ 8 }
     {
@@ -286,10 +286,10 @@ impl Consoles {
     }
 
     /// A byte is written to a unit.
-    #[tactic(auto, using(crate::proofs::SoundLaws::sound_output), unfolding(crate::specs::Handling::behind_output, crate::specs::Handling::output_spaces))]
+    #[tactic(auto, using(crate::proofs::SoundLaws::sound_output), unfolding(crate::specs::Handling::put_out, crate::specs::Handling::output_spaces))]
     fn write(&mut self, unit: Unit, byte: u8, tabs: bool) -> u8
         requires { HasUnit self.old unit }
-        ensures consoles { self.new ≡ behind_output self.old unit byte tabs }
+        ensures consoles { self.new ≡ put_out self.old unit byte tabs }
         ensures spaces { result ≡ output_spaces self.old unit byte tabs }
     {
         match unit {
@@ -485,7 +485,7 @@ impl Consoles {
     /// ^D passes a console on.
     fn pass_on(&mut self, console: u8, resident: bool) -> KeyDone
         requires { HasConsole self.old console }
-        ensures consoles { self.new ≡ behind_pass (subject_of resident (console_at self.old console).owner) self.old console }
+        ensures consoles { self.new ≡ passed_by_key (subject_of resident (console_at self.old console).owner) self.old console }
         ensures answer { result ≡ pass_answer (subject_of resident (console_at self.old console).owner) self.old console }
     {
         let Some(from) = self.subject(console, resident) else {

@@ -10,7 +10,7 @@ mod unit;
 
 pub use consoles::Consoles;
 pub use keys::KeyDone;
-pub use modes::{echoes, is_cooked, is_raw, writes};
+pub use modes::{AWAIT_KEY, POLL_KEY, TELL_STATUS, echoes, is_cooked, is_raw, writes};
 pub use std::alloc::AllocError as OutOfMemory;
 pub use unit::Unit;
 

@@ -2,3 +2,4 @@ pub mod Numbers
 pub mod Sorts
 pub mod Back
 pub mod Examples
+pub mod Lengths

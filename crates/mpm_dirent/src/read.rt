@@ -1,6 +1,6 @@
 ghost use Rattle.std.specs.Prelude.{◌≡◌, ◌+◌, ◌≤◌, ℕ, slice_index};
 ghost use Rattle.mpm_dirent.specs.Entries.{part, file_of, xfcb_of, label_of, entry_of};
-ghost use Rattle.mpm_dirent.specs.Proper.{IsProper, MapFits};
+ghost use Rattle.mpm_dirent.specs.Proper.{IsProper, MapFits, HasSizes};
 
 use crate::kinds::{Entry, FileEntry, LabelEntry, XfcbEntry};
 use crate::maps::read_map;
@@ -10,6 +10,7 @@ use crate::maps::read_map;
 pub fn read_entry(bytes: &[u8; 32], wide: bool) -> Entry
     ensures entry { result ≡ entry_of bytes.now wide }
     ensures proper { IsProper wide result }
+    ensures sizes { HasSizes result }
 {
     match bytes[0] {
         0..=15 => Entry::File {

@@ -51,10 +51,10 @@ pub all_ready_none : (d : Dispatcher) → all_ready [] d ≡ d
 unfolding ready_in
 all_ready_none d = refl
 
-pub all_ready_more : (ps : List ℕ) (p : ℕ) (d : Dispatcher) → all_ready (ps ++ p ∷ []) d ≡ moved (all_ready ps d) ready p
+pub all_ready_more : (ps : List ℕ) (p : ℕ) (d : Dispatcher) → all_ready (ps ++ p ∷ []) d ≡ moved ready p (all_ready ps d)
 unfolding ready_in
 all_ready_more [] p d = refl
-all_ready_more (q ∷ ps) p d = all_ready_more ps p (moved d ready q)
+all_ready_more (q ∷ ps) p d = all_ready_more ps p (moved ready q d)
 
 -- each of those who become ready lives
 pub live_at : (procs : Table) (ps : List ℕ) (i d : ℕ) → AllByRecursion (λ p. Lives procs p) ps → i < length ps → Lives procs (get_or ps i d)
@@ -69,7 +69,7 @@ only_runner procs running p is lives q other = let same : p ≡ q = cc in subst 
 pub no_runner : (procs : Table) (running : Option ℕ) → running ≡ None → (q : ℕ) → running ≡ Some q → Lives procs q
 no_runner procs running none q is = absurd (cc)
 
--- who runs and is the first of the ready list, runs on behind a step; and nobody does where nobody runs and none is ready
+-- who runs and is the first of the ready list, runs on after a step; and nobody does where nobody runs and none is ready
 pub same_runner : (instruction : Bool) (procs : Table) (lists : List (List Member)) (running : Option ℕ) → first_of (list_at lists ready) ≡ running
     → runner instruction procs lists running ≡ running
 unfolding runner

@@ -30,7 +30,7 @@ left_polls ms rest m p is own once =
     let there : IsOnce (m ∷ rest) = subst P is once in
     ap (without_slot p) is ∙ subst Q own (without_slot_head m rest ∙ without_slot_absent rest m.slot (once_apart m rest there))
 
-list_behind : (d : Dispatcher) (list p : ℕ) → 0 < list → list_at (moved d ready p).lists list ≡ without_slot p (list_at d.lists list)
+list_behind : (d : Dispatcher) (list p : ℕ) → 0 < list → list_at (moved ready p d).lists list ≡ without_slot p (list_at d.lists list)
 list_behind d list p other =
     list_at_inserted_other (removed d.lists p) ready list (record { slot = p; priority = (process_in d.procs p).priority }) (omega (arith, other))
     ∙ list_at_removed d.lists p list
@@ -42,9 +42,9 @@ AllLive d list = (p : ℕ) → list_of d.lists p ≡ Some list → Lives d.procs
 -- the first of a list other than the ready list becomes ready
 pub record Walks (list p : ℕ) (d : Dispatcher) : Type 0 where
   pub lives : Lives d.procs p
-  pub table : IsTable (moved d ready p).lists
-  pub live : AllLive (moved d ready p) list
-  pub rest : slots_in d.lists list ≡ p ∷ slots_in (moved d ready p).lists list
+  pub table : IsTable (moved ready p d).lists
+  pub live : AllLive (moved ready p d) list
+  pub rest : slots_in d.lists list ≡ p ∷ slots_in (moved ready p d).lists list
 
 slot_below : (ms : List Member) (p : ℕ) → AllByRecursion (λ m. m.slot < 32) ms → first_of ms ≡ Some p → p < 32
 unfolding first_of
@@ -52,7 +52,7 @@ slot_below [] p small e = absurd (cc)
 slot_below (m ∷ ms) p small e = omega (arith, small.0, some_same m.slot p e)
 
 still_live : (d : Dispatcher) (list p q : ℕ) → IsTable d.lists → AllLive d list → 0 < list → p < 32 → Lives d.procs p
-    → list_of (moved d ready p).lists q ≡ Some list → Lives d.procs q
+    → list_of (moved ready p d).lists q ≡ Some list → Lives d.procs q
 still_live d list p q table live other below is there = elim (cases_eq q p) [
   | inl same ↦ ap (lives d.procs) same ∙ is
   | inr apart ↦ live q (sym (list_moved_other d.lists ready p (process_in d.procs p).priority q table (omega arith) below apart) ∙ there)
@@ -69,7 +69,7 @@ walks list p d table live other e =
     let below = slot_below ms p (table.slots list) e in
     let is_alive = live p (list_of_known d.lists p list table (first_is_in ms p e)) in
     let slots : List Member → List ℕ = map (λ x. x.slot) in
-    let left : list_at (moved d ready p).lists list ≡ rest =
+    let left : list_at (moved ready p d).lists list ≡ rest =
     list_behind d list p other ∙ left_polls ms rest m p is own (table.once list) in
     record {
       lives = is_alive;

@@ -29,25 +29,29 @@ is_ready (Some list) = list == ready
 abbrev pub begun_in : List (List Member) → ℕ → NewProcess → List (List Member)
 begun_in lists p new = inserted lists ready (record { slot = p; priority = new.priority })
 
+-- the dispatcher with other processes
+abbrev pub with_procs : Table → Dispatcher → Dispatcher
+with_procs procs d = record d { procs = procs }
+
 -- a process begins in a slot, and is ready
-abbrev pub admitted : Dispatcher → ℕ → NewProcess → Dispatcher
-admitted d p new = record d { procs = added d.procs p new; lists = begun_in d.lists p new }
+abbrev pub admitted : ℕ → NewProcess → Dispatcher → Dispatcher
+admitted p new d = record d { procs = added d.procs p new; lists = begun_in d.lists p new }
 
 -- a process begins in that slot, if there is one
-abbrev pub in_slot : Dispatcher → NewProcess → Option ℕ → Dispatcher
-in_slot d new None = d
-in_slot d new (Some p) = admitted d p new
+abbrev pub in_slot : NewProcess → Option ℕ → Dispatcher → Dispatcher
+in_slot new None d = d
+in_slot new (Some p) d = admitted p new d
 
 -- interrupts are off, or an EI has not taken effect yet
 abbrev pub is_held_off : Regs → Bool
 is_held_off regs = not regs.iff1 || regs.shadow
 
--- the running process keeps the processor behind its instruction: it is ready, and no interrupt may come
+-- the running process keeps the processor after its instruction: it is ready, and no interrupt may come
 abbrev pub stays : Table → List (List Member) → Option ℕ → Bool
 stays procs lists None = false
 stays procs lists (Some p) = is_ready (list_of lists p) && is_held_off (process_in procs p).regs
 
--- who runs behind a step, which was an instruction or not
+-- who runs after a step, which was an instruction or not
 unfoldable pub runner : Bool → Table → List (List Member) → Option ℕ → Option ℕ
 runner instruction procs lists running =
     if instruction && stays procs lists running then running else first_of (list_at lists ready)
@@ -59,13 +63,13 @@ picked instruction d = record d { running = runner instruction d.procs d.lists d
 abbrev pub rotated_in : Table → List (List Member) → ℕ → List (List Member)
 rotated_in procs lists p = rotated lists p (process_in procs p).priority
 
-abbrev pub behind_equals : Dispatcher → ℕ → Dispatcher
-behind_equals d p = record d { lists = rotated_in d.procs d.lists p }
+abbrev pub behind_equals : ℕ → Dispatcher → Dispatcher
+behind_equals p d = record d { lists = rotated_in d.procs d.lists p }
 
 -- a process gets another priority, and is put behind its new equals
-abbrev pub with_priority : Dispatcher → ℕ → ℕ → Dispatcher
-with_priority d p priority =
-    behind_equals (record d { procs = with_process d.procs p (record (process_in d.procs p) { priority = priority }) }) p
+abbrev pub with_priority : ℕ → ℕ → Dispatcher → Dispatcher
+with_priority p priority d =
+    behind_equals p (with_procs (with_process d.procs p (record (process_in d.procs p) { priority = priority })) d)
 
 -- the process that runs, if it is ready, is put behind its equals
 unfoldable pub lists_behind : Option ℕ → Table → List (List Member) → List (List Member)
@@ -81,24 +85,24 @@ runs_still p None = None
 runs_still p (Some other) = if other == p then None else Some other
 
 -- a process that doesn't run any more
-abbrev pub at_rest : Dispatcher → ℕ → Dispatcher
-at_rest d p = record d { running = runs_still p d.running }
+abbrev pub at_rest : ℕ → Dispatcher → Dispatcher
+at_rest p d = record d { running = runs_still p d.running }
 
 -- a process stands in no list
-abbrev pub unlisted : Dispatcher → ℕ → Dispatcher
-unlisted d p = record d { lists = removed d.lists p }
+abbrev pub unlisted : ℕ → Dispatcher → Dispatcher
+unlisted p d = record d { lists = removed d.lists p }
 
 -- a process takes the step at its gate again once it is ready: until then it is in no list and doesn't run
-abbrev pub descheduled : Dispatcher → ℕ → Dispatcher
-descheduled d p = at_rest (unlisted d p) p
+abbrev pub descheduled : ℕ → Dispatcher → Dispatcher
+descheduled p d = at_rest p (unlisted p d)
 
 -- the lists with a process in another one, or in one now, where its priority puts it
 abbrev pub moved_in : Table → List (List Member) → ℕ → ℕ → List (List Member)
 moved_in procs lists list p =
     inserted (removed lists p) list (record { slot = p; priority = (process_in procs p).priority })
 
-abbrev pub moved : Dispatcher → ℕ → ℕ → Dispatcher
-moved d list p = record d { lists = moved_in d.procs d.lists list p }
+abbrev pub moved : ℕ → ℕ → Dispatcher → Dispatcher
+moved list p d = record d { lists = moved_in d.procs d.lists list p }
 
 -- the lists as processes become ready, one after the other
 unfoldable pub ready_in : Table → List ℕ → List (List Member) → List (List Member)
@@ -113,12 +117,12 @@ abbrev pub slots_in : List (List Member) → ℕ → List ℕ
 slots_in lists list = map (λ m. m.slot) (list_at lists list)
 
 -- other processes whose held calls were completed
-abbrev pub with_completed : Dispatcher → List ℕ → Dispatcher
-with_completed d ps = record d { completed = ps }
+abbrev pub with_completed : List ℕ → Dispatcher → Dispatcher
+with_completed ps d = record d { completed = ps }
 
 -- the held calls of processes are completed: they become ready, in that order
 abbrev pub all_woken : List ℕ → Dispatcher → Dispatcher
-all_woken ps d = with_completed (all_ready ps d) ps
+all_woken ps d = with_completed ps (all_ready ps d)
 
 -- a process becomes ready, if there is one: the lists, and the dispatcher
 unfoldable pub lists_ready : Option ℕ → Table → List (List Member) → List (List Member)
@@ -134,7 +138,7 @@ also_completed None ps = ps
 also_completed (Some p) ps = ps ++ p ∷ []
 
 abbrev pub with_other : Option ℕ → Dispatcher → Dispatcher
-with_other o d = with_completed (made_ready o d) (also_completed o d.completed)
+with_other o d = with_completed (also_completed o d.completed) (made_ready o d)
 
 -- whose held call was completed first
 abbrev pub first_completed : List ℕ → Option ℕ

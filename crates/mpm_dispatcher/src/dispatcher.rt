@@ -1,14 +1,12 @@
-ghost use Rattle.std.specs.Prelude.{◌≡◌, ℕ, ◌<◌, ◌∷◌, [], Some, None, drop, length, IfOk, IfSome, OnErr, MatchOption};
+ghost use Rattle.std.specs.Prelude.{◌≡◌, ℕ, ◌<◌, ◌∷◌, [], Some, None, drop, length, IfOk, IfSome, OnErr};
 ghost use Rattle.std.specs.List.{AllByRecursion};
 ghost use Rattle.mpm_base.specs.Calls.{answering};
 ghost use Rattle.mpm_base.specs.declared.call.Outcome.TheVariants.{Done, Held as IsHeld, Retry as IsRetry};
-ghost use Rattle.mpm_procs.specs.Table.{Lives, call_of, lowest_free};
+ghost use Rattle.mpm_procs.specs.Table.{Lives, lowest_free};
 ghost use Rattle.mpm_ready.specs.Order.{first_of};
 ghost use Rattle.mpm_ready.specs.Tables.{list_at, list_of, IsTable};
-ghost use Rattle.mpm_dispatcher.specs.Completion.{completion_of};
 ghost use Rattle.mpm_dispatcher.specs.Dispatch.{ready, first_completed, new_dispatcher, in_slot, IsReady, at_rest, descheduled, unlisted, moved, made_ready, slots_in, all_ready, all_woken, with_completed, with_other, behind_equals, with_priority, runner_behind as behind_runner, is_held_off, stays as keeps_on, picked};
 
-use crate::completion::complete;
 use crate::{Completed, OutOfMemory};
 use mpm_base::{Outcome, Pid, Reply};
 use mpm_clock::Woken;
@@ -62,7 +60,7 @@ impl Dispatcher {
         requires { (p : ℕ) → lowest_free self.old.procs ≡ Some p → list_of self.old.lists p ≡ None }
         ensures slot { IfOk result (λ p. lowest_free self.old.procs ≡ Some p) }
         ensures refused { OnErr result (lowest_free self.old.procs ≡ None) }
-        ensures dispatcher { self.new ≡ in_slot self.old new (lowest_free self.old.procs) }
+        ensures dispatcher { self.new ≡ in_slot new (lowest_free self.old.procs) self.old }
     {
         let priority = new.priority;
         let p = match self.procs.add(new) {
@@ -73,7 +71,7 @@ impl Dispatcher {
         Ok(p)
     }
 
-    /// Picks the process that runs behind a step: the first that is ready. Behind an instruction the running process keeps
+    /// Picks the process that runs after a step: the first that is ready. After an instruction the running process keeps
     /// the processor while it is ready and no interrupt may come.
     #[tactic(auto, unfolding(crate::specs::Dispatch::runner))]
     pub fn pick(&mut self, instruction: bool)
@@ -86,7 +84,7 @@ impl Dispatcher {
         self.running = self.lists.first(READY);
     }
 
-    /// Whether the running process keeps the processor behind its instruction: it is ready, and no interrupt may come.
+    /// Whether the running process keeps the processor after its instruction: it is ready, and no interrupt may come.
     fn stays(&self) -> bool
         requires { (p : ℕ) → self.now.running ≡ Some p → Lives self.now.procs p }
         ensures { result ≡ keeps_on self.now.procs self.now.lists self.now.running }
@@ -101,7 +99,7 @@ impl Dispatcher {
     pub fn rotate(&mut self, p: Pid)
         requires lives { Lives self.old.procs p }
         requires ready { IsReady self.old p }
-        ensures { self.new ≡ behind_equals self.old p }
+        ensures { self.new ≡ behind_equals p self.old }
     {
         let priority = self.procs.get(p).priority;
         self.lists.rotate(p, priority);
@@ -112,7 +110,7 @@ impl Dispatcher {
     pub fn set_priority(&mut self, p: Pid, priority: u8)
         requires lives { Lives self.old.procs p }
         requires ready { IsReady self.old p }
-        ensures { self.new ≡ with_priority self.old p priority }
+        ensures { self.new ≡ with_priority p priority self.old }
     {
         let process = self.procs.get_mut(p);
         process.priority = priority;
@@ -134,7 +132,7 @@ impl Dispatcher {
 
     /// A process doesn't run any more.
     pub fn rest(&mut self, p: Pid)
-        ensures { self.new ≡ at_rest self.old p }
+        ensures { self.new ≡ at_rest p self.old }
     {
         if self.running == Some(p) {
             self.running = None;
@@ -143,7 +141,7 @@ impl Dispatcher {
 
     /// The call of a process is held: the process doesn't run any more.
     pub fn hold(&mut self, p: Pid, reply: &mut Reply) -> Outcome
-        ensures dispatcher { self.new ≡ at_rest self.old p }
+        ensures dispatcher { self.new ≡ at_rest p self.old }
         ensures outcome { result ≡ IsHeld }
         ensures reply { reply.new ≡ answering 0 }
     {
@@ -154,7 +152,7 @@ impl Dispatcher {
 
     /// A call isn't done: its process takes the step at its gate again once it is ready.
     pub fn retry(&mut self, p: Pid, reply: &mut Reply) -> Outcome
-        ensures dispatcher { self.new ≡ descheduled self.old p }
+        ensures dispatcher { self.new ≡ descheduled p self.old }
         ensures outcome { result ≡ IsRetry }
         ensures reply { reply.new ≡ answering 0 }
     {
@@ -166,7 +164,7 @@ impl Dispatcher {
 
     /// A process stands in no list any more.
     pub fn unlist(&mut self, p: Pid)
-        ensures { self.new ≡ unlisted self.old p }
+        ensures { self.new ≡ unlisted p self.old }
     {
         let _list = self.lists.remove(p);
     }
@@ -176,7 +174,7 @@ impl Dispatcher {
     pub fn move_to(&mut self, p: Pid, list: u8)
         requires lives { Lives self.old.procs p }
         requires list { list < 96 }
-        ensures { self.new ≡ moved self.old list p }
+        ensures { self.new ≡ moved list p self.old }
     {
         let priority = self.procs.get(p).priority;
         let _list = self.lists.remove(p);
@@ -214,10 +212,11 @@ impl Dispatcher {
 
     /// The held calls of processes are completed.
     pub fn complete(&mut self, woken: Woken)
-        ensures { self.new ≡ with_completed self.old woken }
+        ensures { self.new ≡ with_completed woken self.old }
     {
         self.completed.set(woken);
     }
+
     /// Those of a list become ready, one after the other; answers them, in order.
     pub fn empty(&mut self, list: u8) -> Woken
         requires below { list < 96 }
@@ -235,17 +234,12 @@ impl Dispatcher {
         woken
     }
 
-    /// Hands out the process whose held call was completed first, with that call's reply.
-    #[tactic(auto, using(crate::proofs::CompletedLaws::first_lives))]
-    pub fn hand_out(&mut self, reply: &mut Reply) -> Option<Pid>
-        requires { AllByRecursion (λ p. Lives self.old.procs p) self.old.completed }
+    /// Hands out the process whose held call was completed first.
+    pub fn hand_out(&mut self) -> Option<Pid>
         ensures process { result ≡ first_completed self.old.completed }
-        ensures dispatcher { self.new ≡ with_completed self.old (drop 1 self.old.completed) }
-        ensures reply { MatchOption result (reply.new ≡ reply.old) (λ p. reply.new ≡ completion_of (call_of self.old.procs p)) }
+        ensures dispatcher { self.new ≡ with_completed (drop 1 self.old.completed) self.old }
     {
-        let p = self.completed.take()?;
-        complete(self.procs.call(p), reply);
-        Some(p)
+        self.completed.take()
     }
 
     /// A process becomes ready, if there is one.

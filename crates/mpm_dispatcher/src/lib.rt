@@ -2,7 +2,6 @@
 #![tactic(auto)]
 
 mod completed;
-mod completion;
 mod dispatcher;
 
 pub use completed::Completed;

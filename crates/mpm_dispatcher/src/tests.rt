@@ -1,5 +1,5 @@
 use super::*;
-use mpm_base::{Name8, Outcome, Pid, Reply, Seg};
+use mpm_base::{Name8, Outcome, Pid, Reply, Seg, functions};
 use mpm_clock::Woken;
 use mpm_procs::{NewProcess, NoSlot};
 
@@ -36,7 +36,7 @@ fn three(dispatcher: &mut Dispatcher) -> Result<(), NoSlot> {
     Ok(())
 }
 
-/// Who runs behind a step, which was an instruction or not.
+/// Who runs after a step, which was an instruction or not.
 #[tactic(auto, using(crate::proofs::ReadyLaws::only_runner, crate::proofs::ReadyLaws::no_runner))]
 fn next(dispatcher: &mut Dispatcher, instruction: bool) -> Option<Pid> {
     match dispatcher.running {
@@ -136,8 +136,8 @@ fn a_call_that_is_held_lets_another_run(rt: HostRuntime) -> Result<(), OutOfMemo
 fn calls_are_handed_out_as_they_were_completed(rt: HostRuntime) -> Result<(), OutOfMemory> {
     let mut dispatcher = Dispatcher::new(rt.alloc())?;
     assert_eq!(rt; three(&mut dispatcher), Ok(()));
-    call(&mut dispatcher, Pid(2), 141);
-    call(&mut dispatcher, Pid(0), 137);
+    call(&mut dispatcher, Pid(2), functions::DELAY);
+    call(&mut dispatcher, Pid(0), functions::READ_QUEUE);
     let mut woken = Woken::new();
     woken.push(Pid(2));
     woken.push(Pid(0));

@@ -18,10 +18,10 @@ flag_at flags flag = slice_index_or flags flag Clear
 
 -- a process waits for a flag: a set one is cleared and lets it pass, at a clear one it waits, as it does where it waited
 -- already, and where another waits it doesn't
-abbrev pub behind_wait : ℕ → Flag → Flag
-behind_wait p Clear = Waits p
-behind_wait p Set = Clear
-behind_wait p (Waits other) = Waits other
+abbrev pub waited_for : ℕ → Flag → Flag
+waited_for p Clear = Waits p
+waited_for p Set = Clear
+waited_for p (Waits other) = Waits other
 
 abbrev pub wait_answer : ℕ → Flag → FlagWait
 wait_answer p Clear = Begins
@@ -29,10 +29,10 @@ wait_answer p Set = Passed
 wait_answer p (Waits other) = if other == p then Begins else Underrun
 
 -- a flag is set: who waits for it is woken and it stays clear, and one that is set already stays so
-abbrev pub behind_set : Flag → Flag
-behind_set Clear = Set
-behind_set Set = Set
-behind_set (Waits p) = Clear
+abbrev pub after_set : Flag → Flag
+after_set Clear = Set
+after_set Set = Set
+after_set (Waits p) = Clear
 
 abbrev pub set_answer : Flag → FlagSet
 set_answer Clear = IsSet

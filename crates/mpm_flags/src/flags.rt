@@ -53,7 +53,7 @@ impl Model for Flags {
 }
 
 impl Flags {
-    ghost use Rattle.mpm_flags.specs.States.{no_flags, flag_at, with_flag, behind_wait, wait_answer, behind_set, set_answer, flags_without_waiter};
+    ghost use Rattle.mpm_flags.specs.States.{no_flags, flag_at, with_flag, waited_for, wait_answer, after_set, set_answer, flags_without_waiter};
 
     /// All flags, clear.
     #[tactic(auto, unfolding(crate::specs::States::no_flags))]
@@ -68,7 +68,7 @@ impl Flags {
     /// A process waits for a flag. (MP/M II Programmer's Guide, function 132.)
     pub fn wait(&mut self, p: Pid, flag: u8) -> FlagWait
         requires { flag < 32 }
-        ensures flags { self.new ≡ with_flag self.old flag (behind_wait p (flag_at self.old flag)) }
+        ensures flags { self.new ≡ with_flag self.old flag (waited_for p (flag_at self.old flag)) }
         ensures answer { result ≡ wait_answer p (flag_at self.old flag) }
     {
         let place = usize::from(flag);
@@ -90,7 +90,7 @@ impl Flags {
     /// A flag is set. (MP/M II Programmer's Guide, function 133.)
     pub fn set(&mut self, flag: u8) -> FlagSet
         requires { flag < 32 }
-        ensures flags { self.new ≡ with_flag self.old flag (behind_set (flag_at self.old flag)) }
+        ensures flags { self.new ≡ with_flag self.old flag (after_set (flag_at self.old flag)) }
         ensures answer { result ≡ set_answer (flag_at self.old flag) }
     {
         let place = usize::from(flag);

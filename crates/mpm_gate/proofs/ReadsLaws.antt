@@ -9,7 +9,8 @@ use Rattle.z80_regs.specs.Words.{onward, word_of}
 use Rattle.z80_regs.specs.declared.regs.Regs.{Regs}
 use Rattle.mpm_gate.specs.Bytes.{word_from, bytes_from}
 use Rattle.mpm_gate.specs.Texts.{text_from}
-use Rattle.mpm_gate.specs.Reads.{Row, table, is_among, reads_by, reads_of, most_read}
+use Rattle.mpm_base.specs.Lists.{is_among}
+use Rattle.mpm_gate.specs.Reads.{Row, table, reads_by, reads_of, most_read}
 use Rattle.mpm_gate.specs.Calls.{bytes_read, taken_call}
 use Rattle.mpm_gate.specs.declared.take.TextEnd.TheVariants.{Dollar, NullOrReturn}
 use Rattle.mpm_gate.specs.declared.reads.Reads.{Reads}

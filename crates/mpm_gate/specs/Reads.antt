@@ -1,6 +1,8 @@
 -- What each kernel call reads in its caller's memory: one table. (MP/M II Programmer's Guide, "BDOS Function Calls",
 -- "XDOS Function Calls".)
-use Rattle.std.specs.Prelude.{ℕ, ◌+◌, ◌*◌, List, [], ◌∷◌, Bool, false, ◌==◌, ◌||◌, if◌then◌else◌}
+use Rattle.std.specs.Prelude.{ℕ, ◌+◌, ◌*◌, List, [], ◌∷◌, if◌then◌else◌}
+use Rattle.mpm_base.specs.Lists.{is_among}
+use Rattle.mpm_base.specs.declared.functions.TheConstants.{PRINT_STRING, READ_CONSOLE_BUFFER, OPEN_FILE, CLOSE_FILE, SEARCH_FOR_FIRST, DELETE_FILE, READ_SEQUENTIAL, WRITE_SEQUENTIAL, MAKE_FILE, RENAME_FILE, SET_FILE_ATTRIBUTES, READ_RANDOM, WRITE_RANDOM, COMPUTE_FILE_SIZE, SET_RANDOM_RECORD, WRITE_RANDOM_WITH_ZERO_FILL, TEST_AND_WRITE_RECORD, LOCK_RECORD, UNLOCK_RECORD, CHAIN_TO_PROGRAM, SET_DIRECTORY_LABEL, READ_FILE_XFCB, WRITE_FILE_XFCB, SET_DATE_AND_TIME, SET_DEFAULT_PASSWORD, ABSOLUTE_MEMORY_REQUEST, RELOCATABLE_MEMORY_REQUEST, MEMORY_FREE, MAKE_QUEUE, OPEN_QUEUE, DELETE_QUEUE, READ_QUEUE, CONDITIONAL_READ_QUEUE, WRITE_QUEUE, CONDITIONAL_WRITE_QUEUE, CREATE_PROCESS, ASSIGN_CONSOLE, SEND_CLI_COMMAND, CALL_RESIDENT_SYSTEM_PROCEDURE, PARSE_FILENAME, ABORT_SPECIFIED_PROCESS}
 use Rattle.mpm_gate.specs.declared.reads.Reads.{Reads}
 use Rattle.mpm_gate.specs.declared.reads.Reads.TheVariants.{Registers, Block, Pointing, Descriptors, DollarString, TextAtDma, Command, File, Records}
 
@@ -15,33 +17,28 @@ row functions reads = record { functions = functions; reads = reads }
 -- the table; a function that stands in no row reads its registers alone
 abbrev pub table : List Row
 table =
-    row (9 ∷ []) DollarString
-    ∷ row (10 ∷ []) (Block 1)
-    ∷ row (15 ∷ 19 ∷ 23 ∷ 30 ∷ []) (File 8)
-    ∷ row (16 ∷ 17 ∷ 20 ∷ 33 ∷ 35 ∷ 36 ∷ 102 ∷ []) (File 0)
-    ∷ row (21 ∷ 34 ∷ 40 ∷ []) (Records 128)
-    ∷ row (22 ∷ []) (File 9)
-    ∷ row (41 ∷ []) (Records 256)
-    ∷ row (42 ∷ 43 ∷ []) (File 2)
-    ∷ row (47 ∷ []) TextAtDma
-    ∷ row (100 ∷ 103 ∷ []) (File 16)
-    ∷ row (104 ∷ 128 ∷ 129 ∷ 130 ∷ []) (Block 4)
-    ∷ row (106 ∷ []) (Block 8)
-    ∷ row (134 ∷ 136 ∷ []) (Block 14)
-    ∷ row (135 ∷ 137 ∷ 138 ∷ []) (Block 12)
-    ∷ row (139 ∷ 140 ∷ []) (Pointing 12 2 2048)
-    ∷ row (144 ∷ []) Descriptors
-    ∷ row (149 ∷ []) (Block 10)
-    ∷ row (150 ∷ []) Command
-    ∷ row (151 ∷ []) (Pointing 4 0 8)
-    ∷ row (152 ∷ []) (Pointing 4 0 128)
-    ∷ row (157 ∷ []) (Block 13)
+    row (PRINT_STRING ∷ []) DollarString
+    ∷ row (READ_CONSOLE_BUFFER ∷ []) (Block 1)
+    ∷ row (OPEN_FILE ∷ DELETE_FILE ∷ RENAME_FILE ∷ SET_FILE_ATTRIBUTES ∷ []) (File 8)
+    ∷ row (CLOSE_FILE ∷ SEARCH_FOR_FIRST ∷ READ_SEQUENTIAL ∷ READ_RANDOM ∷ COMPUTE_FILE_SIZE ∷ SET_RANDOM_RECORD ∷ READ_FILE_XFCB ∷ []) (File 0)
+    ∷ row (WRITE_SEQUENTIAL ∷ WRITE_RANDOM ∷ WRITE_RANDOM_WITH_ZERO_FILL ∷ []) (Records 128)
+    ∷ row (MAKE_FILE ∷ []) (File 9)
+    ∷ row (TEST_AND_WRITE_RECORD ∷ []) (Records 256)
+    ∷ row (LOCK_RECORD ∷ UNLOCK_RECORD ∷ []) (File 2)
+    ∷ row (CHAIN_TO_PROGRAM ∷ []) TextAtDma
+    ∷ row (SET_DIRECTORY_LABEL ∷ WRITE_FILE_XFCB ∷ []) (File 16)
+    ∷ row (SET_DATE_AND_TIME ∷ ABSOLUTE_MEMORY_REQUEST ∷ RELOCATABLE_MEMORY_REQUEST ∷ MEMORY_FREE ∷ []) (Block 4)
+    ∷ row (SET_DEFAULT_PASSWORD ∷ []) (Block 8)
+    ∷ row (MAKE_QUEUE ∷ DELETE_QUEUE ∷ []) (Block 14)
+    ∷ row (OPEN_QUEUE ∷ READ_QUEUE ∷ CONDITIONAL_READ_QUEUE ∷ []) (Block 12)
+    ∷ row (WRITE_QUEUE ∷ CONDITIONAL_WRITE_QUEUE ∷ []) (Pointing 12 2 2048)
+    ∷ row (CREATE_PROCESS ∷ []) Descriptors
+    ∷ row (ASSIGN_CONSOLE ∷ []) (Block 10)
+    ∷ row (SEND_CLI_COMMAND ∷ []) Command
+    ∷ row (CALL_RESIDENT_SYSTEM_PROCEDURE ∷ []) (Pointing 4 0 8)
+    ∷ row (PARSE_FILENAME ∷ []) (Pointing 4 0 128)
+    ∷ row (ABORT_SPECIFIED_PROCESS ∷ []) (Block 13)
     ∷ []
-
--- whether a number is among some
-abbrev pub is_among : ℕ → List ℕ → Bool
-is_among n [] = false
-is_among n (m ∷ ms) = n == m || is_among n ms
 
 -- what rows say of a function
 abbrev pub reads_by : List Row → ℕ → Reads

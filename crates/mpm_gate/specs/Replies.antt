@@ -20,7 +20,7 @@ abbrev pub with_block : Memory → ℕ → ℕ → Option (List ℕ) → Memory
 with_block memory seg address None = memory
 with_block memory seg address (Some block) = with_bytes memory seg address block
 
--- memory behind a reply: first the file control block stands at the call's parameter, then the bytes at their address
+-- memory after a reply: first the file control block stands at the call's parameter, then the bytes at their address
 unfoldable pub placed : Answer → ℕ → ℕ → Memory → Memory
 placed answer word seg memory = with_bytes (with_block memory seg word answer.fcb) seg answer.at answer.bytes
 

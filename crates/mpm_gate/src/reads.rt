@@ -1,5 +1,7 @@
 ghost use Rattle.std.specs.Prelude.{◌≡◌, ◌≤◌};
 
+use mpm_base::functions;
+
 /// What a kernel call reads in its caller's memory.
 #[derive(Clone, Copy, Debug, PartialEq, Eq)]
 pub enum Reads {
@@ -34,39 +36,54 @@ pub fn reads_of(function: u8) -> Reads
     ensures most { most_read result 16 ≤ 4096 }
 {
     match function {
-        9 => Reads::DollarString,
-        10 => Reads::Block(1),
-        15 | 19 | 23 | 30 => Reads::File(8),
-        16 | 17 | 20 | 33 | 35 | 36 | 102 => Reads::File(0),
-        21 | 34 | 40 => Reads::Records(128),
-        22 => Reads::File(9),
-        41 => Reads::Records(256),
-        42 | 43 => Reads::File(2),
-        47 => Reads::TextAtDma,
-        100 | 103 => Reads::File(16),
-        104 | 128 | 129 | 130 => Reads::Block(4),
-        106 => Reads::Block(8),
-        134 | 136 => Reads::Block(14),
-        135 | 137 | 138 => Reads::Block(12),
-        139 | 140 => Reads::Pointing {
+        functions::PRINT_STRING => Reads::DollarString,
+        functions::READ_CONSOLE_BUFFER => Reads::Block(1),
+        functions::OPEN_FILE
+        | functions::DELETE_FILE
+        | functions::RENAME_FILE
+        | functions::SET_FILE_ATTRIBUTES => Reads::File(8),
+        functions::CLOSE_FILE
+        | functions::SEARCH_FOR_FIRST
+        | functions::READ_SEQUENTIAL
+        | functions::READ_RANDOM
+        | functions::COMPUTE_FILE_SIZE
+        | functions::SET_RANDOM_RECORD
+        | functions::READ_FILE_XFCB => Reads::File(0),
+        functions::WRITE_SEQUENTIAL
+        | functions::WRITE_RANDOM
+        | functions::WRITE_RANDOM_WITH_ZERO_FILL => Reads::Records(128),
+        functions::MAKE_FILE => Reads::File(9),
+        functions::TEST_AND_WRITE_RECORD => Reads::Records(256),
+        functions::LOCK_RECORD | functions::UNLOCK_RECORD => Reads::File(2),
+        functions::CHAIN_TO_PROGRAM => Reads::TextAtDma,
+        functions::SET_DIRECTORY_LABEL | functions::WRITE_FILE_XFCB => Reads::File(16),
+        functions::SET_DATE_AND_TIME
+        | functions::ABSOLUTE_MEMORY_REQUEST
+        | functions::RELOCATABLE_MEMORY_REQUEST
+        | functions::MEMORY_FREE => Reads::Block(4),
+        functions::SET_DEFAULT_PASSWORD => Reads::Block(8),
+        functions::MAKE_QUEUE | functions::DELETE_QUEUE => Reads::Block(14),
+        functions::OPEN_QUEUE | functions::READ_QUEUE | functions::CONDITIONAL_READ_QUEUE =>
+            Reads::Block(12),
+        functions::WRITE_QUEUE | functions::CONDITIONAL_WRITE_QUEUE => Reads::Pointing {
             size: 12,
             offset: 2,
             count: 2048,
         },
-        144 => Reads::Descriptors,
-        149 => Reads::Block(10),
-        150 => Reads::Command,
-        151 => Reads::Pointing {
+        functions::CREATE_PROCESS => Reads::Descriptors,
+        functions::ASSIGN_CONSOLE => Reads::Block(10),
+        functions::SEND_CLI_COMMAND => Reads::Command,
+        functions::CALL_RESIDENT_SYSTEM_PROCEDURE => Reads::Pointing {
             size: 4,
             offset: 0,
             count: 8,
         },
-        152 => Reads::Pointing {
+        functions::PARSE_FILENAME => Reads::Pointing {
             size: 4,
             offset: 0,
             count: 128,
         },
-        157 => Reads::Block(13),
+        functions::ABORT_SPECIFIED_PROCESS => Reads::Block(13),
         _ => Reads::Registers,
     }
 }

@@ -3,7 +3,7 @@ ghost use Rattle.mpm_banks.specs.Allocations.{FitsBelowCommon};
 
 use super::*;
 use mpm_banks::{Banks, OutOfMemory};
-use mpm_base::{Call, Reply, Seg, SegmentSpec};
+use mpm_base::{Call, Reply, Seg, SegmentSpec, functions};
 use std::alloc::{AllocError, Global};
 use z80_regs::Regs;
 
@@ -18,47 +18,96 @@ const DMA: u16 = 0x0400;
 /// Each function that reads anything: the function, whether it reads its file control block, and the two ranges that it reads
 /// besides, each an address and a number of bytes; with a multi-sector count of 3.
 const ROWS: [(u8, bool, u16, u16, u16, u16); 41] = [
-    (9, false, PARAMETER, 30, 0, 0),
-    (10, false, PARAMETER, 1, 0, 0),
-    (15, true, DMA, 8, 0, 0),
-    (16, true, 0, 0, 0, 0),
-    (17, true, 0, 0, 0, 0),
-    (19, true, DMA, 8, 0, 0),
-    (20, true, 0, 0, 0, 0),
-    (21, true, DMA, 384, 0, 0),
-    (22, true, DMA, 9, 0, 0),
-    (23, true, DMA, 8, 0, 0),
-    (30, true, DMA, 8, 0, 0),
-    (33, true, 0, 0, 0, 0),
-    (34, true, DMA, 384, 0, 0),
-    (35, true, 0, 0, 0, 0),
-    (36, true, 0, 0, 0, 0),
-    (40, true, DMA, 384, 0, 0),
-    (41, true, DMA, 768, 0, 0),
-    (42, true, DMA, 2, 0, 0),
-    (43, true, DMA, 2, 0, 0),
-    (47, false, DMA, 11, 0, 0),
-    (100, true, DMA, 16, 0, 0),
-    (102, true, 0, 0, 0, 0),
-    (103, true, DMA, 16, 0, 0),
-    (104, false, PARAMETER, 4, 0, 0),
-    (106, false, PARAMETER, 8, 0, 0),
-    (128, false, PARAMETER, 4, 0, 0),
-    (129, false, PARAMETER, 4, 0, 0),
-    (130, false, PARAMETER, 4, 0, 0),
-    (134, false, PARAMETER, 14, 0, 0),
-    (135, false, PARAMETER, 12, 0, 0),
-    (136, false, PARAMETER, 14, 0, 0),
-    (137, false, PARAMETER, 12, 0, 0),
-    (138, false, PARAMETER, 12, 0, 0),
-    (139, false, PARAMETER, 12, 0x0933, 2048),
-    (140, false, PARAMETER, 12, 0x0933, 2048),
-    (144, false, PARAMETER, 16, 0x0A44, 2),
-    (149, false, PARAMETER, 10, 0, 0),
-    (150, false, PARAMETER, 2, PARAMETER + 2, 40),
-    (151, false, PARAMETER, 4, 0x0000, 8),
-    (152, false, PARAMETER, 4, 0x0000, 128),
-    (157, false, PARAMETER, 13, 0, 0),
+    (functions::PRINT_STRING, false, PARAMETER, 30, 0, 0),
+    (functions::READ_CONSOLE_BUFFER, false, PARAMETER, 1, 0, 0),
+    (functions::OPEN_FILE, true, DMA, 8, 0, 0),
+    (functions::CLOSE_FILE, true, 0, 0, 0, 0),
+    (functions::SEARCH_FOR_FIRST, true, 0, 0, 0, 0),
+    (functions::DELETE_FILE, true, DMA, 8, 0, 0),
+    (functions::READ_SEQUENTIAL, true, 0, 0, 0, 0),
+    (functions::WRITE_SEQUENTIAL, true, DMA, 384, 0, 0),
+    (functions::MAKE_FILE, true, DMA, 9, 0, 0),
+    (functions::RENAME_FILE, true, DMA, 8, 0, 0),
+    (functions::SET_FILE_ATTRIBUTES, true, DMA, 8, 0, 0),
+    (functions::READ_RANDOM, true, 0, 0, 0, 0),
+    (functions::WRITE_RANDOM, true, DMA, 384, 0, 0),
+    (functions::COMPUTE_FILE_SIZE, true, 0, 0, 0, 0),
+    (functions::SET_RANDOM_RECORD, true, 0, 0, 0, 0),
+    (functions::WRITE_RANDOM_WITH_ZERO_FILL, true, DMA, 384, 0, 0),
+    (functions::TEST_AND_WRITE_RECORD, true, DMA, 768, 0, 0),
+    (functions::LOCK_RECORD, true, DMA, 2, 0, 0),
+    (functions::UNLOCK_RECORD, true, DMA, 2, 0, 0),
+    (functions::CHAIN_TO_PROGRAM, false, DMA, 11, 0, 0),
+    (functions::SET_DIRECTORY_LABEL, true, DMA, 16, 0, 0),
+    (functions::READ_FILE_XFCB, true, 0, 0, 0, 0),
+    (functions::WRITE_FILE_XFCB, true, DMA, 16, 0, 0),
+    (functions::SET_DATE_AND_TIME, false, PARAMETER, 4, 0, 0),
+    (functions::SET_DEFAULT_PASSWORD, false, PARAMETER, 8, 0, 0),
+    (
+        functions::ABSOLUTE_MEMORY_REQUEST,
+        false,
+        PARAMETER,
+        4,
+        0,
+        0,
+    ),
+    (
+        functions::RELOCATABLE_MEMORY_REQUEST,
+        false,
+        PARAMETER,
+        4,
+        0,
+        0,
+    ),
+    (functions::MEMORY_FREE, false, PARAMETER, 4, 0, 0),
+    (functions::MAKE_QUEUE, false, PARAMETER, 14, 0, 0),
+    (functions::OPEN_QUEUE, false, PARAMETER, 12, 0, 0),
+    (functions::DELETE_QUEUE, false, PARAMETER, 14, 0, 0),
+    (functions::READ_QUEUE, false, PARAMETER, 12, 0, 0),
+    (
+        functions::CONDITIONAL_READ_QUEUE,
+        false,
+        PARAMETER,
+        12,
+        0,
+        0,
+    ),
+    (functions::WRITE_QUEUE, false, PARAMETER, 12, 0x0933, 2048),
+    (
+        functions::CONDITIONAL_WRITE_QUEUE,
+        false,
+        PARAMETER,
+        12,
+        0x0933,
+        2048,
+    ),
+    (functions::CREATE_PROCESS, false, PARAMETER, 16, 0x0A44, 2),
+    (functions::ASSIGN_CONSOLE, false, PARAMETER, 10, 0, 0),
+    (
+        functions::SEND_CLI_COMMAND,
+        false,
+        PARAMETER,
+        2,
+        PARAMETER + 2,
+        40,
+    ),
+    (
+        functions::CALL_RESIDENT_SYSTEM_PROCEDURE,
+        false,
+        PARAMETER,
+        4,
+        0x0000,
+        8,
+    ),
+    (functions::PARSE_FILENAME, false, PARAMETER, 4, 0x0000, 128),
+    (
+        functions::ABORT_SPECIFIED_PROCESS,
+        false,
+        PARAMETER,
+        13,
+        0,
+        0,
+    ),
 ];
 
 /// Memory of one segment of `pages` pages from the page `base` on.
@@ -197,11 +246,32 @@ fn a_string_has_at_most_4096_bytes_in_a_call(rt: HostRuntime) -> Result<(), Allo
     let mut banks = memory(rt.alloc(), 0, 192)?;
     let mut call = Call::new();
     poke(&mut banks, 0x0300, b"Hi$there$");
-    call_of(&calling(9, 0x0300), &banks, SEG, DMA, 1, &mut call);
+    call_of(
+        &calling(functions::PRINT_STRING, 0x0300),
+        &banks,
+        SEG,
+        DMA,
+        1,
+        &mut call,
+    );
     assert_eq!(rt; call.taken(), b"Hi".as_slice());
-    call_of(&calling(9, 0x0302), &banks, SEG, DMA, 1, &mut call);
+    call_of(
+        &calling(functions::PRINT_STRING, 0x0302),
+        &banks,
+        SEG,
+        DMA,
+        1,
+        &mut call,
+    );
     assert_eq!(rt; call.taken().len(), 0);
-    call_of(&calling(9, 0x0309), &banks, SEG, DMA, 1, &mut call);
+    call_of(
+        &calling(functions::PRINT_STRING, 0x0309),
+        &banks,
+        SEG,
+        DMA,
+        1,
+        &mut call,
+    );
     assert_eq!(rt; call.taken().len(), 4096);
     Ok(())
 }
@@ -211,13 +281,34 @@ fn a_command_ends_at_00h_or_at_cr(rt: HostRuntime) -> Result<(), AllocError> {
     let mut banks = memory(rt.alloc(), 0, 192)?;
     let mut call = Call::new();
     poke(&mut banks, PARAMETER, b"\x21\x01dir b:\rx");
-    call_of(&calling(150, PARAMETER), &banks, SEG, DMA, 1, &mut call);
+    call_of(
+        &calling(functions::SEND_CLI_COMMAND, PARAMETER),
+        &banks,
+        SEG,
+        DMA,
+        1,
+        &mut call,
+    );
     assert_eq!(rt; call.taken(), b"\x21\x01dir b:".as_slice());
     poke(&mut banks, DMA, b"ed x.y\0\r");
-    call_of(&calling(47, PARAMETER), &banks, SEG, DMA, 1, &mut call);
+    call_of(
+        &calling(functions::CHAIN_TO_PROGRAM, PARAMETER),
+        &banks,
+        SEG,
+        DMA,
+        1,
+        &mut call,
+    );
     assert_eq!(rt; call.taken(), b"ed x.y".as_slice());
     poke(&mut banks, DMA, &[b'$'; 200]);
-    call_of(&calling(47, PARAMETER), &banks, SEG, DMA, 1, &mut call);
+    call_of(
+        &calling(functions::CHAIN_TO_PROGRAM, PARAMETER),
+        &banks,
+        SEG,
+        DMA,
+        1,
+        &mut call,
+    );
     assert_eq!(rt; call.taken(), [b'$'; 128].as_slice());
     Ok(())
 }
@@ -227,12 +318,26 @@ fn addresses_go_on_from_the_last_to_the_first(rt: HostRuntime) -> Result<(), All
     let mut banks = memory(rt.alloc(), 0, 192)?;
     let mut call = Call::new();
     poke(&mut banks, 0xFFFE, &[0x12, 0x34, 0x56, 0x78]);
-    call_of(&calling(104, 0xFFFE), &banks, SEG, DMA, 1, &mut call);
+    call_of(
+        &calling(functions::SET_DATE_AND_TIME, 0xFFFE),
+        &banks,
+        SEG,
+        DMA,
+        1,
+        &mut call,
+    );
     assert_eq!(rt; call.taken(), [0x12, 0x34, 0x56, 0x78].as_slice());
     assert_eq!(rt; banks.byte(SEG, 0x0001), 0x78);
-    call_of(&calling(9, 0xFFFF), &banks, SEG, DMA, 1, &mut call);
+    call_of(
+        &calling(functions::PRINT_STRING, 0xFFFF),
+        &banks,
+        SEG,
+        DMA,
+        1,
+        &mut call,
+    );
     assert_eq!(rt; call.taken().len(), 4096);
-    let mut regs = calling(12, 0);
+    let mut regs = calling(functions::RETURN_VERSION_NUMBER, 0);
     regs.sp = 0xFFFF;
     take_return(&banks, SEG, &mut regs);
     assert_eq!(rt; (regs.pc, regs.sp), (0x5634, 0x0001));
@@ -244,11 +349,32 @@ fn an_address_without_memory_reads_ffh(rt: HostRuntime) -> Result<(), AllocError
     let mut banks = memory(rt.alloc(), 0x40, 16)?;
     let mut call = Call::new();
     poke(&mut banks, 0x3FFE, &[1, 2, 3, 4]);
-    call_of(&calling(128, 0x3FFE), &banks, SEG, DMA, 1, &mut call);
+    call_of(
+        &calling(functions::ABSOLUTE_MEMORY_REQUEST, 0x3FFE),
+        &banks,
+        SEG,
+        DMA,
+        1,
+        &mut call,
+    );
     assert_eq!(rt; call.taken(), [0xFF, 0xFF, 3, 4].as_slice());
-    call_of(&calling(128, 0x4FFF), &banks, SEG, DMA, 1, &mut call);
+    call_of(
+        &calling(functions::ABSOLUTE_MEMORY_REQUEST, 0x4FFF),
+        &banks,
+        SEG,
+        DMA,
+        1,
+        &mut call,
+    );
     assert_eq!(rt; call.taken(), [0, 0xFF, 0xFF, 0xFF].as_slice());
-    call_of(&calling(106, 0x4000), &banks, Seg(1), DMA, 1, &mut call);
+    call_of(
+        &calling(functions::SET_DEFAULT_PASSWORD, 0x4000),
+        &banks,
+        Seg(1),
+        DMA,
+        1,
+        &mut call,
+    );
     assert_eq!(rt; call.taken(), [0xFF; 8].as_slice());
     Ok(())
 }
@@ -272,7 +398,14 @@ fn a_chain_of_two_descriptors(rt: HostRuntime) -> Result<(), AllocError> {
         0x10F0,
         &[0x00, 0x07, 0, 0, 0, 0, 0, 0, 0x80, 0x07],
     );
-    call_of(&calling(144, 0x0500), &banks, SEG, DMA, 1, &mut call);
+    call_of(
+        &calling(functions::CREATE_PROCESS, 0x0500),
+        &banks,
+        SEG,
+        DMA,
+        1,
+        &mut call,
+    );
     assert_eq!(rt;
         call.taken(),
         b"\x00\x06\x00\xC8\xF0\x10Reader  \x01\x00\x00\x07\x00\x00\x00\xC9\xF8\x10Writer  \x02\x00\x80\x07".as_slice()
@@ -289,7 +422,14 @@ fn a_chain_that_never_ends_gives_32_descriptors(rt: HostRuntime) -> Result<(), A
         0x0500,
         b"\x00\x05\x00\xC8\xF0\x10Reader  \x01\x00",
     );
-    call_of(&calling(144, 0x0500), &banks, SEG, DMA, 1, &mut call);
+    call_of(
+        &calling(functions::CREATE_PROCESS, 0x0500),
+        &banks,
+        SEG,
+        DMA,
+        1,
+        &mut call,
+    );
     assert_eq!(rt; call.taken().len(), 32 * 18);
     Ok(())
 }
@@ -298,7 +438,14 @@ fn a_chain_that_never_ends_gives_32_descriptors(rt: HostRuntime) -> Result<(), A
 fn a_block_and_a_record_that_overlap(rt: HostRuntime) -> Result<(), AllocError> {
     let banks = patterned(rt.alloc())?;
     let mut call = Call::new();
-    call_of(&calling(21, 0x1000), &banks, SEG, 0x1010, 1, &mut call);
+    call_of(
+        &calling(functions::WRITE_SEQUENTIAL, 0x1000),
+        &banks,
+        SEG,
+        0x1010,
+        1,
+        &mut call,
+    );
     let block = ranges(rt.alloc(), &banks, 0x1000, 36, 0, 0)?;
     let record = ranges(rt.alloc(), &banks, 0x1010, 128, 0, 0)?;
     assert_eq!(rt; call.fcb.as_slice(), block.as_slice());
@@ -310,7 +457,7 @@ fn a_block_and_a_record_that_overlap(rt: HostRuntime) -> Result<(), AllocError> 
 fn the_return_address_comes_from_the_stack(rt: HostRuntime) -> Result<(), AllocError> {
     let mut banks = memory(rt.alloc(), 0, 192)?;
     poke(&mut banks, 0xBFFE, &[0x34, 0x12]);
-    let mut regs = calling(12, 0x0777);
+    let mut regs = calling(functions::RETURN_VERSION_NUMBER, 0x0777);
     take_return(&banks, SEG, &mut regs);
     assert_eq!(rt;
         regs,
@@ -318,7 +465,7 @@ fn the_return_address_comes_from_the_stack(rt: HostRuntime) -> Result<(), AllocE
             pc: 0x1234,
             sp: 0xC000,
             shadow: false,
-            ..calling(12, 0x0777)
+            ..calling(functions::RETURN_VERSION_NUMBER, 0x0777)
         }
     );
     Ok(())
@@ -327,7 +474,7 @@ fn the_return_address_comes_from_the_stack(rt: HostRuntime) -> Result<(), AllocE
 #[test]
 fn an_answer_is_in_hl_a_and_b(rt: HostRuntime) -> Result<(), AllocError> {
     let mut banks = memory(rt.alloc(), 0, 192)?;
-    let mut regs = calling(12, 0x0777);
+    let mut regs = calling(functions::RETURN_VERSION_NUMBER, 0x0777);
     let mut reply = Reply::new();
     reply.answer(0x0130);
     put_reply(&reply, 0x0777, &mut banks, SEG, &mut regs);
@@ -338,7 +485,7 @@ fn an_answer_is_in_hl_a_and_b(rt: HostRuntime) -> Result<(), AllocError> {
             l: 0x30,
             a: 0x30,
             b: 0x01,
-            ..calling(12, 0x0777)
+            ..calling(functions::RETURN_VERSION_NUMBER, 0x0777)
         }
     );
     assert_eq!(rt; banks.byte(SEG, 0x0777), 0);
@@ -348,7 +495,7 @@ fn an_answer_is_in_hl_a_and_b(rt: HostRuntime) -> Result<(), AllocError> {
 #[test]
 fn bytes_stand_over_the_block(rt: HostRuntime) -> Result<(), AllocError> {
     let mut banks = memory(rt.alloc(), 0, 192)?;
-    let mut regs = calling(20, 0x0200);
+    let mut regs = calling(functions::READ_SEQUENTIAL, 0x0200);
     let mut reply = Reply::new();
     reply.answer_with(0, 0x0220, &[1, 2, 3, 4, 5, 6]);
     reply.has_fcb = true;
@@ -365,7 +512,7 @@ fn bytes_stand_over_the_block(rt: HostRuntime) -> Result<(), AllocError> {
 #[test]
 fn bytes_without_memory_are_lost(rt: HostRuntime) -> Result<(), AllocError> {
     let mut banks = memory(rt.alloc(), 0x40, 16)?;
-    let mut regs = calling(155, 0x3FFF);
+    let mut regs = calling(functions::GET_DATE_TIME_AND_SECOND, 0x3FFF);
     let mut reply = Reply::new();
     reply.answer_with(0, 0x3FFF, &[1, 2, 3]);
     put_reply(&reply, 0x3FFF, &mut banks, SEG, &mut regs);

@@ -1,4 +1,4 @@
--- When interrupts are due, and what is left behind one.
+-- When interrupts are due, and what is left after one.
 use Rattle.std.proofs.Common.{◌≡◌, ℕ, ◌+◌, ◌*◌, ◌<◌, ◌≤◌, Bool, true, false, List, [], ◌∷◌, Option, Some, None, All, IfSome, drop, is_some, if◌then◌else◌, refl, subst, arith}
 use Rattle.std.specs.Prelude.{nat_le}
 use Rattle.std.proofs.lemmas.Bool.Decides.{nat_tests}
@@ -9,7 +9,7 @@ use Rattle.mpm_script.specs.declared.event.Event.{Event}
 use Rattle.mpm_script.specs.declared.event.Event.TheVariants.{Tick}
 use Rattle.mpm_script.specs.declared.event.Timed.{Timed}
 use Rattle.mpm_script.specs.Events.{IsTimed, IsEvent}
-use Rattle.mpm_interrupts.specs.Interrupts.{is_tick_due, script_due, due, script_behind, behind_due}
+use Rattle.mpm_interrupts.specs.Interrupts.{is_tick_due, script_due, due, script_after, due_taken}
 use Rattle.mpm_interrupts.specs.declared.interrupts.Interrupts.{Interrupts}
 
 -- before the end of one more interval no more of them have passed
@@ -37,11 +37,11 @@ due_is step interrupts are =
 
 -- those that are left are of the script
 
-pub script_behind_due : (step : ℕ) (interrupts : Interrupts) → All IsTimed interrupts.script → All IsTimed (behind_due step interrupts).script
-unfolding behind_due
-script_behind_due step interrupts are =
+pub script_after_due : (step : ℕ) (interrupts : Interrupts) → All IsTimed interrupts.script → All IsTimed (due_taken step interrupts).script
+unfolding due_taken
+script_after_due step interrupts are =
     either (λ (i : Interrupts). All IsTimed i.script) (is_tick_due step interrupts) (record interrupts { ticks = interrupts.ticks + 1 })
-    (record interrupts { script = script_behind step interrupts.script }) (λ _. are)
+    (record interrupts { script = script_after step interrupts.script }) (λ _. are)
     (λ _. either (All IsTimed) (is_some (script_due step interrupts.script)) (drop 1 interrupts.script) interrupts.script
     (λ _. All-drop IsTimed 1 interrupts.script are) (λ _. are))
 
@@ -51,12 +51,12 @@ tick_not : (b : Bool) (other : Option Event) → (if b then Some Tick else other
 tick_not true other none = absurd cc
 tick_not false other none = refl
 
-script_stays : (step : ℕ) (script : List Timed) → script_due step script ≡ None → script_behind step script ≡ script
+script_stays : (step : ℕ) (script : List Timed) → script_due step script ≡ None → script_after step script ≡ script
 script_stays step script none = rw none refl
 
-pub behind_none : (step : ℕ) (interrupts : Interrupts) → due step interrupts ≡ None → behind_due step interrupts ≡ interrupts
-unfolding due behind_due
-behind_none step interrupts none =
+pub none_taken : (step : ℕ) (interrupts : Interrupts) → due step interrupts ≡ None → due_taken step interrupts ≡ interrupts
+unfolding due due_taken
+none_taken step interrupts none =
     let no_tick = tick_not (is_tick_due step interrupts) (script_due step interrupts.script) none in
     let no_event : script_due step interrupts.script ≡ None = subst (λ (b : Bool). (if b then Some Tick else script_due step interrupts.script) ≡ None) no_tick none in
     rw (no_tick, script_stays step interrupts.script no_event) refl

@@ -24,11 +24,11 @@ unfoldable pub due : ℕ → Interrupts → Option Event
 due step interrupts = if is_tick_due step interrupts then Some Tick else script_due step interrupts.script
 
 -- the script without its first event, where that is due
-abbrev pub script_behind : ℕ → List Timed → List Timed
-script_behind step script = if is_some (script_due step script) then drop 1 script else script
+abbrev pub script_after : ℕ → List Timed → List Timed
+script_after step script = if is_some (script_due step script) then drop 1 script else script
 
--- what is to come behind the event that is due at a step
-unfoldable pub behind_due : ℕ → Interrupts → Interrupts
-behind_due step interrupts =
+-- what is to come after the event that is due at a step
+unfoldable pub due_taken : ℕ → Interrupts → Interrupts
+due_taken step interrupts =
     if is_tick_due step interrupts then record interrupts { ticks = interrupts.ticks + 1 }
-    else (record interrupts { script = script_behind step interrupts.script })
+    else (record interrupts { script = script_after step interrupts.script })

@@ -1,3 +1,5 @@
+ghost use Rattle.mpm_script.specs.declared.line.TheConstants.{GREATEST_STEP};
+
 use mpm_script::{Event, Script, Timed};
 use std::marker::Model;
 
@@ -15,7 +17,7 @@ pub struct Interrupts {
 impl Interrupts {
     ghost use Rattle.std.specs.Prelude.{◌≡◌, ◌<◌, ◌≤◌, ℕ, false, None, IfSome, IfNone, All};
     ghost use Rattle.mpm_script.specs.Events.{IsEvent, IsTimed};
-    ghost use Rattle.mpm_interrupts.specs.Interrupts.{due, behind_due, is_tick_due, script_due};
+    ghost use Rattle.mpm_interrupts.specs.Interrupts.{due, due_taken, is_tick_due, script_due};
 
     /// The ticks and the events of a script, of which none was accepted yet. (The script tells with its length that its
     /// events are such as there may be.)
@@ -32,12 +34,12 @@ impl Interrupts {
     }
 
     /// Takes the event that is due at a step, if any.
-    #[tactic(auto, unfolding(crate::specs::Interrupts::due, crate::specs::Interrupts::behind_due))]
+    #[tactic(auto, unfolding(crate::specs::Interrupts::due, crate::specs::Interrupts::due_taken))]
     pub fn take_due(&mut self, step: u64) -> Option<Event>
-        requires { step ≤ 4000000000 }
+        requires { step ≤ GREATEST_STEP }
         ensures event { result ≡ due step self.old }
         ensures is { IfSome result (λ event. IsEvent event) }
-        ensures rest { self.new ≡ behind_due step self.old }
+        ensures rest { self.new ≡ due_taken step self.old }
         ensures nothing { IfNone result (self.new ≡ self.old) }
     {
         if self.is_tick_due(step) {
@@ -98,13 +100,13 @@ impl Model for Pending {
 impl Pending {
     ghost use Rattle.std.specs.Prelude.{◌≡◌, ◌<◌, ℕ, None, IfSome, IfNone, drop, length, slice_get};
     ghost use Rattle.mpm_script.specs.Events.{IsEvent};
-    ghost use Rattle.mpm_interrupts.specs.Interrupts.{script_due, script_behind};
+    ghost use Rattle.mpm_interrupts.specs.Interrupts.{script_due, script_after};
 
     /// Takes the first event, where it is due at a step.
     fn take_due(&mut self, step: u64) -> Option<Event>
         ensures event { result ≡ script_due step self.old }
         ensures is { IfSome result (λ event. IsEvent event) }
-        ensures rest { self.new ≡ script_behind step self.old }
+        ensures rest { self.new ≡ script_after step self.old }
         ensures nothing { IfNone result (self.new ≡ self.old) }
     {
         match self.first() {

@@ -1,3 +1,5 @@
+ghost use Rattle.mpm_script.specs.declared.line.TheConstants.{GREATEST_STEP};
+
 use crate::interrupts::Interrupts;
 use mpm_script::{Event, Script};
 use std::marker::Model;
@@ -25,7 +27,7 @@ impl Model for Schedule {
 impl Schedule {
     ghost use Rattle.std.specs.Prelude.{◌≡◌, ◌<◌, ◌≤◌, ℕ, None, IfSome, IfNone, All};
     ghost use Rattle.mpm_script.specs.Events.{IsEvent, IsTimed};
-    ghost use Rattle.mpm_interrupts.specs.Interrupts.{due, behind_due};
+    ghost use Rattle.mpm_interrupts.specs.Interrupts.{due, due_taken};
 
     /// The ticks and the events of a script, of which none was accepted yet.
     pub fn new(tick_every: u32, script: Script) -> Schedule
@@ -38,12 +40,12 @@ impl Schedule {
     }
 
     /// Takes the event that is due at a step, if any.
-    #[tactic(auto, using(crate::proofs::InterruptLaws::behind_none))]
+    #[tactic(auto, using(crate::proofs::InterruptLaws::none_taken))]
     pub fn take_due(&mut self, step: u64) -> Option<Event>
-        requires { step ≤ 4000000000 }
+        requires { step ≤ GREATEST_STEP }
         ensures event { result ≡ due step self.old }
         ensures is { IfSome result (λ event. IsEvent event) }
-        ensures rest { self.new ≡ behind_due step self.old }
+        ensures rest { self.new ≡ due_taken step self.old }
         ensures nothing { IfNone result (self.new ≡ self.old) }
     {
         if step < self.next {

@@ -4,9 +4,10 @@ use Rattle.std.proofs.lemmas.Bool.{cases_lt}
 use Rattle.std.proofs.lemmas.Bool.Decides.{nat_tests}
 use Rattle.std.proofs.lemmas.List.{get_or_append_left, get_or-append_right, get_or-take, get_or-replicate, get_or_past, length-take, length-replicate, drop-append-le, drop_all}
 use Rattle.mpm_base.specs.Calls.{Taken, Answer, answering, byte_in, word_at}
+use Rattle.mpm_base.specs.declared.functions.TheConstants.{READ_QUEUE}
 use Rattle.mpm_queues.specs.Queue.{in_width, block_size, with_given}
 use Rattle.mpm_queues.proofs.MessageLaws.{length_in_width}
-use Rattle.mpm_kernel.specs.Waiting.{completion_of}
+use Rattle.mpm_kernel.specs.Completion.{completion_of}
 
 -- the block of a call stays as it is given a message, and the message stands behind it
 zero_at : (n k : ℕ) → get_or (replicate {A = ℕ} n 0) k 0 ≡ 0
@@ -44,12 +45,12 @@ function_given : (message : List ℕ) (call : Taken) → (with_given message cal
 unfolding with_given
 function_given message call = refl
 
-pub reader_is_answered : (message : List ℕ) (call : Taken) → call.function ≡ 137
+pub reader_is_answered : (message : List ℕ) (call : Taken) → call.function ≡ READ_QUEUE
     → completion_of (with_given message call) ≡ record (answering 0) { at = word_at call 2; bytes = message }
 unfolding completion_of
 reader_is_answered message call is =
     let given = with_given message call in
-    reading (given.function == 137) _ (word_at given 2) (word_at call 2) (drop block_size given.bytes) message
+    reading (given.function == READ_QUEUE) _ (word_at given 2) (word_at call 2) (drop block_size given.bytes) message
     (grind (arith, nat_tests, function_given message call, is))
     (omega (arith, byte_given message call 2 (omega arith), byte_given message call 3 (omega arith)))
     (message_given message call)

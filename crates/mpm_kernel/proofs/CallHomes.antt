@@ -1,12 +1,12 @@
--- Where processes live, and which calls they keep, behind the calls that wait, those on queues and the others but those on units.
+-- Where processes live, and which calls they keep, after the calls that wait, those on queues and the others but those on units.
 use Rattle.std.proofs.Common.{◌≡◌, ◌≢◌, ◌∙◌, ℕ, Bool, true, false, ◌==◌, List, Option, Some, None, if◌then◌else◌, refl, sym, ap, subst, arith, get_or-set_other}
 use Rattle.mpm_base.specs.Calls.{Taken, no_call, name_at, word_at}
 use Rattle.mpm_procs.specs.Table.{Table, HasSlots, lives, Lives, process_in, call_of, with_call}
 use Rattle.mpm_procs.specs.declared.process.Process.{Process}
-use Rattle.mpm_procs.proofs.MapLaws.{call_behind}
-use Rattle.mpm_kernel.specs.Kernel.{Kernel, IsSound, with_changed}
+use Rattle.mpm_procs.proofs.MapLaws.{call_after}
+use Rattle.mpm_kernel.specs.Kernel.{Kernel, IsSound, with_changed, dispatched}
 use Rattle.mpm_kernel.specs.Called.{Called, valued, low_parameter}
-use Rattle.mpm_kernel.specs.Waiting.{polled, is_flag, behind_flag_wait, waited, flag_waited, flag_set, slept}
+use Rattle.mpm_kernel.specs.Waiting.{polled, is_flag, flag_waited_for, waited, flag_waited, flag_set, slept}
 use Rattle.mpm_clock.specs.PackedDecimal.{names_time}
 use Rattle.mpm_kernel.specs.Dates.{date_set, date_answered, time_answered}
 use Rattle.mpm_kernel.specs.Calls.{called}
@@ -19,20 +19,20 @@ use Rattle.mpm_base.proofs.Choices.{either}
 use Rattle.mpm_kernel.proofs.SoundLaws.{procs_signalled}
 use Rattle.mpm_queues.specs.Queue.{with_given, is_full as is_full_queue}
 use Rattle.mpm_queues.specs.Queues.{waits, queue_in, make_error}
-use Rattle.mpm_queues.specs.Handling.{first_reader, written_by, delivered_to, read_outcome, write_outcome, procs_behind_write}
+use Rattle.mpm_queues.specs.Handling.{first_reader, written_by, delivered_to, read_outcome, write_outcome, procs_after_write}
 use Rattle.mpm_queues.specs.declared.queues.QueueOutcome.{QueueOutcome}
 use Rattle.mpm_queues.specs.declared.queues.QueueOutcome.TheVariants.{Done as Handled, NotNow}
 use Rattle.mpm_queues.proofs.SoundLaws.{reader_waits}
 use Rattle.mpm_queues.proofs.WaitLaws.{waits_one}
-use Rattle.mpm_kernel.specs.Queueing.{with_queue, queue_made, opened, may_delete, deleted, queued, blocked_or_refused, with_other, taken_from, was_read, read_at, given_to, was_written, write_at}
-use Rattle.mpm_kernel.specs.Dispatch.{unlisted, moved, lists_ready, also_completed, behind_equals, with_priority}
+use Rattle.mpm_dispatcher.specs.Dispatch.{with_other, lists_ready, also_completed, behind_equals, with_priority, with_procs}
+use Rattle.mpm_kernel.specs.Queueing.{with_queue, queue_made, opened, may_delete, deleted, queued, blocked_or_refused, taken_from, was_read, read_at, given_to, was_written, write_at}
 use Rattle.mpm_kernel.proofs.Homes.{SameHomes, homes_stay, homes_both, homes_changed, homes_call}
 
 -- the calls of the kernel: who lives, lives where somebody lived, and each process that waits at no queue keeps its call
 
 pub record KeepsHome (old : Kernel) (called : Called) : Type 0 where
   pub homes : SameHomes old called.kernel
-  pub call : (q : ℕ) → waits old.queues q ≡ 0 → call_of called.kernel.procs q ≡ call_of old.procs q
+  pub call : (q : ℕ) → waits old.queues q ≡ 0 → call_of called.kernel.dispatcher.procs q ≡ call_of old.dispatcher.procs q
 
 pub kept_if : (old : Kernel) (b : Bool) (x y : Called) → KeepsHome old x → KeepsHome old y → KeepsHome old (if b then x else y)
 kept_if old b x y s t = either (KeepsHome old) b x y (λ _. s) (λ _. t)
@@ -41,52 +41,50 @@ pub kept_kernel_if : (old : Kernel) (b : Bool) (x y : Kernel) (value : ℕ) → 
     → KeepsHome old (valued value (if b then x else y))
 kept_kernel_if old b x y value s t = either (λ (kernel : Kernel). KeepsHome old (valued value kernel)) b x y (λ _. s) (λ _. t)
 
-pub kept_same : (kernel : Kernel) (called : Called) → called.kernel.procs ≡ kernel.procs → KeepsHome kernel called
+pub kept_same : (kernel : Kernel) (called : Called) → called.kernel.dispatcher.procs ≡ kernel.dispatcher.procs → KeepsHome kernel called
 kept_same kernel called e = record { homes = homes_stay kernel called.kernel e; call = λ q _. ap (λ procs. call_of procs q) e }
 
-pub kept_changed : (p value : ℕ) (kernel : Kernel) (process : Process) → IsSound kernel → Lives kernel.procs p
-    → process.seg ≡ (process_in kernel.procs p).seg → process.abort_due ≡ (process_in kernel.procs p).abort_due
+pub kept_changed : (p value : ℕ) (kernel : Kernel) (process : Process) → IsSound kernel → Lives kernel.dispatcher.procs p
+    → process.seg ≡ (process_in kernel.dispatcher.procs p).seg → process.abort_due ≡ (process_in kernel.dispatcher.procs p).abort_due
     → KeepsHome kernel (valued value (with_changed kernel p process))
 kept_changed p value kernel process s h same due = record {
   homes = homes_changed kernel p process s.slots h same due;
-  call = λ q _. call_behind kernel.procs p q process;
+  call = λ q _. call_after kernel.dispatcher.procs p q process;
 }
 
--- a part of a call behind another one
+-- a part of a call after another one
 pub kept_then : (old middle : Kernel) (called : Called) → KeepsHome old (valued 0 middle) → middle.queues ≡ old.queues → KeepsHome middle called → KeepsHome old called
 kept_then old middle called first e second = record {
   homes = homes_both old middle called.kernel first.homes second.homes;
   call = λ q none. second.call q (ap (λ t. waits t q) e ∙ none) ∙ first.call q none;
 }
 
-pub kept_procs : (old middle : Kernel) (called : Called) → KeepsHome old (valued 0 middle) → called.kernel.procs ≡ middle.procs → KeepsHome old called
+pub kept_procs : (old middle : Kernel) (called : Called) → KeepsHome old (valued 0 middle) → called.kernel.dispatcher.procs ≡ middle.dispatcher.procs → KeepsHome old called
 kept_procs old middle called first e = record {
   homes = homes_both old middle called.kernel first.homes (homes_stay middle called.kernel e);
   call = λ q none. ap (λ procs. call_of procs q) e ∙ first.call q none;
 }
 
-pub kept_behind : (p value : ℕ) (kernel : Kernel) → KeepsHome kernel (valued value (behind_equals kernel p))
-unfolding behind_equals
+pub kept_behind : (p value : ℕ) (kernel : Kernel) → KeepsHome kernel (valued value (dispatched (behind_equals p) kernel))
 kept_behind p value kernel = kept_same kernel _ refl
 
-pub kept_priority : (p value priority : ℕ) (kernel : Kernel) → IsSound kernel → Lives kernel.procs p
-    → KeepsHome kernel (valued value (with_priority kernel p priority))
-unfolding with_priority behind_equals
+pub kept_priority : (p value priority : ℕ) (kernel : Kernel) → IsSound kernel → Lives kernel.dispatcher.procs p
+    → KeepsHome kernel (valued value (dispatched (with_priority p priority) kernel))
 kept_priority p value priority kernel s h =
-    let process = record (process_in kernel.procs p) { priority = priority } in
+    let process = record (process_in kernel.dispatcher.procs p) { priority = priority } in
     record {
       homes = homes_both kernel (with_changed kernel p process) _ (homes_changed kernel p process s.slots h refl refl) (homes_stay _ _ refl);
-      call = λ q _. call_behind kernel.procs p q process;
+      call = λ q _. call_after kernel.dispatcher.procs p q process;
     }
 
 pub kept_polled : (call : Taken) (p : ℕ) (kernel : Kernel) → KeepsHome kernel (polled call p kernel)
-unfolding polled moved
+unfolding polled
 kept_polled call p kernel =
     kept_if kernel (nat_lt 15 (low_parameter call)) _ _ (kept_same kernel _ refl)
     (kept_if kernel (slice_index_or kernel.devices.ready (low_parameter call) false) _ _ (kept_same kernel _ refl) (kept_same kernel _ refl))
 
-kept_waited : (answer : FlagWait) (p : ℕ) (kernel : Kernel) → (waited answer p kernel).kernel.procs ≡ kernel.procs
-unfolding waited unlisted
+kept_waited : (answer : FlagWait) (p : ℕ) (kernel : Kernel) → (waited answer p kernel).kernel.dispatcher.procs ≡ kernel.dispatcher.procs
+unfolding waited
 kept_waited Passed p kernel = refl
 kept_waited Waits p kernel = refl
 kept_waited Underrun p kernel = refl
@@ -96,7 +94,7 @@ unfolding flag_waited
 kept_flag_waited call p kernel =
     let flag = low_parameter call in
     kept_if kernel (is_flag flag) _ _
-    (kept_same kernel _ (kept_waited (wait_answer p (flag_at kernel.flags flag)) p (behind_flag_wait kernel p flag))) (kept_same kernel _ refl)
+    (kept_same kernel _ (kept_waited (wait_answer p (flag_at kernel.flags flag)) p (flag_waited_for kernel p flag))) (kept_same kernel _ refl)
 
 pub kept_flag_set : (call : Taken) (kernel : Kernel) → KeepsHome kernel (flag_set call kernel)
 unfolding flag_set
@@ -104,7 +102,7 @@ kept_flag_set call kernel =
     kept_if kernel (is_flag (low_parameter call)) _ _ (kept_same kernel _ (procs_signalled (low_parameter call) kernel)) (kept_same kernel _ refl)
 
 pub kept_slept : (call : Taken) (p : ℕ) (kernel : Kernel) → KeepsHome kernel (slept call p kernel)
-unfolding slept unlisted
+unfolding slept
 kept_slept call p kernel = kept_if kernel (call.word == 0) _ _ (kept_behind p 0 kernel) (kept_same kernel _ refl)
 
 -- queues
@@ -124,11 +122,11 @@ kept_deleted None kernel = kept_same kernel _ refl
 kept_deleted (Some q) kernel = kept_if kernel (may_delete kernel q) _ _ (kept_same kernel _ refl) (kept_same kernel _ refl)
 
 kept_blocked_or_refused : (may_wait : Bool) (p q : ℕ) (reader : Bool) (kernel : Kernel) → KeepsHome kernel (blocked_or_refused may_wait p q reader kernel)
-unfolding blocked_or_refused queued unlisted
+unfolding blocked_or_refused queued
 kept_blocked_or_refused may_wait p q reader kernel = kept_if kernel may_wait _ _ (kept_same kernel _ refl) (kept_same kernel _ refl)
 
-pub procs_with_other : (other : Option ℕ) (kernel : Kernel) → (with_other other kernel).procs ≡ kernel.procs
-unfolding with_other lists_ready also_completed moved
+pub procs_with_other : (other : Option ℕ) (kernel : Kernel) → (dispatched (with_other other) kernel).dispatcher.procs ≡ kernel.dispatcher.procs
+unfolding lists_ready also_completed
 procs_with_other None kernel = refl
 procs_with_other (Some p) kernel = refl
 
@@ -148,23 +146,23 @@ unfolding with_call
 call_else procs r q call other = get_or-set_other procs.calls r q call no_call other
 
 pub kept_delivered_to : (b : Bool) (o : Option ℕ) (message : List ℕ) (kernel : Kernel) (called : Called)
-    → called.kernel.procs ≡ (if b then kernel.procs else (delivered_to o message kernel.procs)) → ((r : ℕ) → o ≡ Some r → waits kernel.queues r ≡ 1)
+    → called.kernel.dispatcher.procs ≡ (if b then kernel.dispatcher.procs else (delivered_to o message kernel.dispatcher.procs)) → ((r : ℕ) → o ≡ Some r → waits kernel.queues r ≡ 1)
     → KeepsHome kernel called
 kept_delivered_to true o message kernel called e one = kept_same kernel called e
 kept_delivered_to false None message kernel called e one = kept_same kernel called e
 kept_delivered_to false (Some r) message kernel called e one =
-    let call = with_given message (call_of kernel.procs r) in
-    let behind = record kernel { procs = with_call kernel.procs r call } in
+    let call = with_given message (call_of kernel.dispatcher.procs r) in
+    let afterwards = dispatched (with_procs (with_call kernel.dispatcher.procs r call)) kernel in
     record {
-      homes = homes_both kernel behind called.kernel (homes_call kernel r call) (homes_stay behind called.kernel e);
-      call = λ q none. ap (λ procs. call_of procs q) e ∙ call_else kernel.procs r q call (λ same. omega (arith, one r refl, none, ap (waits kernel.queues) same));
+      homes = homes_both kernel afterwards called.kernel (homes_call kernel r call) (homes_stay afterwards called.kernel e);
+      call = λ q none. ap (λ procs. call_of procs q) e ∙ call_else kernel.dispatcher.procs r q call (λ same. omega (arith, one r refl, none, ap (waits kernel.queues) same));
     }
 
 kept_was_written : (outcome : QueueOutcome) (may_wait : Bool) (p q : ℕ) (kernel : Kernel) → IsSound kernel → KeepsHome kernel (was_written outcome may_wait p q kernel)
-unfolding was_written procs_behind_write
+unfolding was_written procs_after_write
 kept_was_written (Handled other) may_wait p q kernel s =
     let t = kernel.queues in
-    kept_delivered_to (is_full_queue (queue_in t q)) (first_reader t q) (written_by t q kernel.procs p) kernel _ (procs_with_other other (given_to kernel p q))
+    kept_delivered_to (is_full_queue (queue_in t q)) (first_reader t q) (written_by t q kernel.dispatcher.procs p) kernel _ (procs_with_other other (given_to kernel p q))
     (λ r first. waits_one t q r s.queues (reader_waits t q r first))
 kept_was_written NotNow may_wait p q kernel s = kept_blocked_or_refused may_wait p q false kernel
 
@@ -174,44 +172,44 @@ kept_write_at None may_wait p kernel s = kept_same kernel _ refl
 kept_write_at (Some q) may_wait p kernel s = kept_was_written (write_outcome kernel.queues q) may_wait p q kernel s
 
 -- a process is in a resident procedure from now on
-kept_inside : (p q message value : ℕ) (old kernel : Kernel) → IsSound old → Lives old.procs p → kernel.procs ≡ old.procs
+kept_inside : (p q message value : ℕ) (old kernel : Kernel) → IsSound old → Lives old.dispatcher.procs p → kernel.dispatcher.procs ≡ old.dispatcher.procs
     → KeepsHome old (valued value (inside p q message kernel))
 unfolding inside
 kept_inside p q message value old kernel s h same =
-    let process = record (process_in kernel.procs p) { procedure = Some q; kept = message } in
+    let process = record (process_in kernel.dispatcher.procs p) { procedure = Some q; kept = message } in
     record {
       homes = homes_both old kernel (with_changed kernel p process) (homes_stay old kernel same)
           (homes_changed kernel p process (subst HasSlots (sym same) s.slots) (ap (λ procs. lives procs p) same ∙ h) refl refl);
-      call = λ k _. call_behind kernel.procs p k process ∙ ap (λ procs. call_of procs k) same;
+      call = λ k _. call_after kernel.dispatcher.procs p k process ∙ ap (λ procs. call_of procs k) same;
     }
 
-kept_procedure_read : (outcome : QueueOutcome) (p q : ℕ) (kernel : Kernel) → IsSound kernel → Lives kernel.procs p
+kept_procedure_read : (outcome : QueueOutcome) (p q : ℕ) (kernel : Kernel) → IsSound kernel → Lives kernel.dispatcher.procs p
     → KeepsHome kernel (procedure_read outcome p q kernel)
 unfolding procedure_read
 kept_procedure_read (Handled other) p q kernel s h =
-    kept_inside p q _ 0 kernel (with_other other (taken_from kernel p q)) s h (procs_with_other other (taken_from kernel p q))
+    kept_inside p q _ 0 kernel (dispatched (with_other other) (taken_from kernel p q)) s h (procs_with_other other (taken_from kernel p q))
 kept_procedure_read NotNow p q kernel s h = kept_blocked_or_refused true p q true kernel
 
-kept_procedure_at : (slot : Option ℕ) (p : ℕ) (kernel : Kernel) → IsSound kernel → Lives kernel.procs p → KeepsHome kernel (procedure_at slot p kernel)
+kept_procedure_at : (slot : Option ℕ) (p : ℕ) (kernel : Kernel) → IsSound kernel → Lives kernel.dispatcher.procs p → KeepsHome kernel (procedure_at slot p kernel)
 unfolding procedure_at
 kept_procedure_at None p kernel s h = kept_same kernel _ refl
 kept_procedure_at (Some q) p kernel s h = kept_procedure_read (read_outcome kernel.queues q) p q kernel s h
 
-pub kept_procedure_called : (call : Taken) (p : ℕ) (kernel : Kernel) → IsSound kernel → Lives kernel.procs p
+pub kept_procedure_called : (call : Taken) (p : ℕ) (kernel : Kernel) → IsSound kernel → Lives kernel.dispatcher.procs p
     → KeepsHome kernel (procedure_called call p kernel)
 unfolding procedure_called
 kept_procedure_called call p kernel s h =
-    kept_if kernel (is_some (process_in kernel.procs p).procedure) _ _ (kept_same kernel _ refl)
+    kept_if kernel (is_some (process_in kernel.dispatcher.procs p).procedure) _ _ (kept_same kernel _ refl)
     (kept_procedure_at (procedure_queue kernel.queues call) p kernel s h)
 
 pub kept_date_set : (call : Taken) (kernel : Kernel) → KeepsHome kernel (date_set call kernel)
 unfolding date_set
 kept_date_set call kernel = kept_if kernel (names_time call) _ _ (kept_same kernel _ refl) (kept_same kernel _ refl)
 
-pub procs_date_answered : (call : Taken) (kernel : Kernel) → (date_answered call kernel).kernel.procs ≡ kernel.procs
+pub procs_date_answered : (call : Taken) (kernel : Kernel) → (date_answered call kernel).kernel.dispatcher.procs ≡ kernel.dispatcher.procs
 unfolding date_answered
 procs_date_answered call kernel = refl
 
-pub procs_time_answered : (call : Taken) (kernel : Kernel) → (time_answered call kernel).kernel.procs ≡ kernel.procs
+pub procs_time_answered : (call : Taken) (kernel : Kernel) → (time_answered call kernel).kernel.dispatcher.procs ≡ kernel.dispatcher.procs
 unfolding time_answered
 procs_time_answered call kernel = refl

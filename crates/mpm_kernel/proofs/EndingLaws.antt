@@ -13,21 +13,22 @@ use Rattle.mpm_procs.specs.declared.process.Process.{Process}
 use Rattle.mpm_procs.proofs.MapLaws.{lives_below, lives_without, lives_without_other, process_without_other, slots_without}
 use Rattle.mpm_queues.specs.Queue.{is_full}
 use Rattle.mpm_queues.specs.Queues.{Queues, IsMade, is_made, queue_in, holds, waits}
-use Rattle.mpm_queues.specs.Handling.{queues_without_waiter, first_reader, written_by, procs_behind_write, write_outcome, woken_by}
+use Rattle.mpm_queues.specs.Handling.{queues_without_waiter, first_reader, written_by, procs_after_write, write_outcome, woken_by}
 use Rattle.mpm_queues.proofs.SoundLaws.{sound_queues_without, reader_waits}
 use Rattle.mpm_queues.proofs.WaitLaws.{waits_without_waiter, waits_without_other, waits_one, write_ends_waiter, holds_made}
 use Rattle.mpm_consoles.specs.Console.{is_owner}
-use Rattle.mpm_consoles.specs.Consoles.{owns}
+use Rattle.mpm_consoles.specs.Consoles.{HasUnit, owns}
+use Rattle.mpm_consoles.specs.declared.unit.Unit.{Unit}
 use Rattle.mpm_consoles.specs.Handling.{units_without_waiter}
 use Rattle.mpm_consoles.proofs.SoundLaws.{sound_units_without}
-use Rattle.mpm_kernel.specs.Kernel.{Kernel, ready, in_lists, places, IsReady, IsOfTwo, IsFit, AreUnits, IsSound, CompletedLive}
-use Rattle.mpm_kernel.specs.Dispatch.{moved, lists_ready, also_completed}
+use Rattle.mpm_dispatcher.specs.Dispatch.{ready, IsReady, moved, lists_ready, also_completed, with_other}
+use Rattle.mpm_kernel.specs.Kernel.{Kernel, in_lists, places, IsOfTwo, IsFit, IsSound, CompletedLive, dispatched}
 use Rattle.mpm_kernel.specs.Called.{valued}
-use Rattle.mpm_kernel.specs.Queueing.{with_other, given_to}
+use Rattle.mpm_kernel.specs.Queueing.{given_to}
 use Rattle.mpm_kernel.specs.Procedures.{writing, outside, given_back_to, given_back}
 use Rattle.mpm_kernel.specs.Ending.{dropped_out, returned, all_returned, units_left, relieved, vacated, discharged, Leaves}
 use Rattle.mpm_kernel.proofs.PlaceLaws.{in_none, not_equal, list_moved_other, flags_without_own, flags_without_other, length_without_waiter}
-use Rattle.mpm_kernel.proofs.Soundness.{dead_and_alive, listed_once, runs_other, sound_ready, sound_with_completed, MayBeReady}
+use Rattle.mpm_kernel.proofs.Soundness.{AreUnits, fit_kept, dead_and_alive, listed_once, runs_other, sound_ready, sound_with_completed, MayBeReady}
 use Rattle.mpm_kernel.proofs.UnitWaits.{units_without_own, units_without_other, length_units_without, printers_units_without, has_units_without, owner_units_without}
 use Rattle.mpm_kernel.proofs.LeavingLaws.{OwnsNothing, left_units, owns_none}
 use Rattle.mpm_kernel.proofs.Staying.{all_and_one}
@@ -40,13 +41,13 @@ use Rattle.mpm_kernel.proofs.ProcedureLaws.{sound_outside, lives_outside, nobody
 dropped_nowhere : (p : ℕ) (kernel : Kernel) → places (dropped_out p kernel) p ≡ 0
 unfolding dropped_out clock_without_delay
 dropped_nowhere p kernel =
-    omega (arith, in_none _ (list_of_removed kernel.lists p), flags_without_own kernel.flags p, delays_without_own kernel.clock.delays p, waits_without_waiter kernel.queues p, units_without_own kernel.units p)
+    omega (arith, in_none _ (list_of_removed kernel.dispatcher.lists p), flags_without_own kernel.flags p, delays_without_own kernel.clock.delays p, waits_without_waiter kernel.queues p, units_without_own kernel.units p)
 
 dropped_elsewhere : (p q : ℕ) (kernel : Kernel) → IsSound kernel → q ≢ p → places (dropped_out p kernel) q ≡ places kernel q
 unfolding dropped_out clock_without_delay
 dropped_elsewhere p q kernel s other =
-    let same = list_of_removed_other kernel.lists p q s.table (not_equal p q (λ e. other (sym e))) in
-    omega (arith, ap in_lists same, flags_without_other kernel.flags p q other, delays_without_other kernel.clock.delays p q other, waits_without_other kernel.queues p q s.queues other, units_without_other kernel.units p q s.units.sound other)
+    let same = list_of_removed_other kernel.dispatcher.lists p q s.table (not_equal p q (λ e. other (sym e))) in
+    omega (arith, ap in_lists same, flags_without_other kernel.flags p q other, delays_without_other kernel.clock.delays p q other, waits_without_other kernel.queues p q s.queues other, units_without_other kernel.units p q s.units other)
 
 made_without_waiter : (t : Queues) (p q : ℕ) → IsMade t q → IsMade (queues_without_waiter t p) q
 unfolding queues_without_waiter
@@ -56,28 +57,27 @@ two_without_waiter : (t : Queues) (p q : ℕ) → IsOfTwo t q → IsOfTwo (queue
 unfolding queues_without_waiter
 two_without_waiter t p q two = two
 
-procs_dropped : (p : ℕ) (kernel : Kernel) → (dropped_out p kernel).procs ≡ kernel.procs
+procs_dropped : (p : ℕ) (kernel : Kernel) → (dropped_out p kernel).dispatcher.procs ≡ kernel.dispatcher.procs
 unfolding dropped_out
 procs_dropped p kernel = refl
 
-units_dropped : (kernel : Kernel) (p : ℕ) → IsSound kernel → AreUnits kernel.consoles kernel.printers kernel.procs (units_without_waiter kernel.units p)
+units_dropped : (kernel : Kernel) (p : ℕ) → IsSound kernel → AreUnits kernel.units kernel.dispatcher.procs (units_without_waiter kernel.units p)
 units_dropped kernel p s = record {
-  sound = sound_units_without kernel.units p s.units.sound;
-  all_consoles = length_units_without kernel.units p ∙ s.units.all_consoles;
-  all_printers = printers_units_without kernel.units p ∙ s.units.all_printers;
+  sound = sound_units_without kernel.units p s.units;
+  consoles = length_units_without kernel.units p;
+  printers = printers_units_without kernel.units p;
   owners = λ unit q there is.
-      s.units.owners unit q (has_units_without kernel.units p unit there) (sym (ap (λ o. is_owner o q) (owner_units_without kernel.units p unit)) ∙ is);
+      s.owners unit q (has_units_without kernel.units p unit there) (sym (ap (λ o. is_owner o q) (owner_units_without kernel.units p unit)) ∙ is);
 }
 
-pub sound_dropped : (p : ℕ) (kernel : Kernel) → IsSound kernel → Lives kernel.procs p → IsSound (dropped_out p kernel)
+pub sound_dropped : (p : ℕ) (kernel : Kernel) → IsSound kernel → Lives kernel.dispatcher.procs p → IsSound (dropped_out p kernel)
 unfolding dropped_out
 sound_dropped p kernel s h = record {
-  some = s.some;
-  few = s.few;
-  units = units_dropped kernel p s;
+  units = (units_dropped kernel p s).sound;
+  owners = (units_dropped kernel p s).owners;
   slots = s.slots;
-  table = table_removed kernel.lists p s.table;
-  fit = s.fit;
+  table = table_removed kernel.dispatcher.lists p s.table;
+  fit = λ q living. fit_kept kernel.units _ _ (length_units_without kernel.units p) (printers_units_without kernel.units p) (s.fit q living);
   flags = length_without_waiter kernel.flags p ∙ s.flags;
   queues = sound_queues_without kernel.queues p s.queues;
   system = λ q below. made_without_waiter kernel.queues p q (s.system q below);
@@ -87,16 +87,16 @@ sound_dropped p kernel s h = record {
     | inr other ↦ omega (arith, s.once q, dropped_elsewhere p q kernel s other)
   ];
   live = λ q some. elim (cases_eq q p) [
-    | inl same ↦ ap (lives kernel.procs) same ∙ h
+    | inl same ↦ ap (lives kernel.dispatcher.procs) same ∙ h
     | inr other ↦ s.live q (omega (arith, some, dropped_elsewhere p q kernel s other))
   ];
   runs = λ q e.
-      let other : q ≢ p = (runs_other p q kernel.running e).0 in
-      list_of_removed_other kernel.lists p q s.table (not_equal p q (λ e. other (sym e)))
-      ∙ s.runs q (runs_other p q kernel.running e).1;
+      let other : q ≢ p = (runs_other p q kernel.dispatcher.running e).0 in
+      list_of_removed_other kernel.dispatcher.lists p q s.table (not_equal p q (λ e. other (sym e)))
+      ∙ s.runs q (runs_other p q kernel.dispatcher.running e).1;
 }
 
-pub lives_dropped : (p q : ℕ) (kernel : Kernel) → Lives kernel.procs q → Lives (dropped_out p kernel).procs q
+pub lives_dropped : (p q : ℕ) (kernel : Kernel) → Lives kernel.dispatcher.procs q → Lives (dropped_out p kernel).dispatcher.procs q
 unfolding dropped_out
 lives_dropped p q kernel h = h
 
@@ -105,9 +105,9 @@ places_outside : (p q : ℕ) (kernel : Kernel) → places (outside p kernel) q �
 unfolding outside
 places_outside p q kernel = refl
 
-leaves_outside : (p : ℕ) (kernel : Kernel) → IsSound kernel → Lives kernel.procs p → places kernel p ≡ 0 → Leaves p (outside p kernel)
+leaves_outside : (p : ℕ) (kernel : Kernel) → IsSound kernel → Lives kernel.dispatcher.procs p → places kernel p ≡ 0 → Leaves p (outside p kernel)
 leaves_outside p kernel s h none =
-    let P : List ℕ → Type 0 = λ ps. AllByRecursion (λ q. Lives (outside p kernel).procs q × (q ≢ p)) ps in
+    let P : List ℕ → Type 0 = λ ps. AllByRecursion (λ q. Lives (outside p kernel).dispatcher.procs q × (q ≢ p)) ps in
     record {
       sound = sound_outside p kernel s h;
       lives = lives_outside p p kernel h;
@@ -117,18 +117,18 @@ leaves_outside p kernel s h none =
 
 -- the held call of another one is completed
 leaves_other : (other : Option ℕ) (p : ℕ) (kernel : Kernel) → Leaves p kernel → ((r : ℕ) → other ≡ Some r → MayBeReady kernel r × (r ≢ p))
-    → Leaves p (with_other other kernel)
-unfolding with_other lists_ready also_completed moved
+    → Leaves p (dispatched (with_other other) kernel)
+unfolding lists_ready also_completed
 leaves_other None p kernel l may = l
 leaves_other (Some r) p kernel l may =
     let one = may r refl in
-    let below : r < 32 = lives_below kernel.procs r l.sound.slots one.0.0 in
+    let below : r < 32 = lives_below kernel.dispatcher.procs r l.sound.slots one.0.0 in
     let apart : p ≢ r = λ same. one.1 (sym same) in
     record {
-      sound = sound_with_completed (moved kernel ready r) (kernel.completed ++ r ∷ []) (sound_ready kernel r l.sound one.0.0 one.0.1);
+      sound = sound_with_completed (dispatched (moved ready r) kernel) (kernel.dispatcher.completed ++ r ∷ []) (sound_ready kernel r l.sound one.0.0 one.0.1);
       lives = l.lives;
-      nowhere = omega (arith, ap in_lists (list_moved_other kernel.lists ready r (process_in kernel.procs r).priority p l.sound.table (omega arith) below apart), l.nowhere);
-      others = all_and_one (λ q. Lives kernel.procs q × (q ≢ p)) kernel.completed r l.others (one.0.0, one.1);
+      nowhere = omega (arith, ap in_lists (list_moved_other kernel.dispatcher.lists ready r (process_in kernel.dispatcher.procs r).priority p l.sound.table (omega arith) below apart), l.nowhere);
+      others = all_and_one (λ q. Lives kernel.dispatcher.procs q × (q ≢ p)) kernel.dispatcher.completed r l.others (one.0.0, one.1);
     }
 
 others_kept : (old new : Table) (p : ℕ) (ps : List ℕ) → ((q : ℕ) → lives new q ≡ lives old q) → AllByRecursion (λ q. Lives old q × (q ≢ p)) ps
@@ -141,9 +141,9 @@ leaves_written p q kernel l is =
     let t = kernel.queues in
     record {
       sound = sound_given kernel p q l.sound is;
-      lives = lives_written t p q kernel.procs p ∙ l.lives;
-      nowhere = omega (arith, l.nowhere, write_waits t p q kernel.procs p l.sound.queues);
-      others = others_kept kernel.procs (procs_behind_write t p q kernel.procs) p kernel.completed (λ k. lives_written t p q kernel.procs k) l.others;
+      lives = lives_written t p q kernel.dispatcher.procs p ∙ l.lives;
+      nowhere = omega (arith, l.nowhere, write_waits t p q kernel.dispatcher.procs p l.sound.queues);
+      others = others_kept kernel.dispatcher.procs (procs_after_write t p q kernel.dispatcher.procs) p kernel.dispatcher.completed (λ k. lives_written t p q kernel.dispatcher.procs k) l.others;
     }
 
 -- who waits to read from a queue is another one
@@ -161,11 +161,11 @@ leaves_given (Some q) p kernel l =
     (λ r first. (may_by_write kernel p q r l.sound first, waiter_apart p q r kernel l first)))
     (λ _. l)
 
-pub leaves_given_back : (p : ℕ) (kernel : Kernel) → IsSound kernel → Lives kernel.procs p → Leaves p (given_back p (dropped_out p kernel))
+pub leaves_given_back : (p : ℕ) (kernel : Kernel) → IsSound kernel → Lives kernel.dispatcher.procs p → Leaves p (given_back p (dropped_out p kernel))
 unfolding given_back
 leaves_given_back p kernel s h =
     let gone = dropped_out p kernel in
-    leaves_given (process_in gone.procs p).procedure p (outside p gone)
+    leaves_given (process_in gone.dispatcher.procs p).procedure p (outside p gone)
     (leaves_outside p gone (sound_dropped p kernel s h) (lives_dropped p p kernel h) (dropped_nowhere p kernel))
 
 pub held_made : (p q : ℕ) (kernel : Kernel) → Leaves p kernel → holds kernel.queues p q ≡ true → IsMade kernel.queues q
@@ -180,16 +180,16 @@ unfolding all_returned
 leaves_all_returned [] p kernel l = l
 leaves_all_returned (q ∷ qs) p kernel l = leaves_all_returned qs p (returned p q kernel) (leaves_returned p q kernel l)
 
-pub leaves_messages : (p : ℕ) (kernel : Kernel) → IsSound kernel → Lives kernel.procs p
+pub leaves_messages : (p : ℕ) (kernel : Kernel) → IsSound kernel → Lives kernel.dispatcher.procs p
     → Leaves p (all_returned (range_with_len 0 32) p (given_back p (dropped_out p kernel)))
 leaves_messages p kernel s h = leaves_all_returned (range_with_len 0 32) p _ (leaves_given_back p kernel s h)
 
 -- its consoles and printers pass on
-completed_as : (p : ℕ) (old new : Kernel) → new.procs ≡ old.procs → new.completed ≡ old.completed
-    → AllByRecursion (λ q. Lives old.procs q × (q ≢ p)) old.completed → AllByRecursion (λ q. Lives new.procs q × (q ≢ p)) new.completed
+completed_as : (p : ℕ) (old new : Kernel) → new.dispatcher.procs ≡ old.dispatcher.procs → new.dispatcher.completed ≡ old.dispatcher.completed
+    → AllByRecursion (λ q. Lives old.dispatcher.procs q × (q ≢ p)) old.dispatcher.completed → AllByRecursion (λ q. Lives new.dispatcher.procs q × (q ≢ p)) new.dispatcher.completed
 completed_as p old new same all_same all =
-    let P : Table → Type 0 = λ procs. AllByRecursion (λ q. Lives procs q × (q ≢ p)) new.completed in
-    let Q : List ℕ → Type 0 = λ ps. AllByRecursion (λ q. Lives old.procs q × (q ≢ p)) ps in
+    let P : Table → Type 0 = λ procs. AllByRecursion (λ q. Lives procs q × (q ≢ p)) new.dispatcher.completed in
+    let Q : List ℕ → Type 0 = λ ps. AllByRecursion (λ q. Lives old.dispatcher.procs q × (q ≢ p)) ps in
     subst P (sym same) (subst Q (sym all_same) all)
 
 leaves_units_left : (p : ℕ) (kernel : Kernel) → Leaves p kernel → Leaves p (units_left p kernel)
@@ -202,47 +202,47 @@ leaves_units_left p kernel l =
       others = completed_as p kernel (units_left p kernel) left.procs left.completed l.others;
     }
 
-pub leaves_relieved : (p : ℕ) (kernel : Kernel) → IsSound kernel → Lives kernel.procs p → Leaves p (relieved p kernel)
+pub leaves_relieved : (p : ℕ) (kernel : Kernel) → IsSound kernel → Lives kernel.dispatcher.procs p → Leaves p (relieved p kernel)
 unfolding relieved
 leaves_relieved p kernel s h = leaves_units_left p _ (leaves_messages p kernel s h)
 
-nothing_relieved : (p : ℕ) (kernel : Kernel) → IsSound kernel → Lives kernel.procs p → OwnsNothing (relieved p kernel).units p
+nothing_relieved : (p : ℕ) (kernel : Kernel) → IsSound kernel → Lives kernel.dispatcher.procs p → OwnsNothing (relieved p kernel).units p
 unfolding relieved
 nothing_relieved p kernel s h = owns_none p _ (leaves_messages p kernel s h).sound
 
 -- how many calls are completed by that
-few_other : (other : Option ℕ) (kernel : Kernel) → length (with_other other kernel).completed ≤ length kernel.completed + 1
-unfolding with_other lists_ready also_completed moved
+few_other : (other : Option ℕ) (kernel : Kernel) → length (dispatched (with_other other) kernel).dispatcher.completed ≤ length kernel.dispatcher.completed + 1
+unfolding lists_ready also_completed
 few_other None kernel = omega arith
-few_other (Some p) kernel = omega (arith, length-append kernel.completed (p ∷ []))
+few_other (Some p) kernel = omega (arith, length-append kernel.dispatcher.completed (p ∷ []))
 
-few_given : (queue : Option ℕ) (p : ℕ) (kernel : Kernel) → length (given_back_to queue p kernel).completed ≤ length kernel.completed + 1
+few_given : (queue : Option ℕ) (p : ℕ) (kernel : Kernel) → length (given_back_to queue p kernel).dispatcher.completed ≤ length kernel.dispatcher.completed + 1
 unfolding given_back_to
 few_given None p kernel = omega arith
 few_given (Some q) p kernel =
-    either (λ (k : Kernel). length k.completed ≤ length kernel.completed + 1) (is_made kernel.queues q) _ _
+    either (λ (k : Kernel). length k.dispatcher.completed ≤ length kernel.dispatcher.completed + 1) (is_made kernel.queues q) _ _
     (λ _. few_other (woken_by (write_outcome kernel.queues q)) (given_to kernel p q)) (λ _. omega arith)
 
-pub few_given_back : (p : ℕ) (kernel : Kernel) → length (given_back p kernel).completed ≤ 1
+pub few_given_back : (p : ℕ) (kernel : Kernel) → length (given_back p kernel).dispatcher.completed ≤ 1
 unfolding given_back
 few_given_back p kernel =
-    omega (arith, few_given (process_in kernel.procs p).procedure p (outside p kernel), ap (λ (ps : List ℕ). length ps) (nobody_outside p kernel))
+    omega (arith, few_given (process_in kernel.dispatcher.procs p).procedure p (outside p kernel), ap (λ (ps : List ℕ). length ps) (nobody_outside p kernel))
 
-few_returned : (p q : ℕ) (kernel : Kernel) → length (returned p q kernel).completed ≤ length kernel.completed + 1
+few_returned : (p q : ℕ) (kernel : Kernel) → length (returned p q kernel).dispatcher.completed ≤ length kernel.dispatcher.completed + 1
 unfolding returned
 few_returned p q kernel =
-    either (λ (k : Kernel). length k.completed ≤ length kernel.completed + 1) (holds kernel.queues p q) _ _ (λ _. few_given (Some q) p kernel) (λ _. omega arith)
+    either (λ (k : Kernel). length k.dispatcher.completed ≤ length kernel.dispatcher.completed + 1) (holds kernel.queues p q) _ _ (λ _. few_given (Some q) p kernel) (λ _. omega arith)
 
 -- the queues so far: what is left of all
 pub record ReturnedSo (p : ℕ) (start now : Kernel) (q : ℕ) : Type 0 where
   pub kernel : (rest : ℕ) → q + rest ≡ 32 → all_returned (range_with_len 0 32) p start ≡ all_returned (range_with_len q rest) p now
   pub leaves : Leaves p now
-  pub few : length now.completed ≤ 1 + q
+  pub few : length now.dispatcher.completed ≤ 1 + q
 
 all_of : (rest : ℕ) → 0 + rest ≡ 32 → 32 ≡ rest
 all_of rest all = omega (arith, all)
 
-pub returned_nothing : (p : ℕ) (start : Kernel) → Leaves p start → length start.completed ≤ 1 → ReturnedSo p start start 0
+pub returned_nothing : (p : ℕ) (start : Kernel) → Leaves p start → length start.dispatcher.completed ≤ 1 → ReturnedSo p start start 0
 returned_nothing p start l few = record {
   kernel = λ rest all. ap (λ (n : ℕ). all_returned (range_with_len 0 n) p start) (all_of rest all);
   leaves = l;
@@ -259,7 +259,7 @@ returned_more p start now next q so is = record {
       so.kernel (suc rest) (omega (arith, all)) ∙ one_returned q (range_with_len (q + 1) rest) p now
       ∙ ap (λ (kernel : Kernel). all_returned (range_with_len (q + 1) rest) p kernel) (sym is);
   leaves = subst (Leaves p) (sym is) (leaves_returned p q now so.leaves);
-  few = omega (arith, ap (λ (kernel : Kernel). length kernel.completed) is, few_returned p q now, so.few);
+  few = omega (arith, ap (λ (kernel : Kernel). length kernel.dispatcher.completed) is, few_returned p q now, so.few);
 }
 
 none_returned : (p : ℕ) (kernel : Kernel) → all_returned [] p kernel ≡ kernel
@@ -272,48 +272,40 @@ returned_all p start now q end so =
     sym (so.kernel 0 all ∙ none_returned p now)
 
 -- the slot is free
-units_vacated : (p : ℕ) (kernel : Kernel) → Leaves p kernel → OwnsNothing kernel.units p
-    → AreUnits kernel.consoles kernel.printers (without kernel.procs p) kernel.units
-units_vacated p kernel l nothing =
-    let are = l.sound.units in
-    record {
-      sound = are.sound;
-      all_consoles = are.all_consoles;
-      all_printers = are.all_printers;
-      owners = λ unit q has is.
-          let other : q ≢ p = λ same. false≢true (sym (nothing unit has) ∙ ap (λ x. owns kernel.units x unit) (sym same) ∙ is) in
-          lives_without_other kernel.procs p q other ∙ are.owners unit q has is;
-    }
+owners_vacated : (p : ℕ) (kernel : Kernel) → Leaves p kernel → OwnsNothing kernel.units p
+    → (unit : Unit) (q : ℕ) → HasUnit kernel.units unit → owns kernel.units q unit ≡ true → Lives (without kernel.dispatcher.procs p) q
+owners_vacated p kernel l nothing unit q has is =
+    let other : q ≢ p = λ same. false≢true (sym (nothing unit has) ∙ ap (λ x. owns kernel.units x unit) (sym same) ∙ is) in
+    lives_without_other kernel.dispatcher.procs p q other ∙ l.sound.owners unit q has is
 
 sound_vacated : (p : ℕ) (kernel : Kernel) → Leaves p kernel → OwnsNothing kernel.units p → IsSound (vacated p kernel)
 sound_vacated p kernel l nothing =
     let s = l.sound in
-    let below : p < 32 = lives_below kernel.procs p s.slots l.lives in
+    let below : p < 32 = lives_below kernel.dispatcher.procs p s.slots l.lives in
     record {
-      some = s.some;
-      few = s.few;
-      units = units_vacated p kernel l nothing;
-      slots = slots_without kernel.procs p s.slots;
+      units = s.units;
+      owners = owners_vacated p kernel l nothing;
+      slots = slots_without kernel.dispatcher.procs p s.slots;
       table = s.table;
       fit = λ q living. elim (cases_eq q p) [
-        | inl same ↦ absurd (dead_and_alive _ (ap (lives (without kernel.procs p)) same ∙ lives_without kernel.procs p (omega (arith, s.slots.alive))) living)
+        | inl same ↦ absurd (dead_and_alive _ (ap (lives (without kernel.dispatcher.procs p)) same ∙ lives_without kernel.dispatcher.procs p (omega (arith, s.slots.alive))) living)
         | inr other ↦
-            let P : Process → Type 0 = λ x. IsFit kernel.consoles kernel.printers x in
-            subst P (sym (process_without_other kernel.procs p q other)) (s.fit q (sym (lives_without_other kernel.procs p q other) ∙ living))
+            let P : Process → Type 0 = λ x. IsFit kernel.units x in
+            subst P (sym (process_without_other kernel.dispatcher.procs p q other)) (s.fit q (sym (lives_without_other kernel.dispatcher.procs p q other) ∙ living))
       ];
       flags = s.flags;
       queues = s.queues;
       system = s.system;
       inside = λ q k living is. elim (cases_eq q p) [
-        | inl same ↦ absurd (dead_and_alive _ (ap (lives (without kernel.procs p)) same ∙ lives_without kernel.procs p (omega (arith, s.slots.alive))) living)
+        | inl same ↦ absurd (dead_and_alive _ (ap (lives (without kernel.dispatcher.procs p)) same ∙ lives_without kernel.dispatcher.procs p (omega (arith, s.slots.alive))) living)
         | inr other ↦
-            s.inside q k (sym (lives_without_other kernel.procs p q other) ∙ living)
-            (ap (λ x. x.procedure) (sym (process_without_other kernel.procs p q other)) ∙ is)
+            s.inside q k (sym (lives_without_other kernel.dispatcher.procs p q other) ∙ living)
+            (ap (λ x. x.procedure) (sym (process_without_other kernel.dispatcher.procs p q other)) ∙ is)
       ];
       once = s.once;
       live = λ q some. elim (cases_eq q p) [
         | inl same ↦ absurd (omega (arith, ap (places kernel) same, l.nowhere))
-        | inr other ↦ lives_without_other kernel.procs p q other ∙ s.live q some
+        | inr other ↦ lives_without_other kernel.dispatcher.procs p q other ∙ s.live q some
       ];
       runs = s.runs;
     }
@@ -323,21 +315,21 @@ others_live p [] procs all = tt
 others_live p (q ∷ ps) procs all = (lives_without_other procs p q all.0.1 ∙ all.0.0, others_live p ps procs all.1)
 
 -- a process ends
-pub sound_discharged : (kernel : Kernel) (p : ℕ) → IsSound kernel → Lives kernel.procs p → IsSound (discharged kernel p)
+pub sound_discharged : (kernel : Kernel) (p : ℕ) → IsSound kernel → Lives kernel.dispatcher.procs p → IsSound (discharged kernel p)
 unfolding discharged
 sound_discharged kernel p s h = sound_vacated p (relieved p kernel) (leaves_relieved p kernel s h) (nothing_relieved p kernel s h)
 
-pub live_discharged : (kernel : Kernel) (p : ℕ) → IsSound kernel → Lives kernel.procs p → CompletedLive (discharged kernel p)
+pub live_discharged : (kernel : Kernel) (p : ℕ) → IsSound kernel → Lives kernel.dispatcher.procs p → CompletedLive (discharged kernel p)
 unfolding discharged
 live_discharged kernel p s h =
-    let behind = relieved p kernel in others_live p behind.completed behind.procs (leaves_relieved p kernel s h).others
+    let afterwards = relieved p kernel in others_live p afterwards.dispatcher.completed afterwards.dispatcher.procs (leaves_relieved p kernel s h).others
 
-pub dead_discharged : (kernel : Kernel) (p : ℕ) → IsSound kernel → Lives kernel.procs p → lives (discharged kernel p).procs p ≡ false
+pub dead_discharged : (kernel : Kernel) (p : ℕ) → IsSound kernel → Lives kernel.dispatcher.procs p → lives (discharged kernel p).dispatcher.procs p ≡ false
 unfolding discharged
 dead_discharged kernel p s h =
     let l = leaves_relieved p kernel s h in
-    let below : p < 32 = lives_below (relieved p kernel).procs p l.sound.slots l.lives in
-    lives_without (relieved p kernel).procs p (omega (arith, below, l.sound.slots.alive))
+    let below : p < 32 = lives_below (relieved p kernel).dispatcher.procs p l.sound.slots l.lives in
+    lives_without (relieved p kernel).dispatcher.procs p (omega (arith, below, l.sound.slots.alive))
 
 -- who lives lives where somebody did
 homes_returned : (p q : ℕ) (kernel : Kernel) → SameHomes kernel (returned p q kernel)
@@ -349,7 +341,7 @@ unfolding all_returned
 homes_all_returned [] p kernel = homes_stay kernel kernel refl
 homes_all_returned (q ∷ qs) p kernel = homes_both kernel (returned p q kernel) _ (homes_returned p q kernel) (homes_all_returned qs p (returned p q kernel))
 
-homes_relieved : (p : ℕ) (kernel : Kernel) → IsSound kernel → Lives kernel.procs p → SameHomes kernel (relieved p kernel)
+homes_relieved : (p : ℕ) (kernel : Kernel) → IsSound kernel → Lives kernel.dispatcher.procs p → SameHomes kernel (relieved p kernel)
 unfolding relieved
 homes_relieved p kernel s h =
     let gone = dropped_out p kernel in
@@ -360,17 +352,17 @@ homes_relieved p kernel s h =
     (homes_both back returned_all _ (homes_all_returned (range_with_len 0 32) p back)
     (homes_stay returned_all (units_left p returned_all) (left_units p returned_all (leaves_messages p kernel s h).sound).procs)))
 
-pub homes_discharged : (kernel : Kernel) (p : ℕ) → IsSound kernel → Lives kernel.procs p → SameHomes kernel (discharged kernel p)
+pub homes_discharged : (kernel : Kernel) (p : ℕ) → IsSound kernel → Lives kernel.dispatcher.procs p → SameHomes kernel (discharged kernel p)
 unfolding discharged
 homes_discharged kernel p s h =
-    let behind = relieved p kernel in
+    let afterwards = relieved p kernel in
     let leaves = leaves_relieved p kernel s h in
-    homes_both kernel behind _ (homes_relieved p kernel s h) (homes_vacated behind p leaves.sound.slots leaves.lives)
+    homes_both kernel afterwards _ (homes_relieved p kernel s h) (homes_vacated afterwards p leaves.sound.slots leaves.lives)
 
 -- who doesn't end lives on, and keeps its call where it waits at no queue
 record Keeps (q : ℕ) (old new : Kernel) : Type 0 where
-  pub lives : lives new.procs q ≡ lives old.procs q
-  pub call : waits old.queues q ≡ 0 → call_of new.procs q ≡ call_of old.procs q
+  pub lives : lives new.dispatcher.procs q ≡ lives old.dispatcher.procs q
+  pub call : waits old.queues q ≡ 0 → call_of new.dispatcher.procs q ≡ call_of old.dispatcher.procs q
   pub waits : waits old.queues q ≡ 0 → waits new.queues q ≡ 0
 
 keeps_both : (q : ℕ) (old middle new : Kernel) → Keeps q old middle → Keeps q middle new → Keeps q old new
@@ -380,7 +372,7 @@ keeps_both q old middle new first second = record {
   waits = λ none. second.waits (first.waits none);
 }
 
-keeps_same : (q : ℕ) (old new : Kernel) → new.procs ≡ old.procs → (waits old.queues q ≡ 0 → waits new.queues q ≡ 0) → Keeps q old new
+keeps_same : (q : ℕ) (old new : Kernel) → new.dispatcher.procs ≡ old.dispatcher.procs → (waits old.queues q ≡ 0 → waits new.queues q ≡ 0) → Keeps q old new
 keeps_same q old new same none = record { lives = ap (λ procs. lives procs q) same; call = λ _. ap (λ procs. call_of procs q) same; waits = none }
 
 keeps_itself : (q : ℕ) (kernel : Kernel) → Keeps q kernel kernel
@@ -394,22 +386,22 @@ keeps_outside : (p q : ℕ) (kernel : Kernel) → q ≢ p → Keeps q kernel (ou
 unfolding outside with_process Rattle.mpm_procs.specs.Table.with_call
 keeps_outside p q kernel other = record {
   lives = refl;
-  call = λ none. get_or-set_other kernel.procs.calls p q (writing (process_in kernel.procs p).kept) no_call other;
+  call = λ none. get_or-set_other kernel.dispatcher.procs.calls p q (writing (process_in kernel.dispatcher.procs p).kept) no_call other;
   waits = λ none. none;
 }
 
-keeps_written : (p q k : ℕ) (kernel : Kernel) → IsSound kernel → Keeps k kernel (with_other (woken_by (write_outcome kernel.queues q)) (given_to kernel p q))
-unfolding procs_behind_write
+keeps_written : (p q k : ℕ) (kernel : Kernel) → IsSound kernel → Keeps k kernel (dispatched (with_other (woken_by (write_outcome kernel.queues q))) (given_to kernel p q))
+unfolding procs_after_write
 keeps_written p q k kernel s =
     let t = kernel.queues in
     let other = woken_by (write_outcome t q) in
-    let behind = with_other other (given_to kernel p q) in
-    let kept = kept_delivered_to (is_full (queue_in t q)) (first_reader t q) (written_by t q kernel.procs p) kernel (valued 0 behind) (procs_with_other other (given_to kernel p q))
+    let afterwards = dispatched (with_other other) (given_to kernel p q) in
+    let kept = kept_delivered_to (is_full (queue_in t q)) (first_reader t q) (written_by t q kernel.dispatcher.procs p) kernel (valued 0 afterwards) (procs_with_other other (given_to kernel p q))
     (λ r first. waits_one t q r s.queues (reader_waits t q r first)) in
     record {
-      lives = ap (λ procs. lives procs k) (procs_with_other other (given_to kernel p q)) ∙ lives_written t p q kernel.procs k;
+      lives = ap (λ procs. lives procs k) (procs_with_other other (given_to kernel p q)) ∙ lives_written t p q kernel.dispatcher.procs k;
       call = λ none. kept.call k none;
-      waits = λ none. omega (arith, none, ap (λ queues. waits queues k) (queues_with_other other (given_to kernel p q)), write_waits t p q kernel.procs k s.queues);
+      waits = λ none. omega (arith, none, ap (λ queues. waits queues k) (queues_with_other other (given_to kernel p q)), write_waits t p q kernel.dispatcher.procs k s.queues);
     }
 
 keeps_given : (queue : Option ℕ) (p k : ℕ) (kernel : Kernel) → IsSound kernel → Keeps k kernel (given_back_to queue p kernel)
@@ -417,11 +409,11 @@ unfolding given_back_to
 keeps_given None p k kernel s = keeps_itself k kernel
 keeps_given (Some q) p k kernel s = either (Keeps k kernel) (is_made kernel.queues q) _ _ (λ _. keeps_written p q k kernel s) (λ _. keeps_itself k kernel)
 
-keeps_given_back : (p k : ℕ) (kernel : Kernel) → IsSound kernel → Lives kernel.procs p → k ≢ p → Keeps k kernel (given_back p kernel)
+keeps_given_back : (p k : ℕ) (kernel : Kernel) → IsSound kernel → Lives kernel.dispatcher.procs p → k ≢ p → Keeps k kernel (given_back p kernel)
 unfolding given_back
 keeps_given_back p k kernel s h other =
     keeps_both k kernel (outside p kernel) _ (keeps_outside p k kernel other)
-    (keeps_given (process_in kernel.procs p).procedure p k (outside p kernel) (sound_outside p kernel s h))
+    (keeps_given (process_in kernel.dispatcher.procs p).procedure p k (outside p kernel) (sound_outside p kernel s h))
 
 keeps_returned : (p q k : ℕ) (kernel : Kernel) → IsSound kernel → Keeps k kernel (returned p q kernel)
 unfolding returned
@@ -439,7 +431,7 @@ keeps_units_left p k kernel s =
     let left = left_units p kernel s in
     keeps_same k kernel (units_left p kernel) left.procs (λ none. ap (λ queues. waits queues k) left.queues ∙ none)
 
-keeps_relieved : (p k : ℕ) (kernel : Kernel) → IsSound kernel → Lives kernel.procs p → k ≢ p → Keeps k kernel (relieved p kernel)
+keeps_relieved : (p k : ℕ) (kernel : Kernel) → IsSound kernel → Lives kernel.dispatcher.procs p → k ≢ p → Keeps k kernel (relieved p kernel)
 unfolding relieved
 keeps_relieved p k kernel s h other =
     let gone = dropped_out p kernel in
@@ -450,30 +442,30 @@ keeps_relieved p k kernel s h other =
     (keeps_both k back returned_all _ (keeps_all_returned (range_with_len 0 32) p k back (leaves_given_back p kernel s h))
     (keeps_units_left p k returned_all (leaves_messages p kernel s h).sound)))
 
-pub lives_discharged : (kernel : Kernel) (p q : ℕ) → IsSound kernel → Lives kernel.procs p → q ≢ p → lives (discharged kernel p).procs q ≡ lives kernel.procs q
+pub lives_discharged : (kernel : Kernel) (p q : ℕ) → IsSound kernel → Lives kernel.dispatcher.procs p → q ≢ p → lives (discharged kernel p).dispatcher.procs q ≡ lives kernel.dispatcher.procs q
 unfolding discharged
-lives_discharged kernel p q s h other = lives_without_other (relieved p kernel).procs p q other ∙ (keeps_relieved p q kernel s h other).lives
+lives_discharged kernel p q s h other = lives_without_other (relieved p kernel).dispatcher.procs p q other ∙ (keeps_relieved p q kernel s h other).lives
 
 call_without_other : (procs : Table) (p q : ℕ) → q ≢ p → call_of (without procs p) q ≡ call_of procs q
 unfolding without
 call_without_other procs p q other = get_or-set_other procs.calls p q no_call no_call other
 
-pub call_discharged : (kernel : Kernel) (p q : ℕ) → IsSound kernel → Lives kernel.procs p → q ≢ p → waits kernel.queues q ≡ 0
-    → call_of (discharged kernel p).procs q ≡ call_of kernel.procs q
+pub call_discharged : (kernel : Kernel) (p q : ℕ) → IsSound kernel → Lives kernel.dispatcher.procs p → q ≢ p → waits kernel.queues q ≡ 0
+    → call_of (discharged kernel p).dispatcher.procs q ≡ call_of kernel.dispatcher.procs q
 unfolding discharged
 call_discharged kernel p q s h other none =
-    call_without_other (relieved p kernel).procs p q other ∙ (keeps_relieved p q kernel s h other).call none
+    call_without_other (relieved p kernel).dispatcher.procs p q other ∙ (keeps_relieved p q kernel s h other).call none
 
--- the code: behind each part of an end
-pub leaves_let_go : (p : ℕ) (kernel gone back behind : Kernel) → IsSound kernel → Lives kernel.procs p → gone ≡ dropped_out p kernel
-    → back ≡ given_back p gone → behind ≡ all_returned (range_with_len 0 32) p back → Leaves p behind
-leaves_let_go p kernel gone back behind s h is_gone is_back is_behind =
+-- the code: after each part of an end
+pub leaves_let_go : (p : ℕ) (kernel gone back afterwards : Kernel) → IsSound kernel → Lives kernel.dispatcher.procs p → gone ≡ dropped_out p kernel
+    → back ≡ given_back p gone → afterwards ≡ all_returned (range_with_len 0 32) p back → Leaves p afterwards
+leaves_let_go p kernel gone back afterwards s h is_gone is_back is_behind =
     let first : back ≡ given_back p (dropped_out p kernel) = is_back ∙ ap (given_back p) is_gone in
     subst (Leaves p) (sym (is_behind ∙ ap (all_returned (range_with_len 0 32) p) first)) (leaves_messages p kernel s h)
 
-pub lives_behind_units : (p : ℕ) (old new : Kernel) → Leaves p old → new ≡ units_left p old → Lives new.procs p
-lives_behind_units p old new l is = ap (λ (kernel : Kernel). lives kernel.procs p) is ∙ (leaves_units_left p old l).lives
+pub lives_after_units : (p : ℕ) (old new : Kernel) → Leaves p old → new ≡ units_left p old → Lives new.dispatcher.procs p
+lives_after_units p old new l is = ap (λ (kernel : Kernel). lives kernel.dispatcher.procs p) is ∙ (leaves_units_left p old l).lives
 
 -- who is ready waits at no queue
-pub ready_waits_at_none : (kernel : Kernel) (p : ℕ) → IsSound kernel → IsReady kernel p → waits kernel.queues p ≡ 0
+pub ready_waits_at_none : (kernel : Kernel) (p : ℕ) → IsSound kernel → IsReady kernel.dispatcher p → waits kernel.queues p ≡ 0
 ready_waits_at_none kernel p s is_ready = omega (arith, listed_once kernel p ready s is_ready)

@@ -6,9 +6,10 @@ use Rattle.std.proofs.lemmas.Bool.{false≢true, cases_eq, cases_lt}
 use Rattle.std.proofs.lemmas.Bool.Decides.{nat_tests}
 use Rattle.mpm_base.proofs.Choices.{either}
 use Rattle.mpm_procs.specs.Table.{Lives, process_in}
-use Rattle.mpm_queues.specs.Queue.{Queue, is_full, is_exclusive}
+use Rattle.mpm_queues.specs.Queue.{is_full, is_exclusive}
 use Rattle.mpm_queues.specs.Queues.{Queues, is_made, queue_in, is_holder, holds, waits, IsSound as AreSound}
 use Rattle.mpm_queues.specs.Handling.{queues_without_waiter, first_reader, write_outcome, woken_by}
+use Rattle.mpm_queues.proofs.QueueLaws.{no_bytes}
 use Rattle.mpm_queues.proofs.SoundLaws.{made_below, reader_waits}
 use Rattle.mpm_queues.proofs.WaitLaws.{waits_one, holds_made, holder_write, write_else}
 use Rattle.mpm_kernel.specs.Kernel.{Kernel, IsOfTwo, IsSound}
@@ -51,7 +52,7 @@ held_no_more p q kernel l held =
     either (λ (k : Kernel). holds k.queues p q ≡ false) (is_made t q) _ _
     (λ _.
     ap (λ (queues : Queues). holds queues p q) (queues_with_other (woken_by (write_outcome t q)) (given_to kernel p q))
-    ∙ ap (λ (o : Option ℕ). is_holder o p) (holder_write t p q kernel.procs l.sound.queues made (room_where_held t p q l.sound.queues held))
+    ∙ ap (λ (o : Option ℕ). is_holder o p) (holder_write t p q kernel.dispatcher.procs l.sound.queues made (room_where_held t p q l.sound.queues held))
     ∙ other_holder (is_exclusive (queue_in t q)) (first_reader t q) p (λ r first. reader_apart p q r kernel l first))
     (λ free. absurd (false≢true (sym free ∙ made)))
 
@@ -62,10 +63,10 @@ held_elsewhere p q holder k kernel other =
     let t = kernel.queues in
     either (λ (k' : Kernel). holds k'.queues holder k ≡ holds kernel.queues holder k) (is_made t q) _ _
     (λ _. ap (λ (queues : Queues). holds queues holder k) (queues_with_other (woken_by (write_outcome t q)) (given_to kernel p q))
-    ∙ ap (λ x. is_holder x.holder holder) (write_else t p q k kernel.procs other))
+    ∙ ap (λ x. is_holder x.holder holder) (write_else t p q k kernel.dispatcher.procs other))
     (λ _. refl)
 
--- behind each number, and behind all
+-- after each number, and after all
 own_gone : (p q : ℕ) (kernel : Kernel) → Leaves p kernel → holds (returned p q kernel).queues p q ≡ false
 unfolding returned
 own_gone p q kernel l = either (λ (k : Kernel). holds k.queues p q ≡ false) (holds kernel.queues p q) _ _ (λ held. held_no_more p q kernel l held) (λ free. free)
@@ -91,7 +92,7 @@ all_gone (suc n) a p k kernel l from below = elim (cases_eq k a) [
   | inr other ↦ all_gone n (a + 1) p k (returned p a kernel) (leaves_returned p a kernel l) (omega (arith, from, other)) (omega (arith, below))
 ]
 
-relieved_gone : (p k : ℕ) (kernel : Kernel) → IsSound kernel → Lives kernel.procs p → k < 32 → holds (relieved p kernel).queues p k ≡ false
+relieved_gone : (p k : ℕ) (kernel : Kernel) → IsSound kernel → Lives kernel.dispatcher.procs p → k < 32 → holds (relieved p kernel).queues p k ≡ false
 unfolding relieved
 relieved_gone p k kernel s h below =
     ap (λ (queues : Queues). holds queues p k) (left_units p _ (leaves_messages p kernel s h).sound).queues
@@ -101,7 +102,7 @@ past_gone : (b : Bool) → (b ≡ true → ⊥) → b ≡ false
 past_gone true never = absurd (never refl)
 past_gone false never = refl
 
-pub nothing_held : (kernel : Kernel) (p q : ℕ) → IsSound kernel → Lives kernel.procs p → holds (discharged kernel p).queues p q ≡ false
+pub nothing_held : (kernel : Kernel) (p q : ℕ) → IsSound kernel → Lives kernel.dispatcher.procs p → holds (discharged kernel p).queues p q ≡ false
 unfolding discharged
 nothing_held kernel p q s h = elim (cases_lt q 32) [
   | inl below ↦ relieved_gone p q kernel s h below
@@ -112,10 +113,6 @@ nothing_held kernel p q s h = elim (cases_lt q 32) [
 ]
 
 -- the message of a mutual exclusion queue has no bytes, so that no procedure has one
-no_bytes : (queue : Queue) → is_exclusive queue ≡ true → queue.width ≡ 0
-unfolding is_exclusive
-no_bytes queue is = grind (arith, nat_tests)
-
 held_apart : (t : Queues) (holder q other : ℕ) → AreSound t → holds t holder q ≡ true → IsOfTwo t other → q ≢ other
 held_apart t holder q other s held two = λ same.
     let none = no_bytes (queue_in t q) ((s.proper q).exclusive holder (holder_is (queue_in t q).holder holder held)) in
@@ -139,11 +136,11 @@ unfolding given_back_to
 still_given None p holder q kernel apart = refl
 still_given (Some other) p holder q kernel apart = held_elsewhere p other holder q kernel (apart other refl)
 
-still_given_back : (p holder q : ℕ) (kernel : Kernel) → IsSound kernel → Lives kernel.procs p → holds kernel.queues holder q ≡ true
+still_given_back : (p holder q : ℕ) (kernel : Kernel) → IsSound kernel → Lives kernel.dispatcher.procs p → holds kernel.queues holder q ≡ true
     → holds (given_back p kernel).queues holder q ≡ true
 unfolding given_back
 still_given_back p holder q kernel s h held =
-    still_given (process_in kernel.procs p).procedure p holder q (outside p kernel)
+    still_given (process_in kernel.dispatcher.procs p).procedure p holder q (outside p kernel)
     (λ other is. held_apart kernel.queues holder q other s.queues held (s.inside p other h is))
     ∙ holds_outside p holder q kernel ∙ held
 
@@ -164,7 +161,7 @@ all_still_returned [] p holder q kernel apart held = held
 all_still_returned (other ∷ qs) p holder q kernel apart held =
     all_still_returned qs p holder q (returned p other kernel) apart (still_returned p other holder q kernel apart held)
 
-still_relieved : (p holder q : ℕ) (kernel : Kernel) → IsSound kernel → Lives kernel.procs p → holder ≢ p → holds kernel.queues holder q ≡ true
+still_relieved : (p holder q : ℕ) (kernel : Kernel) → IsSound kernel → Lives kernel.dispatcher.procs p → holder ≢ p → holds kernel.queues holder q ≡ true
     → holds (relieved p kernel).queues holder q ≡ true
 unfolding relieved
 still_relieved p holder q kernel s h apart held =
@@ -173,7 +170,7 @@ still_relieved p holder q kernel s h apart held =
     ∙ all_still_returned (range_with_len 0 32) p holder q (given_back p gone) apart
     (still_given_back p holder q gone (sound_dropped p kernel s h) (lives_dropped p p kernel h) (holds_dropped p holder q kernel ∙ held))
 
-pub still_held : (kernel : Kernel) (p holder q : ℕ) → IsSound kernel → Lives kernel.procs p → holder ≢ p → holds kernel.queues holder q ≡ true
+pub still_held : (kernel : Kernel) (p holder q : ℕ) → IsSound kernel → Lives kernel.dispatcher.procs p → holder ≢ p → holds kernel.queues holder q ≡ true
     → holds (discharged kernel p).queues holder q ≡ true
 unfolding discharged
 still_held kernel p holder q s h apart held = still_relieved p holder q kernel s h apart held

@@ -1,17 +1,19 @@
--- In which segments the processes live, which of them are aborted, and which calls they keep, behind the kernel's calls and
+-- In which segments the processes live, which of them are aborted, and which calls they keep, after the kernel's calls and
 -- events, and where a process is handed out. The laws on its parts are told here too.
-use Rattle.std.proofs.Common.{◌≡◌, ◌∙◌, ℕ, ◌≤◌, Bool, true, false, ◌||◌, ◌==◌, List, length, Option, Some, None, inl, inr, drop, refl, sym, ap, arith}
+use Rattle.std.proofs.Common.{◌≡◌, ◌∙◌, ℕ, ◌≤◌, Bool, true, false, ◌==◌, List, length, Option, Some, None, inl, inr, drop, refl, sym, ap, arith}
 use Rattle.std.proofs.lemmas.Bool.{cases_eq, cases_lt}
 use Rattle.std.proofs.lemmas.List.{set_past}
 use Rattle.mpm_base.proofs.Choices.{either}
 use Rattle.mpm_base.specs.Calls.{Taken, word_at}
+use Rattle.mpm_base.specs.declared.functions.TheConstants.{CALL_RESIDENT_SYSTEM_PROCEDURE}
 use Rattle.mpm_procs.specs.Table.{Table, HasSlots, lives, Lives, process_in, call_of, with_process}
 use Rattle.mpm_procs.specs.declared.process.Process.{Process}
-use Rattle.mpm_procs.proofs.MapLaws.{process_changed, process_kept, lives_changed, call_behind}
-use Rattle.mpm_kernel.specs.Kernel.{Kernel, ready, IsReady, IsSound, CompletedLive, is_aborted, with_changed, with_completed, call_begun}
+use Rattle.mpm_procs.proofs.MapLaws.{process_changed, process_kept, lives_changed, call_after}
+use Rattle.mpm_dispatcher.specs.Dispatch.{ready, IsReady, with_completed, first_completed}
+use Rattle.mpm_kernel.specs.Kernel.{Kernel, IsSound, CompletedLive, is_aborted, with_changed, call_begun, dispatched}
 use Rattle.mpm_kernel.specs.Called.{Called, low_parameter}
-use Rattle.mpm_kernel.specs.Calls.{call_done, called, does_echo, is_for_console, is_for_unit}
-use Rattle.mpm_kernel.specs.Events.{happened, first_completed, inside_of, with_procedure, with_first, handed_out}
+use Rattle.mpm_kernel.specs.Calls.{call_done, called, does_echo}
+use Rattle.mpm_kernel.specs.Events.{happened, inside_of, with_procedure, with_first, handed_out}
 use Rattle.mpm_kernel.specs.Procedures.{procedure_queue, inside}
 use Rattle.mpm_script.specs.declared.event.Event.{Event}
 use Rattle.mpm_kernel.proofs.SoundLaws.{listed_once, completed_lives, procs_happened, sound_begun}
@@ -20,63 +22,117 @@ use Rattle.mpm_queues.specs.Queue.{block_size}
 use Rattle.mpm_queues.specs.Queues.{waits}
 pub use Rattle.mpm_kernel.proofs.Homes.{IsLivedIn, SameHomes, homes_stay, homes_both, lived_in_changed, homes_changed, homes_call, homes_vacated, opening_home, aborts_admitted, homes_admitted, homes_in_slot, lives_on, keeps_call, keeps_process, procs_spoke}
 pub use Rattle.mpm_kernel.proofs.CallHomes.{KeepsHome, procs_with_other, kept_delivered_to}
-use Rattle.mpm_kernel.proofs.CallHomes.{kept_if, kept_same, kept_changed, kept_behind, kept_priority, kept_polled, kept_flag_waited, kept_flag_set, kept_slept, kept_queue_made, kept_opened, kept_deleted, kept_read_at, kept_write_at, kept_procedure_called, kept_date_set, procs_date_answered, procs_time_answered}
+use Rattle.mpm_kernel.proofs.RowLaws.{by_table}
+use Rattle.mpm_kernel.proofs.CallHomes.{kept_same, kept_changed, kept_behind, kept_priority, kept_polled, kept_flag_waited, kept_flag_set, kept_slept, kept_queue_made, kept_opened, kept_deleted, kept_read_at, kept_write_at, kept_procedure_called, kept_date_set, procs_date_answered, procs_time_answered}
 use Rattle.mpm_kernel.proofs.UnitHomes.{kept_unit_called, kept_console_called}
 
-kept_call_done : (call : Taken) (p : ℕ) (kernel : Kernel) → IsSound kernel → Lives kernel.procs p
-    → KeepsHome kernel (call_done call p (process_in kernel.procs p) kernel)
-unfolding call_done
+kept_call_done : (call : Taken) (p : ℕ) (kernel : Kernel) → IsSound kernel → Lives kernel.dispatcher.procs p
+    → KeepsHome kernel (call_done call p (process_in kernel.dispatcher.procs p) kernel)
 kept_call_done call p kernel s h =
-    let f = call.function in
-    let same : (called : Called) → called.kernel.procs ≡ kernel.procs → KeepsHome kernel called = kept_same kernel in
-    kept_if kernel (f == 0 || f == 143) _ _ (same _ refl)
-    (kept_if kernel (is_for_console f) _ _ (kept_console_called call p kernel s h)
-    (kept_if kernel (is_for_unit f) _ _ (kept_unit_called call p kernel s h)
-    (kept_if kernel (f == 12 || f == 163) _ _ (same _ refl)
-    (kept_if kernel (f == 25) _ _ (same _ refl)
-    (kept_if kernel (f == 26) _ _ (kept_changed p 0 kernel _ s h refl refl)
-    (kept_if kernel (f == 32) _ _ (kept_changed p _ kernel _ s h refl refl)
-    (kept_if kernel (f == 44) _ _ (kept_changed p _ kernel _ s h refl refl)
-    (kept_if kernel (f == 45) _ _ (kept_changed p 0 kernel _ s h refl refl)
-    (kept_if kernel (f == 104) _ _ (kept_date_set call kernel)
-    (kept_if kernel (f == 105) _ _ (same _ (procs_date_answered call kernel))
-    (kept_if kernel (f == 106) _ _ (kept_changed p 0 kernel _ s h refl refl)
-    (kept_if kernel (f == 131) _ _ (kept_polled call p kernel)
-    (kept_if kernel (f == 132) _ _ (kept_flag_waited call p kernel)
-    (kept_if kernel (f == 133) _ _ (kept_flag_set call kernel)
-    (kept_if kernel (f == 134) _ _ (kept_queue_made call kernel)
-    (kept_if kernel (f == 135) _ _ (kept_opened _ call kernel)
-    (kept_if kernel (f == 136) _ _ (kept_deleted _ kernel)
-    (kept_if kernel (f == 137) _ _ (kept_read_at _ true call p kernel)
-    (kept_if kernel (f == 138) _ _ (kept_read_at _ false call p kernel)
-    (kept_if kernel (f == 139) _ _ (kept_write_at _ true p kernel s)
-    (kept_if kernel (f == 140) _ _ (kept_write_at _ false p kernel s)
-    (kept_if kernel (f == 141) _ _ (kept_slept call p kernel)
-    (kept_if kernel (f == 142) _ _ (kept_behind p 0 kernel)
-    (kept_if kernel (f == 145) _ _ (kept_priority p 0 (low_parameter call) kernel s h)
-    (kept_if kernel (f == 151) _ _ (kept_procedure_called call p kernel s h)
-    (kept_if kernel (f == 155) _ _ (same _ (procs_time_answered call kernel))
-    (same _ refl)))))))))))))))))))))))))))
+    let same : (called : Called) → called.kernel.dispatcher.procs ≡ kernel.dispatcher.procs → KeepsHome kernel called = kept_same kernel in
+    by_table (KeepsHome kernel) call p (process_in kernel.dispatcher.procs p) kernel (
+      λ _. same _ refl,
+      (
+        λ _. kept_console_called call p kernel s h,
+        (
+          λ _. kept_unit_called call p kernel s h,
+          (
+            λ _. same _ refl,
+            (
+              λ _. same _ refl,
+              (
+                λ _. kept_changed p 0 kernel _ s h refl refl,
+                (
+                  λ _. kept_changed p _ kernel _ s h refl refl,
+                  (
+                    λ _. kept_changed p _ kernel _ s h refl refl,
+                    (
+                      λ _. kept_changed p 0 kernel _ s h refl refl,
+                      (
+                        λ _. kept_date_set call kernel,
+                        (
+                          λ _. same _ (procs_date_answered call kernel),
+                          (
+                            λ _. kept_changed p 0 kernel _ s h refl refl,
+                            (
+                              λ _. kept_polled call p kernel,
+                              (
+                                λ _. kept_flag_waited call p kernel,
+                                (
+                                  λ _. kept_flag_set call kernel,
+                                  (
+                                    λ _. kept_queue_made call kernel,
+                                    (
+                                      λ _. kept_opened _ call kernel,
+                                      (
+                                        λ _. kept_deleted _ kernel,
+                                        (
+                                          λ _. kept_read_at _ true call p kernel,
+                                          (
+                                            λ _. kept_read_at _ false call p kernel,
+                                            (
+                                              λ _. kept_write_at _ true p kernel s,
+                                              (
+                                                λ _. kept_write_at _ false p kernel s,
+                                                (
+                                                  λ _. kept_slept call p kernel,
+                                                  (
+                                                    λ _. kept_behind p 0 kernel,
+                                                    (
+                                                      λ _. kept_priority p 0 (low_parameter call) kernel s h,
+                                                      (
+                                                        λ _. kept_procedure_called call p kernel s h,
+                                                        (
+                                                          λ _. same _ (procs_time_answered call kernel),
+                                                          tt,
+                                                        ),
+                                                      ),
+                                                    ),
+                                                  ),
+                                                ),
+                                              ),
+                                            ),
+                                          ),
+                                        ),
+                                      ),
+                                    ),
+                                  ),
+                                ),
+                              ),
+                            ),
+                          ),
+                        ),
+                      ),
+                    ),
+                  ),
+                ),
+              ),
+            ),
+          ),
+        ),
+      ),
+    )
+    (same _ refl)
 
 homes_through : (echoes : Bool) (old new : Kernel) → SameHomes (call_begun echoes old) new → SameHomes old new
 homes_through echoes old new homes = homes_both old (call_begun echoes old) new (homes_stay old (call_begun echoes old) refl) homes
 
 -- the kernel as the call of a process begins
 abbrev begun : ℕ → Kernel → Kernel
-begun p kernel = call_begun (does_echo (call_of kernel.procs p).function) kernel
+begun p kernel = call_begun (does_echo (call_of kernel.dispatcher.procs p).function) kernel
 
-pub homes_called : (p : ℕ) (kernel : Kernel) → IsSound kernel → Lives kernel.procs p → SameHomes kernel (called p kernel).kernel
+pub homes_called : (p : ℕ) (kernel : Kernel) → IsSound kernel → Lives kernel.dispatcher.procs p → SameHomes kernel (called p kernel).kernel
 homes_called p kernel s h =
-    homes_through _ kernel _ (kept_call_done (call_of kernel.procs p) p (begun p kernel) (sound_begun _ kernel s) h).homes
+    homes_through _ kernel _ (kept_call_done (call_of kernel.dispatcher.procs p) p (begun p kernel) (sound_begun _ kernel s) h).homes
 
 -- a call changes its own call as little as another that is kept, but that of a reader to whom it hands a message
-pub calls_called : (p : ℕ) (kernel : Kernel) → IsSound kernel → Lives kernel.procs p
-    → (q : ℕ) → waits kernel.queues q ≡ 0 → call_of (called p kernel).kernel.procs q ≡ call_of kernel.procs q
+pub calls_called : (p : ℕ) (kernel : Kernel) → IsSound kernel → Lives kernel.dispatcher.procs p
+    → (q : ℕ) → waits kernel.queues q ≡ 0 → call_of (called p kernel).kernel.dispatcher.procs q ≡ call_of kernel.dispatcher.procs q
 calls_called p kernel s h q none =
-    (kept_call_done (call_of kernel.procs p) p (begun p kernel) (sound_begun _ kernel s) h).call q none
+    (kept_call_done (call_of kernel.dispatcher.procs p) p (begun p kernel) (sound_begun _ kernel s) h).call q none
 
-pub call_called : (p : ℕ) (kernel : Kernel) → IsSound kernel → Lives kernel.procs p → IsReady kernel p
-    → call_of (called p kernel).kernel.procs p ≡ call_of kernel.procs p
+pub call_called : (p : ℕ) (kernel : Kernel) → IsSound kernel → Lives kernel.dispatcher.procs p → IsReady kernel.dispatcher p
+    → call_of (called p kernel).kernel.dispatcher.procs p ≡ call_of kernel.dispatcher.procs p
 call_called p kernel s h is_ready = calls_called p kernel s h p (omega (arith, listed_once kernel p ready s is_ready))
 
 -- and so does an event
@@ -86,12 +142,12 @@ homes_happened event kernel = homes_stay kernel (happened event kernel) (procs_h
 -- a process is handed out, which may be in a resident procedure now
 
 record HandedFrom (old new : Kernel) : Type 0 where
-  pub lives : (q : ℕ) → lives new.procs q ≡ lives old.procs q
-  pub call : (q : ℕ) → call_of new.procs q ≡ call_of old.procs q
-  pub seg : (q : ℕ) → (process_in new.procs q).seg ≡ (process_in old.procs q).seg
-  pub due : (q : ℕ) → (process_in new.procs q).abort_due ≡ (process_in old.procs q).abort_due
+  pub lives : (q : ℕ) → lives new.dispatcher.procs q ≡ lives old.dispatcher.procs q
+  pub call : (q : ℕ) → call_of new.dispatcher.procs q ≡ call_of old.dispatcher.procs q
+  pub seg : (q : ℕ) → (process_in new.dispatcher.procs q).seg ≡ (process_in old.dispatcher.procs q).seg
+  pub due : (q : ℕ) → (process_in new.dispatcher.procs q).abort_due ≡ (process_in old.dispatcher.procs q).abort_due
   pub queues : new.queues ≡ old.queues
-  pub completed : new.completed ≡ old.completed
+  pub completed : new.dispatcher.completed ≡ old.dispatcher.completed
 
 handed_same : (kernel : Kernel) → HandedFrom kernel kernel
 handed_same kernel = record { lives = λ q. refl; call = λ q. refl; seg = λ q. refl; due = λ q. refl; queues = refl; completed = refl }
@@ -115,22 +171,22 @@ field_kept field procs p q process same = elim (cases_eq q p) [
 ]
 
 -- a process is another one, whose end by an abort is put off as before
-pub aborted_changed : (kernel : Kernel) (p q : ℕ) (process : Process) → process.abort_due ≡ (process_in kernel.procs p).abort_due
-    → is_aborted (with_changed kernel p process).procs q ≡ is_aborted kernel.procs q
+pub aborted_changed : (kernel : Kernel) (p q : ℕ) (process : Process) → process.abort_due ≡ (process_in kernel.dispatcher.procs p).abort_due
+    → is_aborted (with_changed kernel p process).dispatcher.procs q ≡ is_aborted kernel.dispatcher.procs q
 aborted_changed kernel p q process same =
-    aborted_same kernel.procs (with_process kernel.procs p process) q (lives_changed kernel.procs p q process)
-    (field_kept (λ (x : Process). x.abort_due) kernel.procs p q process same)
+    aborted_same kernel.dispatcher.procs (with_process kernel.dispatcher.procs p process) q (lives_changed kernel.dispatcher.procs p q process)
+    (field_kept (λ (x : Process). x.abort_due) kernel.dispatcher.procs p q process same)
 
 handed_inside : (slot : Option ℕ) (p message : ℕ) (kernel : Kernel) → HandedFrom kernel (inside_of slot p message kernel)
 unfolding inside
 handed_inside None p message kernel = handed_same kernel
 handed_inside (Some k) p message kernel =
-    let process = record (process_in kernel.procs p) { procedure = Some k; kept = message } in
+    let process = record (process_in kernel.dispatcher.procs p) { procedure = Some k; kept = message } in
     record {
-      lives = λ q. lives_changed kernel.procs p q process;
-      call = λ q. call_behind kernel.procs p q process;
-      seg = λ q. field_kept (λ (x : Process). x.seg) kernel.procs p q process refl;
-      due = λ q. field_kept (λ (x : Process). x.abort_due) kernel.procs p q process refl;
+      lives = λ q. lives_changed kernel.dispatcher.procs p q process;
+      call = λ q. call_after kernel.dispatcher.procs p q process;
+      seg = λ q. field_kept (λ (x : Process). x.seg) kernel.dispatcher.procs p q process refl;
+      due = λ q. field_kept (λ (x : Process). x.abort_due) kernel.dispatcher.procs p q process refl;
       queues = refl;
       completed = refl;
     }
@@ -139,50 +195,50 @@ handed_first : (first : Option ℕ) (kernel : Kernel) → HandedFrom kernel (wit
 unfolding with_procedure
 handed_first None kernel = handed_same kernel
 handed_first (Some p) kernel =
-    let call = call_of kernel.procs p in
-    either (HandedFrom kernel) (call.function == 151) _ _ (λ _. handed_inside (procedure_queue kernel.queues call) p (word_at call block_size) kernel) (λ _. handed_same kernel)
+    let call = call_of kernel.dispatcher.procs p in
+    either (HandedFrom kernel) (call.function == CALL_RESIDENT_SYSTEM_PROCEDURE) _ _ (λ _. handed_inside (procedure_queue kernel.queues call) p (word_at call block_size) kernel) (λ _. handed_same kernel)
 
-handed_from : (kernel : Kernel) → HandedFrom (with_completed kernel (drop 1 kernel.completed)) (handed_out kernel)
+handed_from : (kernel : Kernel) → HandedFrom (dispatched (with_completed (drop 1 kernel.dispatcher.completed)) kernel) (handed_out kernel)
 unfolding handed_out
-handed_from kernel = handed_first (first_completed kernel.completed) (with_completed kernel (drop 1 kernel.completed))
+handed_from kernel = handed_first (first_completed kernel.dispatcher.completed) (dispatched (with_completed (drop 1 kernel.dispatcher.completed)) kernel)
 
-pub lives_handed_out : (kernel : Kernel) (q : ℕ) → lives (handed_out kernel).procs q ≡ lives kernel.procs q
+pub lives_handed_out : (kernel : Kernel) (q : ℕ) → lives (handed_out kernel).dispatcher.procs q ≡ lives kernel.dispatcher.procs q
 lives_handed_out kernel q = (handed_from kernel).lives q
 
-pub call_handed_out : (kernel : Kernel) (q : ℕ) → call_of (handed_out kernel).procs q ≡ call_of kernel.procs q
+pub call_handed_out : (kernel : Kernel) (q : ℕ) → call_of (handed_out kernel).dispatcher.procs q ≡ call_of kernel.dispatcher.procs q
 call_handed_out kernel q = (handed_from kernel).call q
 
-pub seg_handed_out : (kernel : Kernel) (q : ℕ) → (process_in (handed_out kernel).procs q).seg ≡ (process_in kernel.procs q).seg
+pub seg_handed_out : (kernel : Kernel) (q : ℕ) → (process_in (handed_out kernel).dispatcher.procs q).seg ≡ (process_in kernel.dispatcher.procs q).seg
 seg_handed_out kernel q = (handed_from kernel).seg q
 
-pub aborted_handed_out : (kernel : Kernel) (q : ℕ) → is_aborted (handed_out kernel).procs q ≡ is_aborted kernel.procs q
-aborted_handed_out kernel q = aborted_same kernel.procs (handed_out kernel).procs q (lives_handed_out kernel q) ((handed_from kernel).due q)
+pub aborted_handed_out : (kernel : Kernel) (q : ℕ) → is_aborted (handed_out kernel).dispatcher.procs q ≡ is_aborted kernel.dispatcher.procs q
+aborted_handed_out kernel q = aborted_same kernel.dispatcher.procs (handed_out kernel).dispatcher.procs q (lives_handed_out kernel q) ((handed_from kernel).due q)
 
 pub queues_handed_out : (kernel : Kernel) → (handed_out kernel).queues ≡ kernel.queues
 queues_handed_out kernel = (handed_from kernel).queues
 
-pub completed_handed_out : (kernel : Kernel) → (handed_out kernel).completed ≡ drop 1 kernel.completed
+pub completed_handed_out : (kernel : Kernel) → (handed_out kernel).dispatcher.completed ≡ drop 1 kernel.dispatcher.completed
 completed_handed_out kernel = (handed_from kernel).completed
 
 -- it lives where it lived
-homes_inside : (slot : Option ℕ) (p message : ℕ) (kernel : Kernel) → HasSlots kernel.procs → Lives kernel.procs p → SameHomes kernel (inside_of slot p message kernel)
+homes_inside : (slot : Option ℕ) (p message : ℕ) (kernel : Kernel) → HasSlots kernel.dispatcher.procs → Lives kernel.dispatcher.procs p → SameHomes kernel (inside_of slot p message kernel)
 unfolding inside
 homes_inside None p message kernel slots h = homes_stay kernel kernel refl
 homes_inside (Some k) p message kernel slots h =
-    homes_changed kernel p (record (process_in kernel.procs p) { procedure = Some k; kept = message }) slots h refl refl
+    homes_changed kernel p (record (process_in kernel.dispatcher.procs p) { procedure = Some k; kept = message }) slots h refl refl
 
-homes_first : (first : Option ℕ) (kernel : Kernel) → HasSlots kernel.procs → ((p : ℕ) → first ≡ Some p → Lives kernel.procs p)
+homes_first : (first : Option ℕ) (kernel : Kernel) → HasSlots kernel.dispatcher.procs → ((p : ℕ) → first ≡ Some p → Lives kernel.dispatcher.procs p)
     → SameHomes kernel (with_first first kernel)
 unfolding with_procedure
 homes_first None kernel slots living = homes_stay kernel kernel refl
 homes_first (Some p) kernel slots living =
-    let call = call_of kernel.procs p in
-    either (SameHomes kernel) (call.function == 151) _ _
+    let call = call_of kernel.dispatcher.procs p in
+    either (SameHomes kernel) (call.function == CALL_RESIDENT_SYSTEM_PROCEDURE) _ _
     (λ _. homes_inside (procedure_queue kernel.queues call) p (word_at call block_size) kernel slots (living p refl)) (λ _. homes_stay kernel kernel refl)
 
 pub homes_handed_out : (kernel : Kernel) → IsSound kernel → CompletedLive kernel → SameHomes kernel (handed_out kernel)
 unfolding handed_out
 homes_handed_out kernel s live =
-    let left = with_completed kernel (drop 1 kernel.completed) in
+    let left = dispatched (with_completed (drop 1 kernel.dispatcher.completed)) kernel in
     homes_both kernel left _ (homes_stay kernel left refl)
-    (homes_first (first_completed kernel.completed) left s.slots (λ p first. completed_lives kernel p live first))
+    (homes_first (first_completed kernel.dispatcher.completed) left s.slots (λ p first. completed_lives kernel p live first))

@@ -6,10 +6,10 @@ use Rattle.std.proofs.lemmas.List.{length-set}
 use Rattle.mpm_base.proofs.Choices.{either}
 use Rattle.mpm_base.specs.Calls.{Taken}
 use Rattle.mpm_procs.specs.Table.{lives, Lives, process_in, call_of}
-use Rattle.mpm_procs.proofs.MapLaws.{lives_changed, call_behind}
+use Rattle.mpm_procs.proofs.MapLaws.{lives_changed, call_after}
 use Rattle.mpm_consoles.specs.Console.{is_owner, with_raw, without_first}
 use Rattle.mpm_consoles.specs.Consoles.{Consoles, console_at, HasUnit, owner_of, owns}
-use Rattle.mpm_consoles.specs.Handling.{listed, attaches, may_attach, attach_from, behind_attach, behind_raw, behind_take}
+use Rattle.mpm_consoles.specs.Handling.{listed, attaches, may_attach, attach_from, unit_attached, raw_set, first_taken}
 use Rattle.mpm_consoles.specs.declared.unit.Unit.{Unit}
 use Rattle.mpm_kernel.specs.Kernel.{Kernel}
 use Rattle.mpm_kernel.specs.Columns.{spoke}
@@ -27,13 +27,13 @@ consoles_from None t p priority unit wait = consoles_given t unit (Some p)
 consoles_from (Some owner) t p priority unit wait =
     either (λ (new : Consoles). length new.consoles ≡ length t.consoles) (owner == p || not wait) _ _ (λ _. refl) (λ _. consoles_listed t p priority unit)
 
-pub consoles_attached : (t : Consoles) (p priority : ℕ) (unit : Unit) (wait : Bool) → length (behind_attach t p priority unit wait).consoles ≡ length t.consoles
-unfolding behind_attach
+pub consoles_attached : (t : Consoles) (p priority : ℕ) (unit : Unit) (wait : Bool) → length (unit_attached t p priority unit wait).consoles ≡ length t.consoles
+unfolding unit_attached
 consoles_attached t p priority unit wait = consoles_from (owner_of t unit) t p priority unit wait
 
 pub has_attached : (kernel : Kernel) (p n : ℕ) (unit : Unit) (wait : Bool) → n < length kernel.units.consoles
     → n < length (attaching p unit wait kernel).units.consoles
-has_attached kernel p n unit wait has = omega (arith, consoles_attached kernel.units p (process_in kernel.procs p).priority unit wait, has)
+has_attached kernel p n unit wait has = omega (arith, consoles_attached kernel.units p (process_in kernel.dispatcher.procs p).priority unit wait, has)
 
 owned_if : (b c : Bool) (t x : Consoles) (p : ℕ) (unit : Unit) → b ≡ true → owns t p unit ≡ true → owns (if b || c then t else x) p unit ≡ true
 owned_if true c t x p unit is own = own
@@ -47,25 +47,25 @@ owns_from (Some owner) t p priority unit wait has is may =
 
 pub owns_attached : (kernel : Kernel) (p : ℕ) (unit : Unit) (wait : Bool) → HasUnit kernel.units unit → may_attach kernel.units p unit ≡ true
     → owns (attaching p unit wait kernel).units p unit ≡ true
-unfolding may_attach behind_attach
+unfolding may_attach unit_attached
 owns_attached kernel p unit wait has may =
-    owns_from (owner_of kernel.units unit) kernel.units p (process_in kernel.procs p).priority unit wait has refl may
+    owns_from (owner_of kernel.units unit) kernel.units p (process_in kernel.dispatcher.procs p).priority unit wait has refl may
 
 on_true : (b : Bool) (P : Type 0) → (b ≡ true → P) → OnTrue b P
 on_true true P h = h refl
 on_true false P h = tt
 
--- and behind it was made raw, or not
-has_raw_if : (b raw : Bool) (t : Consoles) (n k : ℕ) → k < length t.consoles → k < length (if b then behind_raw t n raw else t).consoles
-unfolding behind_raw
+-- and after it was made raw, or not
+has_raw_if : (b raw : Bool) (t : Consoles) (n k : ℕ) → k < length t.consoles → k < length (if b then raw_set t n raw else t).consoles
+unfolding raw_set
 has_raw_if true raw t n k has = omega (arith, length-set t.consoles n (with_raw raw (console_at t n)), has)
 has_raw_if false raw t n k has = has
 
 pub has_raw : (kernel : Kernel) (b raw : Bool) (n k : ℕ) → k < length kernel.units.consoles → k < length (raw_if b n raw kernel).units.consoles
 has_raw kernel b raw n k has = has_raw_if b raw kernel.units n k has
 
-owns_raw_if : (b raw : Bool) (t : Consoles) (p n : ℕ) (unit : Unit) → n < length t.consoles → owns t p unit ≡ true → owns (if b then behind_raw t n raw else t) p unit ≡ true
-unfolding behind_raw with_raw
+owns_raw_if : (b raw : Bool) (t : Consoles) (p n : ℕ) (unit : Unit) → n < length t.consoles → owns t p unit ≡ true → owns (if b then raw_set t n raw else t) p unit ≡ true
+unfolding raw_set with_raw
 owns_raw_if true raw t p n unit has own = ap (λ o. is_owner o p) (owner_kept t n (with_raw raw (console_at t n)) unit has refl) ∙ own
 owns_raw_if false raw t p n unit has own = own
 
@@ -73,17 +73,17 @@ pub owns_raw : (kernel : Kernel) (b raw : Bool) (p n : ℕ) (unit : Unit) → n 
     → owns (raw_if b n raw kernel).units p unit ≡ true
 owns_raw kernel b raw p n unit has own = owns_raw_if b raw kernel.units p n unit has own
 
-pub has_made_raw : (t new : Consoles) (n : ℕ) (raw : Bool) → new ≡ behind_raw t n raw → n < length t.consoles → n < length new.consoles
+pub has_made_raw : (t new : Consoles) (n : ℕ) (raw : Bool) → new ≡ raw_set t n raw → n < length t.consoles → n < length new.consoles
 has_made_raw t new n raw is has = omega (arith, ap (λ (u : Consoles). length u.consoles) is, has_raw_if true raw t n n has)
 
-pub owns_made_raw : (t new : Consoles) (p n : ℕ) (unit : Unit) (raw : Bool) → new ≡ behind_raw t n raw → n < length t.consoles → owns t p unit ≡ true
+pub owns_made_raw : (t new : Consoles) (p n : ℕ) (unit : Unit) (raw : Bool) → new ≡ raw_set t n raw → n < length t.consoles → owns t p unit ≡ true
     → owns new p unit ≡ true
 owns_made_raw t new p n unit raw is has own = ap (λ (u : Consoles). owns u p unit) is ∙ owns_raw_if true raw t p n unit has own
 
--- and behind a key was taken
-pub has_behind_take : (t new : Consoles) (n : ℕ) → new ≡ behind_take t n → n < length t.consoles → n < length new.consoles
-unfolding behind_take
-has_behind_take t new n is has = omega (arith, ap (λ (u : Consoles). length u.consoles) is, length-set t.consoles n (without_first (console_at t n)), has)
+-- and after a key was taken
+pub has_after_take : (t new : Consoles) (n : ℕ) → new ≡ first_taken t n → n < length t.consoles → n < length new.consoles
+unfolding first_taken
+has_after_take t new n is has = omega (arith, ap (λ (u : Consoles). length u.consoles) is, length-set t.consoles n (without_first (console_at t n)), has)
 
 -- the same of a kernel that is equal
 pub has_then_attached : (kernel new : Kernel) (p n : ℕ) (unit : Unit) (wait : Bool) → new ≡ attaching p unit wait kernel → n < length kernel.units.consoles
@@ -97,20 +97,20 @@ owns_then_attached kernel new p unit wait b same has is =
     on_true b _ (λ may. ap (λ (k : Kernel). owns k.units p unit) same ∙ owns_attached kernel p unit wait has (sym is ∙ may))
 
 -- what the kernel writes by itself changes no process
-pub procs_echoed : (console : ℕ) (bytes : List ℕ) (kernel : Kernel) → (echoed console bytes kernel).procs ≡ kernel.procs
+pub procs_echoed : (console : ℕ) (bytes : List ℕ) (kernel : Kernel) → (echoed console bytes kernel).dispatcher.procs ≡ kernel.dispatcher.procs
 unfolding echoed spoke
 procs_echoed console bytes kernel = refl
 
-pub lives_echoed : (console : ℕ) (bytes : List ℕ) (kernel : Kernel) (p : ℕ) → Lives kernel.procs p → Lives (echoed console bytes kernel).procs p
+pub lives_echoed : (console : ℕ) (bytes : List ℕ) (kernel : Kernel) (p : ℕ) → Lives kernel.dispatcher.procs p → Lives (echoed console bytes kernel).dispatcher.procs p
 lives_echoed console bytes kernel p h = ap (λ procs. lives procs p) (procs_echoed console bytes kernel) ∙ h
 
 -- a line that goes on leaves the call of its process
-pub call_joined : (call : Taken) (p console key : ℕ) (kernel : Kernel) → call_of (key_joined call p console key kernel).procs p ≡ call_of kernel.procs p
+pub call_joined : (call : Taken) (p console key : ℕ) (kernel : Kernel) → call_of (key_joined call p console key kernel).dispatcher.procs p ≡ call_of kernel.dispatcher.procs p
 unfolding key_joined
 call_joined call p console key kernel =
-    ap (λ procs. call_of procs p) (procs_echoed console _ _) ∙ call_behind kernel.procs p p _
+    ap (λ procs. call_of procs p) (procs_echoed console _ _) ∙ call_after kernel.dispatcher.procs p p _
 
-pub lives_joined : (call : Taken) (p console key : ℕ) (kernel : Kernel) → Lives kernel.procs p → Lives (key_joined call p console key kernel).procs p
+pub lives_joined : (call : Taken) (p console key : ℕ) (kernel : Kernel) → Lives kernel.dispatcher.procs p → Lives (key_joined call p console key kernel).dispatcher.procs p
 unfolding key_joined
 lives_joined call p console key kernel h =
-    lives_echoed console _ _ p (lives_changed kernel.procs p p _ ∙ h)
+    lives_echoed console _ _ p (lives_changed kernel.dispatcher.procs p p _ ∙ h)

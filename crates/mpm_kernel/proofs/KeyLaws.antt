@@ -6,7 +6,7 @@ use Rattle.std.proofs.lemmas.Bool.{false≢true}
 use Rattle.mpm_base.proofs.CountLaws.{one_if, one_if_true}
 use Rattle.std.proofs.lemmas.List.{length-set}
 use Rattle.mpm_base.proofs.Choices.{either}
-use Rattle.mpm_consoles.specs.Console.{Console, is_owner, passed_to, is_for, woken, behind_wake, has_room, with_key, typed, resumed, with_output_stopped}
+use Rattle.mpm_consoles.specs.Console.{Console, is_owner, passed_to, is_for, woken, awakened, has_room, with_key, typed, resumed, with_output_stopped}
 use Rattle.mpm_consoles.specs.declared.console.Awaited.{Awaited}
 use Rattle.mpm_consoles.specs.declared.console.Awaited.TheVariants.{Key, Output}
 use Rattle.mpm_consoles.specs.declared.keys.KeyDone.{KeyDone}
@@ -15,40 +15,28 @@ use Rattle.mpm_consoles.proofs.ConsoleLaws.{owner_key, woken_key}
 use Rattle.mpm_consoles.proofs.FateLaws.{cooked}
 use Rattle.mpm_consoles.proofs.SoundLaws.{sound_typed, sound_resumed, sound_stop}
 use Rattle.mpm_consoles.specs.Consoles.{Consoles, console_at, HasConsole, with_console, first_waiter, waits, gate_waits, IsSound as AreUnitsSound}
-use Rattle.mpm_consoles.specs.Handling.{given, unlisted, pass_to, passed, behind_pass, subject, abort_answer, pass_answer, wake_answer, typed_answer, key_by, answer_by, behind_key, key_answer}
+use Rattle.mpm_consoles.specs.Handling.{given, unlisted, pass_to, passed, passed_by_key, subject, abort_answer, pass_answer, wake_answer, typed_answer, key_by, answer_by, keyed, key_answer}
 use Rattle.mpm_consoles.specs.Keys.{control_of}
 use Rattle.mpm_consoles.specs.declared.keys.Control.{Control}
 use Rattle.mpm_consoles.specs.declared.keys.Control.TheVariants.{Stop, Resume, Abort, Detach}
-use Rattle.mpm_consoles.specs.declared.unit.Unit.{Unit}
 use Rattle.mpm_consoles.specs.declared.unit.Unit.TheVariants.{Console as ConsoleUnit}
 use Rattle.mpm_procs.specs.Table.{Lives}
-use Rattle.mpm_kernel.specs.Kernel.{Kernel, waits_of, HasConsole as HasConsoleIn, IsSound}
+use Rattle.mpm_kernel.specs.Kernel.{Kernel, waits_of, HasConsole as HasConsoleIn, IsSound, dispatched}
 use Rattle.mpm_kernel.specs.Columns.{spoke}
-use Rattle.mpm_kernel.specs.Dispatch.{moved, lists_ready, made_ready}
-use Rattle.mpm_kernel.specs.Consoling.{if_it, abort_text, echoed, key_done, is_resident, key_came}
+use Rattle.mpm_dispatcher.specs.Dispatch.{lists_ready, made_ready}
+use Rattle.mpm_kernel.specs.Consoling.{if_it, abort_text, echoed, key_done, is_of_resident, key_came}
 use Rattle.mpm_consoles.proofs.PlaceLaws.{gate_waits_unlisted}
-use Rattle.mpm_kernel.proofs.UnitWaits.{is_at_gate, consoles_given, gates_kept, gates_fewer, waits_console, owner_kept, is_own}
-use Rattle.mpm_kernel.proofs.UnitLaws.{has_console}
+use Rattle.mpm_kernel.proofs.UnitWaits.{is_at_gate, gates_kept, gates_fewer, waits_console, owner_kept, is_own}
+use Rattle.mpm_kernel.proofs.UnitCounts.{many_passed}
 use Rattle.mpm_kernel.proofs.Soundness.{sound_console, sound_spoke, sound_noted, sound_ready}
+use Rattle.mpm_kernel.proofs.Staying.{SameProcesses}
 use Rattle.mpm_kernel.proofs.Passing.{HavePassed, passed_on, sound_passed}
 use Rattle.mpm_kernel.proofs.UnitCalls.{sound_made}
 
 -- there are as many consoles as before
-consoles_unlisted : (t : Consoles) (p : ℕ) → length (unlisted t p).consoles ≡ length t.consoles
-unfolding unlisted
-consoles_unlisted t p = refl
-
-consoles_pass_to : (o : Option ℕ) (t : Consoles) (unit : Unit) → length (pass_to o t unit).consoles ≡ length t.consoles
-consoles_pass_to None t unit = consoles_given t unit None
-consoles_pass_to (Some h) t unit = consoles_given (unlisted t h) unit (Some h) ∙ consoles_unlisted t h
-
-consoles_passed : (t : Consoles) (unit : Unit) → length (passed t unit).consoles ≡ length t.consoles
-unfolding passed
-consoles_passed t unit = consoles_pass_to (first_waiter t unit) t unit
-
-consoles_behind_pass : (o : Option ℕ) (t : Consoles) (n : ℕ) → length (behind_pass o t n).consoles ≡ length t.consoles
-consoles_behind_pass None t n = refl
-consoles_behind_pass (Some p) t n = consoles_passed t (ConsoleUnit n)
+consoles_after_pass : (o : Option ℕ) (t : Consoles) (n : ℕ) → length (passed_by_key o t n).consoles ≡ length t.consoles
+consoles_after_pass None t n = refl
+consoles_after_pass (Some p) t n = (many_passed t (ConsoleUnit n)).consoles
 
 consoles_with : (t : Consoles) (n : ℕ) (console : Console) → length (with_console t n console).consoles ≡ length t.consoles
 consoles_with t n console = length-set t.consoles n console
@@ -58,14 +46,14 @@ consoles_by None t n byte resident = consoles_with t n _
 consoles_by (Some Stop) t n byte resident = consoles_with t n _
 consoles_by (Some Resume) t n byte resident = consoles_with t n _
 consoles_by (Some Abort) t n byte resident = refl
-consoles_by (Some Detach) t n byte resident = consoles_behind_pass (subject resident (console_at t n).owner) t n
+consoles_by (Some Detach) t n byte resident = consoles_after_pass (subject resident (console_at t n).owner) t n
 
-pub consoles_behind_key : (t : Consoles) (n byte : ℕ) (resident : Bool) → length (behind_key t n byte resident).consoles ≡ length t.consoles
-unfolding behind_key
-consoles_behind_key t n byte resident = consoles_by (control_of (console_at t n).raw byte) t n byte resident
+pub consoles_after_key : (t : Consoles) (n byte : ℕ) (resident : Bool) → length (keyed t n byte resident).consoles ≡ length t.consoles
+unfolding keyed
+consoles_after_key t n byte resident = consoles_by (control_of (console_at t n).raw byte) t n byte resident
 
-pub has_behind_key : (t new : Consoles) (n byte : ℕ) (resident : Bool) → new ≡ behind_key t n byte resident → n < length t.consoles → n < length new.consoles
-has_behind_key t new n byte resident is has = omega (arith, ap (λ (u : Consoles). length u.consoles) is, consoles_behind_key t n byte resident, has)
+pub has_after_key : (t new : Consoles) (n byte : ℕ) (resident : Bool) → new ≡ keyed t n byte resident → n < length t.consoles → n < length new.consoles
+has_after_key t new n byte resident is has = omega (arith, ap (λ (u : Consoles). length u.consoles) is, consoles_after_key t n byte resident, has)
 
 some_awaits : (a : Option Awaited) (what : Awaited) → is_for a what ≡ true → is_some a ≡ true
 some_awaits None what is = absurd (false≢true is)
@@ -108,12 +96,12 @@ woken_if false t n what console sound has owner awaits is now = record {
 }
 
 woken_sound : (t : Consoles) (n : ℕ) (what : Awaited) (console : Console) → AreUnitsSound t → HasConsole t n → console.owner ≡ (console_at t n).owner
-    → console.awaits ≡ (console_at t n).awaits → AreUnitsSound (with_console t n (behind_wake what console))
-    → HavePassed t (with_console t n (behind_wake what console)) (woken what console)
-unfolding behind_wake woken
+    → console.awaits ≡ (console_at t n).awaits → AreUnitsSound (with_console t n (awakened what console))
+    → HavePassed t (with_console t n (awakened what console)) (woken what console)
+unfolding awakened woken
 woken_sound t n what console sound has owner awaits now = woken_if (is_for console.awaits what) t n what console sound has owner awaits refl now
 
--- the processes that a key makes ready, and the units behind it
+-- the processes that a key makes ready, and the units after it
 
 -- a key that passes nothing on
 awaits_key : (byte : ℕ) (console : Console) → (with_key byte console).awaits ≡ console.awaits
@@ -179,29 +167,29 @@ unfolding passed
 gates_passed t n q has = gates_passed_to (first_waiter t (ConsoleUnit n)) t n q has
 
 -- a process is ready, if it is at all
-owner_if : (b : Bool) (kernel : Kernel) (p : ℕ) → IsSound kernel → Lives kernel.procs p → (b ≡ true → waits_of kernel p ≡ 0) → IsSound (made_ready (if_it b p) kernel)
-unfolding lists_ready moved
+owner_if : (b : Bool) (kernel : Kernel) (p : ℕ) → IsSound kernel → Lives kernel.dispatcher.procs p → (b ≡ true → waits_of kernel p ≡ 0) → IsSound (dispatched (made_ready (if_it b p)) kernel)
+unfolding lists_ready
 owner_if true kernel p s h none = sound_ready kernel p s h (none refl)
 owner_if false kernel p s h none = s
 
 -- the old owner is ready again, if it waited at its gate
 sound_old_owner : (waited : Bool) (n p : ℕ) (kernel : Kernel) → IsSound kernel → HasConsoleIn kernel n → (console_at kernel.units n).owner ≡ Some p
     → is_some (console_at kernel.units n).awaits ≡ waited
-    → IsSound (made_ready (if_it waited p) (made_ready (first_waiter kernel.units (ConsoleUnit n)) (record kernel { units = passed kernel.units (ConsoleUnit n) })))
-unfolding lists_ready moved
+    → IsSound (dispatched (made_ready (if_it waited p)) (dispatched (made_ready (first_waiter kernel.units (ConsoleUnit n))) (record kernel { units = passed kernel.units (ConsoleUnit n) })))
+unfolding lists_ready
 sound_old_owner waited n p kernel s has owner is =
     let t = kernel.units in
     let units = passed t (ConsoleUnit n) in
     let heir = first_waiter t (ConsoleUnit n) in
-    let are = passed_on t (ConsoleUnit n) s.units.sound has in
+    let are = passed_on t (ConsoleUnit n) s.units has in
     let first = sound_made heir kernel units (sound_passed kernel units heir s are) in
-    owner_if waited (made_ready heir (record kernel { units = units })) p first
-    (s.units.owners (ConsoleUnit n) p has (is_own (console_at t n).owner p owner))
+    owner_if waited (dispatched (made_ready heir) (record kernel { units = units })) p first
+    (s.owners (ConsoleUnit n) p has (is_own (console_at t n).owner p owner))
     (λ waits.
     omega (arith, s.once p, are.waiters p, gates_passed t n p has, one_if_true (is_at_gate p (console_at t n)) (owner_at_gate t n p owner (is ∙ waits))))
 
 sound_pass : (o : Option ℕ) (n : ℕ) (kernel : Kernel) → IsSound kernel → HasConsoleIn kernel n → ((p : ℕ) → o ≡ Some p → (console_at kernel.units n).owner ≡ Some p)
-    → IsSound (key_done (pass_answer o kernel.units n) n (is_some (console_at kernel.units n).awaits) (record kernel { units = behind_pass o kernel.units n }))
+    → IsSound (key_done (pass_answer o kernel.units n) n (is_some (console_at kernel.units n).awaits) (record kernel { units = passed_by_key o kernel.units n }))
 unfolding key_done
 sound_pass None n kernel s has owner = s
 sound_pass (Some p) n kernel s has owner = sound_old_owner (is_some (console_at kernel.units n).awaits) n p kernel s has (owner p refl) refl
@@ -213,7 +201,7 @@ subject_owner false owner p is = is
 sound_stopped : (n : ℕ) (kernel : Kernel) → IsSound kernel → HasConsoleIn kernel n → (console_at kernel.units n).raw ≡ false
     → IsSound (record kernel { units = with_console kernel.units n (with_output_stopped (console_at kernel.units n)) })
 unfolding with_output_stopped
-sound_stopped n kernel s has cooked = sound_console kernel n _ s has refl refl (sound_stop kernel.units n s.units.sound has cooked)
+sound_stopped n kernel s has cooked = sound_console kernel n _ s has refl refl (sound_stop kernel.units n s.units has cooked)
 
 sound_by : (control : Option Control) (n byte : ℕ) (resident : Bool) (kernel : Kernel) → IsSound kernel → HasConsoleIn kernel n
     → control_of (console_at kernel.units n).raw byte ≡ control
@@ -224,30 +212,26 @@ sound_by None n byte resident kernel s has is =
     let waited = is_some console.awaits in
     let P : Option ℕ → Type 0 = λ o. IsSound (key_done (wake_answer (if has_room console then Stored else Dropped) o) n waited (record kernel { units = with_console kernel.units n (typed byte console) })) in
     subst P (woken_key Key byte console)
-    (sound_wakes (if has_room console then Stored else Dropped) (woken Key (with_key byte console)) n waited kernel _ (λ k. not_passing (has_room console) n waited k) s (typed_passed kernel.units n byte s.units.sound has))
+    (sound_wakes (if has_room console then Stored else Dropped) (woken Key (with_key byte console)) n waited kernel _ (λ k. not_passing (has_room console) n waited k) s (typed_passed kernel.units n byte s.units has))
 sound_by (Some Stop) n byte resident kernel s has is =
     subst IsSound (sym (nothing_passing n (is_some (console_at kernel.units n).awaits) (record kernel { units = with_console kernel.units n (with_output_stopped (console_at kernel.units n)) })))
     (sound_stopped n kernel s has (cooked (console_at kernel.units n).raw byte Stop is))
 sound_by (Some Resume) n byte resident kernel s has is =
-    sound_wakes Nothing (woken Output (console_at kernel.units n)) n _ kernel _ (λ k. nothing_passing n _ k) s (resumed_as kernel.units n s.units.sound has)
+    sound_wakes Nothing (woken Output (console_at kernel.units n)) n _ kernel _ (λ k. nothing_passing n _ k) s (resumed_as kernel.units n s.units has)
 sound_by (Some Abort) n byte resident kernel s has is = sound_abort (subject resident (console_at kernel.units n).owner) n _ kernel s
 sound_by (Some Detach) n byte resident kernel s has is =
     sound_pass (subject resident (console_at kernel.units n).owner) n kernel s has (λ p e. subject_owner resident (console_at kernel.units n).owner p e)
 
 pub sound_key_came : (console byte : ℕ) (kernel : Kernel) → IsSound kernel → IsSound (key_came console byte kernel)
-unfolding key_came behind_key key_answer
+unfolding key_came keyed key_answer
 sound_key_came console byte kernel s =
-    either IsSound (nat_lt console kernel.consoles) _ _
-    (λ fits. sound_by (control_of (console_at kernel.units console).raw byte) console byte (is_resident kernel.procs (console_at kernel.units console).owner) kernel s
-    (has_console kernel console s (grind (arith, nat_tests, fits))) refl)
+    either IsSound (nat_lt console (length kernel.units.consoles)) _ _
+    (λ fits. sound_by (control_of (console_at kernel.units console).raw byte) console byte (is_of_resident kernel.dispatcher.procs (console_at kernel.units console).owner) kernel s
+    (grind (arith, nat_tests, fits)) refl)
     (λ _. s)
 
 -- a key changes no process, and completes no call
-record Leaves (old new : Kernel) : Type 0 where
-  pub procs : new.procs ≡ old.procs
-  pub completed : new.completed ≡ old.completed
-
-leaves_done : (key : KeyDone) (console : ℕ) (waited : Bool) (kernel : Kernel) → Leaves kernel (key_done key console waited kernel)
+leaves_done : (key : KeyDone) (console : ℕ) (waited : Bool) (kernel : Kernel) → SameProcesses kernel (key_done key console waited kernel)
 unfolding key_done echoed spoke
 leaves_done Stored console waited kernel = record { procs = refl; completed = refl }
 leaves_done Dropped console waited kernel = record { procs = refl; completed = refl }
@@ -256,15 +240,15 @@ leaves_done (Wakes p) console waited kernel = record { procs = refl; completed =
 leaves_done (Aborts p) console waited kernel = record { procs = refl; completed = refl }
 leaves_done (Passes from to) console waited kernel = record { procs = refl; completed = refl }
 
-leaves_key : (console byte : ℕ) (kernel : Kernel) → Leaves kernel (key_came console byte kernel)
+leaves_key : (console byte : ℕ) (kernel : Kernel) → SameProcesses kernel (key_came console byte kernel)
 unfolding key_came
 leaves_key console byte kernel =
-    either (Leaves kernel) (nat_lt console kernel.consoles) _ _
-    (λ _. let l = leaves_done (key_answer kernel.units console byte (is_resident kernel.procs (console_at kernel.units console).owner)) console _ _ in record { procs = l.procs; completed = l.completed })
+    either (SameProcesses kernel) (nat_lt console (length kernel.units.consoles)) _ _
+    (λ _. let l = leaves_done (key_answer kernel.units console byte (is_of_resident kernel.dispatcher.procs (console_at kernel.units console).owner)) console _ _ in record { procs = l.procs; completed = l.completed })
     (λ _. record { procs = refl; completed = refl })
 
-pub procs_key_came : (console byte : ℕ) (kernel : Kernel) → (key_came console byte kernel).procs ≡ kernel.procs
+pub procs_key_came : (console byte : ℕ) (kernel : Kernel) → (key_came console byte kernel).dispatcher.procs ≡ kernel.dispatcher.procs
 procs_key_came console byte kernel = (leaves_key console byte kernel).procs
 
-pub completed_key_came : (console byte : ℕ) (kernel : Kernel) → (key_came console byte kernel).completed ≡ kernel.completed
+pub completed_key_came : (console byte : ℕ) (kernel : Kernel) → (key_came console byte kernel).dispatcher.completed ≡ kernel.dispatcher.completed
 completed_key_came console byte kernel = (leaves_key console byte kernel).completed

@@ -1,7 +1,7 @@
 pub mod ColumnLaws
-pub mod Dispatched
 pub mod PlaceLaws
 pub mod UnitWaits
+pub mod UnitCounts
 pub mod UnitLaws
 pub mod Soundness
 pub mod Passing
@@ -12,6 +12,7 @@ pub mod AbortLaws
 pub mod GivingLaws
 pub mod InputLaws
 pub mod Staying
+pub mod RowLaws
 pub mod UnitCalls
 pub mod InputCalls
 pub mod QueueingLaws
@@ -30,3 +31,4 @@ pub mod EndingLaws
 pub mod HoldingLaws
 pub mod JoinedLaws
 pub mod OutcomeLaws
+pub mod EnsuredLaws

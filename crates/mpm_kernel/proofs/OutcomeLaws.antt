@@ -1,12 +1,13 @@
 -- How a call ends: which may be held, which may be tried again, and which end their process.
-use Rattle.std.proofs.Common.{◌≡◌, ℕ, Bool, true, false, ◌&&◌, ◌||◌, ◌==◌, Option, Some, None, if◌then◌else◌, ◌∙◌, refl, sym, subst, arith}
-use Rattle.std.proofs.lemmas.Bool.{eqb-true, false≢true}
-use Rattle.std.proofs.lemmas.Bool.Decides.{nat_tests}
-use Rattle.std.specs.Prelude.{◌↔◌, ⊤, nat_le, nat_lt, is_none, is_some, slice_index_or}
+use Rattle.std.proofs.Common.{◌≡◌, ℕ, Bool, true, false, ◌&&◌, ◌||◌, ◌==◌, [], ◌∷◌, Option, Some, None, if◌then◌else◌, ◌∙◌, refl, sym, length}
+use Rattle.std.proofs.lemmas.Bool.{false≢true}
+use Rattle.std.specs.Prelude.{◌↔◌, ⊤, nat_lt, is_none, is_some, slice_index_or}
 use Rattle.mpm_base.proofs.Choices.{either}
+use Rattle.mpm_base.specs.Lists.{is_among}
 use Rattle.mpm_base.specs.Calls.{Taken, byte_in, name_at, word_at}
 use Rattle.mpm_base.specs.declared.call.Outcome.{Outcome}
 use Rattle.mpm_base.specs.declared.call.Outcome.TheVariants.{Done, Held, Retry, Ended}
+use Rattle.mpm_base.specs.declared.functions.TheConstants.{CONSOLE_INPUT, RAW_CONSOLE_INPUT, LIST_OUTPUT, DIRECT_CONSOLE_IO, READ_CONSOLE_BUFFER, GET_CONSOLE_STATUS, POLL, FLAG_WAIT, READ_QUEUE, WRITE_QUEUE, DELAY, ATTACH_CONSOLE, SET_CONSOLE, CALL_RESIDENT_SYSTEM_PROCEDURE, ATTACH_LIST, SET_LIST}
 use Rattle.mpm_flags.specs.States.{flag_at, wait_answer}
 use Rattle.mpm_flags.specs.declared.flags.FlagWait.{FlagWait}
 use Rattle.mpm_flags.specs.declared.flags.FlagWait.TheVariants.{Passed, Waits, Underrun}
@@ -19,30 +20,31 @@ use Rattle.mpm_queues.specs.declared.queues.QueueOutcome.{QueueOutcome}
 use Rattle.mpm_queues.specs.declared.queues.QueueOutcome.TheVariants.{Done as Handled, NotNow}
 use Rattle.mpm_consoles.specs.Consoles.{console_at}
 use Rattle.mpm_consoles.specs.Handling.{may_attach}
+use Rattle.mpm_consoles.specs.declared.modes.TheConstants.{POLL_KEY, TELL_STATUS, AWAIT_KEY}
 use Rattle.mpm_consoles.specs.declared.unit.Unit.{Unit}
 use Rattle.mpm_consoles.specs.declared.unit.Unit.TheVariants.{Console as ConsoleUnit, Printer as PrinterUnit}
 use Rattle.mpm_line_input.specs.Lines.{is_full, ends, line_end}
 use Rattle.mpm_kernel.specs.Kernel.{Kernel, call_begun}
 use Rattle.mpm_kernel.specs.Called.{Called, low_parameter}
-use Rattle.mpm_kernel.specs.Calls.{call_done, called, does_echo, is_for_console, is_for_unit}
-use Rattle.mpm_kernel.specs.Waiting.{polled, is_flag, behind_flag_wait, waited, flag_waited, flag_set, slept}
+use Rattle.mpm_kernel.specs.Calls.{for_console, ending, going_on, done_by, call_done, called, does_echo}
+use Rattle.mpm_kernel.proofs.RowLaws.{by_rows, among}
+use Rattle.mpm_kernel.specs.Waiting.{polled, is_flag, flag_waited_for, waited, flag_waited, flag_set, slept}
 use Rattle.mpm_kernel.specs.Dates.{date_set, date_answered, time_answered}
 use Rattle.mpm_kernel.specs.Queueing.{queue_made, opened, may_delete, deleted, blocked_or_refused, was_read, read_at, was_written, write_at, pointed}
 use Rattle.mpm_kernel.specs.Procedures.{procedure_queue, procedure_read, procedure_at, procedure_called}
-use Rattle.mpm_kernel.specs.Consoling.{retried, attaching, attached, attached_now, console_changed, printer_changed, console_set, printer_set, is_meant, assigned_to, assigned, printer_called, unit_called, named, awaited, echoed}
+use Rattle.mpm_kernel.specs.Consoling.{retried, attaching, attached, attached_now, console_changed, printer_changed, console_set, printer_set, is_meant, assigned_to, assigned, printer_rows, printer_called, unit_rows, unit_called, named, awaited, echoed}
 use Rattle.mpm_kernel.specs.ConsoleInput.{is_cooked, is_raw, writes, raw_if, key_taken, next_key, shown_key, read_key, polled_key, direct, line_of, greatest, line_done, key_joined, line_with, line_by, line_read, console_served, unless_stopped, console_called}
 
 -- the functions whose calls may be held, those whose calls may be tried again, and those that end their process
 abbrev pub may_hold : ℕ → Bool
-may_hold f = f == 131 || (f == 132 || (f == 137 || (f == 139 || (f == 141 || f == 151))))
+may_hold f = is_among f (POLL ∷ FLAG_WAIT ∷ READ_QUEUE ∷ WRITE_QUEUE ∷ DELAY ∷ CALL_RESIDENT_SYSTEM_PROCEDURE ∷ [])
 
 abbrev pub may_retry : ℕ → Bool
 may_retry f =
-    f == 1 || (f == 2 || (f == 3 || (f == 4 || (f == 5 || (f == 6 || (f == 9 || (f == 10 || (f == 11
-    || (f == 146 || (f == 148 || (f == 158 || f == 160)))))))))))
+    is_among f for_console || is_among f (LIST_OUTPUT ∷ ATTACH_CONSOLE ∷ SET_CONSOLE ∷ ATTACH_LIST ∷ SET_LIST ∷ [])
 
 abbrev pub ends_process : ℕ → Bool
-ends_process f = f == 0 || f == 143
+ends_process f = is_among f ending
 
 -- a call is done, or held or tried again where that may be
 Goes : Bool → Bool → Outcome → Type 0
@@ -77,7 +79,7 @@ unfolding flag_waited Goes
 goes_flag_waited hold retry call p kernel may =
     let flag = low_parameter call in
     goes_if hold retry (is_flag flag) _ _
-    (goes_waited hold retry (wait_answer p (flag_at kernel.flags flag)) p (behind_flag_wait kernel p flag) may) tt
+    (goes_waited hold retry (wait_answer p (flag_at kernel.flags flag)) p (flag_waited_for kernel p flag) may) tt
 
 goes_flag_set : (hold retry : Bool) (call : Taken) (kernel : Kernel) → Goes hold retry (flag_set call kernel).outcome
 unfolding flag_set Goes
@@ -162,7 +164,7 @@ goes_procedure_called : (hold retry : Bool) (call : Taken) (p : ℕ) (kernel : K
     → Goes hold retry (procedure_called call p kernel).outcome
 unfolding procedure_called Goes
 goes_procedure_called hold retry call p kernel may =
-    goes_if hold retry (is_some (process_in kernel.procs p).procedure) _ _ tt
+    goes_if hold retry (is_some (process_in kernel.dispatcher.procs p).procedure) _ _ tt
     (goes_procedure_at hold retry (procedure_queue kernel.queues call) p kernel may)
 
 -- calls on consoles and printers
@@ -184,25 +186,25 @@ goes_console_set : (hold retry : Bool) (call : Taken) (p : ℕ) (kernel : Kernel
 unfolding console_set Goes
 goes_console_set hold retry call p kernel may =
     let console = low_parameter call in
-    goes_if hold retry (nat_lt console kernel.consoles) _ _ (goes_attached hold retry p (ConsoleUnit console) (console_changed p console kernel) may) tt
+    goes_if hold retry (nat_lt console (length kernel.units.consoles)) _ _ (goes_attached hold retry p (ConsoleUnit console) (console_changed p console kernel) may) tt
 
 goes_printer_set : (hold retry : Bool) (call : Taken) (p : ℕ) (kernel : Kernel) → retry ≡ true → Goes hold retry (printer_set call p kernel).outcome
 unfolding printer_set Goes
 goes_printer_set hold retry call p kernel may =
     let printer = low_parameter call in
-    goes_if hold retry (nat_lt printer kernel.printers) _ _ (goes_attached hold retry p (PrinterUnit printer) (printer_changed p printer kernel) may) tt
+    goes_if hold retry (nat_lt printer (length kernel.units.printers)) _ _ (goes_attached hold retry p (PrinterUnit printer) (printer_changed p printer kernel) may) tt
 
 goes_assigned_to : (hold retry : Bool) (to : Option ℕ) (call : Taken) (kernel : Kernel) → Goes hold retry (assigned_to to call kernel).outcome
 unfolding assigned_to Goes
 goes_assigned_to hold retry None call kernel = tt
-goes_assigned_to hold retry (Some to) call kernel = goes_if hold retry (is_meant call (process_in kernel.procs to)) _ _ tt tt
+goes_assigned_to hold retry (Some to) call kernel = goes_if hold retry (is_meant call (process_in kernel.dispatcher.procs to)) _ _ tt tt
 
 goes_assigned : (hold retry : Bool) (call : Taken) (p : ℕ) (kernel : Kernel) → Goes hold retry (assigned call p kernel).outcome
 unfolding assigned Goes
 goes_assigned hold retry call p kernel =
     let console = byte_in call 0 in
-    goes_if hold retry (nat_lt console kernel.consoles && may_attach kernel.units p (ConsoleUnit console)) _ _
-    (goes_assigned_to hold retry (named kernel.procs (name_at call 1)) call kernel) tt
+    goes_if hold retry (nat_lt console (length kernel.units.consoles) && may_attach kernel.units p (ConsoleUnit console)) _ _
+    (goes_assigned_to hold retry (named kernel.dispatcher.procs (name_at call 1)) call kernel) tt
 
 -- keys and lines
 
@@ -224,9 +226,9 @@ goes_polled_key hold retry (Some key) console kernel = tt
 goes_direct : (hold retry : Bool) (call : Taken) (p console : ℕ) (kernel : Kernel) → retry ≡ true → Goes hold retry (direct call p console kernel).outcome
 unfolding direct Goes
 goes_direct hold retry call p console kernel may =
-    goes_if hold retry (low_parameter call == 255) _ _ (goes_polled_key hold retry (next_key console kernel) console kernel)
-    (goes_if hold retry (low_parameter call == 254) _ _ tt
-    (goes_if hold retry (low_parameter call == 253) _ _ (goes_read_key hold retry (next_key console kernel) p console kernel may) tt))
+    goes_if hold retry (low_parameter call == POLL_KEY) _ _ (goes_polled_key hold retry (next_key console kernel) console kernel)
+    (goes_if hold retry (low_parameter call == TELL_STATUS) _ _ tt
+    (goes_if hold retry (low_parameter call == AWAIT_KEY) _ _ (goes_read_key hold retry (next_key console kernel) p console kernel may) tt))
 
 goes_line_done : (hold retry : Bool) (call : Taken) (p : ℕ) (kernel : Kernel) → Goes hold retry (line_done call p kernel).outcome
 unfolding line_done Goes
@@ -236,7 +238,7 @@ goes_line_with : (hold retry : Bool) (key : ℕ) (call : Taken) (p console : ℕ
     → Goes hold retry (line_with key call p console kernel).outcome
 unfolding line_with Goes
 goes_line_with hold retry key call p console kernel may =
-    goes_if hold retry (ends (line_of (process_in kernel.procs p)) (greatest call) key) _ _
+    goes_if hold retry (ends (line_of (process_in kernel.dispatcher.procs p)) (greatest call) key) _ _
     (goes_line_done hold retry call p (key_joined call p console key kernel)) may
 
 goes_line_by : (hold retry : Bool) (key : Option ℕ) (call : Taken) (p console : ℕ) (kernel : Kernel) → retry ≡ true
@@ -248,7 +250,7 @@ goes_line_by hold retry (Some key) call p console kernel may = goes_line_with ho
 goes_line_read : (hold retry : Bool) (call : Taken) (p console : ℕ) (kernel : Kernel) → retry ≡ true → Goes hold retry (line_read call p console kernel).outcome
 unfolding line_read Goes
 goes_line_read hold retry call p console kernel may =
-    goes_if hold retry (is_full (process_in kernel.procs p).line_length (greatest call)) _ _
+    goes_if hold retry (is_full (process_in kernel.dispatcher.procs p).line_length (greatest call)) _ _
     (goes_line_done hold retry call p (echoed console line_end kernel))
     (goes_line_by hold retry (next_key console kernel) call p console kernel may)
 
@@ -257,11 +259,11 @@ goes_console_served : (hold retry : Bool) (call : Taken) (p console : ℕ) (kern
 unfolding console_served Goes
 goes_console_served hold retry call p console kernel may =
     let f = call.function in
-    goes_if hold retry (f == 1) _ _ (goes_shown_key hold retry (next_key console kernel) p console kernel may)
-    (goes_if hold retry (f == 3) _ _ (goes_read_key hold retry (next_key console kernel) p console kernel may)
-    (goes_if hold retry (f == 6) _ _ (goes_direct hold retry call p console kernel may)
-    (goes_if hold retry (f == 10) _ _ (goes_line_read hold retry call p console kernel may)
-    (goes_if hold retry (f == 11) _ _ tt tt))))
+    goes_if hold retry (f == CONSOLE_INPUT) _ _ (goes_shown_key hold retry (next_key console kernel) p console kernel may)
+    (goes_if hold retry (f == RAW_CONSOLE_INPUT) _ _ (goes_read_key hold retry (next_key console kernel) p console kernel may)
+    (goes_if hold retry (f == DIRECT_CONSOLE_IO) _ _ (goes_direct hold retry call p console kernel may)
+    (goes_if hold retry (f == READ_CONSOLE_BUFFER) _ _ (goes_line_read hold retry call p console kernel may)
+    (goes_if hold retry (f == GET_CONSOLE_STATUS) _ _ tt tt))))
 
 goes_unless_stopped : (hold retry : Bool) (call : Taken) (p console : ℕ) (kernel : Kernel) → retry ≡ true
     → Goes hold retry (unless_stopped call p console kernel).outcome
@@ -273,71 +275,66 @@ goes_unless_stopped hold retry call p console kernel may =
 goes_console_called : (hold retry : Bool) (call : Taken) (p : ℕ) (kernel : Kernel) → retry ≡ true → Goes hold retry (console_called call p kernel).outcome
 unfolding console_called Goes
 goes_console_called hold retry call p kernel may =
-    let console = (process_in kernel.procs p).console in
-    let behind = attaching p (ConsoleUnit console) true kernel in
+    let console = (process_in kernel.dispatcher.procs p).console in
+    let afterwards = attaching p (ConsoleUnit console) true kernel in
     goes_if hold retry (may_attach kernel.units p (ConsoleUnit console)) _ _
-    (goes_unless_stopped hold retry call p console (raw_if (is_cooked call.function) console false behind) may)
-    (goes_retried hold retry p behind may)
+    (goes_unless_stopped hold retry call p console (raw_if (is_cooked call.function) console false afterwards) may)
+    (goes_retried hold retry p afterwards may)
 
--- a number that is told by a test is in a table where that number is
-at : (table : ℕ → Bool) (f n : ℕ) → (f == n) ≡ true → table n ≡ true → table f ≡ true
-at table f n is there = subst (λ k. table k ≡ true) (sym (eqb-true f n is)) there
-
-in_both : (a b c : Bool) → (a || b) ≡ true → (a ≡ true → c ≡ true) → (b ≡ true → c ≡ true) → c ≡ true
-in_both true b c e one other = one refl
-in_both false b c e one other = other e
-
--- each function of a console may be tried again
-console_retries : (f : ℕ) → is_for_console f ≡ true → may_retry f ≡ true
-console_retries f is =
-    let t = may_retry f in
-    in_both (f == 1) _ t is (λ e. at may_retry f 1 e refl) (λ others.
-    in_both (f == 2) _ t others (λ e. at may_retry f 2 e refl) (λ others.
-    in_both (f == 3) _ t others (λ e. at may_retry f 3 e refl) (λ others.
-    in_both (f == 4) _ t others (λ e. at may_retry f 4 e refl) (λ others.
-    in_both (f == 6) _ t others (λ e. at may_retry f 6 e refl) (λ others.
-    in_both (f == 9) _ t others (λ e. at may_retry f 9 e refl) (λ others.
-    in_both (f == 10) _ t others (λ e. at may_retry f 10 e refl) (λ last. at may_retry f 11 last refl)))))))
-
--- of the functions of consoles and printers those that attach a printer are 5 and 158, where they are none of the others
-
-first_range : (f : ℕ) → (nat_le 146 f && nat_le f 149) ≡ true → (f == 146) ≡ false → (f == 147) ≡ false → (f == 148) ≡ false → (f == 149) ≡ false → ⊥
-first_range f range a b c d = grind (arith, nat_tests, range, a, b, c, d)
-
-second_range : (f : ℕ) → (nat_le 158 f && nat_le f 162) ≡ true → (f == 159) ≡ false → (f == 160) ≡ false → (f == 161) ≡ false → (f == 162) ≡ false
-    → (f == 158) ≡ true
-second_range f range a b c d = grind (arith, nat_tests, range, a, b, c, d)
-
-printer_retries : (f : ℕ) → is_for_unit f ≡ true → (f == 146) ≡ false → (f == 147) ≡ false → (f == 148) ≡ false → (f == 149) ≡ false
-    → (f == 153) ≡ false → (f == 162) ≡ false → (f == 164) ≡ false → (f == 159) ≡ false → (f == 160) ≡ false → (f == 161) ≡ false
-    → may_retry f ≡ true
-printer_retries f is a b c d e g h i j k =
-    let t = may_retry f in
-    in_both (f == 5) _ t is (λ five. at may_retry f 5 five refl) (λ others.
-    in_both (nat_le 146 f && nat_le f 149) _ t others (λ range. absurd (first_range f range a b c d)) (λ others.
-    in_both (f == 153) _ t others (λ same. absurd (false≢true (sym e ∙ same))) (λ others.
-    in_both (nat_le 158 f && nat_le f 162) _ t others (λ range. at may_retry f 158 (second_range f range i j k g) refl)
-    (λ same. absurd (false≢true (sym h ∙ same))))))
-
-goes_unit_called : (hold : Bool) (call : Taken) (p : ℕ) (kernel : Kernel) → is_for_unit call.function ≡ true
-    → Goes hold (may_retry call.function) (unit_called call p kernel).outcome
-unfolding unit_called printer_called Goes
-goes_unit_called hold call p kernel is =
+goes_printer_called : (hold : Bool) (call : Taken) (p : ℕ) (kernel : Kernel) → Goes hold (may_retry call.function) (printer_called call p kernel).outcome
+unfolding printer_called Goes
+goes_printer_called hold call p kernel =
     let f = call.function in
-    let process = process_in kernel.procs p in
+    let own = PrinterUnit (process_in kernel.dispatcher.procs p).printer in
     let retry = may_retry f in
-    goes_by hold retry (f == 146) _ _ (λ e. goes_attached hold retry p (ConsoleUnit process.console) kernel (at may_retry f 146 e refl)) (λ a.
-    goes_by hold retry (f == 147) _ _ (λ _. tt) (λ b.
-    goes_by hold retry (f == 148) _ _ (λ e. goes_console_set hold retry call p kernel (at may_retry f 148 e refl)) (λ c.
-    goes_by hold retry (f == 149) _ _ (λ _. goes_assigned hold retry call p kernel) (λ d.
-    goes_by hold retry (f == 153) _ _ (λ _. tt) (λ e.
-    goes_by hold retry (f == 162) _ _ (λ _. goes_attached_now hold retry p (ConsoleUnit process.console) kernel) (λ g.
-    goes_by hold retry (f == 164) _ _ (λ _. tt) (λ h.
-    goes_if hold retry (kernel.printers == 0) _ _ tt
-    (goes_by hold retry (f == 159) _ _ (λ _. tt) (λ i.
-    goes_by hold retry (f == 160) _ _ (λ e. goes_printer_set hold retry call p kernel (at may_retry f 160 e refl)) (λ j.
-    goes_by hold retry (f == 161) _ _ (λ _. goes_attached_now hold retry p (PrinterUnit process.printer) kernel) (λ k.
-    goes_attached hold retry p (PrinterUnit process.printer) kernel (printer_retries f is a b c d e g h i j k))))))))))))
+    goes_if hold retry (length kernel.units.printers == 0) _ _ tt
+    (by_rows (λ (c : Called). Goes hold retry c.outcome) call p (process_in kernel.dispatcher.procs p) kernel printer_rows (
+      λ is. goes_attached hold retry p own kernel (among may_retry f (LIST_OUTPUT ∷ ATTACH_LIST ∷ []) is refl),
+      (
+        λ _. tt,
+        (
+          λ is. goes_printer_set hold retry call p kernel (among may_retry f (SET_LIST ∷ []) is refl),
+          (
+            λ _. goes_attached_now hold retry p own kernel,
+            tt,
+          ),
+        ),
+      ),
+    )
+    tt)
+
+goes_unit_called : (hold : Bool) (call : Taken) (p : ℕ) (kernel : Kernel) → Goes hold (may_retry call.function) (unit_called call p kernel).outcome
+unfolding unit_called Goes
+goes_unit_called hold call p kernel =
+    let f = call.function in
+    let own = ConsoleUnit (process_in kernel.dispatcher.procs p).console in
+    let retry = may_retry f in
+    by_rows (λ (c : Called). Goes hold retry c.outcome) call p (process_in kernel.dispatcher.procs p) kernel unit_rows (
+      λ is. goes_attached hold retry p own kernel (among may_retry f (ATTACH_CONSOLE ∷ []) is refl),
+      (
+        λ _. tt,
+        (
+          λ is. goes_console_set hold retry call p kernel (among may_retry f (SET_CONSOLE ∷ []) is refl),
+          (
+            λ _. goes_assigned hold retry call p kernel,
+            (
+              λ _. tt,
+              (
+                λ _. goes_attached_now hold retry p own kernel,
+                (
+                  λ _. tt,
+                  (
+                    λ _. goes_printer_called hold call p kernel,
+                    tt,
+                  ),
+                ),
+              ),
+            ),
+          ),
+        ),
+      ),
+    )
+    tt
 
 -- the whole table: a call of a function ends its process exactly where it is one of two, and is held or tried again only where
 -- that may be
@@ -374,47 +371,101 @@ ends_call_done call p process kernel =
     let f = call.function in
     let hold = may_hold f in
     let retry = may_retry f in
-    ends_by f (ends_process f) _ _ refl refl
-    (goes_by hold retry (is_for_console f) _ _ (λ e. goes_console_called hold retry call p kernel (console_retries f e)) (λ _.
-    goes_by hold retry (is_for_unit f) _ _ (λ e. goes_unit_called hold call p kernel e) (λ _.
-    goes_by hold retry (f == 12 || f == 163) _ _ (λ _. tt) (λ _.
-    goes_by hold retry (f == 25) _ _ (λ _. tt) (λ _.
-    goes_by hold retry (f == 26) _ _ (λ _. tt) (λ _.
-    goes_by hold retry (f == 32) _ _ (λ _. tt) (λ _.
-    goes_by hold retry (f == 44) _ _ (λ _. tt) (λ _.
-    goes_by hold retry (f == 45) _ _ (λ _. tt) (λ _.
-    goes_by hold retry (f == 104) _ _ (λ _. goes_date_set hold retry call kernel) (λ _.
-    goes_by hold retry (f == 105) _ _ (λ _. goes_date_told hold retry call kernel) (λ _.
-    goes_by hold retry (f == 106) _ _ (λ _. tt) (λ _.
-    goes_by hold retry (f == 131) _ _ (λ e. goes_polled hold retry call p kernel (at may_hold f 131 e refl)) (λ _.
-    goes_by hold retry (f == 132) _ _ (λ e. goes_flag_waited hold retry call p kernel (at may_hold f 132 e refl)) (λ _.
-    goes_by hold retry (f == 133) _ _ (λ _. goes_flag_set hold retry call kernel) (λ _.
-    goes_by hold retry (f == 134) _ _ (λ _. goes_queue_made hold retry call kernel) (λ _.
-    goes_by hold retry (f == 135) _ _ (λ _. goes_opened hold retry (found kernel.queues (name_at call 4)) call kernel) (λ _.
-    goes_by hold retry (f == 136) _ _ (λ _. goes_deleted hold retry (found kernel.queues (name_at call 2)) kernel) (λ _.
-    goes_by hold retry (f == 137) _ _ (λ e. goes_read_at hold retry (pointed kernel.queues (word_at call 0)) true call p kernel (λ _. at may_hold f 137 e refl)) (λ _.
-    goes_by hold retry (f == 138) _ _ (λ _. goes_read_at hold retry (pointed kernel.queues (word_at call 0)) false call p kernel (λ e. absurd (false≢true e))) (λ _.
-    goes_by hold retry (f == 139) _ _ (λ e. goes_write_at hold retry (pointed kernel.queues (word_at call 0)) true p kernel (λ _. at may_hold f 139 e refl)) (λ _.
-    goes_by hold retry (f == 140) _ _ (λ _. goes_write_at hold retry (pointed kernel.queues (word_at call 0)) false p kernel (λ e. absurd (false≢true e))) (λ _.
-    goes_by hold retry (f == 141) _ _ (λ e. goes_slept hold retry call p kernel (at may_hold f 141 e refl)) (λ _.
-    goes_by hold retry (f == 142) _ _ (λ _. tt) (λ _.
-    goes_by hold retry (f == 145) _ _ (λ _. tt) (λ _.
-    goes_by hold retry (f == 151) _ _ (λ e. goes_procedure_called hold retry call p kernel (at may_hold f 151 e refl)) (λ _.
-    goes_by hold retry (f == 155) _ _ (λ _. goes_time_told hold retry call kernel) (λ _. tt)))))))))))))))))))))))))))
+    ends_by f (ends_process f) _ (done_by going_on call p process kernel) refl refl
+    (by_rows (λ (c : Called). Goes hold retry c.outcome) call p process kernel going_on (
+      λ is. goes_console_called hold retry call p kernel (among may_retry f for_console is refl),
+      (
+        λ _. goes_unit_called hold call p kernel,
+        (
+          λ _. tt,
+          (
+            λ _. tt,
+            (
+              λ _. tt,
+              (
+                λ _. tt,
+                (
+                  λ _. tt,
+                  (
+                    λ _. tt,
+                    (
+                      λ _. goes_date_set hold retry call kernel,
+                      (
+                        λ _. goes_date_told hold retry call kernel,
+                        (
+                          λ _. tt,
+                          (
+                            λ is. goes_polled hold retry call p kernel (among may_hold f (POLL ∷ []) is refl),
+                            (
+                              λ is. goes_flag_waited hold retry call p kernel (among may_hold f (FLAG_WAIT ∷ []) is refl),
+                              (
+                                λ _. goes_flag_set hold retry call kernel,
+                                (
+                                  λ _. goes_queue_made hold retry call kernel,
+                                  (
+                                    λ _. goes_opened hold retry (found kernel.queues (name_at call 4)) call kernel,
+                                    (
+                                      λ _. goes_deleted hold retry (found kernel.queues (name_at call 2)) kernel,
+                                      (
+                                        λ is. goes_read_at hold retry (pointed kernel.queues (word_at call 0)) true call p kernel (λ _. among may_hold f (READ_QUEUE ∷ []) is refl),
+                                        (
+                                          λ _. goes_read_at hold retry (pointed kernel.queues (word_at call 0)) false call p kernel (λ e. absurd (false≢true e)),
+                                          (
+                                            λ is. goes_write_at hold retry (pointed kernel.queues (word_at call 0)) true p kernel (λ _. among may_hold f (WRITE_QUEUE ∷ []) is refl),
+                                            (
+                                              λ _. goes_write_at hold retry (pointed kernel.queues (word_at call 0)) false p kernel (λ e. absurd (false≢true e)),
+                                              (
+                                                λ is. goes_slept hold retry call p kernel (among may_hold f (DELAY ∷ []) is refl),
+                                                (
+                                                  λ _. tt,
+                                                  (
+                                                    λ _. tt,
+                                                    (
+                                                      λ is. goes_procedure_called hold retry call p kernel (among may_hold f (CALL_RESIDENT_SYSTEM_PROCEDURE ∷ []) is refl),
+                                                      (
+                                                        λ _. goes_time_told hold retry call kernel,
+                                                        tt,
+                                                      ),
+                                                    ),
+                                                  ),
+                                                ),
+                                              ),
+                                            ),
+                                          ),
+                                        ),
+                                      ),
+                                    ),
+                                  ),
+                                ),
+                              ),
+                            ),
+                          ),
+                        ),
+                      ),
+                    ),
+                  ),
+                ),
+              ),
+            ),
+          ),
+        ),
+      ),
+    )
+    tt)
 
-ends_called : (p : ℕ) (kernel : Kernel) → Ends (call_of kernel.procs p).function (called p kernel).outcome
+ends_called : (p : ℕ) (kernel : Kernel) → Ends (call_of kernel.dispatcher.procs p).function (called p kernel).outcome
 ends_called p kernel =
-    let call = call_of kernel.procs p in
-    ends_call_done call p (process_in kernel.procs p) (call_begun (does_echo call.function) kernel)
+    let call = call_of kernel.dispatcher.procs p in
+    ends_call_done call p (process_in kernel.dispatcher.procs p) (call_begun (does_echo call.function) kernel)
 
 -- a call is held only at functions 131, 132, 137, 139, 141 and 151
-pub held_only : (p : ℕ) (kernel : Kernel) → (called p kernel).outcome ≡ Held → may_hold (call_of kernel.procs p).function ≡ true
+pub held_only : (p : ℕ) (kernel : Kernel) → (called p kernel).outcome ≡ Held → may_hold (call_of kernel.dispatcher.procs p).function ≡ true
 held_only p kernel e = (ends_called p kernel).held e
 
 -- tried again only at functions 1 to 6, 9 to 11, 146, 148, 158 and 160
-pub retried_only : (p : ℕ) (kernel : Kernel) → (called p kernel).outcome ≡ Retry → may_retry (call_of kernel.procs p).function ≡ true
+pub retried_only : (p : ℕ) (kernel : Kernel) → (called p kernel).outcome ≡ Retry → may_retry (call_of kernel.dispatcher.procs p).function ≡ true
 retried_only p kernel e = (ends_called p kernel).retried e
 
 -- and ends its process exactly at functions 0 and 143
-pub ended_exactly : (p : ℕ) (kernel : Kernel) → ((called p kernel).outcome ≡ Ended) ↔ (ends_process (call_of kernel.procs p).function ≡ true)
+pub ended_exactly : (p : ℕ) (kernel : Kernel) → ((called p kernel).outcome ≡ Ended) ↔ (ends_process (call_of kernel.dispatcher.procs p).function ≡ true)
 ended_exactly p kernel = (ends_called p kernel).ended

@@ -6,20 +6,22 @@ use Rattle.mpm_procs.specs.Table.{Lives, process_in}
 use Rattle.mpm_procs.proofs.MapLaws.{lives_below}
 use Rattle.mpm_consoles.specs.Console.{is_owner}
 use Rattle.mpm_consoles.specs.Consoles.{Consoles, HasUnit, owner_of, owns, waiters_of, first_waiter, waits_for, waits, gate_waits, IsSound as AreUnitsSound}
-use Rattle.mpm_consoles.specs.Handling.{given, unlisted, pass_to, passed, behind_detach, heir_of}
+use Rattle.mpm_consoles.specs.Handling.{given, unlisted, pass_to, passed, unit_detached, heir_of}
 use Rattle.mpm_consoles.specs.declared.unit.Unit.{Unit}
 use Rattle.mpm_consoles.specs.declared.unit.Unit.TheVariants.{Console as ConsoleUnit, Printer as PrinterUnit}
 use Rattle.mpm_consoles.proofs.SoundLaws.{sound_given, sound_unlisted, for_unlisted, nobody_first}
 use Rattle.mpm_consoles.proofs.WaitLaws.{has_unlisted}
-use Rattle.mpm_kernel.specs.Kernel.{Kernel, ready, in_lists, waits_at_units, places, IsReady, AreUnits, IsSound}
-use Rattle.mpm_kernel.specs.Dispatch.{moved, lists_ready, unit_left}
+use Rattle.mpm_dispatcher.specs.Dispatch.{ready, IsReady, moved, lists_ready, made_ready}
+use Rattle.mpm_kernel.specs.Kernel.{Kernel, in_lists, waits_at_units, places, IsSound, dispatched}
+use Rattle.mpm_kernel.specs.Consoling.{unit_left}
 use Rattle.mpm_kernel.proofs.PlaceLaws.{list_moved, list_moved_other}
 use Rattle.mpm_consoles.proofs.PlaceLaws.{owner_is, gate_waits_unlisted}
 use Rattle.mpm_kernel.proofs.UnitWaits.{waits_one, waits_unlisted, waits_unlisted_other, waits_given, gates_given, owner_given, owner_from_given, owner_unlisted, consoles_given, printers_given}
+use Rattle.mpm_kernel.proofs.UnitCounts.{many_heir}
 use Rattle.mpm_kernel.proofs.UnitLaws.{first_is_there}
-use Rattle.mpm_kernel.proofs.Soundness.{sound_units, sound_ready}
+use Rattle.mpm_kernel.proofs.Soundness.{AreUnits, sound_units, sound_ready}
 
--- units behind one of them came to an heir, or to nobody, and before
+-- units after one of them came to an heir, or to nobody, and before
 pub record HavePassed (t new : Consoles) (heir : Option ℕ) : Type 0 where
   pub sound : AreUnitsSound new
   pub consoles : length new.consoles ≡ length t.consoles
@@ -46,10 +48,6 @@ fewer_waits t h q sound = elim (cases_eq q h) [
   | inr other ↦ omega (arith, waits_unlisted_other t h q sound other)
 ]
 
-same_units : (t : Consoles) (h : ℕ) → (length (unlisted t h).consoles ≡ length t.consoles) × (length (unlisted t h).printers ≡ length t.printers)
-unfolding unlisted
-same_units t h = (refl, refl)
-
 -- a unit comes to a process that waits for a unit, and waits no more
 pub passed_waiter : (t : Consoles) (unit at : Unit) (h : ℕ) → AreUnitsSound t → HasUnit t unit → waits_for t h at ≡ true
     → HavePassed t (given (unlisted t h) unit (Some h)) (Some h)
@@ -57,8 +55,8 @@ passed_waiter t unit at h sound has there =
     let has_still = has_unlisted t h unit has in
     record {
       sound = sound_given (unlisted t h) unit (Some h) (sound_unlisted t h sound) has_still (for_unlisted t unit h);
-      consoles = consoles_given (unlisted t h) unit (Some h) ∙ (same_units t h).0;
-      printers = printers_given (unlisted t h) unit (Some h) ∙ (same_units t h).1;
+      consoles = (many_heir t unit h).consoles;
+      printers = (many_heir t unit h).printers;
       owners = λ other p is. elim (owner_from_given (unlisted t h) unit other (Some h) p has_still is) [
         | inl before ↦ inl (ap (λ o. is_owner o p) (sym (owner_unlisted t h other)) ∙ before)
         | inr new ↦ inr new
@@ -98,75 +96,75 @@ passed_if : (b : Bool) (t new : Consoles) (heir : Option ℕ) → AreUnitsSound 
 passed_if true t new heir sound are = are
 passed_if false t new heir sound are = passed_same t sound
 
-pub passed_detach : (t : Consoles) (p : ℕ) (unit : Unit) → AreUnitsSound t → HasUnit t unit → HavePassed t (behind_detach t p unit) (heir_of t p unit)
-unfolding behind_detach heir_of
+pub passed_detach : (t : Consoles) (p : ℕ) (unit : Unit) → AreUnitsSound t → HasUnit t unit → HavePassed t (unit_detached t p unit) (heir_of t p unit)
+unfolding unit_detached heir_of
 passed_detach t p unit sound has = passed_if (owns t p unit) t (passed t unit) (first_waiter t unit) sound (passed_on t unit sound has)
 
--- the kernel behind units passed: the heir is ready
+-- the kernel after units passed: the heir is ready
 
 has_then : (t new : Consoles) (heir : Option ℕ) (unit : Unit) → HavePassed t new heir → HasUnit new unit → HasUnit t unit
 has_then t new heir (ConsoleUnit n) are has = omega (arith, are.consoles, has)
 has_then t new heir (PrinterUnit n) are has = omega (arith, are.printers, has)
 
-pub heir_lives : (kernel : Kernel) (units : Consoles) (heir : Option ℕ) (h : ℕ) → IsSound kernel → HavePassed kernel.units units heir → heir ≡ Some h → Lives kernel.procs h
+pub heir_lives : (kernel : Kernel) (units : Consoles) (heir : Option ℕ) (h : ℕ) → IsSound kernel → HavePassed kernel.units units heir → heir ≡ Some h → Lives kernel.dispatcher.procs h
 heir_lives kernel units heir h s are is = s.live h (omega (arith, are.first h is))
 
 pub units_passed : (kernel : Kernel) (units : Consoles) (heir : Option ℕ) → IsSound kernel → HavePassed kernel.units units heir
-    → AreUnits kernel.consoles kernel.printers kernel.procs units
+    → AreUnits kernel.units kernel.dispatcher.procs units
 units_passed kernel units heir s are = record {
   sound = are.sound;
-  all_consoles = are.consoles ∙ s.units.all_consoles;
-  all_printers = are.printers ∙ s.units.all_printers;
+  consoles = are.consoles;
+  printers = are.printers;
   owners = λ unit p has is. elim (are.owners unit p is) [
-    | inl before ↦ s.units.owners unit p (has_then kernel.units units heir unit are has) before
+    | inl before ↦ s.owners unit p (has_then kernel.units units heir unit are has) before
     | inr new ↦ heir_lives kernel units heir p s are new
   ];
 }
 
 pub sound_passed : (kernel : Kernel) (units : Consoles) (heir : Option ℕ) → IsSound kernel → HavePassed kernel.units units heir
-    → IsSound (record kernel { lists = lists_ready heir kernel.procs kernel.lists; units = units })
-unfolding lists_ready moved
+    → IsSound (record kernel { dispatcher = made_ready heir kernel.dispatcher; units = units })
+unfolding lists_ready
 sound_passed kernel units None s are =
     sound_units kernel units s (units_passed kernel units None s are) (λ q. omega (arith, are.waiters q, are.at_gates q))
 sound_passed kernel units (Some h) s are =
-    let behind = record kernel { units = units } in
-    let sound : IsSound behind = sound_units kernel units s (units_passed kernel units (Some h) s are) (λ q. omega (arith, are.waiters q, are.at_gates q)) in
+    let afterwards = record kernel { units = units } in
+    let sound : IsSound afterwards = sound_units kernel units s (units_passed kernel units (Some h) s are) (λ q. omega (arith, are.waiters q, are.at_gates q)) in
     let was = are.first h refl in
-    sound_ready behind h sound (heir_lives kernel units (Some h) h s are refl) (omega (arith, s.once h, was))
+    sound_ready afterwards h sound (heir_lives kernel units (Some h) h s are refl) (omega (arith, s.once h, was))
 
 -- who is ready stays so
-pub ready_passed : (kernel : Kernel) (heir : Option ℕ) (p : ℕ) → IsSound kernel → ((h : ℕ) → heir ≡ Some h → Lives kernel.procs h) → IsReady kernel p
-    → list_of (lists_ready heir kernel.procs kernel.lists) p ≡ Some ready
-unfolding lists_ready moved
+pub ready_passed : (kernel : Kernel) (heir : Option ℕ) (p : ℕ) → IsSound kernel → ((h : ℕ) → heir ≡ Some h → Lives kernel.dispatcher.procs h) → IsReady kernel.dispatcher p
+    → list_of (lists_ready heir kernel.dispatcher.procs kernel.dispatcher.lists) p ≡ Some ready
+unfolding lists_ready
 ready_passed kernel None p s live is_ready = is_ready
 ready_passed kernel (Some h) p s live is_ready =
-    let below : h < 32 = lives_below kernel.procs h s.slots (live h refl) in
-    let priority = (process_in kernel.procs h).priority in
+    let below : h < 32 = lives_below kernel.dispatcher.procs h s.slots (live h refl) in
+    let priority = (process_in kernel.dispatcher.procs h).priority in
     elim (cases_eq p h) [
-      | inl same ↦ ap (list_of (moved kernel ready h).lists) same ∙ list_moved kernel.lists ready h priority s.table (omega arith) below
-      | inr other ↦ list_moved_other kernel.lists ready h priority p s.table (omega arith) below other ∙ is_ready
+      | inl same ↦ ap (list_of (dispatched (moved ready h) kernel).dispatcher.lists) same ∙ list_moved kernel.dispatcher.lists ready h priority s.table (omega arith) below
+      | inr other ↦ list_moved_other kernel.dispatcher.lists ready h priority p s.table (omega arith) below other ∙ is_ready
     ]
 
 -- who stands nowhere and isn't the heir stands nowhere still
 nowhere_passed : (kernel : Kernel) (units : Consoles) (heir : Option ℕ) (p : ℕ) → IsSound kernel → HavePassed kernel.units units heir
-    → (heir ≡ Some p → ⊥) → places kernel p ≡ 0 → places (record kernel { lists = lists_ready heir kernel.procs kernel.lists; units = units }) p ≡ 0
-unfolding lists_ready moved
+    → (heir ≡ Some p → ⊥) → places kernel p ≡ 0 → places (record kernel { dispatcher = made_ready heir kernel.dispatcher; units = units }) p ≡ 0
+unfolding lists_ready
 nowhere_passed kernel units None p s are other none = omega (arith, none, are.waiters p, are.at_gates p)
 nowhere_passed kernel units (Some h) p s are other none =
-    let below : h < 32 = lives_below kernel.procs h s.slots (heir_lives kernel units (Some h) h s are refl) in
+    let below : h < 32 = lives_below kernel.dispatcher.procs h s.slots (heir_lives kernel units (Some h) h s are refl) in
     let apart : p ≢ h = λ same. other (ap Some (sym same)) in
-    let there = list_moved_other kernel.lists ready h (process_in kernel.procs h).priority p s.table (omega arith) below apart in
+    let there = list_moved_other kernel.dispatcher.lists ready h (process_in kernel.dispatcher.procs h).priority p s.table (omega arith) below apart in
     omega (arith, ap in_lists there, none, are.waiters p, are.at_gates p)
 
 -- a process leaves a unit
 pub sound_unit_left : (kernel : Kernel) (p : ℕ) (unit : Unit) → IsSound kernel → HasUnit kernel.units unit → IsSound (unit_left p unit kernel)
 unfolding unit_left
-sound_unit_left kernel p unit s has = sound_passed kernel _ _ s (passed_detach kernel.units p unit s.units.sound has)
+sound_unit_left kernel p unit s has = sound_passed kernel _ _ s (passed_detach kernel.units p unit s.units has)
 
-pub ready_unit_left : (kernel : Kernel) (p q : ℕ) (unit : Unit) → IsSound kernel → HasUnit kernel.units unit → IsReady kernel q → IsReady (unit_left p unit kernel) q
+pub ready_unit_left : (kernel : Kernel) (p q : ℕ) (unit : Unit) → IsSound kernel → HasUnit kernel.units unit → IsReady kernel.dispatcher q → IsReady (unit_left p unit kernel).dispatcher q
 unfolding unit_left
 ready_unit_left kernel p q unit s has is_ready =
-    ready_passed kernel _ q s (λ h is. heir_lives kernel _ _ h s (passed_detach kernel.units p unit s.units.sound has) is) is_ready
+    ready_passed kernel _ q s (λ h is. heir_lives kernel _ _ h s (passed_detach kernel.units p unit s.units has) is) is_ready
 
 -- nobody is his own heir
 not_heir_if : (b : Bool) (t : Consoles) (p : ℕ) (unit : Unit) → AreUnitsSound t → HasUnit t unit → owns t p unit ≡ b
@@ -181,8 +179,8 @@ not_heir t p unit sound has is = not_heir_if (owns t p unit) t p unit sound has 
 
 -- who left a unit doesn't own it, and gets no other
 pub kept_false : (t : Consoles) (p : ℕ) (unit other : Unit) → AreUnitsSound t → HasUnit t unit → owns t p other ≡ false
-    → owns (behind_detach t p unit) p other ≡ false
-kept_false t p unit other sound has not = elim (cases_Bool (owns (behind_detach t p unit) p other)) [
+    → owns (unit_detached t p unit) p other ≡ false
+kept_false t p unit other sound has not = elim (cases_Bool (owns (unit_detached t p unit) p other)) [
   | inl is ↦ elim ((passed_detach t p unit sound has).owners other p is) [
     | inl before ↦ absurd (false≢true (sym not ∙ before))
     | inr new ↦ absurd (not_heir t p unit sound has new)
@@ -201,9 +199,9 @@ now_false_if true t p unit sound has own is =
     not_heir_if true t p unit sound has own (sym (owner_passed_to (first_waiter t unit) t unit has) ∙ owner_is _ p is)
 now_false_if false t p unit sound has own is = false≢true (sym own ∙ is)
 
-pub now_false : (t : Consoles) (p : ℕ) (unit : Unit) → AreUnitsSound t → HasUnit t unit → owns (behind_detach t p unit) p unit ≡ false
-unfolding behind_detach
-now_false t p unit sound has = elim (cases_Bool (owns (behind_detach t p unit) p unit)) [
+pub now_false : (t : Consoles) (p : ℕ) (unit : Unit) → AreUnitsSound t → HasUnit t unit → owns (unit_detached t p unit) p unit ≡ false
+unfolding unit_detached
+now_false t p unit sound has = elim (cases_Bool (owns (unit_detached t p unit) p unit)) [
   | inl is ↦ absurd (now_false_if (owns t p unit) t p unit sound has refl is)
   | inr is ↦ is
 ]
@@ -213,4 +211,4 @@ pub nowhere_unit_left : (kernel : Kernel) (p : ℕ) (unit : Unit) → IsSound ke
     → places (unit_left p unit kernel) p ≡ 0
 unfolding unit_left
 nowhere_unit_left kernel p unit s has none =
-    nowhere_passed kernel _ _ p s (passed_detach kernel.units p unit s.units.sound has) (not_heir kernel.units p unit s.units.sound has) none
+    nowhere_passed kernel _ _ p s (passed_detach kernel.units p unit s.units has) (not_heir kernel.units p unit s.units has) none

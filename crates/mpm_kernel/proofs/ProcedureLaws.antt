@@ -2,13 +2,14 @@
 use Rattle.std.proofs.Common.{◌≡◌, ◌∙◌, ℕ, Bool, true, false, [], Option, Some, None, if◌then◌else◌, refl, ap}
 use Rattle.mpm_base.proofs.Choices.{either}
 use Rattle.mpm_procs.specs.Table.{lives, Lives, process_in, with_process}
-use Rattle.mpm_procs.proofs.MapLaws.{lives_changed, lives_behind}
+use Rattle.mpm_procs.proofs.MapLaws.{lives_changed, lives_after}
 use Rattle.mpm_queues.specs.Queue.{is_full, with_given}
 use Rattle.mpm_queues.specs.Queues.{is_made, queue_in}
-use Rattle.mpm_queues.specs.Handling.{first_reader, written_by, delivered_to, procs_behind_write, write_outcome, woken_by}
-use Rattle.mpm_kernel.specs.Kernel.{Kernel, IsSound, with_changed}
+use Rattle.mpm_queues.specs.Handling.{first_reader, written_by, delivered_to, procs_after_write, write_outcome, woken_by}
+use Rattle.mpm_kernel.specs.Kernel.{Kernel, IsSound, with_changed, dispatched}
 use Rattle.mpm_kernel.specs.Called.{valued}
-use Rattle.mpm_kernel.specs.Queueing.{with_other, given_to}
+use Rattle.mpm_dispatcher.specs.Dispatch.{with_other}
+use Rattle.mpm_kernel.specs.Queueing.{given_to}
 use Rattle.mpm_kernel.specs.Procedures.{writing, outside, given_back_to, given_back}
 use Rattle.mpm_kernel.proofs.Soundness.{none_and_some, sound_changed, sound_call, sound_with_completed}
 use Rattle.mpm_kernel.proofs.Staying.{StaysSound, nobody, kernel_if}
@@ -19,52 +20,52 @@ pub use Rattle.mpm_kernel.proofs.QueueCalls.{procedure_made}
 
 -- the process is in no procedure any more
 
-pub sound_outside : (p : ℕ) (kernel : Kernel) → IsSound kernel → Lives kernel.procs p → IsSound (outside p kernel)
+pub sound_outside : (p : ℕ) (kernel : Kernel) → IsSound kernel → Lives kernel.dispatcher.procs p → IsSound (outside p kernel)
 unfolding outside
 sound_outside p kernel s h =
     let fit = s.fit p h in
-    let process = record (process_in kernel.procs p) { procedure = None } in
+    let process = record (process_in kernel.dispatcher.procs p) { procedure = None } in
     sound_with_completed _ []
-    (sound_call (with_changed kernel p process) p (writing (process_in kernel.procs p).kept)
+    (sound_call (with_changed kernel p process) p (writing (process_in kernel.dispatcher.procs p).kept)
     (sound_changed kernel p process s h (record { console = fit.console; printer = fit.printer; some = fit.some; few = fit.few }) (λ q is. absurd (none_and_some None q refl is))))
 
-pub lives_outside : (p q : ℕ) (kernel : Kernel) → Lives kernel.procs q → Lives (outside p kernel).procs q
+pub lives_outside : (p q : ℕ) (kernel : Kernel) → Lives kernel.dispatcher.procs q → Lives (outside p kernel).dispatcher.procs q
 unfolding outside
 lives_outside p q kernel h =
-    let process = record (process_in kernel.procs p) { procedure = None } in
-    lives_behind (with_process kernel.procs p process) p q (writing (process_in kernel.procs p).kept) ∙ lives_changed kernel.procs p q process ∙ h
+    let process = record (process_in kernel.dispatcher.procs p) { procedure = None } in
+    lives_after (with_process kernel.dispatcher.procs p process) p q (writing (process_in kernel.dispatcher.procs p).kept) ∙ lives_changed kernel.dispatcher.procs p q process ∙ h
 
-pub nobody_outside : (p : ℕ) (kernel : Kernel) → (outside p kernel).completed ≡ []
+pub nobody_outside : (p : ℕ) (kernel : Kernel) → (outside p kernel).dispatcher.completed ≡ []
 unfolding outside
 nobody_outside p kernel = refl
 
-homes_outside : (p : ℕ) (kernel : Kernel) → IsSound kernel → Lives kernel.procs p → SameHomes kernel (outside p kernel)
+homes_outside : (p : ℕ) (kernel : Kernel) → IsSound kernel → Lives kernel.dispatcher.procs p → SameHomes kernel (outside p kernel)
 unfolding outside
 homes_outside p kernel s h =
-    let process = record (process_in kernel.procs p) { procedure = None } in
+    let process = record (process_in kernel.dispatcher.procs p) { procedure = None } in
     let changed = with_changed kernel p process in
-    let call = writing (process_in kernel.procs p).kept in
+    let call = writing (process_in kernel.dispatcher.procs p).kept in
     homes_both kernel changed _ (homes_changed kernel p process s.slots h refl refl)
     (homes_both changed _ (outside p kernel) (homes_call changed p call) (homes_stay _ (outside p kernel) refl))
 
 -- and its message is written
 
-stays_given : (queue : Option ℕ) (p : ℕ) (kernel : Kernel) → IsSound kernel → Lives kernel.procs p → kernel.completed ≡ []
+stays_given : (queue : Option ℕ) (p : ℕ) (kernel : Kernel) → IsSound kernel → Lives kernel.dispatcher.procs p → kernel.dispatcher.completed ≡ []
     → StaysSound p (valued 0 (given_back_to queue p kernel))
 unfolding given_back_to
 stays_given None p kernel s h none = record { sound = s; lives = h; completed = nobody kernel none }
 stays_given (Some q) p kernel s h none =
     kernel_if p (is_made kernel.queues q) _ _ 0
     (λ is. stays_other (woken_by (write_outcome kernel.queues q)) p 0 (given_to kernel p q) (sound_given kernel p q s is)
-    (lives_written kernel.queues p q kernel.procs p ∙ h) (nobody (given_to kernel p q) none) (λ r first. may_by_write kernel p q r s first))
+    (lives_written kernel.queues p q kernel.dispatcher.procs p ∙ h) (nobody (given_to kernel p q) none) (λ r first. may_by_write kernel p q r s first))
     (λ _. record { sound = s; lives = h; completed = nobody kernel none })
 
-pub stays_given_back : (p : ℕ) (kernel : Kernel) → IsSound kernel → Lives kernel.procs p → StaysSound p (valued 0 (given_back p kernel))
+pub stays_given_back : (p : ℕ) (kernel : Kernel) → IsSound kernel → Lives kernel.dispatcher.procs p → StaysSound p (valued 0 (given_back p kernel))
 unfolding given_back
 stays_given_back p kernel s h =
-    stays_given (process_in kernel.procs p).procedure p (outside p kernel) (sound_outside p kernel s h) (lives_outside p p kernel h) (nobody_outside p kernel)
+    stays_given (process_in kernel.dispatcher.procs p).procedure p (outside p kernel) (sound_outside p kernel s h) (lives_outside p p kernel h) (nobody_outside p kernel)
 
-homes_delivered : (o : Option ℕ) (b : Bool) (kernel new : Kernel) (message : _) → new.procs ≡ (if b then kernel.procs else (delivered_to o message kernel.procs)) → SameHomes kernel new
+homes_delivered : (o : Option ℕ) (b : Bool) (kernel new : Kernel) (message : _) → new.dispatcher.procs ≡ (if b then kernel.dispatcher.procs else (delivered_to o message kernel.dispatcher.procs)) → SameHomes kernel new
 homes_delivered o true kernel new message e = homes_stay kernel new e
 homes_delivered None false kernel new message e = homes_stay kernel new e
 homes_delivered (Some r) false kernel new message e =
@@ -72,23 +73,23 @@ homes_delivered (Some r) false kernel new message e =
     homes_both kernel _ new (homes_call kernel r call) (homes_stay _ new e)
 
 pub homes_given : (queue : Option ℕ) (p : ℕ) (kernel : Kernel) → SameHomes kernel (given_back_to queue p kernel)
-unfolding given_back_to procs_behind_write
+unfolding given_back_to procs_after_write
 homes_given None p kernel = homes_stay kernel kernel refl
 homes_given (Some q) p kernel =
     let t = kernel.queues in
     either (SameHomes kernel) (is_made t q) _ _
-    (λ _. homes_delivered (first_reader t q) (is_full (queue_in t q)) kernel _ (written_by t q kernel.procs p) (procs_with_other (woken_by (write_outcome t q)) (given_to kernel p q)))
+    (λ _. homes_delivered (first_reader t q) (is_full (queue_in t q)) kernel _ (written_by t q kernel.dispatcher.procs p) (procs_with_other (woken_by (write_outcome t q)) (given_to kernel p q)))
     (λ _. homes_stay kernel kernel refl)
 
-pub homes_given_back : (p : ℕ) (kernel : Kernel) → IsSound kernel → Lives kernel.procs p → SameHomes kernel (given_back p kernel)
+pub homes_given_back : (p : ℕ) (kernel : Kernel) → IsSound kernel → Lives kernel.dispatcher.procs p → SameHomes kernel (given_back p kernel)
 unfolding given_back
 homes_given_back p kernel s h =
-    homes_both kernel (outside p kernel) _ (homes_outside p kernel s h) (homes_given (process_in kernel.procs p).procedure p (outside p kernel))
+    homes_both kernel (outside p kernel) _ (homes_outside p kernel s h) (homes_given (process_in kernel.dispatcher.procs p).procedure p (outside p kernel))
 
-pub lives_given_back : (p : ℕ) (old new : Kernel) → IsSound old → Lives old.procs p → new ≡ given_back p old → Lives new.procs p
-lives_given_back p old new s h is = ap (λ (kernel : Kernel). lives kernel.procs p) is ∙ (stays_given_back p old s h).lives
+pub lives_given_back : (p : ℕ) (old new : Kernel) → IsSound old → Lives old.dispatcher.procs p → new ≡ given_back p old → Lives new.dispatcher.procs p
+lives_given_back p old new s h is = ap (λ (kernel : Kernel). lives kernel.dispatcher.procs p) is ∙ (stays_given_back p old s h).lives
 
 -- the held call of another process is completed
-pub lives_other : (other : Option ℕ) (p : ℕ) (old new : Kernel) → Lives old.procs p → new ≡ with_other other old → Lives new.procs p
+pub lives_other : (other : Option ℕ) (p : ℕ) (old new : Kernel) → Lives old.dispatcher.procs p → new ≡ dispatched (with_other other) old → Lives new.dispatcher.procs p
 lives_other other p old new h is =
-    ap (λ (kernel : Kernel). lives kernel.procs p) is ∙ ap (λ procs. lives procs p) (procs_with_other other old) ∙ h
+    ap (λ (kernel : Kernel). lives kernel.dispatcher.procs p) is ∙ ap (λ procs. lives procs p) (procs_with_other other old) ∙ h

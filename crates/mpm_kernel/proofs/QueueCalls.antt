@@ -1,4 +1,4 @@
--- What stays so behind the calls on queues.
+-- What stays so after the calls on queues.
 use Rattle.std.proofs.Common.{◌≡◌, ◌∙◌, ℕ, Bool, true, false, not, ◌&&◌, [], ◌∷◌, ◌++◌, Option, Some, None, refl, ap, subst, arith}
 use Rattle.std.specs.Prelude.{is_some, is_none, nat_le}
 use Rattle.std.proofs.lemmas.Bool.Decides.{nat_tests}
@@ -6,15 +6,15 @@ use Rattle.mpm_base.specs.Calls.{Taken, word_at, name_at}
 use Rattle.mpm_procs.specs.Table.{Lives, process_in}
 use Rattle.mpm_procs.specs.Finding.{is_entered}
 use Rattle.mpm_procs.proofs.MapLaws.{lives_below, lives_changed}
-use Rattle.mpm_queues.specs.Queues.{Queues, IsMade, found, width_of, may_end, behind_delete, make_error}
+use Rattle.mpm_queues.specs.Queues.{Queues, IsMade, found, width_of, may_end, without_queue, make_error}
 use Rattle.mpm_queues.specs.declared.queues.QueueOutcome.{QueueOutcome}
 use Rattle.mpm_queues.specs.declared.queues.QueueOutcome.TheVariants.{Done as Passed, NotNow}
 use Rattle.mpm_queues.specs.Handling.{read_outcome, write_outcome, enlisted, may_wait, woken_by}
 use Rattle.mpm_queues.proofs.WaitLaws.{waits_enlisted, waits_enlisted_other}
-use Rattle.mpm_kernel.specs.Kernel.{Kernel, ready, IsOfTwo, IsSound, CompletedLive, with_changed}
-use Rattle.mpm_kernel.specs.Dispatch.{at_rest, unlisted, moved, lists_ready, also_completed}
+use Rattle.mpm_dispatcher.specs.Dispatch.{ready, at_rest, moved, lists_ready, also_completed, with_other}
+use Rattle.mpm_kernel.specs.Kernel.{Kernel, IsOfTwo, IsSound, CompletedLive, with_changed, dispatched}
 use Rattle.mpm_kernel.specs.Called.{valued, done, failure_code}
-use Rattle.mpm_kernel.specs.Queueing.{with_queue, queue_made, opened, queue_opened, may_delete, deleted, queue_deleted, pointed, queued, blocked_or_refused, with_other, taken_from, was_read, read_at, queue_read, given_to, was_written, write_at, queue_written}
+use Rattle.mpm_kernel.specs.Queueing.{with_queue, queue_made, opened, queue_opened, may_delete, deleted, queue_deleted, pointed, queued, blocked_or_refused, taken_from, was_read, read_at, queue_read, given_to, was_written, write_at, queue_written}
 use Rattle.mpm_kernel.specs.Procedures.{no_procedure, is_two, of_two_bytes, procedure_queue, inside, procedure_read, procedure_at, procedure_called}
 use Rattle.mpm_kernel.proofs.Soundness.{MayBeReady, none_and_some, some_same, listed_once, sound_changed, sound_ready, sound_unlisted, sound_with_completed}
 use Rattle.mpm_kernel.proofs.Staying.{StaysSound, Calls, nobody, all_and_one, live_kept, called_if, same}
@@ -59,9 +59,9 @@ stays_deleted (Some q) p kernel c is =
     (λ may. let own = first_of_both (nat_le kernel.system_queues q) _ may in
     record {
       sound = sound_with_deleted kernel q c.sound (is q refl) (grind (arith, nat_tests, own))
-          (not_second (nat_le kernel.system_queues q) (is_entered kernel.procs q) (may_end kernel.queues q) may);
+          (not_second (nat_le kernel.system_queues q) (is_entered kernel.dispatcher.procs q) (may_end kernel.queues q) may);
       lives = c.lives;
-      completed = nobody (record kernel { queues = behind_delete kernel.queues q }) c.none;
+      completed = nobody (record kernel { queues = without_queue kernel.queues q }) c.none;
     })
     (λ _. same p failure_code kernel c)
 
@@ -72,11 +72,11 @@ stays_queue_deleted call p kernel c =
 -- a call that can't be done now
 pub stays_blocked_or_refused : (waits : Bool) (p q : ℕ) (reader : Bool) (kernel : Kernel) → Calls p kernel → IsMade kernel.queues q
     → may_wait kernel.queues q reader ≡ true → StaysSound p (blocked_or_refused waits p q reader kernel)
-unfolding blocked_or_refused queued unlisted
+unfolding blocked_or_refused queued
 stays_blocked_or_refused waits p q reader kernel c is may =
     let t = kernel.queues in
-    let priority = (process_in kernel.procs p).priority in
-    let below = lives_below kernel.procs p c.sound.slots c.lives in
+    let priority = (process_in kernel.dispatcher.procs p).priority in
+    let below = lives_below kernel.dispatcher.procs p c.sound.slots c.lives in
     let nowhere = ready_waits_nowhere kernel p c.sound c.ready in
     called_if p waits _ _
     (λ _. record {
@@ -85,19 +85,19 @@ stays_blocked_or_refused waits p q reader kernel c is may =
           (omega (arith, listed_once kernel p ready c.sound c.ready, waits_enlisted t p priority q reader c.sound.queues is below nowhere))
           (λ k other. omega (arith, waits_enlisted_other t p priority q reader k c.sound.queues is below nowhere other));
       lives = c.lives;
-      completed = nobody (at_rest (queued kernel p q reader) p) c.none;
+      completed = nobody (dispatched (at_rest p) (queued kernel p q reader)) c.none;
     })
     (λ _. same p failure_code kernel c)
 
 -- the call of another process is completed
-pub stays_other : (other : Option ℕ) (p value : ℕ) (kernel : Kernel) → IsSound kernel → Lives kernel.procs p → CompletedLive kernel
-    → ((w : ℕ) → other ≡ Some w → MayBeReady kernel w) → StaysSound p (valued value (with_other other kernel))
-unfolding with_other lists_ready also_completed moved
+pub stays_other : (other : Option ℕ) (p value : ℕ) (kernel : Kernel) → IsSound kernel → Lives kernel.dispatcher.procs p → CompletedLive kernel
+    → ((w : ℕ) → other ≡ Some w → MayBeReady kernel w) → StaysSound p (valued value (dispatched (with_other other) kernel))
+unfolding lists_ready also_completed
 stays_other None p value kernel s h live may = record { sound = s; lives = h; completed = live }
 stays_other (Some w) p value kernel s h live may = record {
-  sound = sound_with_completed (moved kernel ready w) (kernel.completed ++ w ∷ []) (sound_ready kernel w s (may w refl).0 (may w refl).1);
+  sound = sound_with_completed (dispatched (moved ready w) kernel) (kernel.dispatcher.completed ++ w ∷ []) (sound_ready kernel w s (may w refl).0 (may w refl).1);
   lives = h;
-  completed = all_and_one (λ q. Lives kernel.procs q) kernel.completed w live (may w refl).0;
+  completed = all_and_one (λ q. Lives kernel.dispatcher.procs q) kernel.dispatcher.completed w live (may w refl).0;
 }
 
 -- a message is read
@@ -125,7 +125,7 @@ stays_was_written : (outcome : QueueOutcome) (waits : Bool) (p q : ℕ) (kernel 
     → write_outcome kernel.queues q ≡ outcome → StaysSound p (was_written outcome waits p q kernel)
 unfolding was_written
 stays_was_written (Passed other) waits p q kernel c is done =
-    stays_other other p 0 (given_to kernel p q) (sound_given kernel p q c.sound is) (lives_written kernel.queues p q kernel.procs p ∙ c.lives) (nobody (given_to kernel p q) c.none)
+    stays_other other p 0 (given_to kernel p q) (sound_given kernel p q c.sound is) (lives_written kernel.queues p q kernel.dispatcher.procs p ∙ c.lives) (nobody (given_to kernel p q) c.none)
     (λ r first. may_by_write kernel p q r c.sound (ap woken_by done ∙ first))
 stays_was_written NotNow waits p q kernel c is not = stays_blocked_or_refused waits p q false kernel c is (may_wait_write kernel.queues q not)
 
@@ -161,16 +161,16 @@ pub stays_inside : (p q message value : ℕ) (kernel : Kernel) → IsOfTwo kerne
 unfolding inside
 stays_inside p q message value kernel two s =
     let fit = s.sound.fit p s.lives in
-    let process = record (process_in kernel.procs p) { procedure = Some q; kept = message } in
+    let process = record (process_in kernel.dispatcher.procs p) { procedure = Some q; kept = message } in
     record {
       sound = sound_changed kernel p process s.sound s.lives (record { console = fit.console; printer = fit.printer; some = fit.some; few = fit.few })
           (λ k is. subst (IsOfTwo kernel.queues) (some_same q k is) two);
-      lives = lives_changed kernel.procs p p process ∙ s.lives;
-      completed = live_kept kernel (with_changed kernel p process) refl (λ k living. lives_changed kernel.procs p k process ∙ living) s.completed;
+      lives = lives_changed kernel.dispatcher.procs p p process ∙ s.lives;
+      completed = live_kept kernel (with_changed kernel p process) refl (λ k living. lives_changed kernel.dispatcher.procs p k process ∙ living) s.completed;
     }
 
-pub queues_with_other : (other : Option ℕ) (kernel : Kernel) → (with_other other kernel).queues ≡ kernel.queues
-unfolding with_other lists_ready also_completed moved
+pub queues_with_other : (other : Option ℕ) (kernel : Kernel) → (dispatched (with_other other) kernel).queues ≡ kernel.queues
+unfolding lists_ready also_completed
 queues_with_other None kernel = refl
 queues_with_other (Some p) kernel = refl
 
@@ -179,8 +179,8 @@ stays_procedure_read : (outcome : QueueOutcome) (p q : ℕ) (kernel : Kernel) �
 unfolding procedure_read
 stays_procedure_read (Passed other) p q kernel c two done =
     let is = two_made kernel.queues q two in
-    stays_inside p q _ 0 (with_other other (taken_from kernel p q))
-    (ap (λ (queues : Queues). width_of queues q) (queues_with_other other (taken_from kernel p q)) ∙ width_read kernel.queues p q q kernel.procs c.sound.queues is ∙ two)
+    stays_inside p q _ 0 (dispatched (with_other other) (taken_from kernel p q))
+    (ap (λ (queues : Queues). width_of queues q) (queues_with_other other (taken_from kernel p q)) ∙ width_read kernel.queues p q q kernel.dispatcher.procs c.sound.queues is ∙ two)
     (stays_other other p 0 (taken_from kernel p q) (sound_taken kernel p q c.sound is) c.lives (nobody (taken_from kernel p q) c.none)
     (λ w first. may_by_read kernel p q w c.sound (ap woken_by done ∙ first)))
 stays_procedure_read NotNow p q kernel c two not =
@@ -195,5 +195,5 @@ stays_procedure_at (Some q) p kernel c two = stays_procedure_read (read_outcome 
 pub stays_procedure_called : (call : Taken) (p : ℕ) (kernel : Kernel) → Calls p kernel → StaysSound p (procedure_called call p kernel)
 unfolding procedure_called
 stays_procedure_called call p kernel c =
-    called_if p (is_some (process_in kernel.procs p).procedure) _ _ (λ _. same p no_procedure kernel c)
+    called_if p (is_some (process_in kernel.dispatcher.procs p).procedure) _ _ (λ _. same p no_procedure kernel c)
     (λ _. stays_procedure_at (procedure_queue kernel.queues call) p kernel c (λ q is. procedure_of_two kernel.queues call q is))

@@ -11,29 +11,30 @@ use Rattle.mpm_ready.specs.Order.{Member}
 use Rattle.mpm_ready.specs.Tables.{list_of}
 use Rattle.mpm_procs.specs.Table.{Table, lives, Lives, process_in, call_of}
 use Rattle.mpm_procs.specs.Finding.{is_queue, is_inside_of, is_entered}
-use Rattle.mpm_procs.proofs.MapLaws.{lives_below, lives_behind}
+use Rattle.mpm_procs.proofs.MapLaws.{lives_below, lives_after}
 use Rattle.mpm_queues.specs.Queue.{new_queue, no_queue, with_given, is_drained, is_full}
-use Rattle.mpm_queues.specs.Queues.{Queues, IsMade, is_made, is_free, is_named, queue_in, width_of, lowest, found, lowest_free, waits, waits_at, WaitsNowhere, made, may_end, behind_delete, without, IsSound as AreSound, make_error}
+use Rattle.mpm_queues.specs.Queues.{Queues, IsMade, is_made, is_free, is_named, queue_in, width_of, lowest, found, lowest_free, waits, waits_at, WaitsNowhere, made, may_end, without_queue, without, IsSound as AreSound, make_error}
 use Rattle.mpm_queues.specs.declared.queues.MakeRefused.{MakeRefused}
 use Rattle.mpm_queues.specs.declared.queues.MakeRefused.TheVariants.{BadCount, Exists, NoQueueRoom}
 use Rattle.mpm_queues.specs.declared.queues.QueueOutcome.{QueueOutcome}
 use Rattle.mpm_queues.specs.declared.queues.QueueOutcome.TheVariants.{Done as Passed, NotNow}
-use Rattle.mpm_queues.specs.Handling.{behind_read, read_outcome, behind_write, write_outcome, procs_behind_write, first_reader, first_writer, written_by, delivered_to, enlisted, may_wait, woken_by}
+use Rattle.mpm_queues.specs.Handling.{message_read, read_outcome, message_written, write_outcome, procs_after_write, first_reader, first_writer, written_by, delivered_to, enlisted, may_wait, woken_by}
 use Rattle.mpm_queues.specs.Runs.{Reads, Writes, Waits}
 use Rattle.mpm_queues.proofs.Finding.{lowest_passes, lowest_none}
 use Rattle.mpm_queues.proofs.SoundLaws.{sound_made, sound_delete, sound_read, sound_write, sound_enlisted}
 use Rattle.mpm_queues.proofs.RunLaws.{made_operation}
 use Rattle.mpm_queues.proofs.WaitLaws.{waits_one, nowhere_waits, named_made, kept_read, kept_write, waiters_made, waiters_delete, waits_read_woken, waits_read_other, waits_write_woken, waits_write_other, read_ends_waiter, write_ends_waiter}
-use Rattle.mpm_kernel.specs.Kernel.{Kernel, ready, IsReady, IsOfTwo, IsSound}
+use Rattle.mpm_dispatcher.specs.Dispatch.{ready, IsReady, with_procs}
+use Rattle.mpm_kernel.specs.Kernel.{Kernel, IsOfTwo, IsSound, dispatched}
 use Rattle.mpm_kernel.specs.Queueing.{OnlySystems, IfNotNow, made_at, pointed, taken_from, given_to}
 use Rattle.mpm_kernel.proofs.Soundness.{AreQueues, own_queues, MayBeReady, none_and_some, some_same, listed_once, sound_fewer, sound_call}
 
 -- who waits at a queue lives
-pub waiters_live : (kernel : Kernel) (q p : ℕ) → IsSound kernel → waits_at kernel.queues q p ≡ true → Lives kernel.procs p
+pub waiters_live : (kernel : Kernel) (q p : ℕ) → IsSound kernel → waits_at kernel.queues q p ≡ true → Lives kernel.dispatcher.procs p
 waiters_live kernel q p s there = s.live p (omega (arith, waits_one kernel.queues q p s.queues there))
 
 -- who is ready waits at none
-pub ready_waits_nowhere : (kernel : Kernel) (p : ℕ) → IsSound kernel → IsReady kernel p → WaitsNowhere kernel.queues p
+pub ready_waits_nowhere : (kernel : Kernel) (p : ℕ) → IsSound kernel → IsReady kernel.dispatcher p → WaitsNowhere kernel.queues p
 ready_waits_nowhere kernel p s is_ready =
     nowhere_waits kernel.queues p (omega (arith, listed_once kernel p ready s is_ready))
 
@@ -195,26 +196,26 @@ is_this : (k q : ℕ) (o : Option ℕ) → o ≡ Some k → k ≡ q → is_queue
 is_this k q None is same = absurd (none_and_some None k refl is)
 is_this k q (Some other) is same = (let equal = some_same other k is in grind (arith, nat_tests, equal, same))
 
-inside_apart : (kernel : Kernel) (q p k : ℕ) → IsSound kernel → is_entered kernel.procs q ≡ false → Lives kernel.procs p
-    → (process_in kernel.procs p).procedure ≡ Some k → k ≢ q
+inside_apart : (kernel : Kernel) (q p k : ℕ) → IsSound kernel → is_entered kernel.dispatcher.procs q ≡ false → Lives kernel.dispatcher.procs p
+    → (process_in kernel.dispatcher.procs p).procedure ≡ Some k → k ≢ q
 unfolding is_entered
 inside_apart kernel q p k s none living is = λ same.
-    let test = is_inside_of kernel.procs q in
-    let fails : test p ≡ false = lowest_none test (none_there (lowest test) none) p (lives_below kernel.procs p s.slots living) in
-    false≢true (sym fails ∙ ap (λ b. b && is_queue q (process_in kernel.procs p).procedure) living ∙ is_this k q _ is same)
+    let test = is_inside_of kernel.dispatcher.procs q in
+    let fails : test p ≡ false = lowest_none test (none_there (lowest test) none) p (lives_below kernel.dispatcher.procs p s.slots living) in
+    false≢true (sym fails ∙ ap (λ b. b && is_queue q (process_in kernel.dispatcher.procs p).procedure) living ∙ is_this k q _ is same)
 
-pub sound_with_deleted : (kernel : Kernel) (q : ℕ) → IsSound kernel → IsMade kernel.queues q → kernel.system_queues ≤ q → is_entered kernel.procs q ≡ false
-    → IsSound (record kernel { queues = behind_delete kernel.queues q })
-unfolding behind_delete
+pub sound_with_deleted : (kernel : Kernel) (q : ℕ) → IsSound kernel → IsMade kernel.queues q → kernel.system_queues ≤ q → is_entered kernel.dispatcher.procs q ≡ false
+    → IsSound (record kernel { queues = without_queue kernel.queues q })
+unfolding without_queue
 sound_with_deleted kernel q s is own none =
     let gone = may_end kernel.queues q in
-    sound_queues kernel (behind_delete kernel.queues q) s
+    sound_queues kernel (without_queue kernel.queues q) s
     (record {
       sound = sound_delete kernel.queues q s.queues is;
       system = λ k below. deleted_other gone kernel.queues q k (λ same. omega (arith, own, below, same)) ∙ s.system k below;
       inside = λ p k living there. width_left gone kernel.queues q k (inside_apart kernel q p k s none living there) ∙ s.inside p k living there;
     })
-    (λ p. omega (arith, waits_same kernel.queues (behind_delete kernel.queues q) p (waiters_delete kernel.queues q)))
+    (λ p. omega (arith, waits_same kernel.queues (without_queue kernel.queues q) p (waiters_delete kernel.queues q)))
 
 -- a message is read
 woken_or_not : (o : Option ℕ) (p : ℕ) → (o ≡ Some p) ⊎ (o ≢ Some p)
@@ -224,81 +225,81 @@ woken_or_not (Some other) p = elim (cases_eq other p) [
   | inr apart ↦ inr (λ is. apart (some_same other p is))
 ]
 
-read_waits : (t : Queues) (p q : ℕ) (procs : Table) (k : ℕ) → AreSound t → waits (behind_read t p q procs) k ≤ waits t k
+read_waits : (t : Queues) (p q : ℕ) (procs : Table) (k : ℕ) → AreSound t → waits (message_read t p q procs) k ≤ waits t k
 read_waits t p q procs k s = elim (woken_or_not (woken_by (read_outcome t q)) k) [
   | inl is ↦ omega (arith, waits_read_woken t p q procs k is)
   | inr apart ↦ omega (arith, waits_read_other t p q procs k s apart)
 ]
 
-pub width_read : (t : Queues) (p q k : ℕ) (procs : Table) → AreSound t → IsMade t q → width_of (behind_read t p q procs) k ≡ width_of t k
+pub width_read : (t : Queues) (p q k : ℕ) (procs : Table) → AreSound t → IsMade t q → width_of (message_read t p q procs) k ≡ width_of t k
 width_read t p q k procs s is =
-    width_same t (behind_read t p q procs) k (alive_same t (behind_read t p q procs) k (made_operation t q (Reads p procs))) (kept_read t p q k procs s is).width
+    width_same t (message_read t p q procs) k (alive_same t (message_read t p q procs) k (made_operation t q (Reads p procs))) (kept_read t p q k procs s is).width
 
-pub width_written : (t : Queues) (p q k : ℕ) (procs : Table) → AreSound t → IsMade t q → width_of (behind_write t p q procs) k ≡ width_of t k
+pub width_written : (t : Queues) (p q k : ℕ) (procs : Table) → AreSound t → IsMade t q → width_of (message_written t p q procs) k ≡ width_of t k
 width_written t p q k procs s is =
-    width_same t (behind_write t p q procs) k (alive_same t (behind_write t p q procs) k (made_operation t q (Writes p procs))) (kept_write t p q k procs s is).width
+    width_same t (message_written t p q procs) k (alive_same t (message_written t p q procs) k (made_operation t q (Writes p procs))) (kept_write t p q k procs s is).width
 
 pub sound_taken : (kernel : Kernel) (p q : ℕ) → IsSound kernel → IsMade kernel.queues q → IsSound (taken_from kernel p q)
 sound_taken kernel p q s is =
     let t = kernel.queues in
-    sound_queues kernel (behind_read t p q kernel.procs) s
+    sound_queues kernel (message_read t p q kernel.dispatcher.procs) s
     (record {
-      sound = sound_read t p q kernel.procs s.queues is;
-      system = λ k below. made_same t (behind_read t p q kernel.procs) k (made_operation t q (Reads p kernel.procs)) (s.system k below);
-      inside = λ r k living there. width_read t p q k kernel.procs s.queues is ∙ s.inside r k living there;
+      sound = sound_read t p q kernel.dispatcher.procs s.queues is;
+      system = λ k below. made_same t (message_read t p q kernel.dispatcher.procs) k (made_operation t q (Reads p kernel.dispatcher.procs)) (s.system k below);
+      inside = λ r k living there. width_read t p q k kernel.dispatcher.procs s.queues is ∙ s.inside r k living there;
     })
-    (λ k. read_waits t p q kernel.procs k s.queues)
+    (λ k. read_waits t p q kernel.dispatcher.procs k s.queues)
 
 -- whose wait at a queue was ended lives, and waits for nothing else
 pub may_by_read : (kernel : Kernel) (p q w : ℕ) → IsSound kernel → woken_by (read_outcome kernel.queues q) ≡ Some w → MayBeReady (taken_from kernel p q) w
 may_by_read kernel p q w s is =
     let t = kernel.queues in
     let one = waits_one t q w s.queues (read_ends_waiter t q w is) in
-    (s.live w (omega (arith, one)), omega (arith, one, s.once w, waits_read_woken t p q kernel.procs w is))
+    (s.live w (omega (arith, one)), omega (arith, one, s.once w, waits_read_woken t p q kernel.dispatcher.procs w is))
 
 -- a message is written, which may come into the call that another process keeps
-sound_delivered : (o : Option ℕ) (message : List ℕ) (kernel : Kernel) → IsSound kernel → IsSound (record kernel { procs = delivered_to o message kernel.procs })
+sound_delivered : (o : Option ℕ) (message : List ℕ) (kernel : Kernel) → IsSound kernel → IsSound (dispatched (with_procs (delivered_to o message kernel.dispatcher.procs)) kernel)
 sound_delivered None message kernel s = s
-sound_delivered (Some r) message kernel s = sound_call kernel r (with_given message (call_of kernel.procs r)) s
+sound_delivered (Some r) message kernel s = sound_call kernel r (with_given message (call_of kernel.dispatcher.procs r)) s
 
 sound_delivered_if : (b : Bool) (o : Option ℕ) (message : List ℕ) (kernel : Kernel) → IsSound kernel
-    → IsSound (record kernel { procs = if b then kernel.procs else (delivered_to o message kernel.procs) })
+    → IsSound (dispatched (with_procs (if b then kernel.dispatcher.procs else (delivered_to o message kernel.dispatcher.procs))) kernel)
 sound_delivered_if true o message kernel s = s
 sound_delivered_if false o message kernel s = sound_delivered o message kernel s
 
 lives_delivered : (o : Option ℕ) (message : List ℕ) (procs : Table) (k : ℕ) → lives (delivered_to o message procs) k ≡ lives procs k
 lives_delivered None message procs k = refl
-lives_delivered (Some r) message procs k = lives_behind procs r k (with_given message (call_of procs r))
+lives_delivered (Some r) message procs k = lives_after procs r k (with_given message (call_of procs r))
 
-pub lives_written : (t : Queues) (p q : ℕ) (procs : Table) (k : ℕ) → lives (procs_behind_write t p q procs) k ≡ lives procs k
-unfolding procs_behind_write
+pub lives_written : (t : Queues) (p q : ℕ) (procs : Table) (k : ℕ) → lives (procs_after_write t p q procs) k ≡ lives procs k
+unfolding procs_after_write
 lives_written t p q procs k =
     either (λ (now : Table). lives now k ≡ lives procs k) (is_full (queue_in t q)) _ _ (λ _. refl) (λ _. lives_delivered (first_reader t q) (written_by t q procs p) procs k)
 
-pub write_waits : (t : Queues) (p q : ℕ) (procs : Table) (k : ℕ) → AreSound t → waits (behind_write t p q procs) k ≤ waits t k
+pub write_waits : (t : Queues) (p q : ℕ) (procs : Table) (k : ℕ) → AreSound t → waits (message_written t p q procs) k ≤ waits t k
 write_waits t p q procs k s = elim (woken_or_not (woken_by (write_outcome t q)) k) [
   | inl is ↦ omega (arith, waits_write_woken t p q procs k is)
   | inr apart ↦ omega (arith, waits_write_other t p q procs k s apart)
 ]
 
 pub sound_given : (kernel : Kernel) (p q : ℕ) → IsSound kernel → IsMade kernel.queues q → IsSound (given_to kernel p q)
-unfolding procs_behind_write
+unfolding procs_after_write
 sound_given kernel p q s is =
     let t = kernel.queues in
-    sound_delivered_if (is_full (queue_in t q)) (first_reader t q) (written_by t q kernel.procs p) (record kernel { queues = behind_write t p q kernel.procs })
-    (sound_queues kernel (behind_write t p q kernel.procs) s
+    sound_delivered_if (is_full (queue_in t q)) (first_reader t q) (written_by t q kernel.dispatcher.procs p) (record kernel { queues = message_written t p q kernel.dispatcher.procs })
+    (sound_queues kernel (message_written t p q kernel.dispatcher.procs) s
     (record {
-      sound = sound_write t p q kernel.procs s.queues is;
-      system = λ k below. made_same t (behind_write t p q kernel.procs) k (made_operation t q (Writes p kernel.procs)) (s.system k below);
-      inside = λ r k living there. width_written t p q k kernel.procs s.queues is ∙ s.inside r k living there;
+      sound = sound_write t p q kernel.dispatcher.procs s.queues is;
+      system = λ k below. made_same t (message_written t p q kernel.dispatcher.procs) k (made_operation t q (Writes p kernel.dispatcher.procs)) (s.system k below);
+      inside = λ r k living there. width_written t p q k kernel.dispatcher.procs s.queues is ∙ s.inside r k living there;
     })
-    (λ k. write_waits t p q kernel.procs k s.queues))
+    (λ k. write_waits t p q kernel.dispatcher.procs k s.queues))
 
 pub may_by_write : (kernel : Kernel) (p q r : ℕ) → IsSound kernel → woken_by (write_outcome kernel.queues q) ≡ Some r → MayBeReady (given_to kernel p q) r
 may_by_write kernel p q r s is =
     let t = kernel.queues in
     let one = waits_one t q r s.queues (write_ends_waiter t q r is) in
-    (lives_written t p q kernel.procs r ∙ s.live r (omega (arith, one)), omega (arith, one, s.once r, waits_write_woken t p q kernel.procs r is))
+    (lives_written t p q kernel.dispatcher.procs r ∙ s.live r (omega (arith, one)), omega (arith, one, s.once r, waits_write_woken t p q kernel.dispatcher.procs r is))
 
 -- where nothing can be done, nothing changes
 not_now_if : (b : Bool) (o : Option ℕ) → (if b then NotNow else (Passed o)) ≡ NotNow → b ≡ true
@@ -318,64 +319,64 @@ read_if true kernel queues is = refl
 read_if false kernel queues is = absurd (cc)
 
 pub same_read : (kernel : Kernel) (p q : ℕ) → read_outcome kernel.queues q ≡ NotNow → taken_from kernel p q ≡ kernel
-unfolding behind_read
+unfolding message_read
 same_read kernel p q is = read_if (is_drained (queue_in kernel.queues q)) kernel _ (may_wait_read kernel.queues q is)
 
 written_if : (b : Bool) (kernel : Kernel) (queues : Queues) (procs : Table) → b ≡ true
-    → record kernel { queues = if b then kernel.queues else queues; procs = if b then kernel.procs else procs } ≡ kernel
+    → record kernel { dispatcher = record kernel.dispatcher { procs = if b then kernel.dispatcher.procs else procs }; queues = if b then kernel.queues else queues } ≡ kernel
 written_if true kernel queues procs is = refl
 written_if false kernel queues procs is = absurd (cc)
 
 pub same_written : (kernel : Kernel) (p q : ℕ) → write_outcome kernel.queues q ≡ NotNow → given_to kernel p q ≡ kernel
-unfolding behind_write procs_behind_write
+unfolding message_written procs_after_write
 same_written kernel p q is = written_if (is_full (queue_in kernel.queues q)) kernel _ _ (may_wait_write kernel.queues q is)
 
--- behind a read and a write: whose wait was ended lives; where nothing could be done nothing changed, and the process may wait
-pub some_lives : (o : Option ℕ) (kernel : Kernel) → ((w : ℕ) → o ≡ Some w → MayBeReady kernel w) → IfSome o (λ w. Lives kernel.procs w)
+-- after a read and a write: whose wait was ended lives; where nothing could be done nothing changed, and the process may wait
+pub some_lives : (o : Option ℕ) (kernel : Kernel) → ((w : ℕ) → o ≡ Some w → MayBeReady kernel w) → IfSome o (λ w. Lives kernel.dispatcher.procs w)
 some_lives None kernel may = tt
 some_lives (Some w) kernel may = (may w refl).0
 
 pub lives_by_read : (kernel : Kernel) (p q : ℕ) (procs : Table) (outcome : QueueOutcome) → IsSound kernel → outcome ≡ read_outcome kernel.queues q
-    → procs ≡ kernel.procs → IfSome (woken_by outcome) (λ w. Lives procs w)
+    → procs ≡ kernel.dispatcher.procs → IfSome (woken_by outcome) (λ w. Lives procs w)
 lives_by_read kernel p q procs outcome s is same =
     let P : Table → Type 0 = λ table. IfSome (woken_by outcome) (λ w. Lives table w) in
     subst P (sym same) (some_lives (woken_by outcome) (taken_from kernel p q) (λ w first. may_by_read kernel p q w s (ap woken_by (sym is) ∙ first)))
 
 pub lives_by_write : (kernel : Kernel) (p q : ℕ) (outcome : QueueOutcome) → IsSound kernel → outcome ≡ write_outcome kernel.queues q
-    → IfSome (woken_by outcome) (λ w. Lives (given_to kernel p q).procs w)
+    → IfSome (woken_by outcome) (λ w. Lives (given_to kernel p q).dispatcher.procs w)
 lives_by_write kernel p q outcome s is =
     some_lives (woken_by outcome) (given_to kernel p q) (λ w first. may_by_write kernel p q w s (ap woken_by (sym is) ∙ first))
 
 -- the kernel with other queues and processes, which is the one before where they didn't change
 with_parts : Kernel → Queues → Table → Kernel
-with_parts kernel queues procs = record kernel { queues = queues; procs = procs }
+with_parts kernel queues procs = record kernel { dispatcher = record kernel.dispatcher { procs = procs }; queues = queues }
 
-parts_are : (kernel old : Kernel) (queues behind : Queues) (procs now : Table) → queues ≡ behind → procs ≡ now → with_parts kernel behind now ≡ kernel
+parts_are : (kernel old : Kernel) (queues afterwards : Queues) (procs now : Table) → queues ≡ afterwards → procs ≡ now → with_parts kernel afterwards now ≡ kernel
     → kernel ≡ old → with_parts kernel queues procs ≡ old
-parts_are kernel old queues behind procs now one other same is =
-    ap (λ x. with_parts kernel x procs) one ∙ ap (λ x. with_parts kernel behind x) other ∙ same ∙ is
+parts_are kernel old queues afterwards procs now one other same is =
+    ap (λ x. with_parts kernel x procs) one ∙ ap (λ x. with_parts kernel afterwards x) other ∙ same ∙ is
 
 may_wait_in : (kernel old : Kernel) (q : ℕ) (reader : Bool) → kernel ≡ old → may_wait kernel.queues q reader ≡ true → may_wait old.queues q reader ≡ true
 may_wait_in kernel old q reader is may = ap (λ (k : Kernel). may_wait k.queues q reader) (sym is) ∙ may
 
 pub waits_by_read : (kernel old : Kernel) (p q : ℕ) (queues : Queues) (procs : Table) (outcome : QueueOutcome) → kernel ≡ old
-    → outcome ≡ read_outcome kernel.queues q → queues ≡ behind_read kernel.queues p q kernel.procs → procs ≡ kernel.procs
-    → IfNotNow outcome ((record kernel { queues = queues; procs = procs } ≡ old) × (may_wait old.queues q true ≡ true))
+    → outcome ≡ read_outcome kernel.queues q → queues ≡ message_read kernel.queues p q kernel.dispatcher.procs → procs ≡ kernel.dispatcher.procs
+    → IfNotNow outcome ((record kernel { dispatcher = record kernel.dispatcher { procs = procs }; queues = queues } ≡ old) × (may_wait old.queues q true ≡ true))
 unfolding with_parts
-waits_by_read kernel old p q queues procs (Passed other) is outcome behind same = tt
-waits_by_read kernel old p q queues procs NotNow is outcome behind same = (
-  parts_are kernel old queues _ procs kernel.procs behind same (same_read kernel p q (sym outcome)) is,
+waits_by_read kernel old p q queues procs (Passed other) is outcome afterwards same = tt
+waits_by_read kernel old p q queues procs NotNow is outcome afterwards same = (
+  parts_are kernel old queues _ procs kernel.dispatcher.procs afterwards same (same_read kernel p q (sym outcome)) is,
   may_wait_in kernel old q true is (may_wait_read kernel.queues q (sym outcome)),
 )
 
 pub waits_by_write : (kernel old : Kernel) (p q : ℕ) (queues : Queues) (procs : Table) (outcome : QueueOutcome) → kernel ≡ old
-    → outcome ≡ write_outcome kernel.queues q → queues ≡ behind_write kernel.queues p q kernel.procs
-    → procs ≡ procs_behind_write kernel.queues p q kernel.procs
-    → IfNotNow outcome ((record kernel { queues = queues; procs = procs } ≡ old) × (may_wait old.queues q false ≡ true))
+    → outcome ≡ write_outcome kernel.queues q → queues ≡ message_written kernel.queues p q kernel.dispatcher.procs
+    → procs ≡ procs_after_write kernel.queues p q kernel.dispatcher.procs
+    → IfNotNow outcome ((record kernel { dispatcher = record kernel.dispatcher { procs = procs }; queues = queues } ≡ old) × (may_wait old.queues q false ≡ true))
 unfolding with_parts
-waits_by_write kernel old p q queues procs (Passed other) is outcome behind same = tt
-waits_by_write kernel old p q queues procs NotNow is outcome behind same = (
-  parts_are kernel old queues _ procs _ behind same (same_written kernel p q (sym outcome)) is,
+waits_by_write kernel old p q queues procs (Passed other) is outcome afterwards same = tt
+waits_by_write kernel old p q queues procs NotNow is outcome afterwards same = (
+  parts_are kernel old queues _ procs _ afterwards same (same_written kernel p q (sym outcome)) is,
   may_wait_in kernel old q false is (may_wait_write kernel.queues q (sym outcome)),
 )
 
@@ -384,12 +385,12 @@ two_enlisted : (t : Queues) (p priority q : ℕ) (reader : Bool) (k : ℕ) → I
 unfolding enlisted
 two_enlisted t p priority q reader k two = two
 
-pub queues_enlisted : (kernel : Kernel) (p priority q : ℕ) (reader : Bool) → IsSound kernel → Lives kernel.procs p → IsReady kernel p
+pub queues_enlisted : (kernel : Kernel) (p priority q : ℕ) (reader : Bool) → IsSound kernel → Lives kernel.dispatcher.procs p → IsReady kernel.dispatcher p
     → IsMade kernel.queues q → may_wait kernel.queues q reader ≡ true → AreQueues kernel (enlisted kernel.queues p priority q reader)
 queues_enlisted kernel p priority q reader s h is_ready is may =
     let t = kernel.queues in
     record {
-      sound = sound_enlisted t p priority q reader s.queues is (lives_below kernel.procs p s.slots h) (ready_waits_nowhere kernel p s is_ready) may;
+      sound = sound_enlisted t p priority q reader s.queues is (lives_below kernel.dispatcher.procs p s.slots h) (ready_waits_nowhere kernel p s is_ready) may;
       system = λ k below. made_same t (enlisted t p priority q reader) k (made_operation t q (Waits p priority reader)) (s.system k below);
       inside = λ r k living there. two_enlisted t p priority q reader k (s.inside r k living there);
     }

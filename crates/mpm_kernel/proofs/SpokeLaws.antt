@@ -1,20 +1,19 @@
--- Bytes that come to a console one behind another.
-use Rattle.std.proofs.Common.{◌≡◌, ◌∙◌, ℕ, ◌-◌, ◌%◌, ◌<◌, ◌≤◌, Bool, true, false, ◌==◌, if◌then◌else◌, List, [], ◌∷◌, ◌++◌, take, replicate, refl, ap, arith}
+-- Bytes that come to a console one after another.
+use Rattle.std.proofs.Common.{◌≡◌, ℕ, ◌<◌, ◌≤◌, true, false, List, [], ◌∷◌, ◌++◌, take, ap, arith}
 use Rattle.std.proofs.lemmas.List.{length-set}
-use Rattle.mpm_consoles.specs.Columns.{spaces_for as spaces_at}
 use Rattle.mpm_consoles.specs.Console.{spoken}
 use Rattle.mpm_consoles.specs.Consoles.{Consoles, console_at}
 use Rattle.mpm_consoles.specs.Handling.{spoke as spoke_units, output_spaces}
+use Rattle.mpm_consoles.proofs.ColumnLaws.{spaces_most as most_there, tab_is_spaces as spaces_there, tab_is_itself as itself_there}
 use Rattle.mpm_consoles.proofs.SpokeLaws.{column_spoke as column_in_units, spoke_none as none_in_units, spoke_both as both_in_units, output_itself, output_tabbed}
 use Rattle.mpm_consoles.specs.declared.unit.Unit.TheVariants.{Console as ConsoleUnit}
 use Rattle.mpm_kernel.specs.Kernel.{Kernel, HasConsole}
 use Rattle.mpm_kernel.specs.Columns.{columns_after, tab_text, column_of, spoke, wrote, spaces_for}
-use Rattle.mpm_kernel.proofs.ColumnLaws.{first_spaces}
 
 with_units : Kernel → Consoles → Kernel
 with_units kernel units = record kernel { units = units }
 
--- the column behind some bytes
+-- the column after some bytes
 pub column_spoke : (kernel : Kernel) (console : ℕ) (bytes : List ℕ) → HasConsole kernel console
     → column_of (spoke kernel console bytes) console ≡ columns_after (column_of kernel console) bytes
 unfolding spoke
@@ -46,30 +45,16 @@ wrote_tabbed kernel console byte = ap (with_units kernel) (output_tabbed kernel.
 
 -- how many spaces stand for a byte, and what it is written as then
 
-most_spaces : (b : Bool) (column : ℕ) → (if b then 8 - column % 8 else 0) ≤ 8
-most_spaces true column = omega arith
-most_spaces false column = omega arith
-
-as_spaces : (b : Bool) (column byte spaces : ℕ) → spaces ≡ (if b then 8 - column % 8 else 0) → 0 < spaces
-    → take {A = ℕ} spaces (32 ∷ 32 ∷ 32 ∷ 32 ∷ 32 ∷ 32 ∷ 32 ∷ 32 ∷ []) ≡ (if b then replicate {A = ℕ} (8 - column % 8) 32 else (byte ∷ []))
-as_spaces true column byte spaces e some = first_spaces spaces (omega arith) ∙ ap (λ n. replicate {A = ℕ} n 32) e
-as_spaces false column byte spaces e some = absurd (omega arith)
-
-as_itself : (b : Bool) (column byte spaces : ℕ) → spaces ≡ (if b then 8 - column % 8 else 0) → spaces ≡ 0
-    → byte ∷ [] ≡ (if b then replicate {A = ℕ} (8 - column % 8) 32 else (byte ∷ []))
-as_itself true column byte spaces e none = absurd (omega arith)
-as_itself false column byte spaces e none = refl
-
 pub spaces_most : (kernel : Kernel) (console byte spaces : ℕ) → spaces ≡ spaces_for kernel (ConsoleUnit console) byte true → spaces ≤ 8
-unfolding output_spaces spaces_at
-spaces_most kernel console byte spaces e = omega (arith, most_spaces (byte == 9) (column_of kernel console))
+unfolding output_spaces
+spaces_most kernel console byte spaces e = omega (arith, most_there (column_of kernel console) byte true)
 
 pub tab_is_spaces : (kernel : Kernel) (console byte spaces : ℕ) → spaces ≡ spaces_for kernel (ConsoleUnit console) byte true → 0 < spaces
     → take {A = ℕ} spaces (32 ∷ 32 ∷ 32 ∷ 32 ∷ 32 ∷ 32 ∷ 32 ∷ 32 ∷ []) ≡ tab_text (column_of kernel console) byte
-unfolding output_spaces spaces_at tab_text
-tab_is_spaces kernel console byte spaces e some = as_spaces (byte == 9) (column_of kernel console) byte spaces e some
+unfolding output_spaces
+tab_is_spaces kernel console byte spaces e some = spaces_there (column_of kernel console) byte spaces e some
 
 pub tab_is_itself : (kernel : Kernel) (console byte spaces : ℕ) → spaces ≡ spaces_for kernel (ConsoleUnit console) byte true → spaces ≡ 0
     → byte ∷ [] ≡ tab_text (column_of kernel console) byte
-unfolding output_spaces spaces_at tab_text
-tab_is_itself kernel console byte spaces e none = as_itself (byte == 9) (column_of kernel console) byte spaces e none
+unfolding output_spaces
+tab_is_itself kernel console byte spaces e none = itself_there (column_of kernel console) byte spaces e none

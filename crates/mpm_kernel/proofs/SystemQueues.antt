@@ -9,8 +9,7 @@ use Rattle.mpm_clock.specs.declared.moment.Moment.{Moment}
 use Rattle.mpm_queues.specs.Queues.{Queues, no_queues, IsMade, is_made, is_free, found, lowest_free, made, make_error}
 use Rattle.mpm_queues.specs.declared.queues.MakeRefused.TheVariants.{BadCount, Exists, NoQueueRoom}
 use Rattle.mpm_queues.proofs.Finding.{lowest_none}
-use Rattle.mpm_kernel.specs.Kernel.{Kernel, IsSound}
-use Rattle.mpm_kernel.specs.Dispatch.{new_kernel}
+use Rattle.mpm_kernel.specs.Kernel.{Kernel, IsSound, new_kernel}
 use Rattle.mpm_kernel.specs.Queueing.{OnlySystems, made_at, with_queue, with_system_queue}
 use Rattle.mpm_kernel.proofs.QueueingLaws.{accepts, found_made, number_below, system_is_lowest, sound_with_queue}
 
@@ -78,9 +77,8 @@ sound_system_queue kernel name width count s only none =
     let slot = lowest_free kernel.queues in
     let there = made_there kernel slot name width count s only refl (accepts kernel.queues name width count accepted).free in
     record {
-      some = more.some;
-      few = more.few;
       units = more.units;
+      owners = more.owners;
       slots = more.slots;
       table = more.table;
       flags = more.flags;

@@ -1,4 +1,4 @@
--- Who waits at consoles and printers, and who owns them, behind each change of them; and what is so of them stays so.
+-- Who waits at consoles and printers, and who owns them, after each change of them; and what is so of them stays so.
 use Rattle.std.proofs.Common.{◌≡◌, ◌≢◌, ◌∙◌, ℕ, ◌+◌, ◌≤◌, Bool, true, false, ◌&&◌, ◌⊎◌, List, map, length, set, get_or, Option, Some, None, inl, inr, refl, sym, ap, arith}
 use Rattle.std.specs.Prelude.{is_some}
 use Rattle.std.specs.Option.{option_map_or}
@@ -117,7 +117,7 @@ unit_cases (PrinterUnit n) (PrinterUnit k) = elim (cases_eq n k) [
   | inr apart ↦ inr (λ e. apart (cc))
 ]
 
--- who owns a unit behind it was given owned it before, or was given it
+-- who owns a unit after it was given owned it before, or was given it
 pub owner_from_given : (t : Consoles) (unit other : Unit) (owner : Option ℕ) (p : ℕ) → HasUnit t unit → owns (given t unit owner) p other ≡ true
     → (owns t p other ≡ true) ⊎ (owner ≡ Some p)
 owner_from_given t unit other owner p has is = elim (unit_cases other unit) [

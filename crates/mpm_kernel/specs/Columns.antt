@@ -2,7 +2,7 @@
 -- Output".)
 use Rattle.std.specs.Prelude.{ℕ, Bool, List}
 use Rattle.mpm_consoles.specs.Consoles.{console_at}
-use Rattle.mpm_consoles.specs.Handling.{spoke as spoke_units, behind_output, output_spaces}
+use Rattle.mpm_consoles.specs.Handling.{spoke as spoke_units, put_out, output_spaces}
 use Rattle.mpm_consoles.specs.declared.unit.Unit.{Unit}
 use Rattle.mpm_kernel.specs.Kernel.{Kernel}
 unfoldable pub use Rattle.mpm_consoles.specs.Columns.{column_after, columns_after, tab_text, expanded}
@@ -17,7 +17,7 @@ spoke kernel console bytes = record kernel { units = spoke_units kernel.units co
 
 -- a byte comes to a unit, as itself or with a tab expanded
 unfoldable pub wrote : Kernel → Unit → ℕ → Bool → Kernel
-wrote kernel unit byte tabs = record kernel { units = behind_output kernel.units unit byte tabs }
+wrote kernel unit byte tabs = record kernel { units = put_out kernel.units unit byte tabs }
 
 -- how many spaces stand for it, 0 where it stands for itself
 abbrev pub spaces_for : Kernel → Unit → ℕ → Bool → ℕ

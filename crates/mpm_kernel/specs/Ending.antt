@@ -1,8 +1,7 @@
 -- The end of a process: it waits no more, its messages go back, its consoles and printers pass on, and its slot is free. (MP/M
 -- II Programmer's Guide, functions 0, "System Reset", and 143, "Terminate Process"; "Mutual Exclusion Queues".)
-use Rattle.std.specs.Prelude.{◌≡◌, ◌≢◌, ℕ, zero, suc, List, [], ◌∷◌, Some, if◌then◌else◌}
+use Rattle.std.specs.Prelude.{◌≡◌, ◌≢◌, ℕ, zero, suc, List, length, [], ◌∷◌, Some, if◌then◌else◌}
 use Rattle.std.specs.List.{AllByRecursion, range_with_len}
-use Rattle.mpm_ready.specs.Tables.{removed}
 use Rattle.mpm_flags.specs.States.{flags_without_waiter}
 use Rattle.mpm_clock.specs.Times.{clock_without_delay}
 use Rattle.mpm_queues.specs.Queues.{holds}
@@ -10,15 +9,15 @@ use Rattle.mpm_queues.specs.Handling.{queues_without_waiter}
 use Rattle.mpm_consoles.specs.Handling.{units_without_waiter}
 use Rattle.mpm_consoles.specs.declared.unit.Unit.TheVariants.{Console as ConsoleUnit, Printer as PrinterUnit}
 use Rattle.mpm_procs.specs.Table.{Lives, without}
-use Rattle.mpm_kernel.specs.Kernel.{Kernel, IsSound, places}
-use Rattle.mpm_kernel.specs.Dispatch.{runs_still, unit_left}
+use Rattle.mpm_kernel.specs.Kernel.{Kernel, IsSound, places, dispatched}
+use Rattle.mpm_dispatcher.specs.Dispatch.{with_procs, descheduled}
+use Rattle.mpm_kernel.specs.Consoling.{unit_left}
 use Rattle.mpm_kernel.specs.Procedures.{given_back_to, given_back}
 
 -- a process stands in no list, and waits neither for a flag nor for the clock nor at a queue nor for a console or a printer
 unfoldable pub dropped_out : ℕ → Kernel → Kernel
 dropped_out p kernel = record kernel {
-  lists = removed kernel.lists p;
-  running = runs_still p kernel.running;
+  dispatcher = descheduled p kernel.dispatcher;
   flags = flags_without_waiter kernel.flags p;
   clock = clock_without_delay kernel.clock p;
   queues = queues_without_waiter kernel.queues p;
@@ -46,7 +45,7 @@ printers_left p (suc n) kernel = unit_left p (PrinterUnit n) (printers_left p n 
 -- first all its consoles, and then its printers
 unfoldable pub units_left : ℕ → Kernel → Kernel
 units_left p kernel =
-    let behind = consoles_left p kernel.consoles kernel in printers_left p behind.printers behind
+    let afterwards = consoles_left p (length kernel.units.consoles) kernel in printers_left p (length afterwards.units.printers) afterwards
 
 -- first the message of its resident procedure goes back, then those of mutual exclusion queues, by rising number, and then its
 -- consoles and printers pass on
@@ -55,7 +54,7 @@ relieved p kernel = units_left p (all_returned (range_with_len 0 32) p (given_ba
 
 -- the slot of a process is free
 abbrev pub vacated : ℕ → Kernel → Kernel
-vacated p kernel = record kernel { procs = without kernel.procs p }
+vacated p kernel = dispatched (with_procs (without kernel.dispatcher.procs p)) kernel
 
 -- a process ends
 unfoldable pub discharged : Kernel → ℕ → Kernel
@@ -64,6 +63,6 @@ discharged kernel p = vacated p (relieved p kernel)
 -- what is so of it while it gives these up: it lives and stands nowhere, and only others' held calls are completed
 pub record Leaves (p : ℕ) (kernel : Kernel) : Type 0 where
   pub sound : IsSound kernel
-  pub lives : Lives kernel.procs p
+  pub lives : Lives kernel.dispatcher.procs p
   pub nowhere : places kernel p ≡ 0
-  pub others : AllByRecursion (λ q. Lives kernel.procs q × (q ≢ p)) kernel.completed
+  pub others : AllByRecursion (λ q. Lives kernel.dispatcher.procs q × (q ≢ p)) kernel.dispatcher.completed

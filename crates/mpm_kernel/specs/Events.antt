@@ -2,15 +2,14 @@
 use Rattle.std.specs.Prelude.{ℕ, ◌<◌, ⊤, true, List, Option, Some, None, ◌==◌, drop, slice_set, if◌then◌else◌}
 use Rattle.mpm_clock.specs.Delays.{woken_by_tick}
 use Rattle.mpm_clock.specs.Times.{ticked}
-use Rattle.mpm_dispatcher.specs.Dispatch.{slots_in}
+use Rattle.mpm_dispatcher.specs.Dispatch.{first_completed, slots_in, with_completed, all_woken, runner_behind}
 use Rattle.mpm_procs.specs.Table.{call_of}
 use Rattle.mpm_queues.specs.Queue.{block_size}
 use Rattle.mpm_script.specs.declared.event.Event.{Event}
 use Rattle.mpm_script.specs.declared.event.Event.TheVariants.{Tick, Key, Ready, Int}
-use Rattle.mpm_kernel.specs.Kernel.{Kernel, poll_list, with_completed, afresh}
-use Rattle.mpm_kernel.specs.Dispatch.{all_woken, runner_behind}
-pub use Rattle.mpm_dispatcher.specs.Dispatch.{first_completed}
+use Rattle.mpm_kernel.specs.Kernel.{Kernel, poll_list, afresh, dispatched}
 use Rattle.mpm_base.specs.Calls.{word_at}
+use Rattle.mpm_base.specs.declared.functions.TheConstants.{CALL_RESIDENT_SYSTEM_PROCEDURE}
 use Rattle.mpm_kernel.specs.Waiting.{is_flag, signalled}
 use Rattle.mpm_kernel.specs.Procedures.{inside, procedure_queue}
 use Rattle.mpm_kernel.specs.Consoling.{key_came}
@@ -29,11 +28,11 @@ with_tick kernel = record kernel { clock = ticked kernel.clock }
 -- a tick of the clock: those whose delays end are woken, and who runs is put behind its equals
 unfoldable pub clock_ticked : Kernel → Kernel
 clock_ticked kernel =
-    runner_behind (all_woken (woken_by_tick kernel.clock.delays) (with_tick kernel))
+    dispatched runner_behind (dispatched (all_woken (woken_by_tick kernel.clock.delays)) (with_tick kernel))
 
 -- those who poll a device, in the order in which they stand
 unfoldable pub pollers : Kernel → ℕ → List ℕ
-pollers kernel device = slots_in kernel.lists (poll_list device)
+pollers kernel device = slots_in kernel.dispatcher.lists (poll_list device)
 
 -- a device is ready, with the byte that it sent last
 abbrev pub with_ready : Kernel → ℕ → ℕ → Kernel
@@ -43,7 +42,7 @@ with_ready kernel device byte = record kernel {
 
 -- a device becomes ready: those who poll it are woken
 unfoldable pub device_ready : Kernel → ℕ → ℕ → Kernel
-device_ready kernel device byte = all_woken (pollers kernel device) (with_ready kernel device byte)
+device_ready kernel device byte = dispatched (all_woken (pollers kernel device)) (with_ready kernel device byte)
 
 -- a flag is set as by function 133, where there is such a flag; one that is set already stays so
 unfoldable pub flag_came : ℕ → Kernel → Kernel
@@ -59,7 +58,6 @@ happens (Int flag) kernel = flag_came flag kernel
 abbrev pub happened : Event → Kernel → Kernel
 happened event kernel = happens event (afresh kernel)
 
--- the kernel once the process whose held call was completed first is handed out
 -- a call 151 that was held got the message of its queue, which stands behind its block
 abbrev pub inside_of : Option ℕ → ℕ → ℕ → Kernel → Kernel
 inside_of None p message kernel = kernel
@@ -67,12 +65,13 @@ inside_of (Some q) p message kernel = inside p q message kernel
 
 unfoldable pub with_procedure : ℕ → Kernel → Kernel
 with_procedure p kernel =
-    let call = call_of kernel.procs p in
-    if call.function == 151 then inside_of (procedure_queue kernel.queues call) p (word_at call block_size) kernel else kernel
+    let call = call_of kernel.dispatcher.procs p in
+    if call.function == CALL_RESIDENT_SYSTEM_PROCEDURE then inside_of (procedure_queue kernel.queues call) p (word_at call block_size) kernel else kernel
 
 abbrev pub with_first : Option ℕ → Kernel → Kernel
 with_first None kernel = kernel
 with_first (Some p) kernel = with_procedure p kernel
 
+-- the kernel once the process whose held call was completed first is handed out
 unfoldable pub handed_out : Kernel → Kernel
-handed_out kernel = with_first (first_completed kernel.completed) (with_completed kernel (drop 1 kernel.completed))
+handed_out kernel = with_first (first_completed kernel.dispatcher.completed) (dispatched (with_completed (drop 1 kernel.dispatcher.completed)) kernel)

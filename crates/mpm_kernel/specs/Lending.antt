@@ -10,7 +10,8 @@ use Rattle.mpm_base.specs.contracts.devices.Devices.{the_row as devices_row}
 use Rattle.mpm_procs.specs.Table.{with_call, process_in}
 use Rattle.mpm_procs.specs.declared.process.Process.{Process}
 use Rattle.mpm_procs.specs.contracts.process.Process.{the_row as process_row}
-use Rattle.mpm_kernel.specs.Kernel.{Kernel, with_changed}
+use Rattle.mpm_dispatcher.specs.Dispatch.{with_procs}
+use Rattle.mpm_kernel.specs.Kernel.{Kernel, with_changed, dispatched}
 use Rattle.mpm_kernel.specs.contracts.kernel.Kernel.{the_row}
 
 -- a process, to be changed
@@ -21,12 +22,12 @@ LendsProcess kernel p lent = Lends the_row process_row kernel lent (with_changed
 abbrev pub LendsRegs : MutBor Kernel → ℕ → MutBor Regs → Fml
 LendsRegs kernel p lent =
     Lends the_row regs_row kernel lent
-    (λ regs. with_changed kernel.now p (record (process_in kernel.now.procs p) { regs = regs }))
+    (λ regs. with_changed kernel.now p (record (process_in kernel.now.dispatcher.procs p) { regs = regs }))
 
 -- the call that a process keeps
 abbrev pub LendsCall : MutBor Kernel → ℕ → MutBor Taken → Fml
 LendsCall kernel p lent =
-    Lends the_row call_row kernel lent (λ call. record kernel.now { procs = with_call kernel.now.procs p call })
+    Lends the_row call_row kernel lent (λ call. dispatched (with_procs (with_call kernel.now.dispatcher.procs p call)) kernel.now)
 
 -- the devices
 abbrev pub LendsDevices : MutBor Kernel → MutBor Devices → Fml

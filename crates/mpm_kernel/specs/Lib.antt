@@ -1,5 +1,5 @@
 pub mod Kernel
-pub mod Dispatch
+pub mod Completion
 pub mod Columns
 pub mod Called
 pub mod Waiting

@@ -9,9 +9,10 @@ unfoldable pub use Rattle.mpm_queues.specs.Blocks.{writing}
 use Rattle.mpm_queues.specs.Handling.{read_outcome, read_reply, write_outcome, woken_by}
 use Rattle.mpm_queues.specs.declared.queues.QueueOutcome.{QueueOutcome}
 use Rattle.mpm_queues.specs.declared.queues.QueueOutcome.TheVariants.{Done as Passed, NotNow}
-use Rattle.mpm_kernel.specs.Kernel.{Kernel, with_changed}
+use Rattle.mpm_kernel.specs.Kernel.{Kernel, with_changed, dispatched}
 use Rattle.mpm_kernel.specs.Called.{Called, valued, done}
-use Rattle.mpm_kernel.specs.Queueing.{with_other, taken_from, given_to, blocked_or_refused}
+use Rattle.mpm_dispatcher.specs.Dispatch.{with_other, with_procs, with_completed}
+use Rattle.mpm_kernel.specs.Queueing.{taken_from, given_to, blocked_or_refused}
 
 -- what a call 151 answers that is refused
 abbrev pub no_procedure : ℕ
@@ -33,12 +34,12 @@ procedure_queue t call = of_two_bytes (found t (name_at call 4)) t
 -- a process is in the procedure of a queue from now on, whose message it keeps
 unfoldable pub inside : ℕ → ℕ → ℕ → Kernel → Kernel
 inside p q message kernel =
-    with_changed kernel p (record (process_in kernel.procs p) { procedure = Some q; kept = message })
+    with_changed kernel p (record (process_in kernel.dispatcher.procs p) { procedure = Some q; kept = message })
 
 -- function 151: the message is read, which may wait
 unfoldable pub procedure_read : QueueOutcome → ℕ → ℕ → Kernel → Called
 procedure_read (Passed other) p q kernel =
-    done (inside p q (address_of (read_reply kernel.queues q (answering 0)).bytes) (with_other other (taken_from kernel p q)))
+    done (inside p q (address_of (read_reply kernel.queues q (answering 0)).bytes) (dispatched (with_other other) (taken_from kernel p q)))
 procedure_read NotNow p q kernel = blocked_or_refused true p q true kernel
 
 unfoldable pub procedure_at : Option ℕ → ℕ → Kernel → Called
@@ -47,23 +48,21 @@ procedure_at (Some q) p kernel = procedure_read (read_outcome kernel.queues q) p
 
 unfoldable pub procedure_called : Taken → ℕ → Kernel → Called
 procedure_called call p kernel =
-    if is_some (process_in kernel.procs p).procedure then valued no_procedure kernel
+    if is_some (process_in kernel.dispatcher.procs p).procedure then valued no_procedure kernel
     else (procedure_at (procedure_queue kernel.queues call) p kernel)
 
 -- a process is in no procedure any more, and keeps the call that writes the message of the one that it was in
 unfoldable pub outside : ℕ → Kernel → Kernel
 outside p kernel =
-    let process = process_in kernel.procs p in
-    record kernel {
-      procs = with_call (with_process kernel.procs p (record process { procedure = None })) p (writing process.kept);
-      completed = [];
-    }
+    let process = process_in kernel.dispatcher.procs p in
+    let procs = with_call (with_process kernel.dispatcher.procs p (record process { procedure = None })) p (writing process.kept) in
+    dispatched (with_completed []) (dispatched (with_procs procs) kernel)
 
 -- a message goes to a queue; one that is full loses it
 unfoldable pub given_back_to : Option ℕ → ℕ → Kernel → Kernel
 given_back_to None p kernel = kernel
 given_back_to (Some q) p kernel =
-    if is_made kernel.queues q then with_other (woken_by (write_outcome kernel.queues q)) (given_to kernel p q) else kernel
+    if is_made kernel.queues q then dispatched (with_other (woken_by (write_outcome kernel.queues q))) (given_to kernel p q) else kernel
 
 unfoldable pub given_back : ℕ → Kernel → Kernel
-given_back p kernel = given_back_to (process_in kernel.procs p).procedure p (outside p kernel)
+given_back p kernel = given_back_to (process_in kernel.dispatcher.procs p).procedure p (outside p kernel)

@@ -10,13 +10,13 @@ use Rattle.mpm_base.specs.declared.number.Name8.{Name8}
 use Rattle.mpm_base.specs.declared.call.Outcome.TheVariants.{Done}
 use Rattle.mpm_procs.specs.Table.{process_in}
 use Rattle.mpm_procs.specs.Finding.{is_entered}
-use Rattle.mpm_queues.specs.Queues.{Queues, IsMade, found, lowest_free, made, may_end, behind_delete, make_error}
+use Rattle.mpm_queues.specs.Queues.{Queues, IsMade, found, lowest_free, made, may_end, without_queue, make_error}
 unfoldable pub use Rattle.mpm_queues.specs.Blocks.{pointed}
-use Rattle.mpm_queues.specs.Handling.{behind_read, read_outcome, read_reply, behind_write, write_outcome, procs_behind_write, enlisted}
+use Rattle.mpm_queues.specs.Handling.{message_read, read_outcome, read_reply, message_written, write_outcome, procs_after_write, enlisted}
 use Rattle.mpm_queues.specs.declared.queues.QueueOutcome.{QueueOutcome}
 use Rattle.mpm_queues.specs.declared.queues.QueueOutcome.TheVariants.{Done as Passed, NotNow}
-use Rattle.mpm_kernel.specs.Kernel.{Kernel, with_completed}
-use Rattle.mpm_kernel.specs.Dispatch.{unlisted, made_ready, also_completed}
+use Rattle.mpm_dispatcher.specs.Dispatch.{with_procs, unlisted, with_other}
+use Rattle.mpm_kernel.specs.Kernel.{Kernel, dispatched}
 use Rattle.mpm_kernel.specs.Called.{Called, valued, done, blocked, failure_code}
 
 -- a queue more, with that number
@@ -57,12 +57,12 @@ queue_opened call kernel = opened (found kernel.queues (name_at call 4)) call ke
 -- function 136: a queue is deleted that isn't the system's, in whose resident procedure nobody is, at which nobody waits and
 -- whose message nobody holds
 abbrev pub may_delete : Kernel → ℕ → Bool
-may_delete kernel q = nat_le kernel.system_queues q && (not (is_entered kernel.procs q) && may_end kernel.queues q)
+may_delete kernel q = nat_le kernel.system_queues q && (not (is_entered kernel.dispatcher.procs q) && may_end kernel.queues q)
 
 unfoldable pub deleted : Option ℕ → Kernel → Called
 deleted None kernel = valued failure_code kernel
 deleted (Some q) kernel =
-    if may_delete kernel q then done (record kernel { queues = behind_delete kernel.queues q }) else (valued failure_code kernel)
+    if may_delete kernel q then done (record kernel { queues = without_queue kernel.queues q }) else (valued failure_code kernel)
 
 abbrev pub queue_deleted : Taken → Kernel → Called
 queue_deleted call kernel = deleted (found kernel.queues (name_at call 2)) kernel
@@ -70,7 +70,7 @@ queue_deleted call kernel = deleted (found kernel.queues (name_at call 2)) kerne
 -- a process waits at a queue, to read from it or to write to it, and stands in no list
 unfoldable pub queued : Kernel → ℕ → ℕ → Bool → Kernel
 queued kernel p q reader =
-    record (unlisted kernel p) { queues = enlisted kernel.queues p (process_in kernel.procs p).priority q reader }
+    record (dispatched (unlisted p) kernel) { queues = enlisted kernel.queues p (process_in kernel.dispatcher.procs p).priority q reader }
 
 -- a call that can't be done now is held, if it may wait, or else refused
 unfoldable pub blocked_or_refused : Bool → ℕ → ℕ → Bool → Kernel → Called
@@ -81,17 +81,13 @@ abbrev pub IfNotNow : QueueOutcome → Type 0 → Type 0
 IfNotNow (Passed other) Fact = ⊤
 IfNotNow NotNow Fact = Fact
 
--- the held call of another process, if any, is completed, behind those that were
-unfoldable pub with_other : Option ℕ → Kernel → Kernel
-with_other other kernel = with_completed (made_ready other kernel) (also_completed other kernel.completed)
-
 -- functions 137, which may wait, and 138, which may not: the message comes to its address
 abbrev pub taken_from : Kernel → ℕ → ℕ → Kernel
-taken_from kernel p q = record kernel { queues = behind_read kernel.queues p q kernel.procs }
+taken_from kernel p q = record kernel { queues = message_read kernel.queues p q kernel.dispatcher.procs }
 
 unfoldable pub was_read : QueueOutcome → Bool → Taken → ℕ → ℕ → Kernel → Called
 was_read (Passed other) waits call p q kernel = record {
-  kernel = with_other other (taken_from kernel p q);
+  kernel = dispatched (with_other other) (taken_from kernel p q);
   outcome = Done;
   reply = read_reply kernel.queues q (record (answering 0) { at = word_at call 2 });
 }
@@ -107,12 +103,12 @@ queue_read waits call p kernel = read_at (pointed kernel.queues (word_at call 0)
 -- functions 139, which may wait, and 140, which may not
 abbrev pub given_to : Kernel → ℕ → ℕ → Kernel
 given_to kernel p q = record kernel {
-  queues = behind_write kernel.queues p q kernel.procs;
-  procs = procs_behind_write kernel.queues p q kernel.procs;
+  queues = message_written kernel.queues p q kernel.dispatcher.procs;
+  dispatcher = with_procs (procs_after_write kernel.queues p q kernel.dispatcher.procs) kernel.dispatcher;
 }
 
 unfoldable pub was_written : QueueOutcome → Bool → ℕ → ℕ → Kernel → Called
-was_written (Passed other) waits p q kernel = done (with_other other (given_to kernel p q))
+was_written (Passed other) waits p q kernel = done (dispatched (with_other other) (given_to kernel p q))
 was_written NotNow waits p q kernel = blocked_or_refused waits p q false kernel
 
 unfoldable pub write_at : Option ℕ → Bool → ℕ → Kernel → Called

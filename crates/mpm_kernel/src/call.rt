@@ -1,7 +1,10 @@
 ghost use Rattle.std.specs.Prelude.{◌≡◌};
+ghost use Rattle.mpm_base.specs.Lists.{is_among};
+ghost use Rattle.mpm_kernel.specs.Called.{functions_of};
+ghost use Rattle.mpm_kernel.specs.Consoling.{unit_rows};
 
 use crate::Kernel;
-use mpm_base::{Outcome, Pid, Reply};
+use mpm_base::{Outcome, Pid, Reply, functions};
 use mpm_clock::{tell_date, tell_time};
 use mpm_consoles::echoes;
 
@@ -13,15 +16,30 @@ pub(crate) const NO_FUNCTION: u16 = 0xFFFF;
 
 impl Kernel {
     ghost use Rattle.mpm_procs.specs.Table.{Lives};
-    ghost use Rattle.mpm_kernel.specs.Kernel.{IsReady, IsSound};
+    ghost use Rattle.mpm_dispatcher.specs.Dispatch.{IsReady};
+    ghost use Rattle.mpm_kernel.specs.Kernel.{IsSound, CompletedLive};
     ghost use Rattle.mpm_kernel.specs.Calls.{called};
 
     /// Does the call that a ready process keeps.
-    #[tactic(auto, using(crate::proofs::SoundLaws::sound_begun), unfolding(crate::specs::Calls::call_done, crate::specs::Dates::date_answered, crate::specs::Dates::time_answered, crate::specs::Dispatch::behind_equals, crate::specs::Dispatch::with_priority))]
     pub fn call(&mut self, p: Pid, reply: &mut Reply) -> Outcome
         requires sound { IsSound self.old }
-        requires lives { Lives self.old.procs p }
-        requires ready { IsReady self.old p }
+        requires lives { Lives self.old.dispatcher.procs p }
+        requires ready { IsReady self.old.dispatcher p }
+        ensures kernel { self.new ≡ (called p self.old).kernel }
+        ensures outcome { result ≡ (called p self.old).outcome }
+        ensures reply { reply.new ≡ (called p self.old).reply }
+        ensures sound { IsSound self.new }
+        ensures live { CompletedLive self.new }
+    {
+        self.serve(p, reply)
+    }
+
+    /// The call that a process keeps, by its function.
+    #[tactic(auto, using(crate::proofs::SoundLaws::sound_begun), unfolding(crate::specs::Calls::call_done, crate::specs::Dates::date_answered, crate::specs::Dates::time_answered))]
+    fn serve(&mut self, p: Pid, reply: &mut Reply) -> Outcome
+        requires sound { IsSound self.old }
+        requires lives { Lives self.old.dispatcher.procs p }
+        requires ready { IsReady self.old.dispatcher p }
         ensures kernel { self.new ≡ (called p self.old).kernel }
         ensures outcome { result ≡ (called p self.old).outcome }
         ensures reply { reply.new ≡ (called p self.old).reply }
@@ -33,38 +51,74 @@ impl Kernel {
         let byte = (word % 256) as u8;
         reply.answer(0);
         match function {
-            0 | 143 => return Outcome::Ended,
-            1 | 2 | 3 | 4 | 6 | 9 | 10 | 11 => return self.console_call(p, reply),
-            5 | 146..=149 | 153 | 158..=162 | 164 => return self.unit_call(p, reply),
-            12 | 163 => reply.answer(VERSION),
-            25 => reply.answer(u16::from(self.dispatcher.procs.get(p).drive)),
-            26 => self.dispatcher.procs.get_mut(p).set_dma(word),
-            32 => reply.answer(self.dispatcher.procs.get_mut(p).ask_user(byte)),
-            44 => reply.answer(self.dispatcher.procs.get_mut(p).set_multi(byte)),
-            45 => self.dispatcher.procs.get_mut(p).set_error_mode(byte),
-            104 => return self.set_date(p, reply),
-            105 => tell_date(self.clock.now(), word, reply),
-            106 => {
+            functions::SYSTEM_RESET | functions::TERMINATE_PROCESS => return Outcome::Ended,
+            functions::CONSOLE_INPUT
+            | functions::CONSOLE_OUTPUT
+            | functions::RAW_CONSOLE_INPUT
+            | functions::RAW_CONSOLE_OUTPUT
+            | functions::DIRECT_CONSOLE_IO
+            | functions::PRINT_STRING
+            | functions::READ_CONSOLE_BUFFER
+            | functions::GET_CONSOLE_STATUS => return self.console_call(p, reply),
+            _ if is_for_unit(function) => return self.unit_call(p, reply),
+            functions::RETURN_VERSION_NUMBER | functions::RETURN_MPM_VERSION_NUMBER => reply.answer(
+                VERSION,
+            ),
+            functions::RETURN_CURRENT_DISK => reply.answer(u16::from(
+                self.dispatcher.procs.get(p).drive,
+            )),
+            functions::SET_DMA_ADDRESS => self.dispatcher.procs.get_mut(p).set_dma(word),
+            functions::SET_GET_USER_CODE => reply.answer(
+                self.dispatcher.procs.get_mut(p).ask_user(byte),
+            ),
+            functions::SET_MULTI_SECTOR_COUNT => reply.answer(
+                self.dispatcher.procs.get_mut(p).set_multi(byte),
+            ),
+            functions::SET_BDOS_ERROR_MODE => self.dispatcher.procs.get_mut(p).set_error_mode(byte),
+            functions::SET_DATE_AND_TIME => return self.set_date(p, reply),
+            functions::GET_DATE_AND_TIME => tell_date(self.clock.now(), word, reply),
+            functions::SET_DEFAULT_PASSWORD => {
                 let password = self.dispatcher.procs.call(p).eight(0);
                 self.dispatcher.procs.get_mut(p).set_password(password);
             }
-            131 => return self.poll(p, byte, reply),
-            132 => return self.wait_flag(p, byte, reply),
-            133 => return self.set_flag(p, byte, reply),
-            134 => return self.make_queue(p, reply),
-            135 => return self.open_queue(p, reply),
-            136 => return self.delete_queue(p, reply),
-            137 => return self.read_queue(p, true, reply),
-            138 => return self.read_queue(p, false, reply),
-            139 => return self.write_queue(p, true, reply),
-            140 => return self.write_queue(p, false, reply),
-            141 => return self.sleep(p, word, reply),
-            142 => self.dispatcher.rotate(p),
-            145 => self.dispatcher.set_priority(p, byte),
-            151 => return self.call_procedure(p, reply),
-            155 => tell_time(self.clock.now(), word, reply),
+            functions::POLL => return self.poll(p, byte, reply),
+            functions::FLAG_WAIT => return self.wait_flag(p, byte, reply),
+            functions::FLAG_SET => return self.set_flag(p, byte, reply),
+            functions::MAKE_QUEUE => return self.make_queue(p, reply),
+            functions::OPEN_QUEUE => return self.open_queue(p, reply),
+            functions::DELETE_QUEUE => return self.delete_queue(p, reply),
+            functions::READ_QUEUE => return self.read_queue(p, true, reply),
+            functions::CONDITIONAL_READ_QUEUE => return self.read_queue(p, false, reply),
+            functions::WRITE_QUEUE => return self.write_queue(p, true, reply),
+            functions::CONDITIONAL_WRITE_QUEUE => return self.write_queue(p, false, reply),
+            functions::DELAY => return self.sleep(p, word, reply),
+            functions::DISPATCH => self.dispatcher.rotate(p),
+            functions::SET_PRIORITY => self.dispatcher.set_priority(p, byte),
+            functions::CALL_RESIDENT_SYSTEM_PROCEDURE => return self.call_procedure(p, reply),
+            functions::GET_DATE_TIME_AND_SECOND => tell_time(self.clock.now(), word, reply),
             _ => reply.answer(NO_FUNCTION),
         }
         Outcome::Done
     }
+}
+
+/// Whether a function attaches, detaches, changes, assigns or tells a console or a printer.
+fn is_for_unit(function: u8) -> bool
+    ensures { result ≡ is_among function (functions_of unit_rows) }
+{
+    matches!(
+        function,
+        functions::LIST_OUTPUT
+            | functions::ATTACH_CONSOLE
+            | functions::DETACH_CONSOLE
+            | functions::SET_CONSOLE
+            | functions::ASSIGN_CONSOLE
+            | functions::GET_CONSOLE_NUMBER
+            | functions::ATTACH_LIST
+            | functions::DETACH_LIST
+            | functions::SET_LIST
+            | functions::CONDITIONAL_ATTACH_LIST
+            | functions::CONDITIONAL_ATTACH_CONSOLE
+            | functions::GET_LIST_NUMBER
+    )
 }

@@ -2,8 +2,8 @@ ghost use Rattle.std.specs.Bool.{OnTrue};
 ghost use Rattle.std.specs.Prelude.{◌≡◌, ◌<◌, true, MatchOption};
 
 use crate::Kernel;
-use mpm_base::{Outcome, Pid, Reply};
-use mpm_consoles::{Unit, is_cooked, is_raw, writes};
+use mpm_base::{Outcome, Pid, Reply, functions};
+use mpm_consoles::{AWAIT_KEY, POLL_KEY, TELL_STATUS, Unit, is_cooked, is_raw, writes};
 use mpm_dispatcher::done;
 use mpm_line_input::{answer_line, edited, full_line, is_full, key_echo};
 
@@ -13,20 +13,21 @@ impl Kernel {
     ghost use Rattle.mpm_consoles.specs.Handling.{may_attach};
     ghost use Rattle.mpm_consoles.specs.declared.unit.Unit.TheVariants.{Console as ConsoleUnit};
     ghost use Rattle.mpm_line_input.specs.Lines.{ends};
-    ghost use Rattle.mpm_kernel.specs.Kernel.{IsReady, IsSound, HasConsole};
+    ghost use Rattle.mpm_dispatcher.specs.Dispatch.{IsReady};
+    ghost use Rattle.mpm_kernel.specs.Kernel.{IsSound, HasConsole};
     ghost use Rattle.mpm_kernel.specs.Consoling.{attaching, awaited};
     ghost use Rattle.mpm_kernel.specs.ConsoleInput.{raw_if, key_taken, next_key, key_shown, shown_key, read_key, polled_key, direct, line_of, greatest, line_done, key_joined, line_with, line_read, console_served, unless_stopped, console_called};
 
     /// The calls that read from the caller's console or write to it: it is attached first, or waited for. (MP/M II Programmer's
     /// Guide, functions 1 to 4, 6 and 9 to 11.)
-    #[tactic(auto, using(crate::proofs::UnitLaws::has_own_console, crate::proofs::InputCalls::stays_console_called), unfolding(crate::specs::ConsoleInput::console_called, crate::specs::Consoling::retried, crate::specs::Dispatch::unlisted))]
+    #[tactic(auto, using(crate::proofs::UnitLaws::has_own_console, crate::proofs::InputCalls::stays_console_called), unfolding(crate::specs::ConsoleInput::console_called, crate::specs::Consoling::retried))]
     pub(crate) fn console_call(&mut self, p: Pid, reply: &mut Reply) -> Outcome
         requires sound { IsSound self.old }
-        requires lives { Lives self.old.procs p }
-        requires ready { IsReady self.old p }
-        ensures kernel { self.new ≡ (console_called (call_of self.old.procs p) p self.old).kernel }
-        ensures outcome { result ≡ (console_called (call_of self.old.procs p) p self.old).outcome }
-        ensures reply { reply.new ≡ (console_called (call_of self.old.procs p) p self.old).reply }
+        requires lives { Lives self.old.dispatcher.procs p }
+        requires ready { IsReady self.old.dispatcher p }
+        ensures kernel { self.new ≡ (console_called (call_of self.old.dispatcher.procs p) p self.old).kernel }
+        ensures outcome { result ≡ (console_called (call_of self.old.dispatcher.procs p) p self.old).outcome }
+        ensures reply { reply.new ≡ (console_called (call_of self.old.dispatcher.procs p) p self.old).reply }
     {
         let console = self.dispatcher.procs.get(p).console;
         if !self.attach_console(p, console) {
@@ -40,12 +41,12 @@ impl Kernel {
     /// Output waits until it isn't stopped any more.
     #[tactic(auto, unfolding(crate::specs::ConsoleInput::unless_stopped))]
     fn unless_stopped(&mut self, p: Pid, console: u8, reply: &mut Reply) -> Outcome
-        requires lives { Lives self.old.procs p }
+        requires lives { Lives self.old.dispatcher.procs p }
         requires has { HasConsole self.old console }
         requires owner { owns self.old.units p (ConsoleUnit console) ≡ true }
-        ensures kernel { self.new ≡ (unless_stopped (call_of self.old.procs p) p console self.old).kernel }
-        ensures outcome { result ≡ (unless_stopped (call_of self.old.procs p) p console self.old).outcome }
-        ensures reply { reply.new ≡ (unless_stopped (call_of self.old.procs p) p console self.old).reply }
+        ensures kernel { self.new ≡ (unless_stopped (call_of self.old.dispatcher.procs p) p console self.old).kernel }
+        ensures outcome { result ≡ (unless_stopped (call_of self.old.dispatcher.procs p) p console self.old).outcome }
+        ensures reply { reply.new ≡ (unless_stopped (call_of self.old.dispatcher.procs p) p console self.old).reply }
     {
         if writes(self.dispatcher.procs.call(p)) && self.units.stopped(console) {
             return self.wait_at_gate(p, console, false, reply);
@@ -55,23 +56,23 @@ impl Kernel {
         self.serve_console(p, console, reply)
     }
 
-    /// The owner of a console is served, whose output isn't stopped where the call writes. What a call writes is put out behind
+    /// The owner of a console is served, whose output isn't stopped where the call writes. What a call writes is put out after
     /// it.
     #[tactic(auto, unfolding(crate::specs::ConsoleInput::console_served))]
     fn serve_console(&mut self, p: Pid, console: u8, reply: &mut Reply) -> Outcome
-        requires lives { Lives self.old.procs p }
+        requires lives { Lives self.old.dispatcher.procs p }
         requires has { HasConsole self.old console }
         requires owner { owns self.old.units p (ConsoleUnit console) ≡ true }
-        ensures kernel { self.new ≡ (console_served (call_of self.old.procs p) p console self.old).kernel }
-        ensures outcome { result ≡ (console_served (call_of self.old.procs p) p console self.old).outcome }
-        ensures reply { reply.new ≡ (console_served (call_of self.old.procs p) p console self.old).reply }
+        ensures kernel { self.new ≡ (console_served (call_of self.old.dispatcher.procs p) p console self.old).kernel }
+        ensures outcome { result ≡ (console_served (call_of self.old.dispatcher.procs p) p console self.old).outcome }
+        ensures reply { reply.new ≡ (console_served (call_of self.old.dispatcher.procs p) p console self.old).reply }
     {
         match self.dispatcher.procs.call(p).function {
-            1 => self.read_shown(p, console, reply),
-            3 => self.read_key(p, console, reply),
-            6 => self.direct(p, console, reply),
-            10 => self.read_line(p, console, reply),
-            11 => done(reply, u16::from(self.units.has_key(console))),
+            functions::CONSOLE_INPUT => self.read_shown(p, console, reply),
+            functions::RAW_CONSOLE_INPUT => self.read_key(p, console, reply),
+            functions::DIRECT_CONSOLE_IO => self.direct(p, console, reply),
+            functions::READ_CONSOLE_BUFFER => self.read_line(p, console, reply),
+            functions::GET_CONSOLE_STATUS => done(reply, u16::from(self.units.has_key(console))),
             _ => done(reply, 0),
         }
     }
@@ -122,17 +123,17 @@ impl Kernel {
     /// Programmer's Guide, "Function 6: Direct Console I/O".)
     #[tactic(auto, unfolding(crate::specs::ConsoleInput::direct))]
     fn direct(&mut self, p: Pid, console: u8, reply: &mut Reply) -> Outcome
-        requires lives { Lives self.old.procs p }
+        requires lives { Lives self.old.dispatcher.procs p }
         requires has { HasConsole self.old console }
         requires owner { owns self.old.units p (ConsoleUnit console) ≡ true }
-        ensures kernel { self.new ≡ (direct (call_of self.old.procs p) p console self.old).kernel }
-        ensures outcome { result ≡ (direct (call_of self.old.procs p) p console self.old).outcome }
-        ensures reply { reply.new ≡ (direct (call_of self.old.procs p) p console self.old).reply }
+        ensures kernel { self.new ≡ (direct (call_of self.old.dispatcher.procs p) p console self.old).kernel }
+        ensures outcome { result ≡ (direct (call_of self.old.dispatcher.procs p) p console self.old).outcome }
+        ensures reply { reply.new ≡ (direct (call_of self.old.dispatcher.procs p) p console self.old).reply }
     {
-        match self.dispatcher.procs.call(p).word % 256 {
-            0xFF => self.poll_key(console, reply),
-            0xFE => done(reply, if self.units.has_key(console) { 0xFF } else { 0 }),
-            0xFD => self.read_key(p, console, reply),
+        match (self.dispatcher.procs.call(p).word % 256) as u8 {
+            POLL_KEY => self.poll_key(console, reply),
+            TELL_STATUS => done(reply, if self.units.has_key(console) { 0xFF } else { 0 }),
+            AWAIT_KEY => self.read_key(p, console, reply),
             _ => done(reply, 0),
         }
     }
@@ -155,12 +156,12 @@ impl Kernel {
     /// Buffer".)
     #[tactic(auto, using(crate::proofs::InputLaws::lives_echoed, crate::proofs::InputLaws::procs_echoed), unfolding(crate::specs::ConsoleInput::line_read))]
     fn read_line(&mut self, p: Pid, console: u8, reply: &mut Reply) -> Outcome
-        requires lives { Lives self.old.procs p }
+        requires lives { Lives self.old.dispatcher.procs p }
         requires has { HasConsole self.old console }
         requires owner { owns self.old.units p (ConsoleUnit console) ≡ true }
-        ensures kernel { self.new ≡ (line_read (call_of self.old.procs p) p console self.old).kernel }
-        ensures outcome { result ≡ (line_read (call_of self.old.procs p) p console self.old).outcome }
-        ensures reply { reply.new ≡ (line_read (call_of self.old.procs p) p console self.old).reply }
+        ensures kernel { self.new ≡ (line_read (call_of self.old.dispatcher.procs p) p console self.old).kernel }
+        ensures outcome { result ≡ (line_read (call_of self.old.dispatcher.procs p) p console self.old).outcome }
+        ensures reply { reply.new ≡ (line_read (call_of self.old.dispatcher.procs p) p console self.old).reply }
     {
         let greatest = self.dispatcher.procs.call(p).byte(0);
         if is_full(self.dispatcher.procs.get(p).line_length, greatest) {
@@ -176,12 +177,12 @@ impl Kernel {
     /// A key that was taken joins the line, or changes it; the line may end.
     #[tactic(auto, using(crate::proofs::InputLaws::call_joined, crate::proofs::InputLaws::lives_joined), unfolding(crate::specs::ConsoleInput::line_with))]
     fn join_key(&mut self, p: Pid, console: u8, key: u8, reply: &mut Reply) -> Outcome
-        requires lives { Lives self.old.procs p }
+        requires lives { Lives self.old.dispatcher.procs p }
         requires has { HasConsole self.old console }
-        requires room { (process_in self.old.procs p).line_length < greatest (call_of self.old.procs p) }
-        ensures kernel { self.new ≡ (line_with key (call_of self.old.procs p) p console self.old).kernel }
-        ensures outcome { result ≡ (line_with key (call_of self.old.procs p) p console self.old).outcome }
-        ensures reply { reply.new ≡ (line_with key (call_of self.old.procs p) p console self.old).reply }
+        requires room { (process_in self.old.dispatcher.procs p).line_length < greatest (call_of self.old.dispatcher.procs p) }
+        ensures kernel { self.new ≡ (line_with key (call_of self.old.dispatcher.procs p) p console self.old).kernel }
+        ensures outcome { result ≡ (line_with key (call_of self.old.dispatcher.procs p) p console self.old).outcome }
+        ensures reply { reply.new ≡ (line_with key (call_of self.old.dispatcher.procs p) p console self.old).reply }
     {
         if self.edit_line(p, console, key) {
             return self.finish_line(p, reply);
@@ -193,11 +194,11 @@ impl Kernel {
     /// What a key makes of the line that a process keeps; whether the line ends with it.
     #[tactic(auto, unfolding(crate::specs::ConsoleInput::key_joined))]
     fn edit_line(&mut self, p: Pid, console: u8, key: u8) -> bool
-        requires lives { Lives self.old.procs p }
+        requires lives { Lives self.old.dispatcher.procs p }
         requires has { HasConsole self.old console }
-        requires room { (process_in self.old.procs p).line_length < greatest (call_of self.old.procs p) }
-        ensures kernel { self.new ≡ key_joined (call_of self.old.procs p) p console key self.old }
-        ensures ends { result ≡ ends (line_of (process_in self.old.procs p)) (greatest (call_of self.old.procs p)) key }
+        requires room { (process_in self.old.dispatcher.procs p).line_length < greatest (call_of self.old.dispatcher.procs p) }
+        ensures kernel { self.new ≡ key_joined (call_of self.old.dispatcher.procs p) p console key self.old }
+        ensures ends { result ≡ ends (line_of (process_in self.old.dispatcher.procs p)) (greatest (call_of self.old.dispatcher.procs p)) key }
     {
         let greatest = self.dispatcher.procs.call(p).byte(0);
         let process = self.dispatcher.procs.get_mut(p);
@@ -213,10 +214,10 @@ impl Kernel {
     /// A line ends: it is answered, and the process keeps none any more.
     #[tactic(auto, unfolding(crate::specs::ConsoleInput::line_done))]
     fn finish_line(&mut self, p: Pid, reply: &mut Reply) -> Outcome
-        requires { Lives self.old.procs p }
-        ensures kernel { self.new ≡ (line_done (call_of self.old.procs p) p self.old).kernel }
-        ensures outcome { result ≡ (line_done (call_of self.old.procs p) p self.old).outcome }
-        ensures reply { reply.new ≡ (line_done (call_of self.old.procs p) p self.old).reply }
+        requires { Lives self.old.dispatcher.procs p }
+        ensures kernel { self.new ≡ (line_done (call_of self.old.dispatcher.procs p) p self.old).kernel }
+        ensures outcome { result ≡ (line_done (call_of self.old.dispatcher.procs p) p self.old).outcome }
+        ensures reply { reply.new ≡ (line_done (call_of self.old.dispatcher.procs p) p self.old).reply }
     {
         let address = self.dispatcher.procs.call(p).word;
         let process = self.dispatcher.procs.get_mut(p);
@@ -226,7 +227,7 @@ impl Kernel {
     }
 
     /// Takes the oldest key of a console, None where there is none.
-    #[tactic(auto, using(crate::proofs::UnitLaws::nothing_taken, crate::proofs::InputLaws::has_behind_take))]
+    #[tactic(auto, using(crate::proofs::UnitLaws::nothing_taken, crate::proofs::InputLaws::has_after_take))]
     fn take_key(&mut self, console: u8) -> Option<u8>
         requires { HasConsole self.old console }
         ensures key { result ≡ next_key console self.old }
@@ -240,8 +241,8 @@ impl Kernel {
     #[tactic(auto, using(crate::proofs::InputLaws::has_then_attached, crate::proofs::InputLaws::owns_then_attached))]
     fn attach_console(&mut self, p: Pid, console: u8) -> bool
         requires sound { IsSound self.old }
-        requires lives { Lives self.old.procs p }
-        requires ready { IsReady self.old p }
+        requires lives { Lives self.old.dispatcher.procs p }
+        requires ready { IsReady self.old.dispatcher p }
         requires has { HasConsole self.old console }
         ensures answer { result ≡ may_attach self.old.units p (ConsoleUnit console) }
         ensures kernel { self.new ≡ attaching p (ConsoleUnit console) true self.old }
@@ -267,7 +268,7 @@ impl Kernel {
     }
 
     /// The owner of a console waits at its gate, for a key or until output goes on.
-    #[tactic(auto, unfolding(crate::specs::Consoling::awaited, crate::specs::Consoling::retried, crate::specs::Dispatch::unlisted))]
+    #[tactic(auto, unfolding(crate::specs::Consoling::awaited, crate::specs::Consoling::retried))]
     fn wait_at_gate(&mut self, p: Pid, console: u8, key: bool, reply: &mut Reply) -> Outcome
         requires has { HasConsole self.old console }
         requires owner { owns self.old.units p (ConsoleUnit console) ≡ true }

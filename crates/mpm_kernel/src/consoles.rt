@@ -4,8 +4,8 @@ ghost use Rattle.mpm_base.specs.declared.call.Outcome.TheVariants.{Done};
 ghost use Rattle.mpm_consoles.specs.Consoles.{console_at, HasUnit};
 
 use crate::Kernel;
-use crate::waiting::REFUSED;
-use mpm_base::{Outcome, Pid, Reply};
+use crate::call::NO_FUNCTION;
+use mpm_base::{FAILURE_CODE, Outcome, Pid, Reply, functions};
 use mpm_consoles::{KeyDone, Unit};
 use mpm_dispatcher::{READY, done};
 use mpm_line_input::Echo;
@@ -15,15 +15,25 @@ impl Kernel {
     ghost use Rattle.mpm_consoles.specs.Consoles.{owner_of};
     ghost use Rattle.mpm_consoles.specs.Handling.{may_attach};
     ghost use Rattle.mpm_consoles.specs.declared.unit.Unit.TheVariants.{Console as ConsoleUnit};
-    ghost use Rattle.mpm_kernel.specs.Kernel.{IsReady, IsSound, HasConsole};
+    ghost use Rattle.mpm_dispatcher.specs.Dispatch.{IsReady, made_ready};
+    ghost use Rattle.mpm_kernel.specs.Kernel.{IsSound, HasConsole};
     ghost use Rattle.mpm_kernel.specs.Columns.{spoke, wrote, spaces_for};
-    ghost use Rattle.mpm_kernel.specs.Dispatch.{made_ready, unit_left};
-    ghost use Rattle.mpm_kernel.specs.Consoling.{attaching, attached, attached_now, console_changed, printer_changed, console_set, printer_set, owner_made, is_meant, assigned_to, assigned, printer_called, unit_called, given, handed_over, echoed, key_done, KeyNames, is_resident, key_came, abort_taken};
+    ghost use Rattle.mpm_kernel.specs.Consoling.{unit_left, attaching, attached, attached_now, console_changed, printer_changed, console_set, printer_set, owner_made, is_meant, assigned_to, assigned, printer_called, unit_called, given, handed_over, echoed, key_done, KeyNames, is_of_resident, key_came, abort_taken};
 
     /// A byte is written to a console or a printer: the column of a console moves. Answers the number of spaces that stand for a
     /// tab that is expanded, 0 where the byte stands for itself. (MP/M II Programmer's Guide, "Function 2: Console Output".)
-    #[tactic(auto, unfolding(crate::specs::Columns::wrote))]
     pub fn write(&mut self, unit: Unit, byte: u8, tabs: bool) -> u8
+        requires { HasUnit self.old.units unit }
+        ensures kernel { self.new ≡ wrote self.old unit byte tabs }
+        ensures spaces { result ≡ spaces_for self.old unit byte tabs }
+        ensures sound { IsSound self.old → IsSound self.new }
+    {
+        self.put(unit, byte, tabs)
+    }
+
+    /// A byte is written, or the spaces for it.
+    #[tactic(auto, unfolding(crate::specs::Columns::wrote))]
+    fn put(&mut self, unit: Unit, byte: u8, tabs: bool) -> u8
         requires { HasUnit self.old.units unit }
         ensures kernel { self.new ≡ wrote self.old unit byte tabs }
         ensures spaces { result ≡ spaces_for self.old unit byte tabs }
@@ -43,6 +53,7 @@ impl Kernel {
     pub fn take_abort(&mut self) -> Option<Pid>
         ensures process { result ≡ self.old.aborted }
         ensures kernel { self.new ≡ abort_taken self.old }
+        ensures sound { IsSound self.old → IsSound self.new }
     {
         let aborted = self.aborted;
         self.aborted = None;
@@ -59,12 +70,24 @@ impl Kernel {
 
     /// A console that `from` owns, or nobody where that is None, comes to `to`, or where that is None to the process that waits
     /// for it first. Nothing changes where `from` isn't its owner.
-    #[tactic(auto, using(crate::proofs::UnitLaws::has_console), unfolding(crate::specs::Consoling::given))]
     pub fn give(&mut self, console: u8, from: Option<Pid>, to: Option<Pid>)
         requires sound { IsSound self.old }
-        requires console { console < self.old.consoles }
-        requires from { IfSome from (λ p. Lives self.old.procs p) }
-        requires to { IfSome to (λ p. Lives self.old.procs p) }
+        requires console { console < length self.old.units.consoles }
+        requires from { IfSome from (λ p. Lives self.old.dispatcher.procs p) }
+        requires to { IfSome to (λ p. Lives self.old.dispatcher.procs p) }
+        ensures kernel { self.new ≡ given console from to self.old }
+        ensures sound { IsSound self.new }
+    {
+        self.give_console(console, from, to);
+    }
+
+    /// A console is given, where `from` is its owner.
+    #[tactic(auto, unfolding(crate::specs::Consoling::given))]
+    fn give_console(&mut self, console: u8, from: Option<Pid>, to: Option<Pid>)
+        requires sound { IsSound self.old }
+        requires console { console < length self.old.units.consoles }
+        requires from { IfSome from (λ p. Lives self.old.dispatcher.procs p) }
+        requires to { IfSome to (λ p. Lives self.old.dispatcher.procs p) }
         ensures { self.new ≡ given console from to self.old }
     {
         let owner = self.console_owner(console);
@@ -83,11 +106,10 @@ impl Kernel {
     }
 
     /// A console comes to a process, or passes on.
-    #[tactic(auto, using(crate::proofs::UnitLaws::has_console))]
     fn hand_over(&mut self, console: u8, from: Option<Pid>, to: Option<Pid>)
         requires sound { IsSound self.old }
-        requires console { console < self.old.consoles }
-        requires to { IfSome to (λ p. Lives self.old.procs p) }
+        requires console { console < length self.old.units.consoles }
+        requires to { IfSome to (λ p. Lives self.old.dispatcher.procs p) }
         ensures { self.new ≡ handed_over console from to self.old }
     {
         match to {
@@ -104,11 +126,11 @@ impl Kernel {
     #[tactic(auto, using(crate::proofs::UnitLaws::has_own_console, crate::proofs::UnitCalls::stays_unit_called), unfolding(crate::specs::Consoling::unit_called))]
     pub(crate) fn unit_call(&mut self, p: Pid, reply: &mut Reply) -> Outcome
         requires sound { IsSound self.old }
-        requires lives { Lives self.old.procs p }
-        requires ready { IsReady self.old p }
-        ensures kernel { self.new ≡ (unit_called (call_of self.old.procs p) p self.old).kernel }
-        ensures outcome { result ≡ (unit_called (call_of self.old.procs p) p self.old).outcome }
-        ensures reply { reply.new ≡ (unit_called (call_of self.old.procs p) p self.old).reply }
+        requires lives { Lives self.old.dispatcher.procs p }
+        requires ready { IsReady self.old.dispatcher p }
+        ensures kernel { self.new ≡ (unit_called (call_of self.old.dispatcher.procs p) p self.old).kernel }
+        ensures outcome { result ≡ (unit_called (call_of self.old.dispatcher.procs p) p self.old).outcome }
+        ensures reply { reply.new ≡ (unit_called (call_of self.old.dispatcher.procs p) p self.old).reply }
     {
         let function = self.dispatcher.procs.call(p).function;
         let process = self.dispatcher.procs.get(p);
@@ -116,14 +138,19 @@ impl Kernel {
         let printer = process.printer;
         let own = Unit::Console { n: console };
         match function {
-            146 => self.attach_unit(p, own, reply),
-            147 => self.detach_unit(p, own, reply),
-            148 => self.set_console(p, reply),
-            149 => self.assign(p, reply),
-            153 => done(reply, u16::from(console)),
-            162 => self.attach_now(p, own, reply),
-            164 => done(reply, u16::from(printer)),
-            _ => self.printer_call(p, reply),
+            functions::ATTACH_CONSOLE => self.attach_unit(p, own, reply),
+            functions::DETACH_CONSOLE => self.detach_unit(p, own, reply),
+            functions::SET_CONSOLE => self.set_console(p, reply),
+            functions::ASSIGN_CONSOLE => self.assign(p, reply),
+            functions::GET_CONSOLE_NUMBER => done(reply, u16::from(console)),
+            functions::CONDITIONAL_ATTACH_CONSOLE => self.attach_now(p, own, reply),
+            functions::GET_LIST_NUMBER => done(reply, u16::from(printer)),
+            functions::LIST_OUTPUT
+            | functions::ATTACH_LIST
+            | functions::DETACH_LIST
+            | functions::SET_LIST
+            | functions::CONDITIONAL_ATTACH_LIST => self.printer_call(p, reply),
+            _ => done(reply, NO_FUNCTION),
         }
     }
 
@@ -131,32 +158,33 @@ impl Kernel {
     #[tactic(auto, using(crate::proofs::UnitLaws::has_own_printer), unfolding(crate::specs::Consoling::printer_called))]
     fn printer_call(&mut self, p: Pid, reply: &mut Reply) -> Outcome
         requires sound { IsSound self.old }
-        requires lives { Lives self.old.procs p }
-        requires ready { IsReady self.old p }
-        ensures kernel { self.new ≡ (printer_called (call_of self.old.procs p) p self.old).kernel }
-        ensures outcome { result ≡ (printer_called (call_of self.old.procs p) p self.old).outcome }
-        ensures reply { reply.new ≡ (printer_called (call_of self.old.procs p) p self.old).reply }
+        requires lives { Lives self.old.dispatcher.procs p }
+        requires ready { IsReady self.old.dispatcher p }
+        ensures kernel { self.new ≡ (printer_called (call_of self.old.dispatcher.procs p) p self.old).kernel }
+        ensures outcome { result ≡ (printer_called (call_of self.old.dispatcher.procs p) p self.old).outcome }
+        ensures reply { reply.new ≡ (printer_called (call_of self.old.dispatcher.procs p) p self.old).reply }
     {
-        if self.printers == 0 {
-            return done(reply, REFUSED);
+        if self.printers() == 0 {
+            return done(reply, FAILURE_CODE);
         }
         let own = Unit::Printer {
             n: self.dispatcher.procs.get(p).printer,
         };
         match self.dispatcher.procs.call(p).function {
-            159 => self.detach_unit(p, own, reply),
-            160 => self.set_printer(p, reply),
-            161 => self.attach_now(p, own, reply),
-            _ => self.attach_unit(p, own, reply),
+            functions::DETACH_LIST => self.detach_unit(p, own, reply),
+            functions::SET_LIST => self.set_printer(p, reply),
+            functions::CONDITIONAL_ATTACH_LIST => self.attach_now(p, own, reply),
+            functions::LIST_OUTPUT | functions::ATTACH_LIST => self.attach_unit(p, own, reply),
+            _ => done(reply, NO_FUNCTION),
         }
     }
 
     /// A process attaches a unit, or waits for it.
-    #[tactic(auto, unfolding(crate::specs::Consoling::attached, crate::specs::Consoling::retried, crate::specs::Dispatch::unlisted))]
+    #[tactic(auto, unfolding(crate::specs::Consoling::attached, crate::specs::Consoling::retried))]
     fn attach_unit(&mut self, p: Pid, unit: Unit, reply: &mut Reply) -> Outcome
         requires sound { IsSound self.old }
-        requires lives { Lives self.old.procs p }
-        requires ready { IsReady self.old p }
+        requires lives { Lives self.old.dispatcher.procs p }
+        requires ready { IsReady self.old.dispatcher p }
         requires unit { HasUnit self.old.units unit }
         ensures kernel { self.new ≡ (attached p unit self.old).kernel }
         ensures outcome { result ≡ (attached p unit self.old).outcome }
@@ -173,8 +201,8 @@ impl Kernel {
     #[tactic(auto, using(crate::proofs::UnitLaws::attach_refused), unfolding(crate::specs::Consoling::attached_now))]
     fn attach_now(&mut self, p: Pid, unit: Unit, reply: &mut Reply) -> Outcome
         requires sound { IsSound self.old }
-        requires lives { Lives self.old.procs p }
-        requires ready { IsReady self.old p }
+        requires lives { Lives self.old.dispatcher.procs p }
+        requires ready { IsReady self.old.dispatcher p }
         requires unit { HasUnit self.old.units unit }
         ensures kernel { self.new ≡ (attached_now p unit self.old).kernel }
         ensures outcome { result ≡ (attached_now p unit self.old).outcome }
@@ -183,7 +211,7 @@ impl Kernel {
         if self.attach(p, unit, false) {
             done(reply, 0)
         } else {
-            done(reply, REFUSED)
+            done(reply, FAILURE_CODE)
         }
     }
 
@@ -203,8 +231,8 @@ impl Kernel {
     #[tactic(auto, using(crate::proofs::UnitLaws::waits_at_none))]
     pub(crate) fn attach(&mut self, p: Pid, unit: Unit, wait: bool) -> bool
         requires sound { IsSound self.old }
-        requires lives { Lives self.old.procs p }
-        requires ready { IsReady self.old p }
+        requires lives { Lives self.old.dispatcher.procs p }
+        requires ready { IsReady self.old.dispatcher p }
         requires unit { HasUnit self.old.units unit }
         ensures answer { result ≡ may_attach self.old.units p unit }
         ensures kernel { self.new ≡ attaching p unit wait self.old }
@@ -214,7 +242,7 @@ impl Kernel {
     }
 
     /// A unit that a process owns passes to the process that waits for it first, who becomes ready.
-    #[tactic(auto, using(crate::proofs::UnitLaws::heir_lives), unfolding(crate::specs::Dispatch::unit_left))]
+    #[tactic(auto, using(crate::proofs::UnitLaws::heir_lives), unfolding(crate::specs::Consoling::unit_left))]
     pub(crate) fn leave_unit(&mut self, p: Pid, unit: Unit)
         requires sound { IsSound self.old }
         requires unit { HasUnit self.old.units unit }
@@ -228,15 +256,15 @@ impl Kernel {
     #[tactic(auto, using(crate::proofs::ChangeLaws::sound_console_changed, crate::proofs::ChangeLaws::lives_console_changed, crate::proofs::ChangeLaws::ready_console_changed, crate::proofs::ChangeLaws::has_console_changed), unfolding(crate::specs::Consoling::console_set))]
     fn set_console(&mut self, p: Pid, reply: &mut Reply) -> Outcome
         requires sound { IsSound self.old }
-        requires lives { Lives self.old.procs p }
-        requires ready { IsReady self.old p }
-        ensures kernel { self.new ≡ (console_set (call_of self.old.procs p) p self.old).kernel }
-        ensures outcome { result ≡ (console_set (call_of self.old.procs p) p self.old).outcome }
-        ensures reply { reply.new ≡ (console_set (call_of self.old.procs p) p self.old).reply }
+        requires lives { Lives self.old.dispatcher.procs p }
+        requires ready { IsReady self.old.dispatcher p }
+        ensures kernel { self.new ≡ (console_set (call_of self.old.dispatcher.procs p) p self.old).kernel }
+        ensures outcome { result ≡ (console_set (call_of self.old.dispatcher.procs p) p self.old).outcome }
+        ensures reply { reply.new ≡ (console_set (call_of self.old.dispatcher.procs p) p self.old).reply }
     {
         let console = (self.dispatcher.procs.call(p).word % 256) as u8;
-        if self.consoles <= console {
-            return done(reply, REFUSED);
+        if self.consoles() <= console {
+            return done(reply, FAILURE_CODE);
         }
         self.change_console(p, console);
         self.attach_unit(p, Unit::Console { n: console }, reply)
@@ -246,27 +274,27 @@ impl Kernel {
     #[tactic(auto, using(crate::proofs::ChangeLaws::sound_printer_changed, crate::proofs::ChangeLaws::lives_printer_changed, crate::proofs::ChangeLaws::ready_printer_changed, crate::proofs::ChangeLaws::has_printer_changed), unfolding(crate::specs::Consoling::printer_set))]
     fn set_printer(&mut self, p: Pid, reply: &mut Reply) -> Outcome
         requires sound { IsSound self.old }
-        requires lives { Lives self.old.procs p }
-        requires ready { IsReady self.old p }
-        ensures kernel { self.new ≡ (printer_set (call_of self.old.procs p) p self.old).kernel }
-        ensures outcome { result ≡ (printer_set (call_of self.old.procs p) p self.old).outcome }
-        ensures reply { reply.new ≡ (printer_set (call_of self.old.procs p) p self.old).reply }
+        requires lives { Lives self.old.dispatcher.procs p }
+        requires ready { IsReady self.old.dispatcher p }
+        ensures kernel { self.new ≡ (printer_set (call_of self.old.dispatcher.procs p) p self.old).kernel }
+        ensures outcome { result ≡ (printer_set (call_of self.old.dispatcher.procs p) p self.old).outcome }
+        ensures reply { reply.new ≡ (printer_set (call_of self.old.dispatcher.procs p) p self.old).reply }
     {
         let printer = (self.dispatcher.procs.call(p).word % 256) as u8;
-        if self.printers <= printer {
-            return done(reply, REFUSED);
+        if self.printers() <= printer {
+            return done(reply, FAILURE_CODE);
         }
         self.change_printer(p, printer);
         self.attach_unit(p, Unit::Printer { n: printer }, reply)
     }
 
     /// A process leaves its console for another one, unless it has that one already.
-    #[tactic(auto, using(crate::proofs::UnitLaws::has_own_console), unfolding(crate::specs::Consoling::console_changed, crate::specs::Dispatch::unit_left))]
+    #[tactic(auto, using(crate::proofs::UnitLaws::has_own_console), unfolding(crate::specs::Consoling::console_changed, crate::specs::Consoling::unit_left))]
     fn change_console(&mut self, p: Pid, console: u8)
         requires sound { IsSound self.old }
-        requires lives { Lives self.old.procs p }
-        requires ready { IsReady self.old p }
-        requires there { console < self.old.consoles }
+        requires lives { Lives self.old.dispatcher.procs p }
+        requires ready { IsReady self.old.dispatcher p }
+        requires there { console < length self.old.units.consoles }
         ensures { self.new ≡ console_changed p console self.old }
     {
         let own = self.dispatcher.procs.get(p).console;
@@ -279,12 +307,12 @@ impl Kernel {
     }
 
     /// A process leaves its printer for another one, unless it has that one already.
-    #[tactic(auto, using(crate::proofs::UnitLaws::has_own_printer), unfolding(crate::specs::Consoling::printer_changed, crate::specs::Dispatch::unit_left))]
+    #[tactic(auto, using(crate::proofs::UnitLaws::has_own_printer), unfolding(crate::specs::Consoling::printer_changed, crate::specs::Consoling::unit_left))]
     fn change_printer(&mut self, p: Pid, printer: u8)
         requires sound { IsSound self.old }
-        requires lives { Lives self.old.procs p }
-        requires ready { IsReady self.old p }
-        requires there { printer < self.old.printers }
+        requires lives { Lives self.old.dispatcher.procs p }
+        requires ready { IsReady self.old.dispatcher p }
+        requires there { printer < length self.old.units.printers }
         ensures { self.new ≡ printer_changed p printer self.old }
     {
         let own = self.dispatcher.procs.get(p).printer;
@@ -297,24 +325,24 @@ impl Kernel {
     }
 
     /// A process assigns a console to a process that it names. (MP/M II Programmer's Guide, "Function 149: Assign Console".)
-    #[tactic(auto, using(crate::proofs::UnitLaws::has_console), unfolding(crate::specs::Consoling::assigned, crate::specs::Consoling::assigned_to))]
+    #[tactic(auto, unfolding(crate::specs::Consoling::assigned, crate::specs::Consoling::assigned_to))]
     fn assign(&mut self, p: Pid, reply: &mut Reply) -> Outcome
         requires sound { IsSound self.old }
-        requires lives { Lives self.old.procs p }
-        ensures kernel { self.new ≡ (assigned (call_of self.old.procs p) p self.old).kernel }
-        ensures outcome { result ≡ (assigned (call_of self.old.procs p) p self.old).outcome }
-        ensures reply { reply.new ≡ (assigned (call_of self.old.procs p) p self.old).reply }
+        requires lives { Lives self.old.dispatcher.procs p }
+        ensures kernel { self.new ≡ (assigned (call_of self.old.dispatcher.procs p) p self.old).kernel }
+        ensures outcome { result ≡ (assigned (call_of self.old.dispatcher.procs p) p self.old).outcome }
+        ensures reply { reply.new ≡ (assigned (call_of self.old.dispatcher.procs p) p self.old).reply }
     {
         let call = self.dispatcher.procs.call(p);
         let console = call.byte(0);
         let name = call.name(1);
         let own_only = call.byte(9) == 0xFF;
-        if self.consoles <= console || !self.units.may_attach(p, Unit::Console { n: console }) {
-            return done(reply, REFUSED);
+        if self.consoles() <= console || !self.units.may_attach(p, Unit::Console { n: console }) {
+            return done(reply, FAILURE_CODE);
         }
         match self.dispatcher.procs.named(name) {
             Some(to) => self.assign_to(p, to, console, own_only, reply),
-            None => done(reply, REFUSED),
+            None => done(reply, FAILURE_CODE),
         }
     }
 
@@ -329,17 +357,17 @@ impl Kernel {
         reply: &mut Reply,
     ) -> Outcome
         requires sound { IsSound self.old }
-        requires lives { Lives self.old.procs to }
-        requires caller { Lives self.old.procs p }
-        requires console { console ≡ byte_in (call_of self.old.procs p) 0 }
-        requires there { console < self.old.consoles }
-        requires own { own_only ≡ (byte_in (call_of self.old.procs p) 9 == 255) }
-        ensures kernel { self.new ≡ (assigned_to (Some to) (call_of self.old.procs p) self.old).kernel }
-        ensures outcome { result ≡ (assigned_to (Some to) (call_of self.old.procs p) self.old).outcome }
-        ensures reply { reply.new ≡ (assigned_to (Some to) (call_of self.old.procs p) self.old).reply }
+        requires lives { Lives self.old.dispatcher.procs to }
+        requires caller { Lives self.old.dispatcher.procs p }
+        requires console { console ≡ byte_in (call_of self.old.dispatcher.procs p) 0 }
+        requires there { console < length self.old.units.consoles }
+        requires own { own_only ≡ (byte_in (call_of self.old.dispatcher.procs p) 9 == 255) }
+        ensures kernel { self.new ≡ (assigned_to (Some to) (call_of self.old.dispatcher.procs p) self.old).kernel }
+        ensures outcome { result ≡ (assigned_to (Some to) (call_of self.old.dispatcher.procs p) self.old).outcome }
+        ensures reply { reply.new ≡ (assigned_to (Some to) (call_of self.old.dispatcher.procs p) self.old).reply }
     {
         if own_only && self.dispatcher.procs.get(to).console != console {
-            return done(reply, REFUSED);
+            return done(reply, FAILURE_CODE);
         }
         self.make_owner(console, to);
         let process = self.dispatcher.procs.get_mut(to);
@@ -348,11 +376,11 @@ impl Kernel {
     }
 
     /// A process becomes the owner of a console; where it waited for that one, it becomes ready.
-    #[tactic(auto, using(crate::proofs::UnitLaws::has_console), unfolding(crate::specs::Consoling::owner_made, crate::specs::Dispatch::lists_ready, crate::specs::Dispatch::moved))]
+    #[tactic(auto, unfolding(crate::specs::Consoling::owner_made, mpm_dispatcher::specs::Dispatch::lists_ready))]
     fn make_owner(&mut self, console: u8, to: Pid)
         requires sound { IsSound self.old }
-        requires lives { Lives self.old.procs to }
-        requires console { console < self.old.consoles }
+        requires lives { Lives self.old.dispatcher.procs to }
+        requires console { console < length self.old.units.consoles }
         ensures { self.new ≡ owner_made console to self.old }
     {
         if self.units.assign(console, to) {
@@ -362,12 +390,12 @@ impl Kernel {
 
     /// A key comes to a console; one of a console that isn't there is dropped. (MP/M II User's Guide, control characters of a
     /// console.)
-    #[tactic(auto, using(crate::proofs::UnitLaws::has_console, crate::proofs::UnitLaws::key_names, crate::proofs::KeyLaws::has_behind_key), unfolding(crate::specs::Consoling::key_came))]
+    #[tactic(auto, using(crate::proofs::UnitLaws::key_names, crate::proofs::KeyLaws::has_after_key), unfolding(crate::specs::Consoling::key_came))]
     pub(crate) fn key(&mut self, console: u8, byte: u8)
         requires { IsSound self.old }
         ensures { self.new ≡ key_came console byte self.old }
     {
-        if self.consoles <= console {
+        if self.consoles() <= console {
             return;
         }
         let resident = self.is_resident(console);
@@ -377,12 +405,12 @@ impl Kernel {
     }
 
     /// The process that owns a console.
-    #[tactic(auto, using(crate::proofs::UnitLaws::has_console, crate::proofs::UnitLaws::owner_fits))]
+    #[tactic(auto, using(crate::proofs::UnitLaws::owner_fits))]
     fn console_owner(&self, console: u8) -> Option<Pid>
         requires sound { IsSound self.now }
-        requires console { console < self.now.consoles }
+        requires console { console < length self.now.units.consoles }
         ensures owner { result ≡ owner_of self.now.units (ConsoleUnit console) }
-        ensures lives { IfSome result (λ p. Lives self.now.procs p) }
+        ensures lives { IfSome result (λ p. Lives self.now.dispatcher.procs p) }
     {
         self.units.owner(Unit::Console { n: console })
     }
@@ -390,8 +418,8 @@ impl Kernel {
     /// Whether the owner of a console is a resident process, which lives in no memory segment.
     fn is_resident(&self, console: u8) -> bool
         requires sound { IsSound self.now }
-        requires console { console < self.now.consoles }
-        ensures { result ≡ is_resident self.now.procs (owner_of self.now.units (ConsoleUnit console)) }
+        requires console { console < length self.now.units.consoles }
+        ensures { result ≡ is_of_resident self.now.dispatcher.procs (owner_of self.now.units (ConsoleUnit console)) }
     {
         match self.console_owner(console) {
             Some(p) => self.dispatcher.procs.get(p).seg.is_none(),
@@ -400,9 +428,9 @@ impl Kernel {
     }
 
     /// What becomes of the processes by a key; `waited` tells that the owner of its console waited at its gate before.
-    #[tactic(auto, unfolding(crate::specs::Consoling::key_done, crate::specs::Dispatch::lists_ready, crate::specs::Dispatch::moved))]
+    #[tactic(auto, unfolding(crate::specs::Consoling::key_done, mpm_dispatcher::specs::Dispatch::lists_ready))]
     fn finish_key(&mut self, key: KeyDone, console: u8, waited: bool)
-        requires names { KeyNames self.old.procs key }
+        requires names { KeyNames self.old.dispatcher.procs key }
         requires console { HasConsole self.old console }
         ensures { self.new ≡ key_done key console waited self.old }
     {

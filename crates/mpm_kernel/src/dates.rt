@@ -1,8 +1,7 @@
 ghost use Rattle.std.specs.Prelude.{◌≡◌};
 
 use crate::Kernel;
-use crate::waiting::REFUSED;
-use mpm_base::{Outcome, Pid, Reply};
+use mpm_base::{FAILURE_CODE, Outcome, Pid, Reply};
 use mpm_clock::moment_in;
 use mpm_dispatcher::done;
 
@@ -13,17 +12,17 @@ impl Kernel {
     /// A process sets the date and the time. (MP/M II Programmer's Guide, function 104.)
     #[tactic(auto, unfolding(crate::specs::Dates::date_set))]
     pub(crate) fn set_date(&mut self, p: Pid, reply: &mut Reply) -> Outcome
-        requires { Lives self.old.procs p }
-        ensures kernel { self.new ≡ (date_set (call_of self.old.procs p) self.old).kernel }
-        ensures outcome { result ≡ (date_set (call_of self.old.procs p) self.old).outcome }
-        ensures reply { reply.new ≡ (date_set (call_of self.old.procs p) self.old).reply }
+        requires { Lives self.old.dispatcher.procs p }
+        ensures kernel { self.new ≡ (date_set (call_of self.old.dispatcher.procs p) self.old).kernel }
+        ensures outcome { result ≡ (date_set (call_of self.old.dispatcher.procs p) self.old).outcome }
+        ensures reply { reply.new ≡ (date_set (call_of self.old.dispatcher.procs p) self.old).reply }
     {
         match moment_in(self.dispatcher.procs.call(p)) {
             Some(moment) => {
                 self.clock.set(moment);
                 done(reply, 0)
             }
-            None => done(reply, REFUSED),
+            None => done(reply, FAILURE_CODE),
         }
     }
 }

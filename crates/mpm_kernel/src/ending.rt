@@ -8,7 +8,7 @@ use mpm_consoles::Unit;
 impl Kernel {
     ghost use Rattle.mpm_procs.specs.Table.{Lives};
     ghost use Rattle.mpm_queues.specs.Queues.{holds};
-    ghost use Rattle.mpm_kernel.specs.Kernel.{IsSound};
+    ghost use Rattle.mpm_kernel.specs.Kernel.{IsSound, CompletedLive};
     ghost use Rattle.mpm_kernel.specs.Ending.{dropped_out, returned, all_returned, consoles_left, printers_left, units_left, vacated, discharged, Leaves};
 
     /// A process ends: it stands in no list and waits for nothing, the message of its resident procedure goes back and then
@@ -17,8 +17,10 @@ impl Kernel {
     /// are completed by that are handed out in the order in which they were.
     pub fn discharge(&mut self, p: Pid)
         requires sound { IsSound self.old }
-        requires lives { Lives self.old.procs p }
+        requires lives { Lives self.old.dispatcher.procs p }
         ensures kernel { self.new ≡ discharged self.old p }
+        ensures sound { IsSound self.new }
+        ensures live { CompletedLive self.new }
         ensures nothing { (q : ℕ) → holds self.new.queues p q ≡ false }
     {
         self.let_go(p);
@@ -28,11 +30,11 @@ impl Kernel {
     #[tactic(auto, using(crate::proofs::EndingLaws::sound_dropped, crate::proofs::EndingLaws::lives_dropped, crate::proofs::EndingLaws::leaves_given_back, crate::proofs::EndingLaws::few_given_back), unfolding(crate::specs::Ending::discharged, crate::specs::Ending::relieved))]
     fn let_go(&mut self, p: Pid)
         requires sound { IsSound self.old }
-        requires lives { Lives self.old.procs p }
+        requires lives { Lives self.old.dispatcher.procs p }
         ensures { self.new ≡ discharged self.old p }
     {
         self.drop_out(p);
-        self.put_back(p);
+        self.give_back(p);
         self.return_held(p);
         self.leave_units(p);
         self.vacate(p);
@@ -40,7 +42,7 @@ impl Kernel {
 
     /// The slot of a process is free.
     fn vacate(&mut self, p: Pid)
-        requires { Lives self.old.procs p }
+        requires { Lives self.old.dispatcher.procs p }
         ensures { self.new ≡ vacated p self.old }
     {
         self.dispatcher.procs.end(p);
@@ -62,7 +64,7 @@ impl Kernel {
     /// The messages of mutual exclusion queues that a process holds go back, by rising number.
     fn return_held(&mut self, p: Pid)
         requires leaves { Leaves p self.old }
-        requires few { length self.old.completed ≤ 1 }
+        requires few { length self.old.dispatcher.completed ≤ 1 }
         ensures { self.new ≡ all_returned (range_with_len 0 32) p self.old }
     {
         for q in 0..32 {
@@ -75,7 +77,7 @@ impl Kernel {
     fn return_if_held(&mut self, p: Pid, q: u8)
         requires leaves { Leaves p self.old }
         requires below { q < 32 }
-        requires room { length self.old.completed < 64 }
+        requires room { length self.old.dispatcher.completed < 64 }
         ensures { self.new ≡ returned p q self.old }
     {
         if self.queues.holds(p, q) {
@@ -96,9 +98,9 @@ impl Kernel {
     /// The consoles that a process owns pass on, by number.
     fn leave_consoles(&mut self, p: Pid)
         requires { IsSound self.old }
-        ensures { self.new ≡ consoles_left p self.old.consoles self.old }
+        ensures { self.new ≡ consoles_left p (length self.old.units.consoles) self.old }
     {
-        for n in 0..self.consoles {
+        for n in 0..self.consoles() {
             self.leave_unit(p, Unit::Console { n });
         }
     }
@@ -106,9 +108,9 @@ impl Kernel {
     /// The printers that a process owns pass on, by number.
     fn leave_printers(&mut self, p: Pid)
         requires { IsSound self.old }
-        ensures { self.new ≡ printers_left p self.old.printers self.old }
+        ensures { self.new ≡ printers_left p (length self.old.units.printers) self.old }
     {
-        for n in 0..self.printers {
+        for n in 0..self.printers() {
             self.leave_unit(p, Unit::Printer { n });
         }
     }

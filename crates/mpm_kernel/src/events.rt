@@ -1,5 +1,5 @@
 ghost use Rattle.std.specs.Prelude.{◌≡◌, ◌<◌};
-ghost use Rattle.mpm_kernel.specs.Kernel.{IsSound};
+ghost use Rattle.mpm_kernel.specs.Kernel.{IsSound, CompletedLive};
 
 use crate::Kernel;
 use crate::waiting::{FIRST_FLAG, LAST_FLAG, POLLERS};
@@ -9,8 +9,19 @@ impl Kernel {
     ghost use Rattle.mpm_kernel.specs.Events.{MayCome, clock_ticked, device_ready as device_is_ready, flag_came, happened};
 
     /// An event comes: a tick of the clock, a device that is ready, a flag that is set, or a key.
-    #[tactic(auto, using(crate::proofs::SoundLaws::sound_afresh), unfolding(crate::specs::Events::happens))]
     pub fn event(&mut self, event: Event)
+        requires sound { IsSound self.old }
+        requires comes { MayCome event }
+        ensures kernel { self.new ≡ happened event self.old }
+        ensures sound { IsSound self.new }
+        ensures live { CompletedLive self.new }
+    {
+        self.accept(event);
+    }
+
+    /// What an event does, behind those before.
+    #[tactic(auto, using(crate::proofs::SoundLaws::sound_afresh), unfolding(crate::specs::Events::happens))]
+    fn accept(&mut self, event: Event)
         requires sound { IsSound self.old }
         requires comes { MayCome event }
         ensures { self.new ≡ happened event self.old }
@@ -36,6 +47,7 @@ impl Kernel {
     }
 
     /// The clock ticks: those whose delays end are woken, and who runs is put behind its equals.
+    #[tactic(auto, unfolding(crate::specs::Events::clock_ticked))]
     fn tick(&mut self)
         requires { IsSound self.old }
         ensures { self.new ≡ clock_ticked self.old }
@@ -46,6 +58,7 @@ impl Kernel {
     }
 
     /// A device is ready with a byte: those who poll it are woken.
+    #[tactic(auto, unfolding(crate::specs::Events::device_ready, crate::specs::Events::pollers))]
     fn device_ready(&mut self, device: u8, byte: u8)
         requires sound { IsSound self.old }
         requires below { device < 16 }

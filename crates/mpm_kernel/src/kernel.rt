@@ -1,8 +1,9 @@
-ghost use Rattle.std.specs.Prelude.{◌≡◌, ◌↔◌, ℕ, ◌<◌, ◌≤◌, [], Some, None, true, false, IfOk, OnErr, MatchOption};
+ghost use Rattle.std.specs.Prelude.{◌≡◌, ◌↔◌, length, ℕ, ◌<◌, ◌≤◌, [], Some, None, true, false, IfOk, OnErr, MatchOption};
 ghost use Rattle.std.specs.Borrow.{sem};
 ghost use Rattle.mpm_clock.specs.Times.{IsTime};
 
 use crate::OutOfMemory;
+use crate::completion::complete;
 use mpm_base::{Call, Devices, Pid, Reply, Seg};
 use mpm_clock::{Clock, Moment};
 use mpm_consoles::Consoles;
@@ -22,8 +23,6 @@ pub struct Kernel {
     pub(crate) flags: Flags,
     pub(crate) clock: Clock,
     pub(crate) devices: Devices,
-    pub(crate) consoles: u8,
-    pub(crate) printers: u8,
     pub(crate) units: Consoles,
     pub(crate) queues: Queues,
     pub(crate) system_queues: u8,
@@ -36,7 +35,7 @@ impl Model for Kernel {
 
     ghost Value = { Kernel };
 
-    ghost view = { λ k. record { procs = k.dispatcher.procs; lists = k.dispatcher.lists; running = k.dispatcher.running; flags = k.flags; clock = k.clock; devices = k.devices; consoles = k.consoles; printers = k.printers; units = k.units; queues = k.queues; system_queues = k.system_queues; completed = k.dispatcher.completed; echo = k.echo; aborted = k.aborted } };
+    ghost view = { λ k. record { dispatcher = k.dispatcher; flags = k.flags; clock = k.clock; devices = k.devices; units = k.units; queues = k.queues; system_queues = k.system_queues; echo = k.echo; aborted = k.aborted } };
 }
 
 impl Kernel {
@@ -45,10 +44,10 @@ impl Kernel {
     ghost use Rattle.std.specs.Prelude.{is_some};
     ghost use Rattle.mpm_ready.specs.Tables.{list_at};
     ghost use Rattle.mpm_queues.specs.Queues.{lowest_held};
-    ghost use Rattle.mpm_kernel.specs.Kernel.{ready, IsSound, CompletedLive, call_begun, afresh};
-    ghost use Rattle.mpm_kernel.specs.Dispatch.{new_kernel, in_slot, picked};
+    ghost use Rattle.mpm_dispatcher.specs.Dispatch.{ready, in_slot, picked, first_completed};
+    ghost use Rattle.mpm_kernel.specs.Kernel.{IsSound, CompletedLive, call_begun, afresh, new_kernel, dispatched};
     ghost use Rattle.mpm_kernel.specs.Waiting.{completion_reply};
-    ghost use Rattle.mpm_kernel.specs.Events.{first_completed, handed_out};
+    ghost use Rattle.mpm_kernel.specs.Events.{handed_out};
     ghost use Rattle.mpm_clock.specs.Times.{moment_of};
     ghost use Rattle.mpm_kernel.specs.Lending.{LendsProcess, LendsRegs, LendsCall, LendsDevices};
 
@@ -56,13 +55,25 @@ impl Kernel {
     ///
     /// # Errors
     /// Where no memory is found. All that it will need is taken here.
-    #[tactic(auto, unfolding(crate::specs::Dispatch::new_kernel, mpm_dispatcher::specs::Dispatch::new_dispatcher))]
     pub fn new(
         alloc: Global,
         consoles: u8,
         printers: u8,
         now: Moment,
     ) -> Result<Kernel, OutOfMemory>
+        requires some { 1 ≤ consoles }
+        requires few { consoles ≤ 8 }
+        requires printers { printers ≤ 4 }
+        requires time { IsTime now }
+        ensures kernel { IfOk result (λ kernel. kernel ≡ new_kernel consoles printers now) }
+        ensures sound { IfOk result (λ kernel. IsSound kernel) }
+    {
+        Kernel::empty(alloc, consoles, printers, now)
+    }
+
+    /// No process lives.
+    #[tactic(auto, unfolding(crate::specs::Kernel::new_kernel))]
+    fn empty(alloc: Global, consoles: u8, printers: u8, now: Moment) -> Result<Kernel, OutOfMemory>
         requires some { 1 ≤ consoles }
         requires few { consoles ≤ 8 }
         requires printers { printers ≤ 4 }
@@ -74,8 +85,6 @@ impl Kernel {
             flags: Flags::new(),
             clock: Clock::new(now.date, now.hour, now.minute, now.second),
             devices: Devices::new(),
-            consoles,
-            printers,
             units: Consoles::new(alloc, consoles, printers)?,
             queues: Queues::new(alloc)?,
             system_queues: 0,
@@ -86,14 +95,21 @@ impl Kernel {
 
     /// The number of consoles.
     pub fn consoles(&self) -> u8
-        ensures { result ≡ self.now.consoles }
+        ensures { result ≡ length self.now.units.consoles }
     {
-        self.consoles
+        self.units.consoles()
+    }
+
+    /// The number of printers.
+    pub fn printers(&self) -> u8
+        ensures { result ≡ length self.now.units.printers }
+    {
+        self.units.printers()
     }
 
     /// The process that runs.
     pub fn running(&self) -> Option<Pid>
-        ensures { result ≡ self.now.running }
+        ensures { result ≡ self.now.dispatcher.running }
     {
         self.dispatcher.running
     }
@@ -108,28 +124,28 @@ impl Kernel {
 
     /// The first process of the ready list.
     pub fn first_ready(&self) -> Option<Pid>
-        ensures { result ≡ first_of (list_at self.now.lists ready) }
+        ensures { result ≡ first_of (list_at self.now.dispatcher.lists ready) }
     {
         self.dispatcher.first_ready()
     }
 
     /// Whether a process of that number lives.
     pub fn lives(&self, p: Pid) -> bool
-        ensures { result ≡ lives self.now.procs p }
+        ensures { result ≡ lives self.now.dispatcher.procs p }
     {
         self.dispatcher.procs.lives(p)
     }
 
     /// How many more processes may live.
     pub fn free_slots(&self) -> usize
-        ensures { result ≡ free_slots self.now.procs }
+        ensures { result ≡ free_slots self.now.dispatcher.procs }
     {
         self.dispatcher.procs.free_slots()
     }
 
     /// The process of that number, None where it doesn't live.
     pub fn process(&self, p: Pid) -> Option<&Process>
-        ensures { MatchOption result (process_at self.now.procs p ≡ None) (λ process. process_at self.now.procs p ≡ Some process.now) }
+        ensures { MatchOption result (process_at self.now.dispatcher.procs p ≡ None) (λ process. process_at self.now.dispatcher.procs p ≡ Some process.now) }
     {
         if self.dispatcher.procs.lives(p) {
             Some(self.dispatcher.procs.get(p))
@@ -140,42 +156,42 @@ impl Kernel {
 
     /// A living process.
     pub fn living(&self, p: Pid) -> &Process
-        requires { Lives self.now.procs p }
-        ensures { result.now ≡ process_in self.now.procs p }
+        requires { Lives self.now.dispatcher.procs p }
+        ensures { result.now ≡ process_in self.now.dispatcher.procs p }
     {
         self.dispatcher.procs.get(p)
     }
 
     /// A living process's registers.
     pub fn regs(&self, p: Pid) -> &Regs
-        requires { Lives self.now.procs p }
-        ensures { result.now ≡ (process_in self.now.procs p).regs }
+        requires { Lives self.now.dispatcher.procs p }
+        ensures { result.now ≡ (process_in self.now.dispatcher.procs p).regs }
     {
         &self.dispatcher.procs.get(p).regs
     }
 
     /// The memory segment that a living process has.
     pub fn segment(&self, p: Pid) -> Option<Seg>
-        requires { Lives self.now.procs p }
-        ensures { result ≡ (process_in self.now.procs p).seg }
+        requires { Lives self.now.dispatcher.procs p }
+        ensures { result ≡ (process_in self.now.dispatcher.procs p).seg }
     {
         self.dispatcher.procs.get(p).seg
     }
 
     /// A living process, to be changed.
     pub fn process_mut(&mut self, p: Pid) -> &mut Process
-        requires { Lives self.old.procs p }
+        requires { Lives self.old.dispatcher.procs p }
         ensures* lends { sem 𝓛 (LendsProcess self.entry p result) }
-        ensures value { result.now ≡ process_in self.old.procs p }
+        ensures value { result.now ≡ process_in self.old.dispatcher.procs p }
     {
         self.dispatcher.procs.get_mut(p)
     }
 
     /// A living process's registers, to be changed.
     pub fn regs_mut(&mut self, p: Pid) -> &mut Regs
-        requires { Lives self.old.procs p }
+        requires { Lives self.old.dispatcher.procs p }
         ensures* lends { sem 𝓛 (LendsRegs self.entry p result) }
-        ensures value { result.now ≡ (process_in self.old.procs p).regs }
+        ensures value { result.now ≡ (process_in self.old.dispatcher.procs p).regs }
     {
         let process = self.dispatcher.procs.get_mut(p);
         &mut process.regs
@@ -183,17 +199,17 @@ impl Kernel {
 
     /// The call that a living process keeps.
     pub fn kept_call(&self, p: Pid) -> &Call
-        requires { Lives self.now.procs p }
-        ensures { result.now ≡ call_of self.now.procs p }
+        requires { Lives self.now.dispatcher.procs p }
+        ensures { result.now ≡ call_of self.now.dispatcher.procs p }
     {
         self.dispatcher.procs.call(p)
     }
 
     /// The call that a living process keeps, to be changed.
     pub fn call_mut(&mut self, p: Pid) -> &mut Call
-        requires { Lives self.old.procs p }
+        requires { Lives self.old.dispatcher.procs p }
         ensures* lends { sem 𝓛 (LendsCall self.entry p result) }
-        ensures value { result.now ≡ call_of self.old.procs p }
+        ensures value { result.now ≡ call_of self.old.dispatcher.procs p }
     {
         self.dispatcher.procs.call_mut(p)
     }
@@ -210,12 +226,13 @@ impl Kernel {
     ///
     /// # Errors
     /// `NoSlot` where 32 processes live; then nothing changes.
-    #[tactic(auto, using(crate::proofs::SoundLaws::free_is_unlisted), unfolding(crate::specs::Dispatch::admitted))]
+    #[tactic(auto, using(crate::proofs::SoundLaws::free_is_unlisted))]
     pub fn admit(&mut self, new: NewProcess) -> Result<Pid, NoSlot>
         requires { IsSound self.old }
-        ensures slot { IfOk result (λ p. lowest_free self.old.procs ≡ Some p) }
-        ensures refused { OnErr result (lowest_free self.old.procs ≡ None) }
-        ensures kernel { self.new ≡ in_slot self.old new (lowest_free self.old.procs) }
+        ensures slot { IfOk result (λ p. lowest_free self.old.dispatcher.procs ≡ Some p) }
+        ensures refused { OnErr result (lowest_free self.old.dispatcher.procs ≡ None) }
+        ensures kernel { self.new ≡ dispatched (in_slot new (lowest_free self.old.dispatcher.procs)) self.old }
+        ensures sound { new.console < length self.old.units.consoles → IsSound self.new }
     {
         self.dispatcher.admit(new)
     }
@@ -250,29 +267,43 @@ impl Kernel {
     /// Whether held calls were completed by the last call or event that were not handed out yet.
     #[inline]
     pub fn has_completed(&self) -> bool
-        ensures { (result ≡ false) ↔ (self.now.completed ≡ []) }
+        ensures { (result ≡ false) ↔ (self.now.dispatcher.completed ≡ []) }
     {
         self.dispatcher.completed.has_some()
     }
 
     /// Hands out the process whose held call was completed first by the last call or event, with that call's reply.
-    #[tactic(auto, using(crate::proofs::SoundLaws::completed_lives), unfolding(crate::specs::Events::handed_out))]
     pub fn completed(&mut self, reply: &mut Reply) -> Option<Pid>
         requires { CompletedLive self.old }
-        ensures process { result ≡ first_completed self.old.completed }
+        ensures process { result ≡ first_completed self.old.dispatcher.completed }
+        ensures kernel { self.new ≡ handed_out self.old }
+        ensures reply { MatchOption result (reply.new ≡ reply.old) (λ p. reply.new ≡ completion_reply self.old p) }
+        ensures sound { IsSound self.old → IsSound self.new }
+        ensures live { IsSound self.old → CompletedLive self.new }
+    {
+        self.hand_out(reply)
+    }
+
+    /// Hands out the process whose held call was completed first, which is in a resident procedure then where it called one.
+    #[tactic(auto, using(crate::proofs::SoundLaws::completed_lives), unfolding(crate::specs::Events::handed_out))]
+    fn hand_out(&mut self, reply: &mut Reply) -> Option<Pid>
+        requires { CompletedLive self.old }
+        ensures process { result ≡ first_completed self.old.dispatcher.completed }
         ensures kernel { self.new ≡ handed_out self.old }
         ensures reply { MatchOption result (reply.new ≡ reply.old) (λ p. reply.new ≡ completion_reply self.old p) }
     {
-        let p = self.dispatcher.hand_out(reply)?;
+        let p = self.dispatcher.hand_out()?;
+        complete(self.dispatcher.procs.call(p), reply);
         self.enter_where_held(p);
         Some(p)
     }
 
-    /// Picks the process that runs behind a step: the first that is ready. Behind an instruction the running process keeps
+    /// Picks the process that runs after a step: the first that is ready. After an instruction the running process keeps
     /// the processor while it is ready and no interrupt may come.
     pub fn pick(&mut self, instruction: bool)
         requires { IsSound self.old }
-        ensures { self.new ≡ picked instruction self.old }
+        ensures kernel { self.new ≡ dispatched (picked instruction) self.old }
+        ensures sound { IsSound self.new }
     {
         self.dispatcher.pick(instruction);
     }

@@ -3,6 +3,7 @@
 #![tactic(auto)]
 
 mod call;
+mod completion;
 mod console_input;
 mod consoles;
 mod dates;

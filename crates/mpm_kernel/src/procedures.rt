@@ -2,7 +2,7 @@ ghost use Rattle.std.specs.Prelude.{◌≡◌, ◌<◌, Some, None, IfSome, leng
 
 use crate::Kernel;
 use crate::call::NO_FUNCTION;
-use mpm_base::{Outcome, Pid, Reply};
+use mpm_base::{Outcome, Pid, Reply, functions};
 use mpm_dispatcher::done;
 use mpm_queues::{BLOCK_SIZE, QueueOutcome, address_of, write_call};
 
@@ -12,22 +12,23 @@ const ADDRESS: u16 = 2;
 impl Kernel {
     ghost use Rattle.mpm_procs.specs.Table.{Lives, process_in, call_of};
     ghost use Rattle.mpm_queues.specs.Queues.{IsMade};
-    ghost use Rattle.mpm_kernel.specs.Kernel.{IsReady, IsSound};
+    ghost use Rattle.mpm_dispatcher.specs.Dispatch.{IsReady};
+    ghost use Rattle.mpm_kernel.specs.Kernel.{IsSound, CompletedLive};
     ghost use Rattle.mpm_kernel.specs.Events.{with_procedure};
     ghost use Rattle.mpm_kernel.specs.Procedures.{procedure_called, procedure_queue, outside, given_back_to, given_back};
 
     /// A process calls a resident procedure: it reads the message of the queue that it names, and waits for one where there is
     /// none. It is refused by FFFFh where the process is in a procedure, and where there is no such queue of two bytes. (MP/M II
     /// Programmer's Guide, "Function 151: Call Resident System Procedure".)
-    #[tactic(auto, using(crate::proofs::ProcedureLaws::lives_other, crate::proofs::ProcedureLaws::procedure_made), unfolding(crate::specs::Procedures::procedure_called, crate::specs::Procedures::procedure_at, crate::specs::Procedures::procedure_read, crate::specs::Procedures::inside, crate::specs::Queueing::with_other))]
+    #[tactic(auto, using(crate::proofs::ProcedureLaws::lives_other, crate::proofs::ProcedureLaws::procedure_made), unfolding(crate::specs::Procedures::procedure_called, crate::specs::Procedures::procedure_at, crate::specs::Procedures::procedure_read, crate::specs::Procedures::inside))]
     pub(crate) fn call_procedure(&mut self, p: Pid, reply: &mut Reply) -> Outcome
         requires sound { IsSound self.old }
-        requires lives { Lives self.old.procs p }
-        requires ready { IsReady self.old p }
-        requires room { length self.old.completed < 64 }
-        ensures kernel { self.new ≡ (procedure_called (call_of self.old.procs p) p self.old).kernel }
-        ensures outcome { result ≡ (procedure_called (call_of self.old.procs p) p self.old).outcome }
-        ensures reply { reply.new ≡ (procedure_called (call_of self.old.procs p) p self.old).reply }
+        requires lives { Lives self.old.dispatcher.procs p }
+        requires ready { IsReady self.old.dispatcher p }
+        requires room { length self.old.dispatcher.completed < 64 }
+        ensures kernel { self.new ≡ (procedure_called (call_of self.old.dispatcher.procs p) p self.old).kernel }
+        ensures outcome { result ≡ (procedure_called (call_of self.old.dispatcher.procs p) p self.old).outcome }
+        ensures reply { reply.new ≡ (procedure_called (call_of self.old.dispatcher.procs p) p self.old).reply }
     {
         if self.dispatcher.procs.get(p).procedure.is_some() {
             return done(reply, NO_FUNCTION);
@@ -50,8 +51,8 @@ impl Kernel {
     /// The queue that the call 151 of a process names, None where there is none of two bytes.
     #[tactic(auto, unfolding(crate::specs::Procedures::of_two_bytes))]
     fn procedure_queue(&self, p: Pid) -> Option<u8>
-        requires { Lives self.now.procs p }
-        ensures number { result ≡ procedure_queue self.now.queues (call_of self.now.procs p) }
+        requires { Lives self.now.dispatcher.procs p }
+        ensures number { result ≡ procedure_queue self.now.queues (call_of self.now.dispatcher.procs p) }
         ensures made { IfSome result (λ q. IsMade self.now.queues q) }
     {
         let Some(q) = self.queues.find(self.dispatcher.procs.call(p).name(4)) else {
@@ -68,11 +69,11 @@ impl Kernel {
     /// stands behind its block.
     #[tactic(auto, unfolding(crate::specs::Events::with_procedure, crate::specs::Procedures::inside))]
     pub(crate) fn enter_where_held(&mut self, p: Pid)
-        requires { Lives self.old.procs p }
+        requires { Lives self.old.dispatcher.procs p }
         ensures { self.new ≡ with_procedure p self.old }
     {
         let call = self.dispatcher.procs.call(p);
-        if call.function == 151 {
+        if call.function == functions::CALL_RESIDENT_SYSTEM_PROCEDURE {
             let message = call.word(BLOCK_SIZE);
             if let Some(q) = self.procedure_queue(p) {
                 self.dispatcher.procs.get_mut(p).enter(q, message);
@@ -82,10 +83,21 @@ impl Kernel {
 
     /// The message of a process's resident procedure, where it is in one, is written back to its queue, which loses it where
     /// it is full; the process is in no procedure then.
-    #[tactic(auto, using(crate::proofs::ProcedureLaws::sound_outside, crate::proofs::ProcedureLaws::lives_outside, crate::proofs::ProcedureLaws::nobody_outside), unfolding(crate::specs::Procedures::given_back, crate::specs::Procedures::given_back_to))]
     pub fn put_back(&mut self, p: Pid)
         requires sound { IsSound self.old }
-        requires lives { Lives self.old.procs p }
+        requires lives { Lives self.old.dispatcher.procs p }
+        ensures kernel { self.new ≡ given_back p self.old }
+        ensures sound { IsSound self.new }
+        ensures live { CompletedLive self.new }
+    {
+        self.give_back(p);
+    }
+
+    /// The message of a process's resident procedure goes back.
+    #[tactic(auto, using(crate::proofs::ProcedureLaws::sound_outside, crate::proofs::ProcedureLaws::lives_outside, crate::proofs::ProcedureLaws::nobody_outside), unfolding(crate::specs::Procedures::given_back, crate::specs::Procedures::given_back_to))]
+    pub(crate) fn give_back(&mut self, p: Pid)
+        requires sound { IsSound self.old }
+        requires lives { Lives self.old.dispatcher.procs p }
         ensures { self.new ≡ given_back p self.old }
     {
         let queue = self.leave_procedure(p);
@@ -100,10 +112,10 @@ impl Kernel {
     /// the queue of that one.
     #[tactic(auto, using(mpm_procs::proofs::MapLaws::lives_changed), unfolding(crate::specs::Procedures::outside))]
     fn leave_procedure(&mut self, p: Pid) -> Option<u8>
-        requires { Lives self.old.procs p }
+        requires { Lives self.old.dispatcher.procs p }
         ensures kernel { self.new ≡ outside p self.old }
-        ensures queue { result ≡ (process_in self.old.procs p).procedure }
-        ensures nobody { length self.new.completed < 64 }
+        ensures queue { result ≡ (process_in self.old.dispatcher.procs p).procedure }
+        ensures nobody { length self.new.dispatcher.completed < 64 }
     {
         self.dispatcher.completed.clear();
         let process = self.dispatcher.procs.get_mut(p);
@@ -115,12 +127,12 @@ impl Kernel {
     }
 
     /// A process writes the message of its call to a queue that is there, where there is room.
-    #[tactic(auto, unfolding(crate::specs::Procedures::given_back_to, crate::specs::Queueing::with_other, crate::specs::Dispatch::lists_ready, crate::specs::Dispatch::also_completed))]
+    #[tactic(auto, unfolding(crate::specs::Procedures::given_back_to, mpm_dispatcher::specs::Dispatch::lists_ready, mpm_dispatcher::specs::Dispatch::also_completed))]
     pub(crate) fn write_back(&mut self, p: Pid, q: u8)
         requires sound { IsSound self.old }
-        requires lives { Lives self.old.procs p }
+        requires lives { Lives self.old.dispatcher.procs p }
         requires queue { IsMade self.old.queues q }
-        requires room { length self.old.completed < 64 }
+        requires room { length self.old.dispatcher.completed < 64 }
         ensures { self.new ≡ given_back_to (Some q) p self.old }
     {
         match self.give_to(p, q) {

@@ -1,11 +1,9 @@
-ghost use Rattle.std.specs.Prelude.{◌≡◌, ◌<◌, ◌≤◌, ◌&&◌, ℕ, Some, None, true, false, length, IfSome};
-ghost use Rattle.std.specs.Prelude.{drop};
+ghost use Rattle.std.specs.Prelude.{◌≡◌, ◌<◌, ◌≤◌, ◌&&◌, ℕ, Some, None, true, false, length, IfSome, drop};
 ghost use Rattle.mpm_base.specs.declared.call.Outcome.TheVariants.{Held as IsHeld};
 ghost use Rattle.mpm_queues.specs.Queue.{block_size};
 
 use crate::Kernel;
-use crate::waiting::REFUSED;
-use mpm_base::{Call, Name8, Outcome, Pid, Reply};
+use mpm_base::{Call, FAILURE_CODE, Name8, Outcome, Pid, Reply};
 use mpm_dispatcher::done;
 use mpm_queues::QueueOutcome;
 
@@ -13,13 +11,25 @@ impl Kernel {
     ghost use Rattle.mpm_procs.specs.Table.{Lives, process_in, call_of};
     ghost use Rattle.mpm_queues.specs.Queues.{IsMade, make_error};
     ghost use Rattle.mpm_queues.specs.Handling.{woken_by, may_wait, read_outcome, read_reply, write_outcome};
-    ghost use Rattle.mpm_kernel.specs.Kernel.{IsReady, IsSound};
-    ghost use Rattle.mpm_kernel.specs.Queueing.{with_system_queue, OnlySystems, IfNotNow, queue_made, queue_opened, queue_deleted, pointed, queued, blocked_or_refused, with_other, taken_from, queue_read, given_to, queue_written};
+    ghost use Rattle.mpm_dispatcher.specs.Dispatch.{IsReady, with_other};
+    ghost use Rattle.mpm_kernel.specs.Kernel.{IsSound};
+    ghost use Rattle.mpm_kernel.specs.Queueing.{with_system_queue, OnlySystems, IfNotNow, queue_made, queue_opened, queue_deleted, pointed, queued, blocked_or_refused, taken_from, queue_read, given_to, queue_written};
 
     /// Makes a queue of the system, which no process deletes, for `count` messages of `message_length` bytes. It is made at
     /// boot, before any other.
-    #[tactic(auto, using(crate::proofs::QueueingLaws::system_is_lowest, crate::proofs::QueueingLaws::number_below), unfolding(crate::specs::Queueing::with_system_queue, crate::specs::Queueing::with_queue))]
     pub fn system_queue(&mut self, name: Name8, message_length: u16, count: u16)
+        requires sound { IsSound self.old }
+        requires boot { OnlySystems self.old }
+        requires room { make_error self.old.queues name message_length count ≡ None }
+        ensures kernel { self.new ≡ with_system_queue self.old name message_length count }
+        ensures sound { IsSound self.new }
+    {
+        self.make_system_queue(name, message_length, count);
+    }
+
+    /// A queue of the system is made.
+    #[tactic(auto, using(crate::proofs::QueueingLaws::system_is_lowest, crate::proofs::QueueingLaws::number_below), unfolding(crate::specs::Queueing::with_system_queue, crate::specs::Queueing::with_queue))]
+    fn make_system_queue(&mut self, name: Name8, message_length: u16, count: u16)
         requires sound { IsSound self.old }
         requires boot { OnlySystems self.old }
         requires room { make_error self.old.queues name message_length count ≡ None }
@@ -33,10 +43,10 @@ impl Kernel {
     /// A process makes a queue. (MP/M II Programmer's Guide, "Function 134: Make Queue".)
     #[tactic(auto, unfolding(crate::specs::Queueing::queue_made, crate::specs::Queueing::with_queue))]
     pub(crate) fn make_queue(&mut self, p: Pid, reply: &mut Reply) -> Outcome
-        requires { Lives self.old.procs p }
-        ensures kernel { self.new ≡ (queue_made (call_of self.old.procs p) self.old).kernel }
-        ensures outcome { result ≡ (queue_made (call_of self.old.procs p) self.old).outcome }
-        ensures reply { reply.new ≡ (queue_made (call_of self.old.procs p) self.old).reply }
+        requires { Lives self.old.dispatcher.procs p }
+        ensures kernel { self.new ≡ (queue_made (call_of self.old.dispatcher.procs p) self.old).kernel }
+        ensures outcome { result ≡ (queue_made (call_of self.old.dispatcher.procs p) self.old).outcome }
+        ensures reply { reply.new ≡ (queue_made (call_of self.old.dispatcher.procs p) self.old).reply }
     {
         let call = self.dispatcher.procs.call(p);
         let name = call.name(2);
@@ -44,7 +54,7 @@ impl Kernel {
         let count = call.word(12);
         match self.queues.make(name, message_length, count) {
             Ok(_) => done(reply, 0),
-            Err(_) => done(reply, REFUSED),
+            Err(_) => done(reply, FAILURE_CODE),
         }
     }
 
@@ -52,10 +62,10 @@ impl Kernel {
     /// Open Queue".)
     #[tactic(auto, unfolding(crate::specs::Queueing::opened))]
     pub(crate) fn open_queue(&self, p: Pid, reply: &mut Reply) -> Outcome
-        requires { Lives self.now.procs p }
-        ensures kernel { (queue_opened (call_of self.now.procs p) self.now).kernel ≡ self.now }
-        ensures outcome { result ≡ (queue_opened (call_of self.now.procs p) self.now).outcome }
-        ensures reply { reply.new ≡ (queue_opened (call_of self.now.procs p) self.now).reply }
+        requires { Lives self.now.dispatcher.procs p }
+        ensures kernel { (queue_opened (call_of self.now.dispatcher.procs p) self.now).kernel ≡ self.now }
+        ensures outcome { result ≡ (queue_opened (call_of self.now.dispatcher.procs p) self.now).outcome }
+        ensures reply { reply.new ≡ (queue_opened (call_of self.now.dispatcher.procs p) self.now).reply }
     {
         let call = self.dispatcher.procs.call(p);
         match self.queues.find(call.name(4)) {
@@ -63,20 +73,20 @@ impl Kernel {
                 reply.answer_with(0, call.word, &[q + 1, 0]);
                 Outcome::Done
             }
-            None => done(reply, REFUSED),
+            None => done(reply, FAILURE_CODE),
         }
     }
 
     /// A process deletes a queue. (MP/M II Programmer's Guide, "Function 136: Delete Queue".)
-    #[tactic(auto, unfolding(crate::specs::Queueing::deleted, mpm_queues::specs::Queues::behind_delete))]
+    #[tactic(auto, unfolding(crate::specs::Queueing::deleted, mpm_queues::specs::Queues::without_queue))]
     pub(crate) fn delete_queue(&mut self, p: Pid, reply: &mut Reply) -> Outcome
-        requires { Lives self.old.procs p }
-        ensures kernel { self.new ≡ (queue_deleted (call_of self.old.procs p) self.old).kernel }
-        ensures outcome { result ≡ (queue_deleted (call_of self.old.procs p) self.old).outcome }
-        ensures reply { reply.new ≡ (queue_deleted (call_of self.old.procs p) self.old).reply }
+        requires { Lives self.old.dispatcher.procs p }
+        ensures kernel { self.new ≡ (queue_deleted (call_of self.old.dispatcher.procs p) self.old).kernel }
+        ensures outcome { result ≡ (queue_deleted (call_of self.old.dispatcher.procs p) self.old).outcome }
+        ensures reply { reply.new ≡ (queue_deleted (call_of self.old.dispatcher.procs p) self.old).reply }
     {
         let Some(q) = self.queues.find(self.dispatcher.procs.call(p).name(2)) else {
-            return done(reply, REFUSED);
+            return done(reply, FAILURE_CODE);
         };
         if self.system_queues <= q
             && !self.dispatcher.procs.is_entered(q)
@@ -84,27 +94,27 @@ impl Kernel {
         {
             done(reply, 0)
         } else {
-            done(reply, REFUSED)
+            done(reply, FAILURE_CODE)
         }
     }
 
     /// A process reads a message, which comes to the address that its block names; where there is none it waits for one, if it
     /// may. (MP/M II Programmer's Guide, "Function 137: Read Queue", "Function 138: Conditional Read Queue".)
-    #[tactic(auto, unfolding(crate::specs::Queueing::read_at, crate::specs::Queueing::was_read, crate::specs::Queueing::with_other))]
+    #[tactic(auto, unfolding(crate::specs::Queueing::read_at, crate::specs::Queueing::was_read))]
     pub(crate) fn read_queue(&mut self, p: Pid, waits: bool, reply: &mut Reply) -> Outcome
         requires sound { IsSound self.old }
-        requires lives { Lives self.old.procs p }
-        requires ready { IsReady self.old p }
-        requires room { length self.old.completed < 64 }
-        ensures kernel { self.new ≡ (queue_read waits (call_of self.old.procs p) p self.old).kernel }
-        ensures outcome { result ≡ (queue_read waits (call_of self.old.procs p) p self.old).outcome }
-        ensures reply { reply.new ≡ (queue_read waits (call_of self.old.procs p) p self.old).reply }
+        requires lives { Lives self.old.dispatcher.procs p }
+        requires ready { IsReady self.old.dispatcher p }
+        requires room { length self.old.dispatcher.completed < 64 }
+        ensures kernel { self.new ≡ (queue_read waits (call_of self.old.dispatcher.procs p) p self.old).kernel }
+        ensures outcome { result ≡ (queue_read waits (call_of self.old.dispatcher.procs p) p self.old).outcome }
+        ensures reply { reply.new ≡ (queue_read waits (call_of self.old.dispatcher.procs p) p self.old).reply }
     {
         let call = self.dispatcher.procs.call(p);
         let pointer = call.word(0);
         let at = call.word(2);
         let Some(q) = self.queues.pointed(pointer) else {
-            return done(reply, REFUSED);
+            return done(reply, FAILURE_CODE);
         };
         reply.answer_with(0, at, &[]);
         match self.take_from(p, q, reply) {
@@ -118,19 +128,19 @@ impl Kernel {
 
     /// A process writes a message; where there is no room it waits for some, if it may. (MP/M II Programmer's Guide, "Function
     /// 139: Write Queue", "Function 140: Conditional Write Queue".)
-    #[tactic(auto, unfolding(crate::specs::Queueing::write_at, crate::specs::Queueing::was_written, crate::specs::Queueing::with_other))]
+    #[tactic(auto, unfolding(crate::specs::Queueing::write_at, crate::specs::Queueing::was_written))]
     pub(crate) fn write_queue(&mut self, p: Pid, waits: bool, reply: &mut Reply) -> Outcome
         requires sound { IsSound self.old }
-        requires lives { Lives self.old.procs p }
-        requires ready { IsReady self.old p }
-        requires room { length self.old.completed < 64 }
-        ensures kernel { self.new ≡ (queue_written waits (call_of self.old.procs p) p self.old).kernel }
-        ensures outcome { result ≡ (queue_written waits (call_of self.old.procs p) p self.old).outcome }
-        ensures reply { reply.new ≡ (queue_written waits (call_of self.old.procs p) p self.old).reply }
+        requires lives { Lives self.old.dispatcher.procs p }
+        requires ready { IsReady self.old.dispatcher p }
+        requires room { length self.old.dispatcher.completed < 64 }
+        ensures kernel { self.new ≡ (queue_written waits (call_of self.old.dispatcher.procs p) p self.old).kernel }
+        ensures outcome { result ≡ (queue_written waits (call_of self.old.dispatcher.procs p) p self.old).outcome }
+        ensures reply { reply.new ≡ (queue_written waits (call_of self.old.dispatcher.procs p) p self.old).reply }
     {
         let pointer = self.dispatcher.procs.call(p).word(0);
         let Some(q) = self.queues.pointed(pointer) else {
-            return done(reply, REFUSED);
+            return done(reply, FAILURE_CODE);
         };
         match self.give_to(p, q) {
             QueueOutcome::Done { other } => {
@@ -148,7 +158,7 @@ impl Kernel {
         requires queue { IsMade self.old.queues q }
         ensures kernel { self.new ≡ taken_from self.old p q }
         ensures outcome { result ≡ read_outcome self.old.queues q }
-        ensures other { IfSome (woken_by result) (λ w. Lives self.new.procs w) }
+        ensures other { IfSome (woken_by result) (λ w. Lives self.new.dispatcher.procs w) }
         ensures not_now { IfNotNow result ((self.new ≡ self.old) × (may_wait self.old.queues q true ≡ true)) }
         ensures reply { reply.new ≡ read_reply self.old.queues q reply.old }
     {
@@ -159,11 +169,11 @@ impl Kernel {
     #[tactic(auto, using(crate::proofs::QueueingLaws::waiters_live, crate::proofs::QueueingLaws::lives_by_write))]
     pub(crate) fn give_to(&mut self, p: Pid, q: u8) -> QueueOutcome
         requires sound { IsSound self.old }
-        requires lives { Lives self.old.procs p }
+        requires lives { Lives self.old.dispatcher.procs p }
         requires queue { IsMade self.old.queues q }
         ensures kernel { self.new ≡ given_to self.old p q }
         ensures outcome { result ≡ write_outcome self.old.queues q }
-        ensures other { IfSome (woken_by result) (λ w. Lives self.new.procs w) }
+        ensures other { IfSome (woken_by result) (λ w. Lives self.new.dispatcher.procs w) }
         ensures not_now { IfNotNow result ((self.new ≡ self.old) × (may_wait self.old.queues q false ≡ true)) }
     {
         self.queues.write(p, q, &mut self.dispatcher.procs)
@@ -180,8 +190,8 @@ impl Kernel {
         reply: &mut Reply,
     ) -> Outcome
         requires sound { IsSound self.old }
-        requires lives { Lives self.old.procs p }
-        requires ready { IsReady self.old p }
+        requires lives { Lives self.old.dispatcher.procs p }
+        requires ready { IsReady self.old.dispatcher p }
         requires queue { IsMade self.old.queues q }
         requires waits { may_wait self.old.queues q reader ≡ true }
         ensures kernel { self.new ≡ (blocked_or_refused waits p q reader self.old).kernel }
@@ -192,16 +202,16 @@ impl Kernel {
             self.queue_up(p, q, reader);
             self.dispatcher.hold(p, reply)
         } else {
-            done(reply, REFUSED)
+            done(reply, FAILURE_CODE)
         }
     }
 
     /// A ready process waits at a queue from now on, and stands in no list.
-    #[tactic(auto, using(crate::proofs::QueueingLaws::ready_waits_nowhere), unfolding(crate::specs::Queueing::queued, crate::specs::Dispatch::unlisted))]
+    #[tactic(auto, using(crate::proofs::QueueingLaws::ready_waits_nowhere), unfolding(crate::specs::Queueing::queued))]
     fn queue_up(&mut self, p: Pid, q: u8, reader: bool)
         requires sound { IsSound self.old }
-        requires lives { Lives self.old.procs p }
-        requires ready { IsReady self.old p }
+        requires lives { Lives self.old.dispatcher.procs p }
+        requires ready { IsReady self.old.dispatcher p }
         requires queue { IsMade self.old.queues q }
         requires waits { may_wait self.old.queues q reader ≡ true }
         ensures { self.new ≡ queued self.old p q reader }

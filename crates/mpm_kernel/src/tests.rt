@@ -1,8 +1,9 @@
 //! What calls, events and ends come to, as the guides tell it.
+use mpm_base::functions;
 use scene::Answer::{Done, Ended, Held};
 use scene::Line::{
     Ask, AskWith, Begin, Completes, CompletesNone, CompletesTwo, End, Flag, FreeSlots, Interrupts,
-    Keeps, Last, Lives, Multi, Next, NextBehindInstruction, Places, Priority, Ready, Runs, Second,
+    Keeps, Last, Lives, Multi, Next, NextAfterInstruction, Places, Priority, Ready, Runs, Second,
     Tick,
 };
 use scene::play;
@@ -18,12 +19,12 @@ fn functions_that_only_answer_and_those_that_end_their_caller(rt: HostRuntime) -
     play(
         rt.alloc(),
         &[
-            Ask(12, 0, Done(0x0130)),
-            Ask(163, 0, Done(0x0130)),
+            Ask(functions::RETURN_VERSION_NUMBER, 0, Done(0x0130)),
+            Ask(functions::RETURN_MPM_VERSION_NUMBER, 0, Done(0x0130)),
             Ask(7, 0, Done(0xFFFF)),
             Ask(255, 0, Done(0xFFFF)),
-            Ask(0, 0, Ended),
-            Ask(143, 0xFFFF, Ended),
+            Ask(functions::SYSTEM_RESET, 0, Ended),
+            Ask(functions::TERMINATE_PROCESS, 0xFFFF, Ended),
         ],
     )
 }
@@ -33,18 +34,23 @@ fn a_process_keeps_what_its_calls_set(rt: HostRuntime) -> Result<(), Fail> {
     play(
         rt.alloc(),
         &[
-            Ask(32, 0x00FF, Done(3)),
-            Ask(32, 0x1234, Done(0)),
-            Ask(32, 0x12FF, Done(4)),
-            Ask(25, 0, Done(1)),
-            Ask(44, 0, Done(0x00FF)),
-            Ask(44, 17, Done(0x00FF)),
+            Ask(functions::SET_GET_USER_CODE, 0x00FF, Done(3)),
+            Ask(functions::SET_GET_USER_CODE, 0x1234, Done(0)),
+            Ask(functions::SET_GET_USER_CODE, 0x12FF, Done(4)),
+            Ask(functions::RETURN_CURRENT_DISK, 0, Done(1)),
+            Ask(functions::SET_MULTI_SECTOR_COUNT, 0, Done(0x00FF)),
+            Ask(functions::SET_MULTI_SECTOR_COUNT, 17, Done(0x00FF)),
             Multi(0, 1),
-            Ask(44, 16, Done(0)),
+            Ask(functions::SET_MULTI_SECTOR_COUNT, 16, Done(0)),
             Multi(0, 16),
-            Ask(26, 0xC000, Done(0)),
-            Ask(45, 0x01FE, Done(0)),
-            AskWith(106, 0x0200, b"SECRET  ", Done(0)),
+            Ask(functions::SET_DMA_ADDRESS, 0xC000, Done(0)),
+            Ask(functions::SET_BDOS_ERROR_MODE, 0x01FE, Done(0)),
+            AskWith(
+                functions::SET_DEFAULT_PASSWORD,
+                0x0200,
+                b"SECRET  ",
+                Done(0),
+            ),
             Keeps(0, 0xC000, 0xFE, b"SECRET  "),
         ],
     )
@@ -56,10 +62,10 @@ fn equals_run_in_turn(rt: HostRuntime) -> Result<(), Fail> {
         rt.alloc(),
         &[
             Begin(200),
-            NextBehindInstruction(Some(0)),
-            Ask(142, 0, Done(0)),
+            NextAfterInstruction(Some(0)),
+            Ask(functions::DISPATCH, 0, Done(0)),
             Next(Some(1)),
-            Ask(142, 0, Done(0)),
+            Ask(functions::DISPATCH, 0, Done(0)),
             Next(Some(0)),
         ],
     )
@@ -74,9 +80,9 @@ fn a_process_that_changes_its_priority_stands_behind_its_equals(
         &[
             Begin(100),
             Next(Some(1)),
-            Ask(145, 0x01C8, Done(0)),
+            Ask(functions::SET_PRIORITY, 0x01C8, Done(0)),
             Next(Some(0)),
-            Ask(145, 0x00C7, Done(0)),
+            Ask(functions::SET_PRIORITY, 0x00C7, Done(0)),
             Next(Some(0)),
             Priority(0, 199),
         ],
@@ -84,7 +90,7 @@ fn a_process_that_changes_its_priority_stands_behind_its_equals(
 }
 
 #[test]
-fn interrupts_that_are_off_keep_the_processor_behind_an_instruction(
+fn interrupts_that_are_off_keep_the_processor_after_an_instruction(
     rt: HostRuntime,
 ) -> Result<(), Fail> {
     play(
@@ -92,11 +98,11 @@ fn interrupts_that_are_off_keep_the_processor_behind_an_instruction(
         &[
             Interrupts(false, false),
             Begin(100),
-            NextBehindInstruction(Some(0)),
+            NextAfterInstruction(Some(0)),
             Interrupts(true, true),
-            NextBehindInstruction(Some(0)),
+            NextAfterInstruction(Some(0)),
             Interrupts(true, false),
-            NextBehindInstruction(Some(1)),
+            NextAfterInstruction(Some(1)),
             Interrupts(false, false),
             Begin(99),
             Next(Some(2)),
@@ -115,9 +121,9 @@ fn who_ends_frees_a_slot_and_the_next_one_runs(rt: HostRuntime) -> Result<(), Fa
             Runs(None),
             Lives(0, false),
             FreeSlots(31),
-            NextBehindInstruction(Some(1)),
+            NextAfterInstruction(Some(1)),
             Begin(199),
-            NextBehindInstruction(Some(0)),
+            NextAfterInstruction(Some(0)),
         ],
     )
 }
@@ -127,16 +133,16 @@ fn a_flag_is_set_once_and_those_of_the_system_are_refused(rt: HostRuntime) -> Re
     play(
         rt.alloc(),
         &[
-            Ask(133, 5, Done(0)),
-            Ask(133, 5, Done(0x00FF)),
-            Ask(132, 5, Done(0)),
-            Ask(133, 5, Done(0)),
-            Ask(132, 3, Done(0x00FF)),
-            Ask(133, 3, Done(0x00FF)),
-            Ask(132, 32, Done(0x00FF)),
-            Ask(133, 32, Done(0x00FF)),
-            Ask(133, 0x0104, Done(0)),
-            Ask(133, 31, Done(0)),
+            Ask(functions::FLAG_SET, 5, Done(0)),
+            Ask(functions::FLAG_SET, 5, Done(0x00FF)),
+            Ask(functions::FLAG_WAIT, 5, Done(0)),
+            Ask(functions::FLAG_SET, 5, Done(0)),
+            Ask(functions::FLAG_WAIT, 3, Done(0x00FF)),
+            Ask(functions::FLAG_SET, 3, Done(0x00FF)),
+            Ask(functions::FLAG_WAIT, 32, Done(0x00FF)),
+            Ask(functions::FLAG_SET, 32, Done(0x00FF)),
+            Ask(functions::FLAG_SET, 0x0104, Done(0)),
+            Ask(functions::FLAG_SET, 31, Done(0)),
         ],
     )
 }
@@ -147,25 +153,25 @@ fn one_process_waits_for_a_flag_until_it_is_set(rt: HostRuntime) -> Result<(), F
         rt.alloc(),
         &[
             Begin(200),
-            Ask(132, 6, Held),
+            Ask(functions::FLAG_WAIT, 6, Held),
             Next(Some(1)),
-            Ask(132, 6, Done(0x00FF)),
+            Ask(functions::FLAG_WAIT, 6, Done(0x00FF)),
             Flag(6),
             Completes(0),
             Flag(6),
             CompletesNone,
-            Ask(132, 6, Done(0)),
+            Ask(functions::FLAG_WAIT, 6, Done(0)),
         ],
     )?;
     play(
         rt.alloc(),
         &[
             Begin(201),
-            Ask(132, 31, Held),
+            Ask(functions::FLAG_WAIT, 31, Held),
             Next(Some(1)),
-            Ask(133, 31, Done(0)),
+            Ask(functions::FLAG_SET, 31, Done(0)),
             Next(Some(0)),
-            Ask(133, 31, Done(0)),
+            Ask(functions::FLAG_SET, 31, Done(0)),
         ],
     )
 }
@@ -175,10 +181,10 @@ fn a_tick_puts_who_runs_behind_those_it_wakes(rt: HostRuntime) -> Result<(), Fai
     play(
         rt.alloc(),
         &[
-            Ask(141, 1, Held),
+            Ask(functions::DELAY, 1, Held),
             Begin(199),
             Next(Some(1)),
-            Ask(141, 1, Held),
+            Ask(functions::DELAY, 1, Held),
             Begin(200),
             Next(Some(2)),
             Tick,
@@ -200,7 +206,7 @@ fn a_delay_of_no_ticks_is_a_dispatch(rt: HostRuntime) -> Result<(), Fail> {
         rt.alloc(),
         &[
             Begin(200),
-            Ask(141, 0, Done(0)),
+            Ask(functions::DELAY, 0, Done(0)),
             Next(Some(1)),
             Tick,
             CompletesNone,
@@ -214,16 +220,16 @@ fn a_poll_waits_until_its_device_is_ready(rt: HostRuntime) -> Result<(), Fail> {
     play(
         rt.alloc(),
         &[
-            Ask(131, 16, Done(0x00FF)),
-            Ask(131, 2, Held),
+            Ask(functions::POLL, 16, Done(0x00FF)),
+            Ask(functions::POLL, 2, Held),
             Next(None),
             Ready(1, 7),
             CompletesNone,
             Ready(2, 9),
             Completes(0),
             Next(Some(0)),
-            Ask(131, 2, Done(0)),
-            Ask(131, 2, Done(0)),
+            Ask(functions::POLL, 2, Done(0)),
+            Ask(functions::POLL, 2, Done(0)),
             Last(2, 9),
         ],
     )
@@ -234,10 +240,10 @@ fn who_ends_waits_no_more(rt: HostRuntime) -> Result<(), Fail> {
     play(
         rt.alloc(),
         &[
-            Ask(132, 7, Held),
+            Ask(functions::FLAG_WAIT, 7, Held),
             Begin(200),
             Next(Some(1)),
-            Ask(141, 1, Held),
+            Ask(functions::DELAY, 1, Held),
             End(0),
             End(1),
             Flag(7),
@@ -254,16 +260,36 @@ fn date_and_time_are_told_in_packed_decimal(rt: HostRuntime) -> Result<(), Fail>
     play(
         rt.alloc(),
         &[
-            Ask(155, 0x0300, Done(0)),
+            Ask(functions::GET_DATE_TIME_AND_SECOND, 0x0300, Done(0)),
             Places(0x0300, &[0x2C, 0x01, 0x23, 0x59, 0x58]),
             Second(58),
-            AskWith(104, 0x0200, &[1, 2, 0x12, 0x60], Done(0x00FF)),
-            AskWith(104, 0x0200, &[1, 2, 0x24, 0x00], Done(0x00FF)),
-            AskWith(104, 0x0200, &[1, 2, 0x0A, 0x00], Done(0x00FF)),
-            Ask(105, 0x0300, Done(0x58)),
+            AskWith(
+                functions::SET_DATE_AND_TIME,
+                0x0200,
+                &[1, 2, 0x12, 0x60],
+                Done(0x00FF),
+            ),
+            AskWith(
+                functions::SET_DATE_AND_TIME,
+                0x0200,
+                &[1, 2, 0x24, 0x00],
+                Done(0x00FF),
+            ),
+            AskWith(
+                functions::SET_DATE_AND_TIME,
+                0x0200,
+                &[1, 2, 0x0A, 0x00],
+                Done(0x00FF),
+            ),
+            Ask(functions::GET_DATE_AND_TIME, 0x0300, Done(0x58)),
             Places(0x0300, &[0x2C, 0x01, 0x23, 0x59]),
-            AskWith(104, 0x0200, &[1, 2, 0x12, 0x34], Done(0)),
-            Ask(105, 0x0300, Done(0)),
+            AskWith(
+                functions::SET_DATE_AND_TIME,
+                0x0200,
+                &[1, 2, 0x12, 0x34],
+                Done(0),
+            ),
+            Ask(functions::GET_DATE_AND_TIME, 0x0300, Done(0)),
             Places(0x0300, &[0x01, 0x02, 0x12, 0x34]),
         ],
     )

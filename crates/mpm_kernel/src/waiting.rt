@@ -4,12 +4,9 @@ ghost use Rattle.mpm_base.specs.Calls.{answering};
 ghost use Rattle.mpm_base.specs.declared.call.Outcome.TheVariants.{Done, Held as IsHeld};
 
 use crate::Kernel;
-use mpm_base::{Outcome, Pid, Reply};
+use mpm_base::{FAILURE_CODE, Outcome, Pid, Reply};
 use mpm_dispatcher::done;
 use mpm_flags::{FlagSet, FlagWait};
-
-/// The answer of a call that is refused.
-pub(crate) const REFUSED: u16 = 0x00FF;
 
 /// The list of those who poll device 0; those of the other devices follow it.
 pub(crate) const POLLERS: u8 = 1;
@@ -25,22 +22,22 @@ pub(crate) const LAST_FLAG: u8 = 31;
 impl Kernel {
     ghost use Rattle.mpm_procs.specs.Table.{Lives, call_of};
     ghost use Rattle.mpm_flags.specs.States.{flag_at, set_answer};
-    ghost use Rattle.mpm_kernel.specs.Kernel.{IsReady, IsSound, with_completed};
+    ghost use Rattle.mpm_dispatcher.specs.Dispatch.{IsReady, with_completed, at_rest, unlisted, moved, all_ready, all_woken};
+    ghost use Rattle.mpm_kernel.specs.Kernel.{IsSound};
     ghost use Rattle.mpm_kernel.specs.Called.{low_parameter};
-    ghost use Rattle.mpm_kernel.specs.Dispatch.{at_rest, unlisted, moved, all_ready, all_woken};
     ghost use Rattle.mpm_kernel.specs.Waiting.{polled, flag_waited, flag_set as flag_set_by, slept, signalled};
 
     /// A process waits until a device is ready, unless it is. (MP/M II Programmer's Guide, function 131.)
-    #[tactic(auto, unfolding(crate::specs::Waiting::polled, crate::specs::Dispatch::moved))]
+    #[tactic(auto, unfolding(crate::specs::Waiting::polled))]
     pub(crate) fn poll(&mut self, p: Pid, device: u8, reply: &mut Reply) -> Outcome
-        requires lives { Lives self.old.procs p }
-        requires device { device ≡ low_parameter (call_of self.old.procs p) }
-        ensures kernel { self.new ≡ (polled (call_of self.old.procs p) p self.old).kernel }
-        ensures outcome { result ≡ (polled (call_of self.old.procs p) p self.old).outcome }
-        ensures reply { reply.new ≡ (polled (call_of self.old.procs p) p self.old).reply }
+        requires lives { Lives self.old.dispatcher.procs p }
+        requires device { device ≡ low_parameter (call_of self.old.dispatcher.procs p) }
+        ensures kernel { self.new ≡ (polled (call_of self.old.dispatcher.procs p) p self.old).kernel }
+        ensures outcome { result ≡ (polled (call_of self.old.dispatcher.procs p) p self.old).outcome }
+        ensures reply { reply.new ≡ (polled (call_of self.old.dispatcher.procs p) p self.old).reply }
     {
         if DEVICES <= device {
-            return done(reply, REFUSED);
+            return done(reply, FAILURE_CODE);
         }
         if self.devices.ready[usize::from(device)] {
             return done(reply, 0);
@@ -50,19 +47,19 @@ impl Kernel {
     }
 
     /// A process waits for a flag, unless it is set. (MP/M II Programmer's Guide, function 132.)
-    #[tactic(auto, unfolding(crate::specs::Waiting::flag_waited, crate::specs::Waiting::waited, crate::specs::Dispatch::unlisted))]
+    #[tactic(auto, unfolding(crate::specs::Waiting::flag_waited, crate::specs::Waiting::waited))]
     pub(crate) fn wait_flag(&mut self, p: Pid, flag: u8, reply: &mut Reply) -> Outcome
-        requires flag { flag ≡ low_parameter (call_of self.old.procs p) }
-        ensures kernel { self.new ≡ (flag_waited (call_of self.old.procs p) p self.old).kernel }
-        ensures outcome { result ≡ (flag_waited (call_of self.old.procs p) p self.old).outcome }
-        ensures reply { reply.new ≡ (flag_waited (call_of self.old.procs p) p self.old).reply }
+        requires flag { flag ≡ low_parameter (call_of self.old.dispatcher.procs p) }
+        ensures kernel { self.new ≡ (flag_waited (call_of self.old.dispatcher.procs p) p self.old).kernel }
+        ensures outcome { result ≡ (flag_waited (call_of self.old.dispatcher.procs p) p self.old).outcome }
+        ensures reply { reply.new ≡ (flag_waited (call_of self.old.dispatcher.procs p) p self.old).reply }
     {
         if flag < FIRST_FLAG || LAST_FLAG < flag {
-            return done(reply, REFUSED);
+            return done(reply, FAILURE_CODE);
         }
         match self.flags.wait(p, flag) {
             FlagWait::Passed => done(reply, 0),
-            FlagWait::Underrun => done(reply, REFUSED),
+            FlagWait::Underrun => done(reply, FAILURE_CODE),
             FlagWait::Waits => {
                 self.dispatcher.unlist(p);
                 self.dispatcher.hold(p, reply)
@@ -74,30 +71,30 @@ impl Kernel {
     #[tactic(auto, unfolding(crate::specs::Waiting::flag_set))]
     pub(crate) fn set_flag(&mut self, p: Pid, flag: u8, reply: &mut Reply) -> Outcome
         requires sound { IsSound self.old }
-        requires flag { flag ≡ low_parameter (call_of self.old.procs p) }
-        ensures kernel { self.new ≡ (flag_set_by (call_of self.old.procs p) self.old).kernel }
-        ensures outcome { result ≡ (flag_set_by (call_of self.old.procs p) self.old).outcome }
-        ensures reply { reply.new ≡ (flag_set_by (call_of self.old.procs p) self.old).reply }
+        requires flag { flag ≡ low_parameter (call_of self.old.dispatcher.procs p) }
+        ensures kernel { self.new ≡ (flag_set_by (call_of self.old.dispatcher.procs p) self.old).kernel }
+        ensures outcome { result ≡ (flag_set_by (call_of self.old.dispatcher.procs p) self.old).outcome }
+        ensures reply { reply.new ≡ (flag_set_by (call_of self.old.dispatcher.procs p) self.old).reply }
     {
         if flag < FIRST_FLAG || LAST_FLAG < flag {
-            return done(reply, REFUSED);
+            return done(reply, FAILURE_CODE);
         }
         match self.signal(flag) {
-            FlagSet::Overrun => done(reply, REFUSED),
+            FlagSet::Overrun => done(reply, FAILURE_CODE),
             _ => done(reply, 0),
         }
     }
 
     /// A process waits for so many ticks; for none, it is put behind its equals. (MP/M II Programmer's Guide, function 141.)
-    #[tactic(auto, using(crate::proofs::SoundLaws::not_delayed), unfolding(crate::specs::Waiting::slept, crate::specs::Dispatch::unlisted, crate::specs::Dispatch::behind_equals))]
+    #[tactic(auto, using(crate::proofs::SoundLaws::not_delayed), unfolding(crate::specs::Waiting::slept))]
     pub(crate) fn sleep(&mut self, p: Pid, ticks: u16, reply: &mut Reply) -> Outcome
         requires sound { IsSound self.old }
-        requires lives { Lives self.old.procs p }
-        requires ready { IsReady self.old p }
-        requires ticks { ticks ≡ (call_of self.old.procs p).word }
-        ensures kernel { self.new ≡ (slept (call_of self.old.procs p) p self.old).kernel }
-        ensures outcome { result ≡ (slept (call_of self.old.procs p) p self.old).outcome }
-        ensures reply { reply.new ≡ (slept (call_of self.old.procs p) p self.old).reply }
+        requires lives { Lives self.old.dispatcher.procs p }
+        requires ready { IsReady self.old.dispatcher p }
+        requires ticks { ticks ≡ (call_of self.old.dispatcher.procs p).word }
+        ensures kernel { self.new ≡ (slept (call_of self.old.dispatcher.procs p) p self.old).kernel }
+        ensures outcome { result ≡ (slept (call_of self.old.dispatcher.procs p) p self.old).outcome }
+        ensures reply { reply.new ≡ (slept (call_of self.old.dispatcher.procs p) p self.old).reply }
     {
         if ticks == 0 {
             self.dispatcher.rotate(p);
@@ -109,7 +106,7 @@ impl Kernel {
     }
 
     /// A flag is set; who waits for it is woken.
-    #[tactic(auto, using(crate::proofs::SoundLaws::waiter_lives), unfolding(crate::specs::Waiting::signalled, crate::specs::Waiting::with_woken, crate::specs::Dispatch::all_ready))]
+    #[tactic(auto, using(crate::proofs::SoundLaws::waiter_lives), unfolding(crate::specs::Waiting::signalled, crate::specs::Waiting::with_woken))]
     pub(crate) fn signal(&mut self, flag: u8) -> FlagSet
         requires sound { IsSound self.old }
         requires below { flag < 32 }

@@ -12,13 +12,13 @@ key_of key =
     else if key == 21 || key == 24 then Cancel
     else Join
 
--- the line behind a key of a meaning
+-- the line after a key of a meaning
 abbrev pub line_by : LineKey → List ℕ → ℕ → List ℕ
 line_by End line key = line
 line_by Rubout line key = take (length line - 1) line
 line_by Cancel line key = []
 line_by Join line key = line ++ key ∷ []
 
--- the line behind a key
-unfoldable pub line_behind : List ℕ → ℕ → List ℕ
-line_behind line key = line_by (key_of key) line key
+-- the line after a key
+unfoldable pub line_after : List ℕ → ℕ → List ℕ
+line_after line key = line_by (key_of key) line key

@@ -2,7 +2,7 @@
 -- answered. (MP/M II Programmer's Guide, "Function 10: Read Console Buffer".)
 use Rattle.std.specs.Prelude.{ℕ, ◌+◌, ◌%◌, Bool, true, false, ◌==◌, ◌||◌, nat_le, nat_lt, if◌then◌else◌, List, [], ◌∷◌, ◌++◌, length, take, drop}
 use Rattle.mpm_base.specs.Calls.{Answer, answering}
-use Rattle.mpm_line_input.specs.Keys.{key_of, line_behind}
+use Rattle.mpm_line_input.specs.Keys.{key_of, line_after}
 use Rattle.mpm_line_input.specs.declared.line.LineKey.{LineKey}
 use Rattle.mpm_line_input.specs.declared.line.LineKey.TheVariants.{End, Rubout, Cancel, Join}
 
@@ -37,13 +37,13 @@ abbrev pub is_end : LineKey → Bool
 is_end End = true
 is_end _ = false
 
--- whether a line ends that has so many bytes behind a key: the key is CR or LF, or the line is full
+-- whether a line ends that has so many bytes after a key: the key is CR or LF, or the line is full
 unfoldable pub ends_at : ℕ → ℕ → ℕ → Bool
 ends_at count greatest key = is_end (key_of key) || is_full count greatest
 
 -- whether a line ends with a key
 abbrev pub ends : List ℕ → ℕ → ℕ → Bool
-ends line greatest key = ends_at (length (line_behind line key)) greatest key
+ends line greatest key = ends_at (length (line_after line key)) greatest key
 
 -- CR is written where a line ends
 abbrev pub line_end : List ℕ

@@ -1,6 +1,7 @@
 ghost use Rattle.std.specs.Prelude.{◌≡◌};
 ghost use Rattle.mpm_line_input.specs.Echoes.{is_echoed as is_key_echoed, key_echo as echo_of_key};
 
+use mpm_base::tab_width;
 use std::marker::Model;
 
 /// What a key or a line input writes to its console, at most eight bytes. Contracts see the bytes that count.
@@ -81,7 +82,7 @@ pub fn key_echo(key: u8, column: u16) -> Echo
     ensures { result ≡ echo_of_key key column }
 {
     if key == b'\t' {
-        Echo::of(&[b' '; 8][..usize::from(8 - column % 8)])
+        Echo::of(&[b' '; 8][..usize::from(tab_width(column))])
     } else if is_echoed(key) {
         Echo::of(&[key])
     } else {

@@ -1,5 +1,5 @@
 ghost use Rattle.std.specs.Prelude.{◌≡◌, ◌≤◌, ◌<◌, ◌+◌, ◌++◌, [], length, true, if◌then◌else◌};
-ghost use Rattle.mpm_line_input.specs.Keys.{key_of as meaning_of, line_behind};
+ghost use Rattle.mpm_line_input.specs.Keys.{key_of as meaning_of, line_after};
 ghost use Rattle.mpm_line_input.specs.declared.line.LineKey.TheVariants.{Join, Cancel};
 ghost use Rattle.mpm_line_input.specs.Lines.{so_far, stored, is_full as is_full_line, ends, ends_at as does_end, echo_of, written_by, line_end, line_answer};
 
@@ -65,14 +65,14 @@ pub fn full_line() -> Edit
 #[tactic(auto, using(crate::proofs::Laws::restored, crate::proofs::Laws::emptied))]
 pub fn edited(line: &mut [u8; 255], count: &mut u8, greatest: u8, key: u8) -> Edit
     requires { count.old < greatest }
-    ensures line { line.new ≡ stored (line_behind (so_far line.old count.old) key) line.old }
-    ensures count { count.new ≡ length (line_behind (so_far line.old count.old) key) }
-    ensures so_far { so_far line.new count.new ≡ line_behind (so_far line.old count.old) key }
+    ensures line { line.new ≡ stored (line_after (so_far line.old count.old) key) line.old }
+    ensures count { count.new ≡ length (line_after (so_far line.old count.old) key) }
+    ensures so_far { so_far line.new count.new ≡ line_after (so_far line.old count.old) key }
     ensures written { result.written ≡ written_by (so_far line.old count.old) greatest key }
     ensures ends { result.ends ≡ ends (so_far line.old count.old) greatest key }
     ensures within { count.new ≤ greatest }
     ensures few { length result.written ≤ 3 }
-    ensures restored { meaning_of key ≡ Join → line_behind (so_far line.new count.new) 8 ≡ so_far line.old count.old }
+    ensures restored { meaning_of key ≡ Join → line_after (so_far line.new count.new) 8 ≡ so_far line.old count.old }
     ensures emptied { meaning_of key ≡ Cancel → so_far line.new count.new ≡ [] }
 {
     let shown = echo(&line[..usize::from(*count)], key);
@@ -109,7 +109,7 @@ fn with_end(shown: Echo, ends: bool) -> Echo
     written
 }
 
-/// Whether a line ends that has so many bytes behind a key.
+/// Whether a line ends that has so many bytes after a key.
 #[tactic(auto, unfolding(crate::specs::Lines::ends_at))]
 fn ends_at(count: u8, greatest: u8, key: u8) -> bool
     ensures { result ≡ does_end count greatest key }
@@ -121,12 +121,12 @@ fn ends_at(count: u8, greatest: u8, key: u8) -> bool
 }
 
 /// What a key makes of a line.
-#[tactic(auto, unfolding(crate::specs::Keys::line_behind, crate::specs::Lines::stored))]
+#[tactic(auto, unfolding(crate::specs::Keys::line_after, crate::specs::Lines::stored))]
 fn change(line: &mut [u8; 255], count: &mut u8, key: u8)
     requires { count.old < 255 }
-    ensures line { line.new ≡ stored (line_behind (so_far line.old count.old) key) line.old }
-    ensures count { count.new ≡ length (line_behind (so_far line.old count.old) key) }
-    ensures so_far { so_far line.new count.new ≡ line_behind (so_far line.old count.old) key }
+    ensures line { line.new ≡ stored (line_after (so_far line.old count.old) key) line.old }
+    ensures count { count.new ≡ length (line_after (so_far line.old count.old) key) }
+    ensures so_far { so_far line.new count.new ≡ line_after (so_far line.old count.old) key }
     ensures one { count.new ≤ count.old + 1 }
 {
     match key_of(key) {

@@ -1,7 +1,7 @@
--- A machine from its opening on: it is whole behind each number of steps, nobody is left to be handed out, nobody's end is due,
+-- A machine from its opening on: it is whole after each number of steps, nobody is left to be handed out, nobody's end is due,
 -- and each step of a run is contained.
 use Rattle.std.proofs.Common.{◌≡◌, ◌∙◌, ℕ, zero, suc, ◌+◌, ◌<◌, ◌≤◌, false, List, [], All, length, refl, sym, subst, arith, add-one}
-use Rattle.mpm_kernel.specs.Dispatch.{picked}
+use Rattle.mpm_dispatcher.specs.Dispatch.{picked}
 use Rattle.mpm_script.specs.declared.event.Timed.{Timed}
 use Rattle.mpm_script.specs.Events.{IsTimed}
 use Rattle.mpm_machine_file.specs.declared.machine_file.MachineFile.{MachineFile}
@@ -11,13 +11,16 @@ use Rattle.mpm_machine.specs.State.{State, IsWhole}
 use Rattle.mpm_machine.specs.Opening.{with_terminals, begun_by_interpreter, with_residents, booted, opened, opening_system}
 use Rattle.mpm_machine.specs.Due.{NobodyDue, settled}
 use Rattle.mpm_machine.specs.Step.{coming, begun_by, instruction_unless, with_settled, counted, step_of, next, after, system_after}
-use Rattle.mpm_machine.specs.Contained.{IsContained}
+use Rattle.mpm_machine.specs.Contained.{IsContained, Instructs, OnlyInstructed, Calls, ServedByValue}
 use Rattle.mpm_machine.proofs.WholeStepLaws.{no_completions_step, whole_step}
 use Rattle.mpm_machine.proofs.NobodyDueLaws.{nobody_due_step}
 use Rattle.mpm_machine.proofs.PlacedLaws.{booted_is_bare, opening_is_bare}
 use Rattle.mpm_machine.proofs.OpeningLaws.{Begun, BegunSo, first_begun, no_terminals, more_terminals, begun_none, begun_more, boots, whole_picked, no_completions_picked}
-use Rattle.mpm_machine.proofs.StepLaws.{after_more}
+use Rattle.mpm_machine.proofs.StepLaws.{after_more, system_after_more}
 use Rattle.mpm_machine.proofs.Containment.{step_is_contained}
+use Rattle.mpm_kernel.specs.Kernel.{dispatched}
+use Rattle.mpm_machine.proofs.InstructedLaws.{instructs_only}
+use Rattle.mpm_machine.proofs.ServedLaws.{served_by_value}
 
 -- the openings
 
@@ -25,11 +28,11 @@ use Rattle.mpm_machine.proofs.Containment.{step_is_contained}
 pub opening_whole : (program : List ℕ) → length program ≤ 48512 → IsWhole (opening_system program)
 opening_whole program few = (opening_is_bare program few).whole
 
-pub opening_handed : (program : List ℕ) → length program ≤ 48512 → (opening_system program).kernel.completed ≡ []
+pub opening_handed : (program : List ℕ) → length program ≤ 48512 → (opening_system program).kernel.dispatcher.completed ≡ []
 opening_handed program few = (opening_is_bare program few).no_completions
 
 -- a machine as it is run
-terminals_begun : (n : ℕ) (start : System) → IsWhole start → n ≤ start.kernel.consoles → BegunSo start (with_terminals n start) n
+terminals_begun : (n : ℕ) (start : System) → IsWhole start → n ≤ length start.kernel.units.consoles → BegunSo start (with_terminals n start) n
 terminals_begun zero start w few = subst (λ s. BegunSo start s 0) (sym (no_terminals start)) (begun_none start w)
 terminals_begun (suc n) start w few =
     let others = terminals_begun n start w (omega (arith, few)) in
@@ -53,15 +56,15 @@ residents_begun file events is script =
 pub opened_whole : (file : MachineFile) (events : List Timed) → IsMachine file → All IsTimed events → IsWhole (opened file events)
 unfolding opened with_residents
 opened_whole file events is script =
-    let behind = with_terminals file.consoles (begun_by_interpreter (booted file events)) in
-    whole_picked behind (picked false behind.kernel) (residents_begun file events is script).whole refl
+    let afterwards = with_terminals file.consoles (begun_by_interpreter (booted file events)) in
+    whole_picked afterwards (dispatched (picked false) afterwards.kernel) (residents_begun file events is script).whole refl
 
-pub opened_handed : (file : MachineFile) (events : List Timed) → IsMachine file → All IsTimed events → (opened file events).kernel.completed ≡ []
+pub opened_handed : (file : MachineFile) (events : List Timed) → IsMachine file → All IsTimed events → (opened file events).kernel.dispatcher.completed ≡ []
 unfolding opened with_residents
 opened_handed file events is script =
-    let behind = with_terminals file.consoles (begun_by_interpreter (booted file events)) in
+    let afterwards = with_terminals file.consoles (begun_by_interpreter (booted file events)) in
     let bare = booted_is_bare file events is.some_console is.consoles is.printers (omega (arith, is.segments)) script in
-    no_completions_picked behind.kernel (picked false behind.kernel) refl ((residents_begun file events is script).completed ∙ bare.no_completions)
+    no_completions_picked afterwards.kernel (dispatched (picked false) afterwards.kernel) refl ((residents_begun file events is script).completed ∙ bare.no_completions)
 
 -- a run
 
@@ -70,15 +73,15 @@ unfolding after next
 whole_after zero s w = w
 whole_after (suc n) s w = whole_step (after n s).system (whole_after n s w)
 
-handed_next : (system : System) → (step_of system).system.kernel.completed ≡ []
+handed_next : (system : System) → (step_of system).system.kernel.dispatcher.completed ≡ []
 unfolding step_of with_settled
 handed_next system =
     let begun = (begun_by (coming (counted system)) (counted system)).system in
-    let behind = (settled begun).system in
+    let afterwards = (settled begun).system in
     let instruction = instruction_unless (coming (counted system)) (counted system) in
-    no_completions_step begun behind (picked instruction behind.kernel) instruction refl refl
+    no_completions_step begun afterwards (dispatched (picked instruction) afterwards.kernel) instruction refl refl
 
-pub handed_after : (n : ℕ) (s : State) → s.system.kernel.completed ≡ [] → (after n s).system.kernel.completed ≡ []
+pub handed_after : (n : ℕ) (s : State) → s.system.kernel.dispatcher.completed ≡ [] → (after n s).system.kernel.dispatcher.completed ≡ []
 unfolding after next
 handed_after zero s no_completions = no_completions
 handed_after (suc n) s no_completions = handed_next (after n s).system
@@ -102,3 +105,21 @@ pub contained_after : (n : ℕ) (s : State) → IsWhole s.system → IsContained
 contained_after n s w =
     let P : State → Type 0 = λ t. IsContained (after n s).system t.system in
     subst P (sym (after_more n s)) (contained_next (after n s) (whole_after n s w))
+
+-- the same of each step of a run, by the system that it begins with
+
+pub contained_in_run : (k : ℕ) (old : System) → IsWhole old → IsContained (system_after k old) (system_after (k + 1) old)
+contained_in_run k old w = contained_after k (record { system = old; outputs = [] }) w
+
+-- what a step does from a system that a run comes to
+next_in_run : (k : ℕ) (old : System) → system_after (k + 1) old ≡ (step_of (system_after k old)).system
+next_in_run k old = sym (system_after_more k old (system_after k old) (step_of (system_after k old)).system refl refl)
+
+pub instructed_in_run : (k p seg : ℕ) (old : System) → old.kernel.dispatcher.completed ≡ [] → Instructs (system_after k old) p seg
+    → OnlyInstructed p (system_after k old) (system_after (k + 1) old)
+instructed_in_run k p seg old none i =
+    instructs_only (system_after k old) (system_after (k + 1) old) p seg i (handed_after k (record { system = old; outputs = [] }) none) (next_in_run k old)
+
+pub served_in_run : (k p seg : ℕ) (old : System) → Calls (system_after k old) p seg
+    → ServedByValue p seg (system_after k old) (system_after (k + 1) old)
+served_in_run k p seg old i = served_by_value (system_after k old) (system_after (k + 1) old) p seg i (next_in_run k old)

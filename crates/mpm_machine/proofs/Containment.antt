@@ -14,34 +14,36 @@ use Rattle.mpm_banks.specs.Actions.{memory_after}
 use Rattle.mpm_banks.specs.Allocations.{all_released}
 use Rattle.mpm_banks.specs.declared.segment.Allocation.TheVariants.{Free}
 use Rattle.mpm_base.proofs.Choices.{either}
+use Rattle.mpm_base.specs.declared.functions.TheConstants.{ABSOLUTE_MEMORY_REQUEST, RELOCATABLE_MEMORY_REQUEST, MEMORY_FREE, CREATE_PROCESS, ABORT_SPECIFIED_PROCESS}
 use Rattle.mpm_banks.proofs.SegmentLaws.{SameBytes, reads_alike, same_bytes_itself, same_bytes_both, same_bytes_allocated, same_bytes_reserved, same_bytes_released, same_bytes_all_released}
 use Rattle.mpm_banks.proofs.ActionLaws.{memory_after_other_segment, memory_after_unwritten}
 use Rattle.mpm_gate.specs.Replies.{placed, IsPlacedAt}
 use Rattle.mpm_gate.proofs.ReplyLaws.{others_keep, segments_keep, common_keeps}
 use Rattle.mpm_procs.specs.Table.{Table, Lives, process_in, call_of}
 use Rattle.mpm_script.specs.declared.event.Event.{Event}
-use Rattle.mpm_kernel.specs.Events.{first_completed}
+use Rattle.mpm_dispatcher.specs.Dispatch.{first_completed}
 use Rattle.mpm_kernel.specs.Waiting.{completion_reply}
 use Rattle.mpm_kernel.proofs.SoundLaws.{runner_lives, completed_lives}
 use Rattle.mpm_xdos.specs.Ending.{is_home, vacated_if_empty, memory_without}
-use Rattle.mpm_xdos.specs.Aborting.{is_resident, waits_to_end, target, memory_behind_abort}
+use Rattle.mpm_xdos.specs.Aborting.{waits_to_end, target, memory_after_abort}
 use Rattle.mpm_machine.specs.declared.system.System.{System}
 use Rattle.mpm_processor.specs.declared.gate.Gate.{Gate}
 use Rattle.mpm_processor.specs.declared.gate.Gate.TheVariants.{End, Call, Return}
 use Rattle.mpm_machine.specs.State.{Change, IsWhole, speaking}
-use Rattle.mpm_machine.specs.Ending.{terminated}
+use Rattle.mpm_machine.specs.Ending.{ended}
 use Rattle.mpm_machine.specs.Serving.{asked, keeping, Served, served, reserving, releasing, creating, aborted, aborting_this, aborting, said_by, popped, replied, with_entry, reply_at_entry, fulfilling, answering_call, completing, returning, outcome_of, gate_step}
 use Rattle.mpm_residents.specs.Natives.{native_call, native_in}
 use Rattle.mpm_residents.specs.declared.native.Native.{Native}
 use Rattle.mpm_kernel.specs.Consoling.{abort_taken}
 use Rattle.mpm_machine.specs.Residing.{native_outcome, native_step, resided}
-use Rattle.mpm_interrupts.specs.Interrupts.{behind_due}
+use Rattle.mpm_interrupts.specs.Interrupts.{due_taken}
 use Rattle.mpm_machine.specs.Finishing.{finished, completion_dequeued, finishing, all_finished}
-use Rattle.mpm_machine.specs.Due.{is_due, terminated_if_due, due_terminated, with_ends, settled}
-use Rattle.mpm_machine.specs.Step.{ran, illegal, instructed, instruction_at, acted_at, gate_before, acted_by, acted, running_segment, coming, key_aborted, happened_to, event_come, interrupted, begun_by, with_settled, counted, step_of}
-use Rattle.mpm_machine.specs.Contained.{placed_reply, PlacesAt, WritesAt, IsWritten, behind_begun, Answers, AnswersAmong, AnswersOne, AnswersAtEnd, AnswersAtEnds, IsAnswered, IsContained}
+use Rattle.mpm_machine.specs.Due.{is_due, ended_if_due, due_terminated, with_ends, settled}
+use Rattle.mpm_machine.specs.Step.{instructed, illegal, executed, instruction_at, acted_at, gate_before, acted_by, acted, running_segment, coming, key_aborted, happened_to, event_come, interrupted, begun_by, with_settled, counted, step_of}
+use Rattle.mpm_machine.specs.Contained.{placed_reply, PlacesAt, WritesAt, IsWritten, after_begun, Answers, AnswersAmong, AnswersOne, AnswersAtEnd, AnswersAtEnds, IsAnswered, IsContained}
 use Rattle.mpm_machine.proofs.FinishLaws.{first_finished, left_completed, dequeued_lives, home_dequeued}
-use Rattle.mpm_machine.proofs.WholeStepLaws.{whole_counted, whole_behind_begun, whole_answered, whole_first, whole_if_due, whole_due_end}
+use Rattle.mpm_machine.proofs.WholeStepLaws.{whole_counted, whole_after_begun, whole_answered, whole_first, whole_if_due, whole_due_end}
+use Rattle.mpm_kernel.specs.Kernel.{is_resident}
 
 -- an end, and a call before its reply, change no byte
 
@@ -50,15 +52,15 @@ unfolding vacated_if_empty
 vacated_alike memory procs None = same_bytes_itself memory
 vacated_alike memory procs (Some seg) = either (SameBytes memory) (is_home procs seg) _ _ (λ _. same_bytes_itself memory) (λ _. same_bytes_allocated memory seg Free)
 
-terminated_alike : (p : ℕ) (system : System) → SameBytes system.memory (terminated p system).memory
-unfolding terminated memory_without
-terminated_alike p system = same_bytes_both system.memory (all_released system.memory p) _ (same_bytes_all_released system.memory p) (vacated_alike (all_released system.memory p) _ _)
+ended_alike : (p : ℕ) (system : System) → SameBytes system.memory (ended p system).memory
+unfolding ended memory_without
+ended_alike p system = same_bytes_both system.memory (all_released system.memory p) _ (same_bytes_all_released system.memory p) (vacated_alike (all_released system.memory p) _ _)
 
 aborted_alike : (p : ℕ) (system : System) → SameBytes system.memory (aborted p system).memory
-unfolding aborted memory_behind_abort terminated
+unfolding aborted memory_after_abort ended
 aborted_alike p system =
-    either (SameBytes system.memory) (is_resident system.kernel p || waits_to_end system.kernel p false) _ _ (λ _. same_bytes_itself system.memory)
-    (λ _. terminated_alike p system)
+    either (SameBytes system.memory) (is_resident system.kernel.dispatcher.procs p || waits_to_end system.kernel p false) _ _ (λ _. same_bytes_itself system.memory)
+    (λ _. ended_alike p system)
 
 aborting_alike : (named : Option ℕ) (p : ℕ) (system : System) → SameBytes system.memory (aborting_this named p system).system.memory
 aborting_alike None p system = same_bytes_itself system.memory
@@ -72,15 +74,15 @@ served_alike call p system =
     let f = call.function in
     let memory = system.memory in
     let P : Served → Type 0 = λ s. SameBytes memory s.system.memory in
-    either P (f == 128) _ _ (λ _. same_bytes_reserved memory p _)
-    (λ _. either P (f == 129) _ _ (λ _. same_bytes_reserved memory p _)
-    (λ _. either P (f == 130) _ _ (λ _. same_bytes_released memory p _)
-    (λ _. either P (f == 144) _ _ (λ _. same_bytes_itself memory)
-    (λ _. either P (f == 157) _ _ (λ _. aborting_alike (target system.kernel.procs p) p system) (λ _. same_bytes_itself memory)))))
+    either P (f == ABSOLUTE_MEMORY_REQUEST) _ _ (λ _. same_bytes_reserved memory p _)
+    (λ _. either P (f == RELOCATABLE_MEMORY_REQUEST) _ _ (λ _. same_bytes_reserved memory p _)
+    (λ _. either P (f == MEMORY_FREE) _ _ (λ _. same_bytes_released memory p _)
+    (λ _. either P (f == CREATE_PROCESS) _ _ (λ _. same_bytes_itself memory)
+    (λ _. either P (f == ABORT_SPECIFIED_PROCESS) _ _ (λ _. aborting_alike (target system.kernel.dispatcher.procs p) p system) (λ _. same_bytes_itself memory)))))
 
 illegal_alike : (p : ℕ) (system : System) → SameBytes system.memory (illegal p system).system.memory
 unfolding illegal speaking
-illegal_alike p system = terminated_alike p _
+illegal_alike p system = ended_alike p _
 
 -- nor does a resident, or a key that aborts a process
 
@@ -88,7 +90,7 @@ native_alike : (outcome : CallOutcome) (reply : Answer) (call : Taken) (p : ℕ)
     → SameBytes system.memory (native_outcome outcome reply call p system).system.memory
 unfolding said_by speaking
 native_alike Done reply call p system = same_bytes_itself system.memory
-native_alike Ended reply call p system = terminated_alike p system
+native_alike Ended reply call p system = ended_alike p system
 native_alike Held reply call p system = same_bytes_itself system.memory
 native_alike Retry reply call p system = same_bytes_itself system.memory
 
@@ -104,7 +106,7 @@ key_alike (Some p) system = aborted_alike p (record system { kernel = abort_take
 event_alike : (event : Event) (system : System) → SameBytes system.memory (interrupted event system).system.memory
 unfolding interrupted event_come
 event_alike event system =
-    let timed = record system { interrupts = behind_due system.steps system.interrupts } in
+    let timed = record system { interrupts = due_taken system.steps system.interrupts } in
     key_alike (happened_to event timed).kernel.aborted (happened_to event timed)
 
 -- so a call leaves a byte where its reply does, if one is placed
@@ -114,7 +116,7 @@ outcome_leaves : (outcome : CallOutcome) (reply : Answer) (call : Taken) (p seg 
     → byte_at (outcome_of outcome reply call p seg system).system.memory other at ≡ byte_at system.memory other at
 unfolding completing popped with_entry fulfilling answering_call replied said_by speaking
 outcome_leaves Done reply call p seg system other at leaves = leaves refl
-outcome_leaves Ended reply call p seg system other at leaves = reads_alike system.memory _ (terminated_alike p system) other at
+outcome_leaves Ended reply call p seg system other at leaves = reads_alike system.memory _ (ended_alike p system) other at
 outcome_leaves Held reply call p seg system other at leaves = refl
 outcome_leaves Retry reply call p seg system other at leaves = refl
 
@@ -133,8 +135,8 @@ call_leaves p seg system other at leaves =
 
 instruction_leaves : (outcome : Option Outcome) (p seg : ℕ) (system : System) (other at : ℕ)
     → byte_at (memory_after (actions_of outcome) seg system.memory) other at ≡ byte_at system.memory other at
-    → byte_at (instructed outcome p seg system).system.memory other at ≡ byte_at system.memory other at
-unfolding instructed ran
+    → byte_at (executed outcome p seg system).system.memory other at ≡ byte_at system.memory other at
+unfolding executed instructed
 instruction_leaves None p seg system other at leaves = reads_alike system.memory _ (illegal_alike p system) other at
 instruction_leaves (Some outcome) p seg system other at leaves = leaves
 
@@ -143,7 +145,7 @@ instruction_leaves (Some outcome) p seg system other at leaves = leaves
 elsewhere_at : (gate : Option Gate) (p seg : ℕ) (system : System) (other at : ℕ) → other ≢ seg → at < 49152
     → byte_at (acted_at gate p seg system).system.memory other at ≡ byte_at system.memory other at
 unfolding returning
-elsewhere_at (Some End) p seg system other at apart below = reads_alike system.memory _ (terminated_alike p system) other at
+elsewhere_at (Some End) p seg system other at apart below = reads_alike system.memory _ (ended_alike p system) other at
 elsewhere_at (Some Call) p seg system other at apart below =
     call_leaves p seg system other at (λ done. segments_keep _ _ seg _ other at apart below)
 elsewhere_at (Some Return) p seg system other at apart below = refl
@@ -163,7 +165,7 @@ placed_at outcome reply call p seg system at is placed = subst (λ (o : CallOutc
 unwritten_at : (gate : Option Gate) (p seg : ℕ) (system : System) (at : ℕ) → (WritesAt gate p seg system at → ⊥)
     → byte_at (acted_at gate p seg system).system.memory seg at ≡ byte_at system.memory seg at
 unfolding returning
-unwritten_at (Some End) p seg system at none = reads_alike system.memory _ (terminated_alike p system) seg at
+unwritten_at (Some End) p seg system at none = reads_alike system.memory _ (ended_alike p system) seg at
 unwritten_at (Some Call) p seg system at none =
     call_leaves p seg system seg at (λ done. others_keep _ _ seg _ at (λ placed. none (placed_at _ _ _ p seg _ at done placed)))
 unwritten_at (Some Return) p seg system at none = refl
@@ -172,31 +174,31 @@ unwritten_at None p seg system at none =
 
 -- what the process that runs leaves
 
-own : (p home : ℕ) (system : System) (seg at : ℕ) → coming (counted system) ≡ None → system.kernel.running ≡ Some p → Lives system.kernel.procs p
-    → (process_in system.kernel.procs p).seg ≡ Some home → (IsWritten system home at → ⊥)
+own : (p home : ℕ) (system : System) (seg at : ℕ) → coming (counted system) ≡ None → system.kernel.dispatcher.running ≡ Some p → Lives system.kernel.dispatcher.procs p
+    → (process_in system.kernel.dispatcher.procs p).seg ≡ Some home → (IsWritten system home at → ⊥)
     → byte_at (acted_at (gate_before p home system) p home (counted system)).system.memory home at ≡ byte_at system.memory home at
 own p home system seg at quiet runs living there none =
     unwritten_at (gate_before p home system) p home (counted system) at
     (λ writes. none (record { quiet = quiet; who = p; runs = runs; lives = living; home = there; writes = writes }))
 
 segments_by : (running home : Option ℕ) (system : System) (seg at : ℕ) → coming (counted system) ≡ None
-    → system.kernel.running ≡ running → running_segment running system ≡ home
-    → ((p : ℕ) → running ≡ Some p → Lives system.kernel.procs p) → at < 49152 → (IsWritten system seg at → ⊥)
+    → system.kernel.dispatcher.running ≡ running → running_segment running system ≡ home
+    → ((p : ℕ) → running ≡ Some p → Lives system.kernel.dispatcher.procs p) → at < 49152 → (IsWritten system seg at → ⊥)
     → byte_at (acted_by running home (counted system)).system.memory seg at ≡ byte_at system.memory seg at
 segments_by None home system seg at quiet runs there living below none = refl
 segments_by (Some p) None system seg at quiet runs there living below none =
     reads_alike system.memory _ (resided_alike (native_in system.residents p) p (counted system)) seg at
 segments_by (Some p) (Some home) system seg at quiet runs there living below none = elim (cases_eq seg home) [
   | inl same ↦
-      let behind = (acted_at (gate_before p home system) p home (counted system)).system.memory in
+      let afterwards = (acted_at (gate_before p home system) p home (counted system)).system.memory in
       let unwritten : IsWritten system home at → ⊥ = subst (λ s. IsWritten system s at → ⊥) same none in
-      subst (λ s. byte_at behind s at ≡ byte_at system.memory s at) (sym same) (own p home system seg at quiet runs (living p refl) there unwritten)
+      subst (λ s. byte_at afterwards s at ≡ byte_at system.memory s at) (sym same) (own p home system seg at quiet runs (living p refl) there unwritten)
   | inr other ↦ elsewhere_at (gate_before p home system) p home (counted system) seg at other below
 ]
 
 common_by : (running home : Option ℕ) (system : System) (seg at : ℕ) → coming (counted system) ≡ None
-    → system.kernel.running ≡ running → running_segment running system ≡ home
-    → ((p : ℕ) → running ≡ Some p → Lives system.kernel.procs p) → 49152 ≤ at → ((s : ℕ) → IsWritten system s at → ⊥)
+    → system.kernel.dispatcher.running ≡ running → running_segment running system ≡ home
+    → ((p : ℕ) → running ≡ Some p → Lives system.kernel.dispatcher.procs p) → 49152 ≤ at → ((s : ℕ) → IsWritten system s at → ⊥)
     → byte_at (acted_by running home (counted system)).system.memory seg at ≡ byte_at system.memory seg at
 common_by None home system seg at quiet runs there living above none = refl
 common_by (Some p) None system seg at quiet runs there living above none =
@@ -216,7 +218,7 @@ segments_begun : (event : Option Event) (system : System) (seg at : ℕ) → IsW
     → at < 49152 → (IsWritten system seg at → ⊥) → byte_at (begun_by event (counted system)).system.memory seg at ≡ byte_at system.memory seg at
 unfolding acted
 segments_begun None system seg at w quiet below none =
-    let running = system.kernel.running in
+    let running = system.kernel.dispatcher.running in
     segments_by running _ system seg at quiet refl (sym (segment_of_begun running system)) (λ p runs. runner_lives system.kernel p w.sound runs) below none
 segments_begun (Some event) system seg at w comes below none = reads_alike system.memory _ (event_alike event (counted system)) seg at
 
@@ -224,97 +226,97 @@ common_begun : (event : Option Event) (system : System) (seg at : ℕ) → IsWho
     → 49152 ≤ at → ((home : ℕ) → IsWritten system home at → ⊥) → byte_at (begun_by event (counted system)).system.memory seg at ≡ byte_at system.memory seg at
 unfolding acted
 common_begun None system seg at w quiet above none =
-    let running = system.kernel.running in
+    let running = system.kernel.dispatcher.running in
     common_by running _ system seg at quiet refl (sym (segment_of_begun running system)) (λ p runs. runner_lives system.kernel p w.sound runs) above none
 common_begun (Some event) system seg at w comes above none = reads_alike system.memory _ (event_alike event (counted system)) seg at
 
 -- the reply to a held call that is completed leaves a byte where it isn't placed
 
 finished_memory : (seg p : ℕ) (system : System) → (finished (Some seg) p system).system.memory
-    ≡ placed (reply_at_entry (completion_reply system.kernel p) (call_of system.kernel.procs p) p system) (call_of system.kernel.procs p).word seg system.memory
+    ≡ placed (reply_at_entry (completion_reply system.kernel p) (call_of system.kernel.dispatcher.procs p) p system) (call_of system.kernel.dispatcher.procs p).word seg system.memory
 unfolding with_entry fulfilling answering_call replied
 finished_memory seg p system = refl
 
-unanswered : (p home : ℕ) (system : System) (at : ℕ) → Lives system.kernel.procs p → (process_in system.kernel.procs p).seg ≡ Some home
+unanswered : (p home : ℕ) (system : System) (at : ℕ) → Lives system.kernel.dispatcher.procs p → (process_in system.kernel.dispatcher.procs p).seg ≡ Some home
     → (Answers p system home at → ⊥)
-    → IsPlacedAt (reply_at_entry (completion_reply system.kernel p) (call_of system.kernel.procs p) p system) (call_of system.kernel.procs p).word at → ⊥
+    → IsPlacedAt (reply_at_entry (completion_reply system.kernel p) (call_of system.kernel.dispatcher.procs p) p system) (call_of system.kernel.dispatcher.procs p).word at → ⊥
 unanswered p home system at living there none places = none (record { lives = living; home = there; places = places })
 
-finished_segments : (home : Option ℕ) (p : ℕ) (system : System) (seg at : ℕ) → Lives system.kernel.procs p → (process_in system.kernel.procs p).seg ≡ home
+finished_segments : (home : Option ℕ) (p : ℕ) (system : System) (seg at : ℕ) → Lives system.kernel.dispatcher.procs p → (process_in system.kernel.dispatcher.procs p).seg ≡ home
     → at < 49152 → (Answers p system seg at → ⊥) → byte_at (finished home p system).system.memory seg at ≡ byte_at system.memory seg at
 finished_segments None p system seg at living there below none = refl
 finished_segments (Some home) p system seg at living there below none =
     ap (λ memory. byte_at memory seg at) (finished_memory home p system)
     ∙ elim (cases_eq seg home) [
       | inl same ↦
-          let behind = placed (reply_at_entry (completion_reply system.kernel p) (call_of system.kernel.procs p) p system) (call_of system.kernel.procs p).word home system.memory in
+          let afterwards = placed (reply_at_entry (completion_reply system.kernel p) (call_of system.kernel.dispatcher.procs p) p system) (call_of system.kernel.dispatcher.procs p).word home system.memory in
           let never : Answers p system home at → ⊥ = subst (λ s. Answers p system s at → ⊥) same none in
-          subst (λ s. byte_at behind s at ≡ byte_at system.memory s at) (sym same)
+          subst (λ s. byte_at afterwards s at ≡ byte_at system.memory s at) (sym same)
           (others_keep _ _ home system.memory at (unanswered p home system at living there never))
       | inr other ↦ segments_keep _ _ home system.memory seg at other below
     ]
 
-finished_common : (home : Option ℕ) (p : ℕ) (system : System) (seg at : ℕ) → Lives system.kernel.procs p → (process_in system.kernel.procs p).seg ≡ home
+finished_common : (home : Option ℕ) (p : ℕ) (system : System) (seg at : ℕ) → Lives system.kernel.dispatcher.procs p → (process_in system.kernel.dispatcher.procs p).seg ≡ home
     → 49152 ≤ at → ((s : ℕ) → Answers p system s at → ⊥) → byte_at (finished home p system).system.memory seg at ≡ byte_at system.memory seg at
 finished_common None p system seg at living there above none = refl
 finished_common (Some home) p system seg at living there above none =
     ap (λ memory. byte_at memory seg at) (finished_memory home p system)
     ∙ common_keeps _ _ home system.memory seg at above (unanswered p home system at living there (none home))
 
--- so do the replies to several, one behind another
+-- so do the replies to several, one after another
 
-lives_dequeued : (p : ℕ) (system : System) → IsWhole system → first_completed system.kernel.completed ≡ Some p → Lives (completion_dequeued system).kernel.procs p
+lives_dequeued : (p : ℕ) (system : System) → IsWhole system → first_completed system.kernel.dispatcher.completed ≡ Some p → Lives (completion_dequeued system).kernel.dispatcher.procs p
 lives_dequeued p system w first = dequeued_lives system.kernel p (completed_lives system.kernel p w.live first)
 
-among_segments : (ps : List ℕ) (system : System) (seg at : ℕ) → IsWhole system → system.kernel.completed ≡ ps → at < 49152
+among_segments : (ps : List ℕ) (system : System) (seg at : ℕ) → IsWhole system → system.kernel.dispatcher.completed ≡ ps → at < 49152
     → (AnswersAmong ps system seg at → ⊥) → byte_at (finishing ps system).system.memory seg at ≡ byte_at system.memory seg at
 unfolding finishing AnswersAmong
 among_segments [] system seg at w e below none = refl
 among_segments (p ∷ ps) system seg at w e below none =
     let first = ap first_completed e in
     among_segments ps (first_finished p system) seg at (whole_first p system w first) (left_completed p ps system e) below (λ later. none (inr later))
-    ∙ finished_segments (process_in system.kernel.procs p).seg p (completion_dequeued system) seg at (lives_dequeued p system w first) (home_dequeued system p) below (λ here. none (inl here))
+    ∙ finished_segments (process_in system.kernel.dispatcher.procs p).seg p (completion_dequeued system) seg at (lives_dequeued p system w first) (home_dequeued system p) below (λ here. none (inl here))
 
-among_common : (ps : List ℕ) (system : System) (seg at : ℕ) → IsWhole system → system.kernel.completed ≡ ps → 49152 ≤ at
+among_common : (ps : List ℕ) (system : System) (seg at : ℕ) → IsWhole system → system.kernel.dispatcher.completed ≡ ps → 49152 ≤ at
     → ((home : ℕ) → AnswersAmong ps system home at → ⊥) → byte_at (finishing ps system).system.memory seg at ≡ byte_at system.memory seg at
 unfolding finishing AnswersAmong
 among_common [] system seg at w e above none = refl
 among_common (p ∷ ps) system seg at w e above none =
     let first = ap first_completed e in
     among_common ps (first_finished p system) seg at (whole_first p system w first) (left_completed p ps system e) above (λ home later. none home (inr later))
-    ∙ finished_common (process_in system.kernel.procs p).seg p (completion_dequeued system) seg at (lives_dequeued p system w first) (home_dequeued system p) above (λ home here. none home (inl here))
+    ∙ finished_common (process_in system.kernel.dispatcher.procs p).seg p (completion_dequeued system) seg at (lives_dequeued p system w first) (home_dequeued system p) above (λ home here. none home (inl here))
 
 answers_segments : (system : System) (seg at : ℕ) → IsWhole system → at < 49152 → (AnswersOne system seg at → ⊥)
     → byte_at (all_finished system).system.memory seg at ≡ byte_at system.memory seg at
-answers_segments system seg at w below none = among_segments system.kernel.completed system seg at w refl below none
+answers_segments system seg at w below none = among_segments system.kernel.dispatcher.completed system seg at w refl below none
 
 answers_common : (system : System) (seg at : ℕ) → IsWhole system → 49152 ≤ at → ((home : ℕ) → AnswersOne system home at → ⊥)
     → byte_at (all_finished system).system.memory seg at ≡ byte_at system.memory seg at
-answers_common system seg at w above none = among_common system.kernel.completed system seg at w refl above none
+answers_common system seg at w above none = among_common system.kernel.dispatcher.completed system seg at w refl above none
 
 -- so do the ends that are due, each with the calls that it completes
 
-whole_at_end : (p : ℕ) (system : System) → IsWhole system → is_due system.kernel p ≡ true → IsWhole (terminated p system)
-whole_at_end p system w due = whole_due_end system (terminated p system) p w due refl
+whole_at_end : (p : ℕ) (system : System) → IsWhole system → is_due system.kernel p ≡ true → IsWhole (ended p system)
+whole_at_end p system w due = whole_due_end system (ended p system) p w due refl
 
 end_segments : (p : ℕ) (system : System) (seg at : ℕ) → IsWhole system → at < 49152 → (AnswersAtEnd p system seg at → ⊥)
-    → byte_at (terminated_if_due p system).system.memory seg at ≡ byte_at system.memory seg at
-unfolding terminated_if_due
+    → byte_at (ended_if_due p system).system.memory seg at ≡ byte_at system.memory seg at
+unfolding ended_if_due
 end_segments p system seg at w below none =
     either (λ (c : Change). byte_at c.system.memory seg at ≡ byte_at system.memory seg at) (is_due system.kernel p) _ _
     (λ due.
-    answers_segments (terminated p system) seg at (whole_at_end p system w due) below (λ answers. none (due, answers))
-    ∙ reads_alike system.memory _ (terminated_alike p system) seg at)
+    answers_segments (ended p system) seg at (whole_at_end p system w due) below (λ answers. none (due, answers))
+    ∙ reads_alike system.memory _ (ended_alike p system) seg at)
     (λ _. refl)
 
 end_common : (p : ℕ) (system : System) (seg at : ℕ) → IsWhole system → 49152 ≤ at → ((home : ℕ) → AnswersAtEnd p system home at → ⊥)
-    → byte_at (terminated_if_due p system).system.memory seg at ≡ byte_at system.memory seg at
-unfolding terminated_if_due
+    → byte_at (ended_if_due p system).system.memory seg at ≡ byte_at system.memory seg at
+unfolding ended_if_due
 end_common p system seg at w above none =
     either (λ (c : Change). byte_at c.system.memory seg at ≡ byte_at system.memory seg at) (is_due system.kernel p) _ _
     (λ due.
-    answers_common (terminated p system) seg at (whole_at_end p system w due) above (λ home answers. none home (due, answers))
-    ∙ reads_alike system.memory _ (terminated_alike p system) seg at)
+    answers_common (ended p system) seg at (whole_at_end p system w due) above (λ home answers. none home (due, answers))
+    ∙ reads_alike system.memory _ (ended_alike p system) seg at)
     (λ _. refl)
 
 ends_segments : (ps : List ℕ) (system : System) (seg at : ℕ) → IsWhole system → at < 49152 → (AnswersAtEnds ps system seg at → ⊥)
@@ -322,7 +324,7 @@ ends_segments : (ps : List ℕ) (system : System) (seg at : ℕ) → IsWhole sys
 unfolding due_terminated AnswersAtEnds
 ends_segments [] system seg at w below none = refl
 ends_segments (p ∷ ps) system seg at w below none =
-    ends_segments ps (terminated_if_due p system).system seg at (whole_if_due p system w) below (λ later. none (inr later))
+    ends_segments ps (ended_if_due p system).system seg at (whole_if_due p system w) below (λ later. none (inr later))
     ∙ end_segments p system seg at w below (λ here. none (inl here))
 
 ends_common : (ps : List ℕ) (system : System) (seg at : ℕ) → IsWhole system → 49152 ≤ at → ((home : ℕ) → AnswersAtEnds ps system home at → ⊥)
@@ -330,37 +332,37 @@ ends_common : (ps : List ℕ) (system : System) (seg at : ℕ) → IsWhole syste
 unfolding due_terminated AnswersAtEnds
 ends_common [] system seg at w above none = refl
 ends_common (p ∷ ps) system seg at w above none =
-    ends_common ps (terminated_if_due p system).system seg at (whole_if_due p system w) above (λ home later. none home (inr later))
+    ends_common ps (ended_if_due p system).system seg at (whole_if_due p system w) above (λ home later. none home (inr later))
     ∙ end_common p system seg at w above (λ home here. none home (inl here))
 
 -- so each byte that changes is written by the process that runs, or is of the reply to a held call
 
-settled_segments : (system : System) (seg at : ℕ) → IsWhole system → at < 49152 → (IsAnswered system seg at → ⊥) → IsWhole (behind_begun system)
-    → byte_at (settled (behind_begun system)).system.memory seg at ≡ byte_at (behind_begun system).memory seg at
+settled_segments : (system : System) (seg at : ℕ) → IsWhole system → at < 49152 → (IsAnswered system seg at → ⊥) → IsWhole (after_begun system)
+    → byte_at (settled (after_begun system)).system.memory seg at ≡ byte_at (after_begun system).memory seg at
 unfolding settled with_ends IsAnswered
-settled_segments system seg at w below none behind =
-    let begun = behind_begun system in
-    ends_segments (range_with_len 0 32) (all_finished begun).system seg at (whole_answered begun _ behind refl) below (λ later. none (inr later))
-    ∙ answers_segments begun seg at behind below (λ here. none (inl here))
+settled_segments system seg at w below none afterwards =
+    let begun = after_begun system in
+    ends_segments (range_with_len 0 32) (all_finished begun).system seg at (whole_answered begun _ afterwards refl) below (λ later. none (inr later))
+    ∙ answers_segments begun seg at afterwards below (λ here. none (inl here))
 
-settled_common : (system : System) (seg at : ℕ) → IsWhole system → 49152 ≤ at → ((home : ℕ) → IsAnswered system home at → ⊥) → IsWhole (behind_begun system)
-    → byte_at (settled (behind_begun system)).system.memory seg at ≡ byte_at (behind_begun system).memory seg at
+settled_common : (system : System) (seg at : ℕ) → IsWhole system → 49152 ≤ at → ((home : ℕ) → IsAnswered system home at → ⊥) → IsWhole (after_begun system)
+    → byte_at (settled (after_begun system)).system.memory seg at ≡ byte_at (after_begun system).memory seg at
 unfolding settled with_ends IsAnswered
-settled_common system seg at w above none behind =
-    let begun = behind_begun system in
-    ends_common (range_with_len 0 32) (all_finished begun).system seg at (whole_answered begun _ behind refl) above (λ home later. none home (inr later))
-    ∙ answers_common begun seg at behind above (λ home here. none home (inl here))
+settled_common system seg at w above none afterwards =
+    let begun = after_begun system in
+    ends_common (range_with_len 0 32) (all_finished begun).system seg at (whole_answered begun _ afterwards refl) above (λ home later. none home (inr later))
+    ∙ answers_common begun seg at afterwards above (λ home here. none home (inl here))
 
 pub step_is_contained : (system : System) → IsWhole system → IsContained system (step_of system).system
 unfolding step_of with_settled
 step_is_contained system w =
-    let behind = whole_behind_begun (counted system) (behind_begun system) (whole_counted system w) refl in
+    let afterwards = whole_after_begun (counted system) (after_begun system) (whole_counted system w) refl in
     record {
       segments = λ seg at below unwritten unanswered.
-          settled_segments system seg at w below unanswered behind
+          settled_segments system seg at w below unanswered afterwards
           ∙ segments_begun (coming (counted system)) system seg at w refl below unwritten;
       common = λ seg at above unwritten unanswered.
-          settled_common system seg at w above unanswered behind
+          settled_common system seg at w above unanswered afterwards
           ∙ common_begun (coming (counted system)) system seg at w refl above unwritten;
     }
 

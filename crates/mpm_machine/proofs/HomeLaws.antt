@@ -163,12 +163,12 @@ pub record LeavesHomes (old new : Memory) (procs : Table) : Type 0 where
   pub all : (seg : ℕ) → IsHome old seg → IsHome new seg
   pub lived : (seg : ℕ) → IsHome old seg → is_home procs seg ≡ true → IsOccupied old seg → IsOccupied new seg
 
-pub leaves_without : (memory : Memory) (kernel : Kernel) (p : ℕ) → LeavesHomes memory (memory_without memory kernel p) (discharged kernel p).procs
+pub leaves_without : (memory : Memory) (kernel : Kernel) (p : ℕ) → LeavesHomes memory (memory_without memory kernel p) (discharged kernel p).dispatcher.procs
 unfolding memory_without
 leaves_without memory kernel p =
     let released = keeps_all_released memory p in
-    let procs = (discharged kernel p).procs in
-    let seg = (process_in kernel.procs p).seg in
+    let procs = (discharged kernel p).dispatcher.procs in
+    let seg = (process_in kernel.dispatcher.procs p).seg in
     record {
       all = λ other home. places_vacated (all_released memory p) procs seg other (released.all other home);
       lived = λ other home there h. lived_vacated (all_released memory p) procs seg other there (released.lived other home h);

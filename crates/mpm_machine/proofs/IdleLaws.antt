@@ -11,14 +11,14 @@ use Rattle.mpm_machine.proofs.QuietLaws.{none_comes, step_still, picked_same}
 
 -- nothing is done
 
-nothing_acted : (system : System) → system.kernel.running ≡ None → acted system ≡ silent system
+nothing_acted : (system : System) → system.kernel.dispatcher.running ≡ None → acted system ≡ silent system
 unfolding acted
 nothing_acted system idle = ap (λ o. acted_by o (running_segment o system) system) idle
 
 -- what is so of a system that is idle for n steps
 pub record Idles (system : System) (n : ℕ) : Type 0 where
   pub idle : 0 < n → IsIdle system
-  pub no_completions : system.kernel.completed ≡ []
+  pub no_completions : system.kernel.dispatcher.completed ≡ []
   pub settled : NobodyAborted system.kernel
   pub none_deferred : system.abort_deferred ≡ false
   pub quiet : Quiet n system
@@ -54,16 +54,16 @@ after_idle (suc n) s on =
     let on_more : Idles s.system (n + 1) = subst (Idles s.system) (sym (add-one n)) on in
     ap next (after_idle n s (fewer s.system n on_more)) ∙ idle_next s n on_more ∙ ap (λ k. record s { system = later s.system k }) (add-one n)
 
--- what a machine stands for behind them
+-- what a machine stands for after them
 pub idle_stands : (n : ℕ) (old new : System) (kept : Kept) (written : Option (List ℕ)) (s : State) (first : Option (List ℕ))
     → Idles old n → new ≡ later old n → StandsFor old kept written s first → StandsFor new kept written (after n s) first
 idle_stands n old new kept written s first on is stands =
-    let behind = after_idle n s (subst (λ (system : System). Idles system n) stands.parts on) in
+    let afterwards = after_idle n s (subst (λ (system : System). Idles system n) stands.parts on) in
     let whole : new ≡ later s.system n = is ∙ ap (λ system. later system n) stands.parts in
     let P : State → Type 0 = λ t. StandsFor new kept written t first in
-    subst P (sym behind) (record { parts = whole; shown = stands.shown })
+    subst P (sym afterwards) (record { parts = whole; shown = stands.shown })
 
--- and its system is the one behind so many steps
+-- and its system is the one after so many steps
 pub idle_system : (n : ℕ) (old new : System) → Idles old n → new ≡ later old n → new ≡ system_after n old
 idle_system n old new on is = is ∙ sym (ap (λ (s : State). s.system) (after_idle n (record { system = old; outputs = [] }) on))
 

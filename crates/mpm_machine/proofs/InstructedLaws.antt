@@ -13,11 +13,11 @@ use Rattle.mpm_processor.specs.declared.gate.Gate.{Gate}
 use Rattle.mpm_machine.specs.State.{Change, silent}
 use Rattle.mpm_machine.specs.Due.{with_ends}
 use Rattle.mpm_machine.specs.Serving.{with_regs}
-use Rattle.mpm_machine.specs.Step.{ran, instructed, instruction_at, acted_at, acted_by, acted, running_segment, is_no_gate, instruction_by, at_instruction, counted, dispatched, step_of}
+use Rattle.mpm_machine.specs.Step.{instructed, executed, instruction_at, acted_at, acted_by, acted, running_segment, is_no_gate, instruction_by, at_instruction, counted, dispatched, step_of}
 use Rattle.mpm_machine.specs.Contained.{Instructs, OnlyInstructed}
 use Rattle.mpm_machine.proofs.QuietLaws.{step_quiet}
 
--- a device is ready behind an instruction only where it was before
+-- a device is ready after an instruction only where it was before
 
 clears_one : (ready : List Bool) (k device : ℕ) → get_or (set ready k false) device false ≡ true → get_or ready device false ≡ true
 clears_one [] k device h = h
@@ -45,12 +45,12 @@ only_ready actions devices =
 
 -- a step that is an instruction does that alone
 
-runs_listed : (outcome : Option Outcome) (p seg : ℕ) (system : System) → IsSome outcome → instructed outcome p seg system ≡ silent (ran outcome p seg system)
-unfolding instructed
+runs_listed : (outcome : Option Outcome) (p seg : ℕ) (system : System) → IsSome outcome → executed outcome p seg system ≡ silent (instructed outcome p seg system)
+unfolding executed
 runs_listed None p seg system some = absurd (cc)
 runs_listed (Some outcome) p seg system some = refl
 
-acts : (system : System) (p seg : ℕ) → Instructs system p seg → acted (counted system) ≡ silent (ran (instruction_at p seg system) p seg (counted system))
+acts : (system : System) (p seg : ℕ) → Instructs system p seg → acted (counted system) ≡ silent (instructed (instruction_at p seg system) p seg (counted system))
 unfolding acted
 acts system p seg i =
     let begun = counted system in
@@ -67,29 +67,29 @@ by_instruction system p seg i =
     ∙ ap (λ home. instruction_by (Some p) home begun) i.home
     ∙ ap is_no_gate i.no_gate
 
-step_instructs : (system : System) (p seg : ℕ) → Instructs system p seg → system.kernel.completed ≡ [] → OnlyInstructed p system (step_of system).system
-unfolding ran
+step_instructs : (system : System) (p seg : ℕ) → Instructs system p seg → system.kernel.dispatcher.completed ≡ [] → OnlyInstructed p system (step_of system).system
+unfolding instructed
 step_instructs system p seg i no_completions =
     let outcome = instruction_at p seg system in
     let begun = counted system in
     let actions = actions_of outcome in
     let devices = devices_after actions system.kernel.devices in
-    let regs = registers_after outcome (process_in system.kernel.procs p).regs in
-    let behind = ran outcome p seg begun in
+    let regs = registers_after outcome (process_in system.kernel.dispatcher.procs p).regs in
+    let afterwards = instructed outcome p seg begun in
     record {
       regs = regs;
       ready = devices.ready;
       memory = memory_after actions seg system.memory;
       clears = λ device h. clears_all actions system.kernel.devices device h;
       bytes = same_segments_after actions seg system.memory;
-      is = ap (λ (change : Change). change.system) (step_quiet system behind i.quiet (acts system p seg i) no_completions)
-          ∙ ap (λ b. (dispatched b (with_ends behind)).system) (by_instruction system p seg i)
+      is = ap (λ (change : Change). change.system) (step_quiet system afterwards i.quiet (acts system p seg i) no_completions)
+          ∙ ap (λ b. (dispatched b (with_ends afterwards)).system) (by_instruction system p seg i)
           ∙ ap (λ (d : Devices). (dispatched true (with_ends (record begun {
             kernel = with_regs (record system.kernel { devices = d }) p regs;
             memory = memory_after actions seg system.memory;
           }))).system) (only_ready actions system.kernel.devices);
     }
 
-pub instructs_only : (old new : System) (p seg : ℕ) → Instructs old p seg → old.kernel.completed ≡ [] → new ≡ (step_of old).system
+pub instructs_only : (old new : System) (p seg : ℕ) → Instructs old p seg → old.kernel.dispatcher.completed ≡ [] → new ≡ (step_of old).system
     → OnlyInstructed p old new
 instructs_only old new p seg i no_completions is = subst (OnlyInstructed p old) (sym is) (step_instructs old p seg i no_completions)

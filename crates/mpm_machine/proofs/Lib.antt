@@ -1,4 +1,5 @@
 pub mod InterruptLaws
+pub mod ChangeLaws
 pub mod SayingLaws
 pub mod HomeLaws
 pub mod EntryLaws

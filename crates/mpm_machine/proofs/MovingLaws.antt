@@ -13,7 +13,8 @@ use Rattle.mpm_procs.specs.Table.{lives, Lives, process_in, with_process}
 use Rattle.mpm_procs.specs.Opening.{blank}
 use Rattle.mpm_procs.specs.declared.process.Process.{Process}
 use Rattle.mpm_procs.proofs.MapLaws.{lives_below, lives_changed, process_changed, process_kept}
-use Rattle.mpm_kernel.specs.Kernel.{Kernel, ready}
+use Rattle.mpm_dispatcher.specs.Dispatch.{ready, with_procs}
+use Rattle.mpm_kernel.specs.Kernel.{Kernel, dispatched}
 use Rattle.mpm_kernel.proofs.SoundLaws.{sound_devices, runner_lives}
 use Rattle.mpm_kernel.proofs.HomeLaws.{homes_stay}
 use Rattle.mpm_processor.specs.declared.gate.Gate.{Gate}
@@ -24,7 +25,7 @@ use Rattle.mpm_machine.specs.declared.system.System.{System}
 use Rattle.mpm_machine.specs.Gates.{is_inside}
 use Rattle.mpm_machine.specs.State.{State, Change, StandsFor, IsWhole, NobodyAborted, silent}
 use Rattle.mpm_machine.specs.Serving.{with_regs}
-use Rattle.mpm_machine.specs.Step.{ran, instructed, instruction_at, acted_at, gate_before, acted_by, acted, running_segment, at_instruction, coming, counted, step_of, next, after, system_after}
+use Rattle.mpm_machine.specs.Step.{instructed, executed, instruction_at, acted_at, gate_before, acted_by, acted, running_segment, at_instruction, coming, counted, step_of, next, after, system_after}
 use Rattle.mpm_interrupts.specs.Interrupts.{due}
 use Rattle.mpm_machine.specs.Moving.{Moved, view_of, with_view, RunsOn, Quiet}
 use Rattle.mpm_machine.proofs.HomeLaws.{KeepsHomes, keeps_itself, keeps_both, keeps_acted}
@@ -32,7 +33,7 @@ use Rattle.mpm_machine.proofs.WholeLaws.{same_regs, whole_kernel, whole_memory, 
 use Rattle.mpm_machine.proofs.StepLaws.{after_nothing}
 use Rattle.mpm_machine.proofs.QuietLaws.{none_comes, step_still, picked_same}
 
--- a view that a process already has, and one behind another
+-- a view that a process already has, and one after another
 
 view_itself : (system : System) (p : ℕ) → with_view system p (view_of system p) 0 ≡ system
 unfolding with_view
@@ -40,33 +41,33 @@ view_itself system p =
     ap (λ (kernel : Kernel). record system { steps = system.steps + 0; kernel = kernel }) (same_regs system.kernel p)
     ∙ ap (λ (n : ℕ). record system { steps = n }) (omega arith)
 
-regs_of_view : (system : System) (p n : ℕ) (view : View) → p < length system.kernel.procs.processes
-    → process_in (with_view system p view n).kernel.procs p ≡ record (process_in system.kernel.procs p) { regs = view.regs }
+regs_of_view : (system : System) (p n : ℕ) (view : View) → p < length system.kernel.dispatcher.procs.processes
+    → process_in (with_view system p view n).kernel.dispatcher.procs p ≡ record (process_in system.kernel.dispatcher.procs p) { regs = view.regs }
 unfolding with_view
-regs_of_view system p n view below = process_changed system.kernel.procs p (record (process_in system.kernel.procs p) { regs = view.regs }) below
+regs_of_view system p n view below = process_changed system.kernel.dispatcher.procs p (record (process_in system.kernel.dispatcher.procs p) { regs = view.regs }) below
 
 -- registers that change twice are the last ones
-regs_twice : (kernel : Kernel) (p : ℕ) (first last : Regs) → p < length kernel.procs.processes
+regs_twice : (kernel : Kernel) (p : ℕ) (first last : Regs) → p < length kernel.dispatcher.procs.processes
     → with_regs (with_regs kernel p first) p last ≡ with_regs kernel p last
 unfolding with_process
 regs_twice kernel p first last below =
-    let old = process_in kernel.procs p in
-    let once = with_process kernel.procs p (record old { regs = first }) in
-    let at : process_in once p ≡ record old { regs = first } = get_or-set_same kernel.procs.processes p _ blank below in
-    ap (λ (process : Process). record kernel { procs = with_process once p (record process { regs = last }) }) at
-    ∙ ap (λ processes. record kernel { procs = record kernel.procs { processes = processes } }) (set-set kernel.procs.processes p _ _)
+    let old = process_in kernel.dispatcher.procs p in
+    let once = with_process kernel.dispatcher.procs p (record old { regs = first }) in
+    let at : process_in once p ≡ record old { regs = first } = get_or-set_same kernel.dispatcher.procs.processes p _ blank below in
+    ap (λ (process : Process). dispatched (with_procs (with_process once p (record process { regs = last }))) kernel) at
+    ∙ ap (λ processes. dispatched (with_procs (record kernel.dispatcher.procs { processes = processes })) kernel) (set-set kernel.dispatcher.procs.processes p _ _)
 
 -- an instruction makes one view of another
 
-ran_view : (system : System) (p seg n : ℕ) (view : View) → p < length system.kernel.procs.processes
-    → ran (instruction_in seg view) p seg (counted (with_view system p view n)) ≡ with_view system p (moved seg view) (n + 1)
-unfolding ran with_view
+ran_view : (system : System) (p seg n : ℕ) (view : View) → p < length system.kernel.dispatcher.procs.processes
+    → instructed (instruction_in seg view) p seg (counted (with_view system p view n)) ≡ with_view system p (moved seg view) (n + 1)
+unfolding instructed with_view
 ran_view system p seg n view below =
     let outcome = instruction_in seg view in
     let next = moved seg view in
     let kernel = record system.kernel { devices = next.devices } in
-    let old = process_in system.kernel.procs p in
-    let at : process_in (with_view system p view n).kernel.procs p ≡ record old { regs = view.regs } = regs_of_view system p n view below in
+    let old = process_in system.kernel.dispatcher.procs p in
+    let at : process_in (with_view system p view n).kernel.dispatcher.procs p ≡ record old { regs = view.regs } = regs_of_view system p n view below in
     ap (λ (regs : Regs). record system {
       steps = system.steps + n + 1;
       kernel = with_regs (with_regs kernel p view.regs) p (registers_after outcome regs);
@@ -75,32 +76,32 @@ ran_view system p seg n view below =
     ∙ ap (λ (k : Kernel). record system { steps = system.steps + n + 1; kernel = k; memory = next.memory }) (regs_twice kernel p view.regs next.regs below)
     ∙ ap (λ steps. record system { steps = steps; kernel = with_regs kernel p next.regs; memory = next.memory }) (omega arith)
 
-instructed_some : (outcome : Option Outcome) (p seg : ℕ) (system : System) → IsSome outcome → instructed outcome p seg system ≡ silent (ran outcome p seg system)
-unfolding instructed
+instructed_some : (outcome : Option Outcome) (p seg : ℕ) (system : System) → IsSome outcome → executed outcome p seg system ≡ silent (instructed outcome p seg system)
+unfolding executed
 instructed_some None p seg system some = absurd (cc)
 instructed_some (Some outcome) p seg system some = refl
 
 -- the step is that instruction
 
-acted_view : (system : System) (p seg n : ℕ) (view : View) → p < length system.kernel.procs.processes → RunsOn system p seg
-    → CanMove (is_inside system.kernel.procs p) seg view
+acted_view : (system : System) (p seg n : ℕ) (view : View) → p < length system.kernel.dispatcher.procs.processes → RunsOn system p seg
+    → CanMove (is_inside system.kernel.dispatcher.procs p) seg view
     → acted (counted (with_view system p view n)) ≡ silent (with_view system p (moved seg view) (n + 1))
 unfolding acted with_view
 acted_view system p seg n view below on can =
     let begun = counted (with_view system p view n) in
     let at = regs_of_view system p n view below in
-    let regs : (process_in begun.kernel.procs p).regs ≡ view.regs = ap (λ (process : Process). process.regs) at in
-    let home : (process_in begun.kernel.procs p).seg ≡ Some seg = ap (λ (process : Process). process.seg) at ∙ on.home in
-    let inside : is_inside begun.kernel.procs p ≡ is_inside system.kernel.procs p = ap (λ (process : Process). is_some process.procedure) at in
+    let regs : (process_in begun.kernel.dispatcher.procs p).regs ≡ view.regs = ap (λ (process : Process). process.regs) at in
+    let home : (process_in begun.kernel.dispatcher.procs p).seg ≡ Some seg = ap (λ (process : Process). process.seg) at ∙ on.home in
+    let inside : is_inside begun.kernel.dispatcher.procs p ≡ is_inside system.kernel.dispatcher.procs p = ap (λ (process : Process). is_some process.procedure) at in
     let gate : gate_before p seg begun ≡ None =
-    ap (λ b. gate_of b view.memory seg (process_in begun.kernel.procs p).regs.pc) inside
-    ∙ ap (λ (r : Regs). gate_of (is_inside system.kernel.procs p) view.memory seg r.pc) regs ∙ can.no_gate in
+    ap (λ b. gate_of b view.memory seg (process_in begun.kernel.dispatcher.procs p).regs.pc) inside
+    ∙ ap (λ (r : Regs). gate_of (is_inside system.kernel.dispatcher.procs p) view.memory seg r.pc) regs ∙ can.no_gate in
     let there : instruction_at p seg begun ≡ instruction_in seg view =
     ap (λ r. instruction r (byte_at view.memory seg) (port_byte view.devices)) regs in
     ap (λ running. acted_by running (running_segment running begun) begun) on.running
     ∙ ap (λ segment. acted_by (Some p) segment begun) home
     ∙ ap (λ (g : Option Gate). acted_at g p seg begun) gate
-    ∙ ap (λ outcome. instructed outcome p seg begun) there
+    ∙ ap (λ outcome. executed outcome p seg begun) there
     ∙ instructed_some (instruction_in seg view) p seg begun can.listed
     ∙ ap silent (ran_view system p seg n view below)
 
@@ -113,21 +114,21 @@ quiet_view system p n view quiet = none_comes (counted (with_view system p view 
 
 -- and nobody is aborted in them
 
-nobody_view : (kernel : Kernel) (devices : Devices) (p : ℕ) (regs : Regs) → p < length kernel.procs.processes → NobodyAborted kernel
+nobody_view : (kernel : Kernel) (devices : Devices) (p : ℕ) (regs : Regs) → p < length kernel.dispatcher.procs.processes → NobodyAborted kernel
     → NobodyAborted (with_regs (record kernel { devices = devices }) p regs)
 nobody_view kernel devices p regs below none = λ q.
-    let process = record (process_in kernel.procs p) { regs = regs } in
-    let procs = with_process kernel.procs p process in
-    let same : (process_in procs q).abort_due ≡ (process_in kernel.procs q).abort_due = elim (cases_eq q p) [
+    let process = record (process_in kernel.dispatcher.procs p) { regs = regs } in
+    let procs = with_process kernel.dispatcher.procs p process in
+    let same : (process_in procs q).abort_due ≡ (process_in kernel.dispatcher.procs q).abort_due = elim (cases_eq q p) [
       | inl equal ↦
-          ap (λ (x : Process). x.abort_due) (ap (process_in procs) equal ∙ process_changed kernel.procs p process below)
-          ∙ ap (λ n. (process_in kernel.procs n).abort_due) (sym equal)
-      | inr other ↦ ap (λ (x : Process). x.abort_due) (process_kept kernel.procs p q process other)
+          ap (λ (x : Process). x.abort_due) (ap (process_in procs) equal ∙ process_changed kernel.dispatcher.procs p process below)
+          ∙ ap (λ n. (process_in kernel.dispatcher.procs n).abort_due) (sym equal)
+      | inr other ↦ ap (λ (x : Process). x.abort_due) (process_kept kernel.dispatcher.procs p q process other)
     ] in
-    ap (λ b. b && (process_in procs q).abort_due) (lives_changed kernel.procs p q process) ∙ ap (λ b. lives kernel.procs q && b) same ∙ none q
+    ap (λ b. b && (process_in procs q).abort_due) (lives_changed kernel.dispatcher.procs p q process) ∙ ap (λ b. lives kernel.dispatcher.procs q && b) same ∙ none q
 
-step_view : (system : System) (p seg n : ℕ) (view : View) → p < length system.kernel.procs.processes → RunsOn system p seg
-    → CanMove (is_inside system.kernel.procs p) seg view
+step_view : (system : System) (p seg n : ℕ) (view : View) → p < length system.kernel.dispatcher.procs.processes → RunsOn system p seg
+    → CanMove (is_inside system.kernel.dispatcher.procs p) seg view
     → due (system.steps + n + 1) system.interrupts ≡ None
     → step_of (with_view system p view n) ≡ silent (with_view system p (moved seg view) (n + 1))
 unfolding with_view
@@ -143,16 +144,16 @@ step_view system p seg n view below on can quiet =
 with_system : State → System → State
 with_system s system = record s { system = system }
 
-next_view : (s : State) (p seg n : ℕ) (view : View) → p < length s.system.kernel.procs.processes → RunsOn s.system p seg
-    → CanMove (is_inside s.system.kernel.procs p) seg view
+next_view : (s : State) (p seg n : ℕ) (view : View) → p < length s.system.kernel.dispatcher.procs.processes → RunsOn s.system p seg
+    → CanMove (is_inside s.system.kernel.dispatcher.procs p) seg view
     → due (s.system.steps + n + 1) s.system.interrupts ≡ None
     → next (with_system s (with_view s.system p view n)) ≡ with_system s (with_view s.system p (moved seg view) (n + 1))
 unfolding next with_system
 next_view s p seg n view below on can quiet =
     ap (λ (change : Change). record { system = change.system; outputs = change.emitted ++ s.outputs }) (step_view s.system p seg n view below on can quiet)
 
-after_moves : (n : ℕ) (s : State) (p seg : ℕ) → p < length s.system.kernel.procs.processes → RunsOn s.system p seg
-    → ((k : ℕ) → k < n → CanMove (is_inside s.system.kernel.procs p) seg (moves k seg (view_of s.system p))) → Quiet n s.system
+after_moves : (n : ℕ) (s : State) (p seg : ℕ) → p < length s.system.kernel.dispatcher.procs.processes → RunsOn s.system p seg
+    → ((k : ℕ) → k < n → CanMove (is_inside s.system.kernel.dispatcher.procs p) seg (moves k seg (view_of s.system p))) → Quiet n s.system
     → after n s ≡ with_system s (with_view s.system p (moves n seg (view_of s.system p)) n)
 unfolding moves after with_system
 after_moves zero s p seg below on each quiet = ap (λ system. record s { system = system }) (sym (view_itself s.system p))
@@ -162,8 +163,8 @@ after_moves (suc n) s p seg below on each quiet =
     ∙ next_view s p seg n view below on (each n (omega arith)) (quiet n (omega arith))
     ∙ ap (λ count. record s { system = with_view s.system p (moved seg view) count }) (add-one n)
 
-pub runs_on : (system : System) (p seg : ℕ) → IsWhole system → system.kernel.running ≡ Some p → first_of (list_at system.kernel.lists ready) ≡ Some p
-    → (process_in system.kernel.procs p).seg ≡ Some seg → system.kernel.completed ≡ [] → system.abort_deferred ≡ false → RunsOn system p seg
+pub runs_on : (system : System) (p seg : ℕ) → IsWhole system → system.kernel.dispatcher.running ≡ Some p → first_of (list_at system.kernel.dispatcher.lists ready) ≡ Some p
+    → (process_in system.kernel.dispatcher.procs p).seg ≡ Some seg → system.kernel.dispatcher.completed ≡ [] → system.abort_deferred ≡ false → RunsOn system p seg
 runs_on system p seg w running first home no_completions off =
     record { running = running; first = first; home = home; no_completions = no_completions; none_deferred = off; settled = w.settled off }
 
@@ -172,43 +173,43 @@ pub quiet_steps : (n quiet : ℕ) (system : System) → n ≤ quiet
     → ((step : ℕ) → step ≤ system.steps + quiet → system.steps < step → due step system.interrupts ≡ None) → Quiet n system
 quiet_steps n quiet system few none = λ k below. none (system.steps + k + 1) (omega (arith, few, below)) (omega arith)
 
--- what a machine stands for behind them
+-- what a machine stands for after them
 pub moved_stands : (n p seg : ℕ) (old new : System) (kept : Kept) (written : Option (List ℕ)) (s : State) (first : Option (List ℕ))
     → IsWhole old → RunsOn old p seg → Moved n p seg old new → Quiet n old → StandsFor old kept written s first
     → StandsFor new kept written (after n s) first
 unfolding with_system
 moved_stands n p seg old new kept written s first w on moved quiet stands =
-    let below : p < length old.kernel.procs.processes =
-    omega (arith, w.sound.slots.processes, lives_below old.kernel.procs p w.sound.slots (runner_lives old.kernel p w.sound on.running)) in
-    let P : System → Type 0 = λ system. (p < length system.kernel.procs.processes) × RunsOn system p seg
-    × ((k : ℕ) → k < n → CanMove (is_inside system.kernel.procs p) seg (moves k seg (view_of system p))) × Quiet n system in
+    let below : p < length old.kernel.dispatcher.procs.processes =
+    omega (arith, w.sound.slots.processes, lives_below old.kernel.dispatcher.procs p w.sound.slots (runner_lives old.kernel p w.sound on.running)) in
+    let P : System → Type 0 = λ system. (p < length system.kernel.dispatcher.procs.processes) × RunsOn system p seg
+    × ((k : ℕ) → k < n → CanMove (is_inside system.kernel.dispatcher.procs p) seg (moves k seg (view_of system p))) × Quiet n system in
     let facts : P s.system = subst P stands.parts (below, on, moved.moves.each, quiet) in
-    let behind = after_moves n s p seg facts.0 facts.1 facts.2 facts.3 in
+    let afterwards = after_moves n s p seg facts.0 facts.1 facts.2 facts.3 in
     let whole : new ≡ with_view s.system p (moves n seg (view_of s.system p)) n =
     moved.is ∙ ap (λ v. with_view old p v n) moved.moves.is ∙ ap (λ system. with_view system p (moves n seg (view_of system p)) n) stands.parts in
     let Q : State → Type 0 = λ t. StandsFor new kept written t first in
-    subst Q (sym behind) (record { parts = whole; shown = stands.shown })
+    subst Q (sym afterwards) (record { parts = whole; shown = stands.shown })
 
--- and its system is the one behind so many steps
+-- and its system is the one after so many steps
 pub moved_system : (n p seg : ℕ) (old new : System) → IsWhole old → RunsOn old p seg → Moved n p seg old new → Quiet n old → new ≡ system_after n old
 unfolding with_system
 moved_system n p seg old new w on moved quiet =
     let start : State = record { system = old; outputs = [] } in
-    let below : p < length old.kernel.procs.processes =
-    omega (arith, w.sound.slots.processes, lives_below old.kernel.procs p w.sound.slots (runner_lives old.kernel p w.sound on.running)) in
+    let below : p < length old.kernel.dispatcher.procs.processes =
+    omega (arith, w.sound.slots.processes, lives_below old.kernel.dispatcher.procs p w.sound.slots (runner_lives old.kernel p w.sound on.running)) in
     moved.is ∙ ap (λ v. with_view old p v n) moved.moves.is
     ∙ sym (ap (λ (s : State). s.system) (after_moves n start p seg below on moved.moves.each quiet))
 
 -- a machine that ran so is whole
-whole_view : (system : System) (p n : ℕ) (view : View) → IsWhole system → Lives system.kernel.procs p → KeepsHomes system.memory view.memory
+whole_view : (system : System) (p n : ℕ) (view : View) → IsWhole system → Lives system.kernel.dispatcher.procs p → KeepsHomes system.memory view.memory
     → IsWhole (with_view system p view n)
 unfolding with_view
 whole_view system p n view w h keeps =
     let polled = record system.kernel { devices = view.devices } in
     let before = whole_kernel system polled w (sound_devices system.kernel view.devices w.sound) w.live (homes_stay _ _ refl) in
     let changed = whole_regs p view.regs (record system { kernel = polled }) before h in
-    let behind = whole_memory _ view.memory changed.whole keeps in
-    whole_steps _ (system.steps + n) behind
+    let afterwards = whole_memory _ view.memory changed.whole keeps in
+    whole_steps _ (system.steps + n) afterwards
 
 keeps_moved : (n seg : ℕ) (view : View) → KeepsHomes view.memory (moves n seg view).memory
 unfolding moves
@@ -217,8 +218,8 @@ keeps_moved (suc n) seg view =
     let before = moves n seg view in
     keeps_both view.memory before.memory _ (keeps_moved n seg view) (keeps_acted (actions_of (instruction_in seg before)) seg before.memory)
 
-pub whole_behind : (n p seg : ℕ) (old new : System) → IsWhole old → Lives old.kernel.procs p → Moved n p seg old new → IsWhole new
-whole_behind n p seg old new w h on =
+pub whole_moved : (n p seg : ℕ) (old new : System) → IsWhole old → Lives old.kernel.dispatcher.procs p → Moved n p seg old new → IsWhole new
+whole_moved n p seg old new w h on =
     let keeps : KeepsHomes old.memory on.view.memory =
     subst (λ (view : View). KeepsHomes old.memory view.memory) (sym on.moves.is) (keeps_moved n seg (view_of old p)) in
     subst IsWhole (sym on.is) (whole_view old p n on.view w h keeps)
@@ -231,10 +232,10 @@ stands_still system kept written s first stands =
     let P : State → Type 0 = λ t. StandsFor system kept written t first in
     subst P (sym (after_nothing s)) stands
 
-pub steps_behind : (n p seg : ℕ) (old new : System) → Moved n p seg old new → new.steps ≡ old.steps + n
+pub steps_moved : (n p seg : ℕ) (old new : System) → Moved n p seg old new → new.steps ≡ old.steps + n
 unfolding with_view
-steps_behind n p seg old new moved = ap (λ (system : System). system.steps) moved.is
+steps_moved n p seg old new moved = ap (λ (system : System). system.steps) moved.is
 
-pub no_completions_behind : (n p seg : ℕ) (old new : System) → Moved n p seg old new → old.kernel.completed ≡ [] → new.kernel.completed ≡ []
+pub no_completions_moved : (n p seg : ℕ) (old new : System) → Moved n p seg old new → old.kernel.dispatcher.completed ≡ [] → new.kernel.dispatcher.completed ≡ []
 unfolding with_view
-no_completions_behind n p seg old new moved no_completions = ap (λ (system : System). system.kernel.completed) moved.is ∙ no_completions
+no_completions_moved n p seg old new moved no_completions = ap (λ (system : System). system.kernel.dispatcher.completed) moved.is ∙ no_completions

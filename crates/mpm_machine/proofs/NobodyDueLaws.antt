@@ -1,4 +1,4 @@
--- Behind each step nobody's end by an abort is due: the ends that are due come by rising slot, and none makes that of a lower
+-- After each step nobody's end by an abort is due: the ends that are due come by rising slot, and none makes that of a lower
 -- slot due, since it takes nobody's message of a mutual exclusion queue.
 use Rattle.std.proofs.Common.{◌≡◌, ◌≢◌, ◌∙◌, ℕ, zero, suc, ◌+◌, ◌<◌, Bool, true, false, not, ◌&&◌, List, [], ◌∷◌, Option, Some, None, inl, inr, refl, sym, ap, subst, arith}
 use Rattle.std.proofs.lemmas.Bool.{false≢true, cases_eq, cases_lt}
@@ -11,8 +11,8 @@ use Rattle.mpm_procs.specs.declared.process.Process.{Process}
 use Rattle.mpm_procs.proofs.MapLaws.{lives_below}
 use Rattle.mpm_queues.specs.Queues.{Queues, holds, lowest_held}
 use Rattle.mpm_queues.proofs.Finding.{lowest_passes, lowest_none}
-use Rattle.mpm_kernel.specs.Kernel.{Kernel, IsSound, is_aborted, with_changed}
-use Rattle.mpm_kernel.specs.Dispatch.{picked}
+use Rattle.mpm_kernel.specs.Kernel.{Kernel, IsSound, is_aborted, with_changed, dispatched}
+use Rattle.mpm_dispatcher.specs.Dispatch.{picked}
 use Rattle.mpm_kernel.specs.Waiting.{completion_reply}
 use Rattle.mpm_kernel.specs.Ending.{discharged}
 use Rattle.mpm_kernel.proofs.HomeLaws.{aborted_changed, aborted_handed_out, queues_handed_out}
@@ -22,23 +22,23 @@ use Rattle.mpm_xdos.specs.Aborting.{waits_to_end}
 use Rattle.mpm_xdos.specs.Procedures.{entering, entered}
 use Rattle.mpm_machine.specs.declared.system.System.{System}
 use Rattle.mpm_machine.specs.State.{Change, IsWhole}
-use Rattle.mpm_machine.specs.Ending.{terminated}
+use Rattle.mpm_machine.specs.Ending.{ended}
 use Rattle.mpm_machine.specs.Serving.{is_entry, with_entry, reply_at_entry, fulfilling, answering_call, replied}
 use Rattle.mpm_machine.specs.Finishing.{finished, completion_dequeued, finishing, all_finished}
-use Rattle.mpm_machine.specs.Due.{is_due, NobodyDue, terminated_if_due, due_terminated, all_due_terminated, with_ends, settled}
+use Rattle.mpm_machine.specs.Due.{is_due, NobodyDue, ended_if_due, due_terminated, all_due_terminated, with_ends, settled}
 use Rattle.mpm_machine.specs.Step.{coming, begun_by, instruction_unless, with_settled, counted, step_of}
 use Rattle.mpm_machine.proofs.FinishLaws.{first_finished}
-use Rattle.mpm_machine.proofs.WholeStepLaws.{due_lives, whole_if_due, whole_due_terminated, whole_answered, whole_counted, whole_behind_begun}
+use Rattle.mpm_machine.proofs.WholeStepLaws.{due_lives, whole_if_due, whole_due_terminated, whole_answered, whole_counted, whole_after_begun}
 
 -- as many ends are put off as before, and the queues are the same, so that the same ends are due
 record SameEnds (old new : Kernel) : Type 0 where
-  pub aborted : (q : ℕ) → is_aborted new.procs q ≡ is_aborted old.procs q
+  pub aborted : (q : ℕ) → is_aborted new.dispatcher.procs q ≡ is_aborted old.dispatcher.procs q
   pub queues : new.queues ≡ old.queues
 
 due_same : (old new : Kernel) (q : ℕ) → SameEnds old new → is_due new q ≡ is_due old q
 due_same old new q same =
     ap (λ b. b && not (waits_to_end new q false)) (same.aborted q)
-    ∙ ap (λ (queues : Queues). is_aborted old.procs q && not (is_some (lowest_held queues q))) same.queues
+    ∙ ap (λ (queues : Queues). is_aborted old.dispatcher.procs q && not (is_some (lowest_held queues q))) same.queues
 
 same_itself : (kernel : Kernel) → SameEnds kernel kernel
 same_itself kernel = record { aborted = λ q. refl; queues = refl }
@@ -47,7 +47,7 @@ same_both : (old middle new : Kernel) → SameEnds old middle → SameEnds middl
 same_both old middle new first second =
     record { aborted = λ q. second.aborted q ∙ first.aborted q; queues = second.queues ∙ first.queues }
 
-same_changed : (kernel : Kernel) (p : ℕ) (process : Process) → process.abort_due ≡ (process_in kernel.procs p).abort_due
+same_changed : (kernel : Kernel) (p : ℕ) (process : Process) → process.abort_due ≡ (process_in kernel.dispatcher.procs p).abort_due
     → SameEnds kernel (with_changed kernel p process)
 same_changed kernel p process same = record { aborted = λ q. aborted_changed kernel p q process same; queues = refl }
 
@@ -74,13 +74,13 @@ same_fulfilled reply call p seg system =
 
 same_finished : (seg : Option ℕ) (p : ℕ) (system : System) → SameEnds system.kernel (finished seg p system).system.kernel
 same_finished None p system = same_itself system.kernel
-same_finished (Some seg) p system = same_fulfilled (completion_reply system.kernel p) (call_of system.kernel.procs p) p seg system
+same_finished (Some seg) p system = same_fulfilled (completion_reply system.kernel p) (call_of system.kernel.dispatcher.procs p) p seg system
 
 same_first : (p : ℕ) (system : System) → SameEnds system.kernel (first_finished p system).kernel
 same_first p system =
     let dequeued = completion_dequeued system in
     same_both system.kernel dequeued.kernel _ (record { aborted = aborted_handed_out system.kernel; queues = queues_handed_out system.kernel })
-    (same_finished (process_in system.kernel.procs p).seg p dequeued)
+    (same_finished (process_in system.kernel.dispatcher.procs p).seg p dequeued)
 
 same_finishing : (ps : List ℕ) (system : System) → SameEnds system.kernel (finishing ps system).system.kernel
 unfolding finishing
@@ -106,36 +106,36 @@ not_due true true true false aborts keeps none = absurd (false≢true (keeps ref
 not_due true true false false aborts keeps none = absurd (false≢true (sym none))
 not_due false true held false aborts keeps none = absurd (false≢true (aborts refl))
 
-not_due_still : (old new : Kernel) (p : ℕ) → (is_aborted new.procs p ≡ true → is_aborted old.procs p ≡ true)
+not_due_still : (old new : Kernel) (p : ℕ) → (is_aborted new.dispatcher.procs p ≡ true → is_aborted old.dispatcher.procs p ≡ true)
     → ((q : ℕ) → holds old.queues p q ≡ true → holds new.queues p q ≡ true) → is_due old p ≡ false → is_due new p ≡ false
 not_due_still old new p aborts kept none =
-    not_due (is_aborted old.procs p) (is_aborted new.procs p) (waits_to_end old p false) (waits_to_end new p false) aborts
+    not_due (is_aborted old.dispatcher.procs p) (is_aborted new.dispatcher.procs p) (waits_to_end old p false) (waits_to_end new p false) aborts
     (still_some old.queues new.queues p (lowest_held old.queues p) (lowest_held new.queues p) refl refl kept) none
 
--- so an end makes nobody's end due, and its own isn't due behind it
+-- so an end makes nobody's end due, and its own isn't due after it
 
-others_stay : (p other : ℕ) (system : System) → IsWhole system → Lives system.kernel.procs p → other ≢ p → is_due system.kernel other ≡ false
-    → is_due (terminated p system).kernel other ≡ false
-unfolding terminated
+others_stay : (p other : ℕ) (system : System) → IsWhole system → Lives system.kernel.dispatcher.procs p → other ≢ p → is_due system.kernel other ≡ false
+    → is_due (ended p system).kernel other ≡ false
+unfolding ended
 others_stay p other system w h apart none =
     not_due_still system.kernel (discharged system.kernel p) other ((homes_discharged system.kernel p w.sound h).aborts other)
     (λ q held. still_held system.kernel p other q w.sound h apart held) none
 
-own_is_over : (p : ℕ) (system : System) → IsWhole system → Lives system.kernel.procs p → is_due (terminated p system).kernel p ≡ false
-unfolding terminated
+own_is_over : (p : ℕ) (system : System) → IsWhole system → Lives system.kernel.dispatcher.procs p → is_due (ended p system).kernel p ≡ false
+unfolding ended
 own_is_over p system w h =
-    let behind = discharged system.kernel p in
-    ap (λ b. (b && (process_in behind.procs p).abort_due) && not (waits_to_end behind p false)) (dead_discharged system.kernel p w.sound h)
+    let afterwards = discharged system.kernel p in
+    ap (λ b. (b && (process_in afterwards.dispatcher.procs p).abort_due) && not (waits_to_end afterwards p false)) (dead_discharged system.kernel p w.sound h)
 
 -- and nobody of a slot up to its own is
 
-behind_one : (slot p : ℕ) (system : System) → IsWhole system → (p ≢ slot → is_due system.kernel p ≡ false)
-    → is_due (terminated_if_due slot system).system.kernel p ≡ false
-unfolding terminated_if_due
-behind_one slot p system w others =
-    let gone = terminated slot system in
+after_one : (slot p : ℕ) (system : System) → IsWhole system → (p ≢ slot → is_due system.kernel p ≡ false)
+    → is_due (ended_if_due slot system).system.kernel p ≡ false
+unfolding ended_if_due
+after_one slot p system w others =
+    let gone = ended slot system in
     either (λ (c : Change). is_due c.system.kernel p ≡ false) (is_due system.kernel slot) _ _
-    (λ due. due_same gone.kernel (all_finished gone).system.kernel p (same_finishing gone.kernel.completed gone) ∙ elim (cases_eq p slot) [
+    (λ due. due_same gone.kernel (all_finished gone).system.kernel p (same_finishing gone.kernel.dispatcher.completed gone) ∙ elim (cases_eq p slot) [
       | inl same ↦ ap (is_due gone.kernel) same ∙ own_is_over slot system w (due_lives system.kernel slot due)
       | inr apart ↦ others_stay slot p system w (due_lives system.kernel slot due) apart (others apart)
     ])
@@ -152,8 +152,8 @@ nobody_below : (n slot : ℕ) (system : System) → IsWhole system → NobodyBel
 unfolding due_terminated
 nobody_below zero slot system w none = λ p below. none p (omega (arith, below))
 nobody_below (suc n) slot system w none = λ p below.
-    nobody_below n (slot + 1) (terminated_if_due slot system).system (whole_if_due slot system w)
-    (λ q less. behind_one slot q system w (λ apart. none q (omega (arith, less, apart)))) p (omega (arith, below))
+    nobody_below n (slot + 1) (ended_if_due slot system).system (whole_if_due slot system w)
+    (λ q less. after_one slot q system w (λ apart. none q (omega (arith, less, apart)))) p (omega (arith, below))
 
 -- there are no more slots
 
@@ -165,7 +165,7 @@ nobody_at_all : (kernel : Kernel) → IsSound kernel → NobodyBelow 32 kernel �
 unfolding NobodyDue
 nobody_at_all kernel s none = λ p. elim (cases_lt p 32) [
   | inl below ↦ none p below
-  | inr past ↦ unless_true (is_due kernel p) (λ due. omega (arith, past, lives_below kernel.procs p s.slots (due_lives kernel p due)))
+  | inr past ↦ unless_true (is_due kernel p) (λ due. omega (arith, past, lives_below kernel.dispatcher.procs p s.slots (due_lives kernel p due)))
 ]
 
 due_with_ends : (system : System) → IsWhole system → NobodyDue (with_ends system).system.kernel
@@ -180,7 +180,7 @@ due_settled system w = due_with_ends (all_finished system).system (whole_answere
 
 -- a step
 
-due_picked : (instruction : Bool) (kernel : Kernel) → NobodyDue kernel → NobodyDue (picked instruction kernel)
+due_picked : (instruction : Bool) (kernel : Kernel) → NobodyDue kernel → NobodyDue (dispatched (picked instruction) kernel)
 unfolding NobodyDue
 due_picked instruction kernel none = λ p. none p
 
@@ -190,8 +190,8 @@ nobody_due_step system w =
     let begun = counted system in
     let first = (begun_by (coming begun) begun).system in
     due_picked (instruction_unless (coming begun) begun) (settled first).system.kernel
-    (due_settled first (whole_behind_begun begun first (whole_counted system w) refl))
+    (due_settled first (whole_after_begun begun first (whole_counted system w) refl))
 
-pub nobody_due_behind : (old new : System) → IsWhole old → new ≡ (step_of old).system → NobodyDue new.kernel
-nobody_due_behind old new w is =
+pub nobody_due_stepped : (old new : System) → IsWhole old → new ≡ (step_of old).system → NobodyDue new.kernel
+nobody_due_stepped old new w is =
     let P : System → Type 0 = λ s. NobodyDue s.kernel in subst P (sym is) (nobody_due_step old w)

@@ -20,19 +20,21 @@ use Rattle.mpm_procs.specs.declared.process.NewProcess.{NewProcess}
 use Rattle.mpm_procs.proofs.CountLaws.{living_added, full_from_none}
 use Rattle.mpm_procs.proofs.MapLaws.{nobody_lives, free_below, free_is_dead, lives_added, lives_added_other, process_added, process_added_other}
 use Rattle.std.specs.List.{AllByRecursion}
-use Rattle.mpm_kernel.specs.Kernel.{Kernel, CompletedLive, is_aborted}
-use Rattle.mpm_kernel.specs.Dispatch.{new_kernel, admitted, picked}
+use Rattle.mpm_kernel.specs.Kernel.{Kernel, CompletedLive, is_aborted, new_kernel, dispatched}
+use Rattle.mpm_dispatcher.specs.Dispatch.{admitted, picked, new_dispatcher}
 use Rattle.mpm_kernel.proofs.SoundLaws.{sound_new, sound_admitted, sound_picked}
 use Rattle.mpm_kernel.specs.Consoling.{given}
 use Rattle.mpm_kernel.proofs.GivingLaws.{sound_gave, procs_gave, completed_gave}
 use Rattle.mpm_kernel.proofs.JoinedLaws.{consoles_gave}
+use Rattle.mpm_kernel.proofs.EnsuredLaws.{many_new}
 use Rattle.mpm_kernel.proofs.HomeLaws.{aborts_admitted, opening_home}
 use Rattle.mpm_script.specs.declared.event.Timed.{Timed}
 use Rattle.mpm_script.specs.Events.{IsTimed}
 use Rattle.mpm_residents.specs.declared.native.Native.{Native}
 use Rattle.mpm_machine_file.specs.MachineFiles.{IsSegment}
 use Rattle.mpm_machine_file.specs.declared.machine_file.MachineFile.{MachineFile}
-use Rattle.mpm_processor.specs.Gates.{IsHome, last_page}
+use Rattle.mpm_banks.specs.Gates.{last_page}
+use Rattle.mpm_processor.specs.Gates.{IsHome}
 use Rattle.mpm_machine.specs.declared.system.System.{System}
 use Rattle.mpm_interrupts.specs.declared.interrupts.Interrupts.{Interrupts}
 use Rattle.mpm_machine.specs.State.{IsOccupied, IsWhole}
@@ -58,59 +60,59 @@ laid_out_is_there memory seg program there = omega (arith, (same_segments_laid_o
 -- the system is whole
 
 -- what is so of the segment in which a process begins, and of those in which others live, is so of each one's
-homes_admitted : (P : ℕ → Type 0) (kernel : Kernel) (p seg : ℕ) (new : NewProcess) → HasSlots kernel.procs → lowest_free kernel.procs ≡ Some p
+homes_admitted : (P : ℕ → Type 0) (kernel : Kernel) (p seg : ℕ) (new : NewProcess) → HasSlots kernel.dispatcher.procs → lowest_free kernel.dispatcher.procs ≡ Some p
     → new.seg ≡ Some seg → P seg
-    → ((q other : ℕ) → Lives kernel.procs q → (process_in kernel.procs q).seg ≡ Some other → P other)
-    → (q other : ℕ) → Lives (added kernel.procs p new) q → (process_in (added kernel.procs p new) q).seg ≡ Some other → P other
+    → ((q other : ℕ) → Lives kernel.dispatcher.procs q → (process_in kernel.dispatcher.procs q).seg ≡ Some other → P other)
+    → (q other : ℕ) → Lives (added kernel.dispatcher.procs p new) q → (process_in (added kernel.dispatcher.procs p new) q).seg ≡ Some other → P other
 homes_admitted P kernel p seg new slots free is home homes q other living there = elim (cases_eq q p) [
   | inl equal ↦
-      let at : process_in (added kernel.procs p new) q ≡ opening new =
-      ap (process_in (added kernel.procs p new)) equal
-      ∙ process_added kernel.procs p new (omega (arith, slots.processes, slots.alive, free_below kernel.procs p free)) in
+      let at : process_in (added kernel.dispatcher.procs p new) q ≡ opening new =
+      ap (process_in (added kernel.dispatcher.procs p new)) equal
+      ∙ process_added kernel.dispatcher.procs p new (omega (arith, slots.processes, slots.alive, free_below kernel.dispatcher.procs p free)) in
       let seat : Some seg ≡ Some other = sym is ∙ sym (opening_home new) ∙ ap (λ x. x.seg) (sym at) ∙ there in
       subst P (same_Some seg other seat) home
   | inr another ↦
-      homes q other (sym (lives_added_other kernel.procs p q new another) ∙ living)
-      (ap (λ x. x.seg) (sym (process_added_other kernel.procs p q new another)) ∙ there)
+      homes q other (sym (lives_added_other kernel.dispatcher.procs p q new another) ∙ living)
+      (ap (λ x. x.seg) (sym (process_added_other kernel.dispatcher.procs p q new another)) ∙ there)
 ]
 
-nobody_completed : (kernel : Kernel) → kernel.completed ≡ [] → CompletedLive kernel
+nobody_completed : (kernel : Kernel) → kernel.dispatcher.completed ≡ [] → CompletedLive kernel
 nobody_completed kernel none =
-    let P : List ℕ → Type 0 = λ ps. AllByRecursion (λ p. Lives kernel.procs p) ps in
+    let P : List ℕ → Type 0 = λ ps. AllByRecursion (λ p. Lives kernel.dispatcher.procs p) ps in
     subst P (sym none) tt
 
 pub whole_placed : (system : System) (p seg : ℕ) (name : Name8) (priority console : ℕ) (program : List ℕ) → MayPlace system seg console (length program)
-    → lowest_free system.kernel.procs ≡ Some p → IsWhole (with_placed system p seg name priority console program)
-unfolding with_placed placed_process admitted
+    → lowest_free system.kernel.dispatcher.procs ≡ Some p → IsWhole (with_placed system p seg name priority console program)
+unfolding with_placed placed_process
 whole_placed system p seg name priority console program may free =
     let w = may.bare.whole in
     let new = placed_process (spec_of system.memory seg) seg name priority console in
     let memory = laid_out system.memory seg program in
     let keeps : KeepsHomes system.memory (occupied memory seg) =
     keeps_both _ memory _ (keeps_same _ _ (same_segments_laid_out system.memory seg program)) (keeps_occupied memory seg) in
-    let begun = admitted system.kernel p new in
+    let begun = dispatched (admitted p new) system.kernel in
     let kernel = given console None (Some p) begun in
-    let same : (picked false kernel).procs ≡ begun.procs = procs_gave console None (Some p) begun in
+    let same : (dispatched (picked false) kernel).dispatcher.procs ≡ begun.dispatcher.procs = procs_gave console None (Some p) begun in
     let laid = same_segments_laid_out system.memory seg program in
     let here : IsOccupied (occupied memory seg) seg = allocation_of_allocated memory seg Occupied (omega (arith, laid.count, may.home.exists)) in
     let homes = homes_admitted (IsHome (occupied memory seg)) system.kernel p seg new w.sound.slots free refl (keeps.all seg may.home)
     (λ q other living there. keeps.all other (w.homes q other living there)) in
     let lived = homes_admitted (IsOccupied (occupied memory seg)) system.kernel p seg new w.sound.slots free refl here
     (λ q other living there. keeps.lived other (w.homes q other living there) (w.lived q other living there)) in
-    let alive = λ (q : ℕ) (living : Lives (picked false kernel).procs q). ap (λ procs. lives procs q) (sym same) ∙ living in
+    let alive = λ (q : ℕ) (living : Lives (dispatched (picked false) kernel).dispatcher.procs q). ap (λ procs. lives procs q) (sym same) ∙ living in
     record {
       sound = sound_picked kernel false (sound_gave console None (Some p) begun (sound_admitted system.kernel p new w.sound free may.has_console) may.has_console
-          (lives_added system.kernel.procs p new (free_below system.kernel.procs p free)));
-      live = nobody_completed (picked false kernel) (completed_gave console None (Some p) begun ∙ may.bare.no_completions);
+          (lives_added system.kernel.dispatcher.procs p new (free_below system.kernel.dispatcher.procs p free)));
+      live = nobody_completed (dispatched (picked false) kernel) (completed_gave console None (Some p) begun ∙ may.bare.no_completions);
       script = w.script;
-      settled = λ off. nobody_more system.kernel (picked false kernel)
+      settled = λ off. nobody_more system.kernel (dispatched (picked false) kernel)
           (λ q due. aborts_admitted system.kernel p new w.sound.slots free q (ap (λ procs. is_aborted procs q) (sym same) ∙ due)) (w.settled off);
       homes = λ q other living there. homes q other (alive q living) (ap (λ procs. (process_in procs q).seg) (sym same) ∙ there);
       lived = λ q other living there. lived q other (alive q living) (ap (λ procs. (process_in procs q).seg) (sym same) ∙ there);
     }
 
 whole_booted : (file : MachineFile) (events : List Timed) → 1 ≤ file.consoles → file.consoles ≤ 8 → file.printers ≤ 4 → All IsTimed events → IsWhole (booted file events)
-unfolding booted new_kernel
+unfolding booted new_kernel new_dispatcher
 whole_booted file events some few printers script = record {
   live = tt;
   script = script;
@@ -175,18 +177,18 @@ occupied_count memory seg there empty =
     let set = sum_by-set bit memory.segments seg (record (segment_of memory seg) { allocation = Occupied }) no_segment there in
     omega (arith, set, ap one_if empty)
 
-pub slot_is_free : (system : System) (seg console size : ℕ) → MayPlace system seg console size → IsSome (lowest_free system.kernel.procs)
-slot_is_free system seg console size may = some_free (lowest_free system.kernel.procs) (λ none.
-    let full = full_from_none system.kernel.procs may.bare.whole.sound.slots none in
+pub slot_is_free : (system : System) (seg console size : ℕ) → MayPlace system seg console size → IsSome (lowest_free system.kernel.dispatcher.procs)
+slot_is_free system seg console size may = some_free (lowest_free system.kernel.dispatcher.procs) (λ none.
+    let full = full_from_none system.kernel.dispatcher.procs may.bare.whole.sound.slots none in
     let most = count_by-le-length is_occupied system.memory.segments in
     omega (arith, full, most, may.bare.few, may.bare.counted))
 
 bare_placed : (system : System) (p seg : ℕ) (name : Name8) (priority console : ℕ) (program : List ℕ) → MayPlace system seg console (length program)
-    → lowest_free system.kernel.procs ≡ Some p → IsBare (with_placed system p seg name priority console program)
-unfolding with_placed placed_process admitted
+    → lowest_free system.kernel.dispatcher.procs ≡ Some p → IsBare (with_placed system p seg name priority console program)
+unfolding with_placed placed_process
 bare_placed system p seg name priority console program may free =
     let new = placed_process (spec_of system.memory seg) seg name priority console in
-    let begun = admitted system.kernel p new in
+    let begun = dispatched (admitted p new) system.kernel in
     let kernel = given console None (Some p) begun in
     let memory = laid_out system.memory seg program in
     let same = same_segments_laid_out system.memory seg program in
@@ -194,7 +196,7 @@ bare_placed system p seg name priority console program may free =
     let empty : is_occupied (segment_of memory seg) ≡ false = ap is_lived_in (same.allocation seg) ∙ may.empty in
     let count = occupied_count memory seg there empty in
     let before = count_same memory.segments system.memory.segments same.count same.allocation in
-    let more = living_added system.kernel.procs p new (free_below system.kernel.procs p free) (free_is_dead system.kernel.procs p free) in
+    let more = living_added system.kernel.dispatcher.procs p new (free_below system.kernel.dispatcher.procs p free) (free_is_dead system.kernel.dispatcher.procs p free) in
     record {
       whole = whole_placed system p seg name priority console program may free;
       no_completions = completed_gave console None (Some p) begun ∙ may.bare.no_completions;
@@ -203,22 +205,22 @@ bare_placed system p seg name priority console program may free =
       counted = omega (arith, ap living (procs_gave console None (Some p) begun), more, count, before, may.bare.counted);
     }
 
--- the machine behind a placement
+-- the machine after a placement
 pub placed_is_bare : (old : System) (kernel : Kernel) (memory laid : Memory) (new : NewProcess) (p seg : ℕ) (name : Name8) (priority console : ℕ) (program : List ℕ)
-    → MayPlace old seg console (length program) → lowest_free old.kernel.procs ≡ Some p
-    → new ≡ placed_process (spec_of old.memory seg) seg name priority console → kernel ≡ picked false (given new.console None (Some p) (admitted old.kernel p new))
+    → MayPlace old seg console (length program) → lowest_free old.kernel.dispatcher.procs ≡ Some p
+    → new ≡ placed_process (spec_of old.memory seg) seg name priority console → kernel ≡ dispatched (picked false) (given new.console None (Some p) (dispatched (admitted p new) old.kernel))
     → laid ≡ laid_out old.memory seg program → memory ≡ occupied laid seg → IsBare (record old { kernel = kernel; memory = memory })
 unfolding with_placed placed_process
 placed_is_bare old kernel memory laid new p seg name priority console program may free process is written lived =
     let whole : record old { kernel = kernel; memory = memory } ≡ with_placed old p seg name priority console program =
-    ap (λ k. record old { kernel = k; memory = memory }) (is ∙ ap (λ (n : NewProcess). picked false (given n.console None (Some p) (admitted old.kernel p n))) process)
-    ∙ ap (λ m. record old { kernel = picked false (given console None (Some p) (admitted old.kernel p (placed_process (spec_of old.memory seg) seg name priority console))); memory = m })
+    ap (λ k. record old { kernel = k; memory = memory }) (is ∙ ap (λ (n : NewProcess). dispatched (picked false) (given n.console None (Some p) (dispatched (admitted p n) old.kernel))) process)
+    ∙ ap (λ m. record old { kernel = dispatched (picked false) (given console None (Some p) (dispatched (admitted p (placed_process (spec_of old.memory seg) seg name priority console)) old.kernel)); memory = m })
     (lived ∙ ap (λ m. occupied m seg) written) in
     subst IsBare (sym whole) (bare_placed old p seg name priority console program may free)
 
 pub booted_is_bare : (file : MachineFile) (events : List Timed) → 1 ≤ file.consoles → file.consoles ≤ 8 → file.printers ≤ 4 → length file.segments ≤ 16
     → All IsTimed events → IsBare (booted file events)
-unfolding booted new_kernel new_memory living no_processes
+unfolding booted new_kernel new_dispatcher new_memory living no_processes
 booted_is_bare file events some few printers count script = record {
   whole = whole_booted file events some few printers script;
   no_completions = refl;
@@ -232,7 +234,7 @@ pub may_place_booted : (file : MachineFile) (events : List Timed) (seg console s
     → length file.segments ≤ 16 → All IsTimed events → All IsSegment file.segments → seg < length file.segments → console < file.consoles
     → size + 640 ≤ 256 * (get_or file.segments seg (record { base = 0; pages = 0 })).pages
     → MayPlace (booted file events) seg console size
-unfolding booted new_kernel new_memory
+unfolding booted new_kernel new_dispatcher new_memory
 may_place_booted file events seg console size some few printers count script fit h has_console room =
     let segments = file.segments in
     let none : SegmentSpec = record { base = 0; pages = 0 } in
@@ -241,15 +243,15 @@ may_place_booted file events seg console size some few printers count script fit
       bare = booted_is_bare file events some few printers count script;
       home = home_bare segments seg fit h;
       empty = ap is_occupied at;
-      has_console = has_console;
+      has_console = let P : ℕ → Type 0 = λ n. console < n in subst P (sym (many_new file.consoles file.printers (moment_of file))) has_console;
       room = omega (arith, ap (λ (s : Segment). s.pages) at, room);
     }
 
 -- one that can be placed elsewhere still can
 pub may_place_again : (system : System) (p seg : ℕ) (name : Name8) (priority console : ℕ) (program : List ℕ) (other next size : ℕ)
-    → MayPlace system seg console (length program) → lowest_free system.kernel.procs ≡ Some p → other ≢ seg → MayPlace system other next size
+    → MayPlace system seg console (length program) → lowest_free system.kernel.dispatcher.procs ≡ Some p → other ≢ seg → MayPlace system other next size
     → MayPlace (with_placed system p seg name priority console program) other next size
-unfolding with_placed admitted
+unfolding with_placed
 may_place_again system p seg name priority console program other next size may free apart again =
     let new = placed_process (spec_of system.memory seg) seg name priority console in
     let memory = laid_out system.memory seg program in
@@ -262,7 +264,7 @@ may_place_again system p seg name priority console program other next size may f
       empty = ap is_occupied there ∙ ap is_lived_in (same.allocation other) ∙ again.empty;
       has_console = omega (
         arith,
-        consoles_gave console None (Some p) (admitted system.kernel p new),
+        consoles_gave console None (Some p) (dispatched (admitted p new) system.kernel),
         again.has_console,
       );
       room = omega (arith, ap (λ (s : Segment). s.pages) there, same.pages other, again.room);
@@ -304,8 +306,8 @@ pub booted_program : (file : MachineFile) (events : List Timed) (machine : Syste
     → machine ≡ booted program_file []
 booted_program file events machine is was none = is ∙ ap (λ f. booted f events) was ∙ ap (booted program_file) none
 
-first_slot : lowest_free (booted program_file []).kernel.procs ≡ Some 0
-unfolding booted new_kernel lowest_free no_processes
+first_slot : lowest_free (booted program_file []).kernel.dispatcher.procs ≡ Some 0
+unfolding booted new_kernel new_dispatcher lowest_free no_processes
 first_slot = refl
 
 pub opening_is_bare : (program : List ℕ) → length program ≤ 48512 → IsBare (opening_system program)
@@ -315,10 +317,10 @@ opening_is_bare program few =
 
 -- it is process 0
 pub opening_is : (program : List ℕ) (p : ℕ) (machine old : System) → old ≡ booted program_file []
-    → lowest_free old.kernel.procs ≡ Some p → machine ≡ with_placed old p 0 (record { 0 = codes "PROGRAM " }) 200 0 program → machine ≡ opening_system program
-unfolding opening_system booted new_kernel lowest_free no_processes
+    → lowest_free old.kernel.dispatcher.procs ≡ Some p → machine ≡ with_placed old p 0 (record { 0 = codes "PROGRAM " }) 200 0 program → machine ≡ opening_system program
+unfolding opening_system booted new_kernel new_dispatcher lowest_free no_processes
 opening_is program p machine old is free placed =
-    let first : Some 0 ≡ Some p = sym (ap (λ (s : System). lowest_free s.kernel.procs) is) ∙ free in
+    let first : Some 0 ≡ Some p = sym (ap (λ (s : System). lowest_free s.kernel.dispatcher.procs) is) ∙ free in
     let name : Name8 = record { 0 = codes "PROGRAM " } in
     placed
     ∙ ap (λ n. with_placed old n 0 name 200 0 program) (sym (same_Some 0 p first))

@@ -5,8 +5,8 @@ use Rattle.mpm_ready.specs.Order.{first_of}
 use Rattle.mpm_ready.specs.Tables.{list_at}
 use Rattle.mpm_dispatcher.proofs.ReadyLaws.{same_runner}
 use Rattle.mpm_script.specs.declared.event.Event.{Event}
-use Rattle.mpm_kernel.specs.Kernel.{Kernel, ready}
-use Rattle.mpm_kernel.specs.Dispatch.{picked}
+use Rattle.mpm_dispatcher.specs.Dispatch.{ready, picked}
+use Rattle.mpm_kernel.specs.Kernel.{Kernel, dispatched as with_dispatcher}
 use Rattle.mpm_interrupts.specs.Interrupts.{due}
 use Rattle.mpm_machine.specs.declared.system.System.{System}
 use Rattle.mpm_machine.specs.State.{Change, silent, NobodyAborted}
@@ -23,14 +23,14 @@ comes_not false event e = refl
 
 pub none_comes : (system : System) → due system.steps system.interrupts ≡ None → coming system ≡ None
 unfolding coming
-none_comes system none = comes_not (lets_in system.kernel.running system.kernel) (due system.steps system.interrupts) none
+none_comes system none = comes_not (lets_in system.kernel.dispatcher.running system.kernel) (due system.steps system.interrupts) none
 
 -- nothing is to be finished where nobody was completed
-finished_silent : (system : System) → system.kernel.completed ≡ [] → all_finished system ≡ silent system
+finished_silent : (system : System) → system.kernel.dispatcher.completed ≡ [] → all_finished system ≡ silent system
 unfolding finishing
 finished_silent system e = ap (λ ps. finishing ps system) e
 
-settled_silent : (system : System) → system.kernel.completed ≡ [] → with_settled (silent system) ≡ with_ends system
+settled_silent : (system : System) → system.kernel.dispatcher.completed ≡ [] → with_settled (silent system) ≡ with_ends system
 unfolding with_settled settled
 settled_silent system e =
     ap (λ (answered : Change). record {
@@ -42,22 +42,22 @@ settled_silent system e =
 
 -- where no event comes, and what the running process does says nothing and completes nobody, the step is that, and the ends
 -- that are due
-pub step_quiet : (system behind : System) → coming (counted system) ≡ None → acted (counted system) ≡ silent behind → behind.kernel.completed ≡ []
-    → step_of system ≡ dispatched (at_instruction (counted system)) (with_ends behind)
+pub step_quiet : (system afterwards : System) → coming (counted system) ≡ None → acted (counted system) ≡ silent afterwards → afterwards.kernel.dispatcher.completed ≡ []
+    → step_of system ≡ dispatched (at_instruction (counted system)) (with_ends afterwards)
 unfolding step_of
-step_quiet system behind quiet acts no_completions =
+step_quiet system afterwards quiet acts no_completions =
     let begun = counted system in
     ap (λ event. dispatched (instruction_unless event begun) (with_settled (begun_by event begun))) quiet
     ∙ ap (λ change. dispatched (at_instruction begun) (with_settled change)) acts
-    ∙ ap (dispatched (at_instruction begun)) (settled_silent behind no_completions)
+    ∙ ap (dispatched (at_instruction begun)) (settled_silent afterwards no_completions)
 
 -- where besides nobody is aborted, the step is that alone
-pub step_still : (system behind : System) → coming (counted system) ≡ None → acted (counted system) ≡ silent behind → behind.kernel.completed ≡ []
-    → NobodyAborted behind.kernel → behind.abort_deferred ≡ false → step_of system ≡ dispatched (at_instruction (counted system)) (silent behind)
-step_still system behind quiet acts no_completions none off =
-    step_quiet system behind quiet acts no_completions ∙ ap (dispatched (at_instruction (counted system))) (no_ends behind none off)
+pub step_still : (system afterwards : System) → coming (counted system) ≡ None → acted (counted system) ≡ silent afterwards → afterwards.kernel.dispatcher.completed ≡ []
+    → NobodyAborted afterwards.kernel → afterwards.abort_deferred ≡ false → step_of system ≡ dispatched (at_instruction (counted system)) (silent afterwards)
+step_still system afterwards quiet acts no_completions none off =
+    step_quiet system afterwards quiet acts no_completions ∙ ap (dispatched (at_instruction (counted system))) (no_ends afterwards none off)
 
 -- who runs and is the first of the ready list is picked again, or nobody where there is none
-pub picked_same : (instruction : Bool) (kernel : Kernel) → first_of (list_at kernel.lists ready) ≡ kernel.running → picked instruction kernel ≡ kernel
+pub picked_same : (instruction : Bool) (kernel : Kernel) → first_of (list_at kernel.dispatcher.lists ready) ≡ kernel.dispatcher.running → with_dispatcher (picked instruction) kernel ≡ kernel
 picked_same instruction kernel first =
-    ap (λ (running : Option ℕ). record kernel { running = running }) (same_runner instruction kernel.procs kernel.lists kernel.running first)
+    ap (λ (running : Option ℕ). record kernel { dispatcher = record kernel.dispatcher { running = running } }) (same_runner instruction kernel.dispatcher.procs kernel.dispatcher.lists kernel.dispatcher.running first)

@@ -4,13 +4,14 @@ use Rattle.std.proofs.lemmas.Bool.{false≢true}
 use Rattle.mpm_base.specs.Calls.{Taken, Answer}
 use Rattle.mpm_base.specs.declared.call.Outcome.{Outcome}
 use Rattle.mpm_procs.specs.Table.{Lives, call_of}
-use Rattle.mpm_kernel.specs.Kernel.{Kernel, IsReady}
+use Rattle.mpm_dispatcher.specs.Dispatch.{IsReady}
+use Rattle.mpm_kernel.specs.Kernel.{Kernel}
 use Rattle.mpm_kernel.specs.Calls.{called}
 use Rattle.mpm_residents.specs.Natives.{native_call, native_in, answer_taken}
 use Rattle.mpm_residents.specs.declared.native.Native.{Native}
 use Rattle.mpm_machine.specs.declared.system.System.{System}
 use Rattle.mpm_machine.specs.State.{IsWhole, silent, speaking}
-use Rattle.mpm_machine.specs.Serving.{Served, calling, said_by, behind_echo}
+use Rattle.mpm_machine.specs.Serving.{Served, calling, said_by, after_echo}
 use Rattle.mpm_machine.specs.Residing.{asking, asked_by, native_outcome, native_step, resided}
 use Rattle.mpm_machine.proofs.WholeLaws.{StaysWhole, Keeps, keeps_asked, whole_calling}
 
@@ -20,7 +21,7 @@ record Asks (native : Native) (p : ℕ) (old asked : System) : Type 0 where
   pub is : asked ≡ asking p (native_call native) old
   pub kept : Keeps p (native_call native) old asked
 
-asks_by : (o : Option Native) (p : ℕ) (old asked : System) → IsWhole old → Lives old.kernel.procs p → native_in old.residents p ≡ o → is_some o ≡ true
+asks_by : (o : Option Native) (p : ℕ) (old asked : System) → IsWhole old → Lives old.kernel.dispatcher.procs p → native_in old.residents p ≡ o → is_some o ≡ true
     → asked ≡ asked_by o p old → (native : Native) × Asks native p old asked
 asks_by None p old asked w h here has is = absurd (false≢true has)
 asks_by (Some native) p old asked w h here has is =
@@ -29,10 +30,10 @@ asks_by (Some native) p old asked w h here has is =
 
 pub record Asked (p : ℕ) (old asked : System) : Type 0 where
   pub whole : IsWhole asked
-  pub lives : Lives asked.kernel.procs p
-  pub ready : IsReady old.kernel p → IsReady asked.kernel p
+  pub lives : Lives asked.kernel.dispatcher.procs p
+  pub ready : IsReady old.kernel.dispatcher p → IsReady asked.kernel.dispatcher p
 
-pub asked_whole : (p : ℕ) (old asked : System) → IsWhole old → Lives old.kernel.procs p → is_some (native_in old.residents p) ≡ true
+pub asked_whole : (p : ℕ) (old asked : System) → IsWhole old → Lives old.kernel.dispatcher.procs p → is_some (native_in old.residents p) ≡ true
     → asked ≡ asked_by (native_in old.residents p) p old → Asked p old asked
 asked_whole p old asked w h has is =
     let a = (asks_by (native_in old.residents p) p old asked w h refl has is).1 in
@@ -41,12 +42,12 @@ asked_whole p old asked w h has is =
 -- its call is done
 pub record Concludes (p : ℕ) (old done : System) (outcome : Outcome) (reply : Answer) : Type 0 where
   pub whole : IsWhole done
-  pub lives : Lives done.kernel.procs p
+  pub lives : Lives done.kernel.dispatcher.procs p
   pub has : is_some (native_in done.residents p) ≡ true
-  pub change : behind_echo (call_of done.kernel.procs p) p done (native_outcome outcome reply (call_of done.kernel.procs p) p done)
+  pub change : after_echo (call_of done.kernel.dispatcher.procs p) p done (native_outcome outcome reply (call_of done.kernel.dispatcher.procs p) p done)
       ≡ resided (native_in old.residents p) p old
 
-concludes : (native : Native) (p : ℕ) (old asked done : System) (outcome : Outcome) (reply : Answer) → Asks native p old asked → IsReady old.kernel p
+concludes : (native : Native) (p : ℕ) (old asked done : System) (outcome : Outcome) (reply : Answer) → Asks native p old asked → IsReady old.kernel.dispatcher p
     → done ≡ (calling p asked).system → outcome ≡ (calling p asked).outcome → reply ≡ (calling p asked).reply → Concludes p old done outcome reply
 unfolding native_step
 concludes native p old asked done outcome reply a ready system how what =
@@ -56,20 +57,20 @@ concludes native p old asked done outcome reply a ready system how what =
     let stays = whole_calling p asked a.kept.whole a.kept.lives (a.kept.ready ready) in
     let P : System → Type 0 = λ s. StaysWhole p asked s in
     let here : StaysWhole p asked done = subst P (sym system) stays in
-    let whole_call : call_of done.kernel.procs p ≡ call = here.call ∙ a.kept.call in
+    let whole_call : call_of done.kernel.dispatcher.procs p ≡ call = here.call ∙ a.kept.call in
     record {
       whole = here.whole;
       lives = here.lives;
       has = ap (λ (s : System). is_some (native_in s.residents p)) (system ∙ ap (λ (r : Served). r.system) same) ∙ ap (λ (o : Option Native). is_some o) a.here;
-      change = ap (λ c. behind_echo c p done (native_outcome outcome reply c p done)) whole_call
-          ∙ ap (λ o. behind_echo call p done (native_outcome o reply call p done)) (how ∙ ap (λ (r : Served). r.outcome) same)
-          ∙ ap (λ r. behind_echo call p done (native_outcome result.outcome r call p done)) (what ∙ ap (λ (r : Served). r.reply) same)
-          ∙ ap (λ s. behind_echo call p s (native_outcome result.outcome result.reply call p s)) (system ∙ ap (λ (r : Served). r.system) same)
+      change = ap (λ c. after_echo c p done (native_outcome outcome reply c p done)) whole_call
+          ∙ ap (λ o. after_echo call p done (native_outcome o reply call p done)) (how ∙ ap (λ (r : Served). r.outcome) same)
+          ∙ ap (λ r. after_echo call p done (native_outcome result.outcome r call p done)) (what ∙ ap (λ (r : Served). r.reply) same)
+          ∙ ap (λ s. after_echo call p s (native_outcome result.outcome result.reply call p s)) (system ∙ ap (λ (r : Served). r.system) same)
           ∙ sym (ap (λ o. resided o p old) a.here);
     }
 
-pub call_concludes : (p : ℕ) (old asked : System) (kernel : Kernel) (outcome : Outcome) (reply : Answer) → IsWhole old → Lives old.kernel.procs p
-    → is_some (native_in old.residents p) ≡ true → asked ≡ asked_by (native_in old.residents p) p old → IsReady old.kernel p
+pub call_concludes : (p : ℕ) (old asked : System) (kernel : Kernel) (outcome : Outcome) (reply : Answer) → IsWhole old → Lives old.kernel.dispatcher.procs p
+    → is_some (native_in old.residents p) ≡ true → asked ≡ asked_by (native_in old.residents p) p old → IsReady old.kernel.dispatcher p
     → kernel ≡ (called p asked.kernel).kernel → outcome ≡ (called p asked.kernel).outcome → reply ≡ (called p asked.kernel).reply
     → Concludes p old (record asked { kernel = kernel }) outcome reply
 call_concludes p old asked kernel outcome reply w h has is ready done how what =

@@ -1,20 +1,23 @@
 -- What a call writes, by its function.
-use Rattle.std.proofs.Common.{◌≡◌, ◌≢◌, ◌∙◌, ℕ, ◌<◌, ◌≤◌, Bool, true, false, ◌&&◌, ◌||◌, ◌==◌, if◌then◌else◌, List, [], ◌∷◌, Option, refl, sym, ap, subst, arith}
+use Rattle.std.proofs.Common.{◌≡◌, ◌≢◌, ◌∙◌, ℕ, ◌<◌, ◌≤◌, Bool, true, false, ◌&&◌, ◌==◌, if◌then◌else◌, List, [], ◌∷◌, refl, sym, ap, subst, arith, length}
 use Rattle.std.specs.Prelude.{nat_lt}
 use Rattle.std.proofs.lemmas.Bool.Decides.{nat_tests}
 use Rattle.mpm_base.specs.Calls.{Taken}
+use Rattle.mpm_base.specs.declared.functions.TheConstants.{CONSOLE_OUTPUT, RAW_CONSOLE_OUTPUT, LIST_OUTPUT, DIRECT_CONSOLE_IO, PRINT_STRING}
 use Rattle.mpm_procs.specs.Table.{process_in}
+use Rattle.mpm_consoles.specs.Modes.{does_echo}
+use Rattle.mpm_consoles.specs.declared.modes.TheConstants.{AWAIT_KEY}
 use Rattle.mpm_kernel.specs.Kernel.{Kernel}
 use Rattle.mpm_kernel.specs.Called.{low_parameter}
 use Rattle.mpm_kernel.specs.Columns.{column_of, tab_text, expanded, spoke}
 use Rattle.mpm_kernel.specs.ConsoleInput.{writes}
 use Rattle.mpm_kernel.proofs.SpokeLaws.{spoke_none}
 use Rattle.mpm_render.specs.declared.unit.Unit2.TheVariants.{Printer}
-use Rattle.mpm_render.specs.Shown.{Kept}
 use Rattle.mpm_render.specs.Outputs.{Said, said}
 use Rattle.mpm_render.proofs.Laws.{said_nil, said_cons}
 use Rattle.mpm_machine.specs.declared.system.System.{System}
-use Rattle.mpm_output.specs.Writing.{spoken, Showed}
+use Rattle.mpm_output.specs.Outside.{Outside}
+use Rattle.mpm_output.specs.Writing.{spoken, Wrote}
 use Rattle.mpm_machine.specs.State.{Change, silent, speaking}
 use Rattle.mpm_machine.specs.Serving.{call_text, printed, said_by, echo_of}
 use Rattle.mpm_output.proofs.WritingLaws.{spoken_nil, spoke_nothing}
@@ -48,28 +51,28 @@ speaks_nothing console system =
 -- what is said where the text is known, and what is printed
 
 pub said_text : (call : Taken) (string : List ℕ) (p : ℕ) (system : System) (text : List ℕ)
-    → call_text call (column_of system.kernel (process_in system.kernel.procs p).console) string ≡ text → printed call system.kernel ≡ []
-    → said_by call string p system ≡ speaking (process_in system.kernel.procs p).console text system
+    → call_text call (column_of system.kernel (process_in system.kernel.dispatcher.procs p).console) string ≡ text → printed call system.kernel ≡ []
+    → said_by call string p system ≡ speaking (process_in system.kernel.dispatcher.procs p).console text system
 unfolding said_by
 said_text call string p system text is none =
-    let process = process_in system.kernel.procs p in
+    let process = process_in system.kernel.dispatcher.procs p in
     let spoke = speaking process.console text system in
     ap (λ t. record (speaking process.console t system) { emitted = said (Printer process.printer) (printed call system.kernel) (speaking process.console t system).emitted }) is
     ∙ ap (λ bytes. record spoke { emitted = said (Printer process.printer) bytes spoke.emitted }) none
     ∙ ap (λ emitted. record spoke { emitted = emitted }) (said_nil (Printer process.printer) spoke.emitted)
 
 pub said_silent : (call : Taken) (string : List ℕ) (p : ℕ) (system : System)
-    → call_text call (column_of system.kernel (process_in system.kernel.procs p).console) string ≡ [] → printed call system.kernel ≡ []
+    → call_text call (column_of system.kernel (process_in system.kernel.dispatcher.procs p).console) string ≡ [] → printed call system.kernel ≡ []
     → said_by call string p system ≡ silent system
 said_silent call string p system is none =
-    said_text call string p system [] is none ∙ speaks_nothing (process_in system.kernel.procs p).console system
+    said_text call string p system [] is none ∙ speaks_nothing (process_in system.kernel.dispatcher.procs p).console system
 
 pub said_printed : (call : Taken) (string : List ℕ) (p : ℕ) (system : System) (byte : ℕ)
-    → call_text call (column_of system.kernel (process_in system.kernel.procs p).console) string ≡ [] → printed call system.kernel ≡ byte ∷ []
-    → said_by call string p system ≡ record { system = system; emitted = Said (Printer (process_in system.kernel.procs p).printer) byte ∷ [] }
+    → call_text call (column_of system.kernel (process_in system.kernel.dispatcher.procs p).console) string ≡ [] → printed call system.kernel ≡ byte ∷ []
+    → said_by call string p system ≡ record { system = system; emitted = Said (Printer (process_in system.kernel.dispatcher.procs p).printer) byte ∷ [] }
 unfolding said_by
 said_printed call string p system byte is prints =
-    let process = process_in system.kernel.procs p in
+    let process = process_in system.kernel.dispatcher.procs p in
     ap (λ t. record (speaking process.console t system) { emitted = said (Printer process.printer) (printed call system.kernel) (speaking process.console t system).emitted }) is
     ∙ ap (λ (spoke : Change). record spoke { emitted = said (Printer process.printer) (printed call system.kernel) spoke.emitted }) (speaks_nothing process.console system)
     ∙ ap (λ bytes. record { system = system; emitted = said (Printer process.printer) bytes [] }) prints
@@ -86,8 +89,8 @@ speaking_is console text system = refl
 -- a text that goes by the console and a byte
 by_parts : (text : ℕ → ℕ → List ℕ) (call : Taken) (string : List ℕ) (p : ℕ) (system : System) (console byte : ℕ)
     → said_by call string p system
-    ≡ speaking (process_in system.kernel.procs p).console (text (process_in system.kernel.procs p).console (low_parameter call)) system
-    → (process_in system.kernel.procs p).console ≡ console → low_parameter call ≡ byte
+    ≡ speaking (process_in system.kernel.dispatcher.procs p).console (text (process_in system.kernel.dispatcher.procs p).console (low_parameter call)) system
+    → (process_in system.kernel.dispatcher.procs p).console ≡ console → low_parameter call ≡ byte
     → said_by call string p system ≡ writing console (text console byte) system
 by_parts text call string p system console byte is at what =
     is
@@ -97,121 +100,116 @@ by_parts text call string p system console byte is at what =
 
 -- by the function of the call
 
-prints_nothing : (call : Taken) (kernel : Kernel) → call.function ≢ 5 → printed call kernel ≡ []
-prints_nothing call kernel other = not_printed (call.function == 5) (nat_lt 0 kernel.printers) (low_parameter call) (grind (arith, nat_tests, other))
+prints_nothing : (call : Taken) (kernel : Kernel) → call.function ≢ LIST_OUTPUT → printed call kernel ≡ []
+prints_nothing call kernel other = not_printed (call.function == LIST_OUTPUT) (nat_lt 0 (length kernel.units.printers)) (low_parameter call) (grind (arith, nat_tests, other))
 
-pub says_tab : (call : Taken) (string : List ℕ) (p : ℕ) (system : System) → call.function ≡ 2
+pub says_tab : (call : Taken) (string : List ℕ) (p : ℕ) (system : System) → call.function ≡ CONSOLE_OUTPUT
     → said_by call string p system
-    ≡ speaking (process_in system.kernel.procs p).console (tab_text (column_of system.kernel (process_in system.kernel.procs p).console) (low_parameter call)) system
+    ≡ speaking (process_in system.kernel.dispatcher.procs p).console (tab_text (column_of system.kernel (process_in system.kernel.dispatcher.procs p).console) (low_parameter call)) system
 unfolding call_text
 says_tab call string p system is =
-    said_text call string p system _ (first (call.function == 2) (call.function == 9) (writes call) _ _ _ (grind (arith, nat_tests, is)))
+    said_text call string p system _ (first (call.function == CONSOLE_OUTPUT) (call.function == PRINT_STRING) (writes call) _ _ _ (grind (arith, nat_tests, is)))
     (prints_nothing call system.kernel (omega (arith, is)))
 
-pub says_string : (call : Taken) (string : List ℕ) (p : ℕ) (system : System) → call.function ≡ 9
+pub says_string : (call : Taken) (string : List ℕ) (p : ℕ) (system : System) → call.function ≡ PRINT_STRING
     → said_by call string p system
-    ≡ speaking (process_in system.kernel.procs p).console (expanded (column_of system.kernel (process_in system.kernel.procs p).console) string) system
+    ≡ speaking (process_in system.kernel.dispatcher.procs p).console (expanded (column_of system.kernel (process_in system.kernel.dispatcher.procs p).console) string) system
 unfolding call_text
 says_string call string p system is =
     said_text call string p system _
-    (second (call.function == 2) (call.function == 9) (writes call) _ _ _ (grind (arith, nat_tests, is)) (grind (arith, nat_tests, is)))
+    (second (call.function == CONSOLE_OUTPUT) (call.function == PRINT_STRING) (writes call) _ _ _ (grind (arith, nat_tests, is)) (grind (arith, nat_tests, is)))
     (prints_nothing call system.kernel (omega (arith, is)))
 
-writes_byte : (call : Taken) → call.function ≡ 4 → writes call ≡ true
+writes_byte : (call : Taken) → call.function ≡ RAW_CONSOLE_OUTPUT → writes call ≡ true
 unfolding writes
 writes_byte call is = grind (arith, nat_tests, is)
 
-writes_directly : (call : Taken) → call.function ≡ 6 → low_parameter call < 253 → writes call ≡ true
+writes_directly : (call : Taken) → call.function ≡ DIRECT_CONSOLE_IO → low_parameter call < AWAIT_KEY → writes call ≡ true
 unfolding writes
 writes_directly call is below = grind (arith, nat_tests, is, below)
 
-pub says_byte : (call : Taken) (string : List ℕ) (p : ℕ) (system : System) → call.function ≡ 4
-    → said_by call string p system ≡ speaking (process_in system.kernel.procs p).console (low_parameter call ∷ []) system
+pub says_byte : (call : Taken) (string : List ℕ) (p : ℕ) (system : System) → call.function ≡ RAW_CONSOLE_OUTPUT
+    → said_by call string p system ≡ speaking (process_in system.kernel.dispatcher.procs p).console (low_parameter call ∷ []) system
 unfolding call_text
 says_byte call string p system is =
     said_text call string p system _
-    (third (call.function == 2) (call.function == 9) (writes call) _ _ _ (grind (arith, nat_tests, is)) (grind (arith, nat_tests, is)) (writes_byte call is))
+    (third (call.function == CONSOLE_OUTPUT) (call.function == PRINT_STRING) (writes call) _ _ _ (grind (arith, nat_tests, is)) (grind (arith, nat_tests, is)) (writes_byte call is))
     (prints_nothing call system.kernel (omega (arith, is)))
 
-pub says_directly : (call : Taken) (string : List ℕ) (p : ℕ) (system : System) → call.function ≡ 6 → low_parameter call < 253
-    → said_by call string p system ≡ speaking (process_in system.kernel.procs p).console (low_parameter call ∷ []) system
+pub says_directly : (call : Taken) (string : List ℕ) (p : ℕ) (system : System) → call.function ≡ DIRECT_CONSOLE_IO → low_parameter call < AWAIT_KEY
+    → said_by call string p system ≡ speaking (process_in system.kernel.dispatcher.procs p).console (low_parameter call ∷ []) system
 unfolding call_text
 says_directly call string p system is below =
     said_text call string p system _
-    (third (call.function == 2) (call.function == 9) (writes call) _ _ _ (grind (arith, nat_tests, is)) (grind (arith, nat_tests, is)) (writes_directly call is below))
+    (third (call.function == CONSOLE_OUTPUT) (call.function == PRINT_STRING) (writes call) _ _ _ (grind (arith, nat_tests, is)) (grind (arith, nat_tests, is)) (writes_directly call is below))
     (prints_nothing call system.kernel (omega (arith, is)))
 
-writes_not : (call : Taken) → call.function ≢ 2 → call.function ≢ 4 → call.function ≢ 9 → (call.function ≡ 6 → 253 ≤ low_parameter call) → writes call ≡ false
+writes_not : (call : Taken) → call.function ≢ CONSOLE_OUTPUT → call.function ≢ RAW_CONSOLE_OUTPUT → call.function ≢ PRINT_STRING → (call.function ≡ DIRECT_CONSOLE_IO → AWAIT_KEY ≤ low_parameter call) → writes call ≡ false
 unfolding writes
 writes_not call two four nine direct = grind (arith, nat_tests, two, four, nine, direct)
 
-pub says_printed : (call : Taken) (string : List ℕ) (p : ℕ) (system : System) → call.function ≡ 5 → 0 < system.kernel.printers
+pub says_printed : (call : Taken) (string : List ℕ) (p : ℕ) (system : System) → call.function ≡ LIST_OUTPUT → 0 < length system.kernel.units.printers
     → said_by call string p system
-    ≡ record { system = system; emitted = Said (Printer (process_in system.kernel.procs p).printer) (low_parameter call) ∷ [] }
+    ≡ record { system = system; emitted = Said (Printer (process_in system.kernel.dispatcher.procs p).printer) (low_parameter call) ∷ [] }
 unfolding call_text
 says_printed call string p system is some =
     said_printed call string p system (low_parameter call)
-    (none_of (call.function == 2) (call.function == 9) (writes call) _ _ _ (grind (arith, nat_tests, is)) (grind (arith, nat_tests, is))
+    (none_of (call.function == CONSOLE_OUTPUT) (call.function == PRINT_STRING) (writes call) _ _ _ (grind (arith, nat_tests, is)) (grind (arith, nat_tests, is))
     (writes_not call (omega (arith, is)) (omega (arith, is)) (omega (arith, is)) (λ six. absurd (omega (arith, is, six)))))
-    (is_printed (call.function == 5) (nat_lt 0 system.kernel.printers) (low_parameter call) (grind (arith, nat_tests, is)) (grind (arith, nat_tests, some)))
+    (is_printed (call.function == LIST_OUTPUT) (nat_lt 0 (length system.kernel.units.printers)) (low_parameter call) (grind (arith, nat_tests, is)) (grind (arith, nat_tests, some)))
 
 -- a call writes nothing
 pub record WritesNothing (call : Taken) (kernel : Kernel) : Type 0 where
-  pub two : call.function ≢ 2
-  pub four : call.function ≢ 4
-  pub nine : call.function ≢ 9
-  pub prints : call.function ≡ 5 → kernel.printers ≤ 0
-  pub direct : call.function ≡ 6 → 253 ≤ low_parameter call
+  pub two : call.function ≢ CONSOLE_OUTPUT
+  pub four : call.function ≢ RAW_CONSOLE_OUTPUT
+  pub nine : call.function ≢ PRINT_STRING
+  pub prints : call.function ≡ LIST_OUTPUT → length kernel.units.printers ≤ 0
+  pub direct : call.function ≡ DIRECT_CONSOLE_IO → AWAIT_KEY ≤ low_parameter call
 
 pub says_nothing : (call : Taken) (string : List ℕ) (p : ℕ) (system : System) → WritesNothing call system.kernel → said_by call string p system ≡ silent system
 unfolding call_text
 says_nothing call string p system w =
     said_silent call string p system
-    (none_of (call.function == 2) (call.function == 9) (writes call) _ _ _ (grind (arith, nat_tests, w.two)) (grind (arith, nat_tests, w.nine))
+    (none_of (call.function == CONSOLE_OUTPUT) (call.function == PRINT_STRING) (writes call) _ _ _ (grind (arith, nat_tests, w.two)) (grind (arith, nat_tests, w.nine))
     (writes_not call w.two w.four w.nine w.direct))
-    (not_printed (call.function == 5) (nat_lt 0 system.kernel.printers) (low_parameter call) (grind (arith, nat_tests, w.prints)))
+    (not_printed (call.function == LIST_OUTPUT) (nat_lt 0 (length system.kernel.units.printers)) (low_parameter call) (grind (arith, nat_tests, w.prints)))
 
 -- the same, by the parts of the call and of its process
 
-pub tab_said : (call : Taken) (string : List ℕ) (p : ℕ) (system : System) (console byte : ℕ) → call.function ≡ 2
-    → (process_in system.kernel.procs p).console ≡ console → low_parameter call ≡ byte
+pub tab_said : (call : Taken) (string : List ℕ) (p : ℕ) (system : System) (console byte : ℕ) → call.function ≡ CONSOLE_OUTPUT
+    → (process_in system.kernel.dispatcher.procs p).console ≡ console → low_parameter call ≡ byte
     → said_by call string p system ≡ writing console (tab_text (column_of system.kernel console) byte) system
 tab_said call string p system console byte is at what =
     by_parts (λ n b. tab_text (column_of system.kernel n) b) call string p system console byte (says_tab call string p system is) at what
 
-pub byte_said : (call : Taken) (string : List ℕ) (p : ℕ) (system : System) (console byte : ℕ) → call.function ≡ 4
-    → (process_in system.kernel.procs p).console ≡ console → low_parameter call ≡ byte → said_by call string p system ≡ writing console (byte ∷ []) system
+pub byte_said : (call : Taken) (string : List ℕ) (p : ℕ) (system : System) (console byte : ℕ) → call.function ≡ RAW_CONSOLE_OUTPUT
+    → (process_in system.kernel.dispatcher.procs p).console ≡ console → low_parameter call ≡ byte → said_by call string p system ≡ writing console (byte ∷ []) system
 byte_said call string p system console byte is at what =
     by_parts (λ n b. b ∷ []) call string p system console byte (says_byte call string p system is) at what
 
-pub directly_said : (call : Taken) (string : List ℕ) (p : ℕ) (system : System) (console byte : ℕ) → call.function ≡ 6 → byte < 253
-    → (process_in system.kernel.procs p).console ≡ console → low_parameter call ≡ byte → said_by call string p system ≡ writing console (byte ∷ []) system
+pub directly_said : (call : Taken) (string : List ℕ) (p : ℕ) (system : System) (console byte : ℕ) → call.function ≡ DIRECT_CONSOLE_IO → byte < AWAIT_KEY
+    → (process_in system.kernel.dispatcher.procs p).console ≡ console → low_parameter call ≡ byte → said_by call string p system ≡ writing console (byte ∷ []) system
 directly_said call string p system console byte is below at what =
     by_parts (λ n b. b ∷ []) call string p system console byte (says_directly call string p system is (omega (arith, what, below))) at what
 
-pub string_said : (call : Taken) (string text : List ℕ) (p : ℕ) (system : System) (console : ℕ) → call.function ≡ 9 → string ≡ text
-    → (process_in system.kernel.procs p).console ≡ console
+pub string_said : (call : Taken) (string text : List ℕ) (p : ℕ) (system : System) (console : ℕ) → call.function ≡ PRINT_STRING → string ≡ text
+    → (process_in system.kernel.dispatcher.procs p).console ≡ console
     → said_by call string p system ≡ writing console (expanded (column_of system.kernel console) text) system
 string_said call string text p system console is same at =
     by_parts (λ n b. expanded (column_of system.kernel n) string) call string p system console (low_parameter call) (says_string call string p system is) at refl
     ∙ ap (λ t. writing console (expanded (column_of system.kernel console) t) system) same
 
-pub byte_printed : (call : Taken) (string : List ℕ) (p : ℕ) (system : System) (printer byte : ℕ) → call.function ≡ 5 → 0 < system.kernel.printers
-    → (process_in system.kernel.procs p).printer ≡ printer → low_parameter call ≡ byte
+pub byte_printed : (call : Taken) (string : List ℕ) (p : ℕ) (system : System) (printer byte : ℕ) → call.function ≡ LIST_OUTPUT → 0 < length system.kernel.units.printers
+    → (process_in system.kernel.dispatcher.procs p).printer ≡ printer → low_parameter call ≡ byte
     → said_by call string p system ≡ record { system = system; emitted = Said (Printer printer) byte ∷ [] }
 byte_printed call string p system printer byte is some at what =
     says_printed call string p system is some
     ∙ ap (λ n. record { system = system; emitted = Said (Printer n) (low_parameter call) ∷ [] }) at
     ∙ ap (λ b. record { system = system; emitted = Said (Printer printer) b ∷ [] }) what
 
--- no key is echoed by another function
-pub echoes_nothing : (console : ℕ) (kept : Kept) (written : Option (List ℕ)) (call : Taken) (kernel : Kernel) → call.function ≢ 1 → call.function ≢ 10
-    → Showed kept written kept written (spoken console (echo_of call kernel))
-echoes_nothing console kept written call kernel one ten =
-    let P : List ℕ → Type 0 = λ bytes. Showed kept written kept written (spoken console bytes) in
-    let first : call.function == 1 ≡ false = grind (arith, nat_tests, one) in
-    let second : call.function == 10 ≡ false = grind (arith, nat_tests, ten) in
-    subst P (sym (neither (call.function == 1) (call.function == 10) kernel.echo first second)) (spoke_nothing console kept written)
-  where
-    neither : (a b : Bool) (bytes : List ℕ) → a ≡ false → b ≡ false → (if a || b then bytes else []) ≡ []
-    neither a b bytes e f = rw (e, f) refl
+-- nothing comes out where its function echoes no key
+pub echoes_nothing : (console : ℕ) (o : Outside) (call : Taken) (kernel : Kernel) → does_echo call.function ≡ false
+    → Wrote o o (spoken console (echo_of call kernel))
+echoes_nothing console o call kernel none =
+    let P : Bool → Type 0 = λ b. Wrote o o (spoken console (if b then kernel.echo else [])) in
+    subst P (sym none) (spoke_nothing console o)

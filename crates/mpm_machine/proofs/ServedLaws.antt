@@ -4,6 +4,7 @@ use Rattle.std.specs.List.{position_or_len}
 use Rattle.std.proofs.lemmas.Bool.{cases_eq, cases_lt}
 use Rattle.std.proofs.Math.ListN.{get_or-eq_default, get_or-map as map_at}
 use Rattle.mpm_base.specs.Calls.{Taken, byte_in}
+use Rattle.mpm_base.specs.declared.functions.TheConstants.{ABSOLUTE_MEMORY_REQUEST, RELOCATABLE_MEMORY_REQUEST, MEMORY_FREE, CREATE_PROCESS, ABORT_SPECIFIED_PROCESS}
 use Rattle.mpm_banks.specs.Memory.{Memory, no_segment, SameSegments, segment_of}
 use Rattle.mpm_banks.specs.MemoryLaws.{field_stays}
 use Rattle.mpm_banks.specs.declared.segment.Segment.{Segment}
@@ -12,14 +13,17 @@ use Rattle.mpm_banks.specs.declared.segment.Allocation.TheVariants.{Free, Reserv
 use Rattle.mpm_banks.specs.Allocations.{is_free, is_owners, has_base, fits, lowest_free, allocated, reserved, released, is_reserved, all_released, freed}
 use Rattle.mpm_banks.proofs.SegmentLaws.{count_allocated, count_all_released, allocation_of_allocated, segment_of_allocated}
 use Rattle.mpm_procs.specs.Table.{Table, process_in}
-use Rattle.mpm_kernel.specs.Kernel.{Kernel}
+use Rattle.mpm_kernel.specs.Kernel.{Kernel, is_resident}
 use Rattle.mpm_kernel.specs.Calls.{called}
 use Rattle.mpm_xdos.specs.Creating.{home_base, created, create_answer}
 use Rattle.mpm_xdos.specs.Ending.{is_home, vacated_if_empty, memory_without}
-use Rattle.mpm_xdos.specs.Aborting.{is_resident, waits_to_end, target, memory_behind_abort}
+use Rattle.mpm_xdos.specs.Aborting.{waits_to_end, target, memory_after_abort}
 use Rattle.mpm_machine.specs.declared.system.System.{System}
-use Rattle.mpm_machine.specs.Serving.{asked, keeping, Served, reserve_reply, descriptor_of, base_asked, reserving, releasing, creating, aborted, aborting_this, aborting, calling, served}
-use Rattle.mpm_machine.specs.Contained.{DiffersInBytes, ServedAlike, IsServedByValue}
+use Rattle.mpm_machine.specs.Serving.{asked, keeping, Served, reserve_reply, descriptor_of, base_asked, reserving, releasing, creating, aborted, aborting_this, aborting, calling, served, gate_step}
+use Rattle.mpm_processor.specs.declared.gate.Gate.{Gate}
+use Rattle.mpm_machine.specs.State.{Change}
+use Rattle.mpm_machine.specs.Step.{acted_at, acted_by, acted, running_segment, is_no_gate, instruction_by, at_instruction, begun_by, instruction_unless, with_settled, counted, dispatched, step_of}
+use Rattle.mpm_machine.specs.Contained.{DiffersInBytes, ServedAlike, Calls, ServedByValue}
 use Rattle.mpm_machine.proofs.HomeLaws.{freed_place}
 
 -- the same segment is the lowest that is free
@@ -143,14 +147,14 @@ home_base_alike one other (Some seg) same = same.base seg
 creating_alike : (p : ℕ) (one other : System) → DiffersInBytes one other → ServedAlike (creating p one) (creating p other)
 unfolding creating
 creating_alike p one other d =
-    let base : home_base other.memory (process_in other.kernel.procs p).seg ≡ home_base one.memory (process_in one.kernel.procs p).seg =
-    ap (λ (kernel : Kernel). home_base other.memory (process_in kernel.procs p).seg) d.kernel ∙ home_base_alike one.memory other.memory _ d.segments in
+    let base : home_base other.memory (process_in other.kernel.dispatcher.procs p).seg ≡ home_base one.memory (process_in one.kernel.dispatcher.procs p).seg =
+    ap (λ (kernel : Kernel). home_base other.memory (process_in kernel.dispatcher.procs p).seg) d.kernel ∙ home_base_alike one.memory other.memory _ d.segments in
     record {
-      kernel = ap (created other.kernel p) base ∙ ap (λ kernel. created kernel p (home_base one.memory (process_in one.kernel.procs p).seg)) d.kernel;
+      kernel = ap (created other.kernel p) base ∙ ap (λ kernel. created kernel p (home_base one.memory (process_in one.kernel.dispatcher.procs p).seg)) d.kernel;
       segments = d.segments;
       outcome = refl;
       reply = ap (λ value. record { hl = value; fcb = None; at = 0; bytes = [] })
-          (ap (create_answer other.kernel p) base ∙ ap (λ kernel. create_answer kernel p (home_base one.memory (process_in one.kernel.procs p).seg)) d.kernel);
+          (ap (create_answer other.kernel p) base ∙ ap (λ kernel. create_answer kernel p (home_base one.memory (process_in one.kernel.dispatcher.procs p).seg)) d.kernel);
     }
 
 alike_if : (b : Bool) (one one' other other' : Served) → ServedAlike one other → ServedAlike one' other'
@@ -205,9 +209,9 @@ unfolding memory_without
 without_alike one other kernel p same = vacated_alike _ _ _ _ (all_released_alike one other p same)
 
 aborted_alike : (one other : Memory) (kernel : Kernel) (p : ℕ) → SameSegments one other
-    → SameSegments (memory_behind_abort one kernel p false) (memory_behind_abort other kernel p false)
-unfolding memory_behind_abort
-aborted_alike one other kernel p same = same_if (is_resident kernel p || waits_to_end kernel p false) _ _ _ _ same (without_alike one other kernel p same)
+    → SameSegments (memory_after_abort one kernel p false) (memory_after_abort other kernel p false)
+unfolding memory_after_abort
+aborted_alike one other kernel p same = same_if (is_resident kernel.dispatcher.procs p || waits_to_end kernel p false) _ _ _ _ same (without_alike one other kernel p same)
 
 aborting_with : (named : Option ℕ) (p : ℕ) (one other : System) → SameSegments one.memory other.memory
     → ServedAlike (aborting_this named p one) (aborting_this named p (record other { kernel = one.kernel }))
@@ -221,7 +225,7 @@ aborting_alike : (p : ℕ) (one other : System) → DiffersInBytes one other →
 unfolding aborting
 aborting_alike p one other d =
     let P : Kernel → Type 0 = λ kernel. ServedAlike (aborting p one) (aborting p (record other { kernel = kernel })) in
-    subst P (sym d.kernel) (aborting_with (target one.kernel.procs p) p one other d.segments)
+    subst P (sym d.kernel) (aborting_with (target one.kernel.dispatcher.procs p) p one other d.segments)
 
 calling_alike : (p : ℕ) (one other : System) → DiffersInBytes one other → ServedAlike (calling p one) (calling p other)
 calling_alike p one other d = record {
@@ -236,12 +240,48 @@ pub serves_alike : (call : Taken) (p : ℕ) (one other : System) → DiffersInBy
 unfolding served
 serves_alike call p one other d =
     let f = call.function in
-    alike_if (f == 128) _ _ _ _ (reserving_alike (base_asked true call) call p one other d)
-    (alike_if (f == 129) _ _ _ _ (reserving_alike (base_asked false call) call p one other d)
-    (alike_if (f == 130) _ _ _ _ (releasing_alike call p one other d)
-    (alike_if (f == 144) _ _ _ _ (creating_alike p one other d)
-    (alike_if (f == 157) _ _ _ _ (aborting_alike p one other d)
+    alike_if (f == ABSOLUTE_MEMORY_REQUEST) _ _ _ _ (reserving_alike (base_asked true call) call p one other d)
+    (alike_if (f == RELOCATABLE_MEMORY_REQUEST) _ _ _ _ (reserving_alike (base_asked false call) call p one other d)
+    (alike_if (f == MEMORY_FREE) _ _ _ _ (releasing_alike call p one other d)
+    (alike_if (f == CREATE_PROCESS) _ _ _ _ (creating_alike p one other d)
+    (alike_if (f == ABORT_SPECIFIED_PROCESS) _ _ _ _ (aborting_alike p one other d)
     (calling_alike p one other d)))))
 
-pub served_by_value : (system : System) (p seg : ℕ) → IsServedByValue system p seg
-served_by_value system p seg = λ other d. let call = asked p seg system in serves_alike call p (keeping p call system) other d
+-- a step in which a process calls is that of its gate
+
+calls_at_gate : (system : System) (p seg : ℕ) → Calls system p seg → acted (counted system) ≡ gate_step p seg (counted system)
+unfolding acted
+calls_at_gate system p seg i =
+    let begun = counted system in
+    ap (λ running. acted_by running (running_segment running begun) begun) i.runs
+    ∙ ap (λ home. acted_by (Some p) home begun) i.home
+    ∙ ap (λ (gate : Option Gate). acted_at gate p seg begun) i.gate
+
+no_instruction : (system : System) (p seg : ℕ) → Calls system p seg → at_instruction (counted system) ≡ false
+unfolding at_instruction
+no_instruction system p seg i =
+    let begun = counted system in
+    ap (λ running. instruction_by running (running_segment running begun) begun) i.runs
+    ∙ ap (λ home. instruction_by (Some p) home begun) i.home
+    ∙ ap is_no_gate i.gate
+
+step_calls : (system : System) (p seg : ℕ) → Calls system p seg
+    → step_of system ≡ dispatched false (with_settled (gate_step p seg (counted system)))
+unfolding step_of
+step_calls system p seg i =
+    let begun = counted system in
+    ap (λ event. dispatched (instruction_unless event begun) (with_settled (begun_by event begun))) i.quiet
+    ∙ ap (λ b. dispatched b (with_settled (acted begun))) (no_instruction system p seg i)
+    ∙ ap (λ change. dispatched false (with_settled change)) (calls_at_gate system p seg i)
+
+pub served_by_value : (old new : System) (p seg : ℕ) → Calls old p seg → new ≡ (step_of old).system → ServedByValue p seg old new
+unfolding gate_step
+served_by_value old new p seg i is =
+    let begun = counted old in
+    let call = asked p seg begun in
+    let kept = keeping p call begun in
+    record {
+      done = served call p kept;
+      by_value = λ other d. serves_alike call p kept other d;
+      is = is ∙ ap (λ (change : Change). change.system) (step_calls old p seg i);
+    }

@@ -10,8 +10,8 @@ use Rattle.mpm_procs.specs.declared.process.Process.{Process}
 use Rattle.mpm_procs.specs.declared.process.NewProcess.{NewProcess}
 use Rattle.mpm_procs.specs.Opening.{opening as opening_process}
 use Rattle.mpm_procs.proofs.MapLaws.{slots_none, nobody_lives, lives_changed, lives_added, lives_added_other, process_changed, process_kept, process_added, process_added_other, slots_added}
-use Rattle.mpm_kernel.specs.Kernel.{ready}
-use Rattle.mpm_kernel.specs.Dispatch.{new_kernel, admitted, picked}
+use Rattle.mpm_dispatcher.specs.Dispatch.{ready, picked, new_dispatcher}
+use Rattle.mpm_kernel.specs.Kernel.{new_kernel, dispatched}
 use Rattle.mpm_kernel.specs.Queueing.{with_queue, with_system_queue}
 use Rattle.mpm_kernel.proofs.SoundLaws.{free_is_unlisted}
 use Rattle.mpm_residents.specs.Terminals.{opening}
@@ -87,18 +87,18 @@ name_there table p new slots within = ap (λ (x : Process). x.name) (process_add
 pub record Lodges (n : ℕ) (system : System) : Type 0 where
   pub interpreter : HasInterpreter system
   pub terminals : (console : ℕ) → console < n → HasTerminal console system
-  pub free : (q : ℕ) → n < q → lives system.kernel.procs q ≡ false
+  pub free : (q : ℕ) → n < q → lives system.kernel.dispatcher.procs q ≡ false
   pub residents : length system.residents ≡ n
 
 -- all slots below have one
-taken_below : (n : ℕ) (system : System) → Lodges n system → (k : ℕ) → k < n + 1 → lives system.kernel.procs k ≡ true
+taken_below : (n : ℕ) (system : System) → Lodges n system → (k : ℕ) → k < n + 1 → lives system.kernel.dispatcher.procs k ≡ true
 taken_below n system has zero less = has.interpreter.lives
 taken_below n system has (suc k) less =
-    ap (λ j. lives system.kernel.procs j) (sym (add-one k)) ∙ (has.terminals k (omega (arith, less))).lives
+    ap (λ j. lives system.kernel.dispatcher.procs j) (sym (add-one k)) ∙ (has.terminals k (omega (arith, less))).lives
 
-next_slot : (n : ℕ) (system : System) → HasSlots system.kernel.procs → n < 8 → Lodges n system → lowest_free system.kernel.procs ≡ Some (n + 1)
+next_slot : (n : ℕ) (system : System) → HasSlots system.kernel.dispatcher.procs → n < 8 → Lodges n system → lowest_free system.kernel.dispatcher.procs ≡ Some (n + 1)
 next_slot n system slots few has =
-    lowest_is system.kernel.procs (n + 1) (omega (arith, few, slots.alive)) (taken_below n system has) (has.free (n + 1) (omega arith))
+    lowest_is system.kernel.dispatcher.procs (n + 1) (omega (arith, few, slots.alive)) (taken_below n system has) (has.free (n + 1) (omega arith))
 
 not_last : (k n : ℕ) → k < n → k + 1 ≢ n + 1
 not_last k n less = λ e. absurd (omega (arith, less, e))
@@ -108,10 +108,10 @@ not_zero n = λ e. absurd (omega (arith, e))
 
 newest : (n k : ℕ) (system : System) → IsWhole system → n < 8 → Lodges n system → k ≡ n
     → HasTerminal k (with_terminal (Some (n + 1)) n system)
-unfolding with_terminal admitted resident_process
+unfolding with_terminal resident_process
 newest n k system w few has e =
     let p = n + 1 in
-    let table = system.kernel.procs in
+    let table = system.kernel.dispatcher.procs in
     let slots = w.sound.slots in
     let new = resident_process (terminal_name n) 198 n in
     let process = record (process_in (added table p new) p) { error_mode = 255 } in
@@ -123,12 +123,12 @@ newest n k system w few has e =
           ∙ ap (slice_get (system.residents ++ Tmp (opening n) ∷ [])) (sym has.residents) ∙ last system.residents (Tmp (opening n));
     })
 
-lodges_at : (n : ℕ) (system : System) → IsWhole system → n < 8 → lowest_free system.kernel.procs ≡ Some (n + 1) → Lodges n system
+lodges_at : (n : ℕ) (system : System) → IsWhole system → n < 8 → lowest_free system.kernel.dispatcher.procs ≡ Some (n + 1) → Lodges n system
     → Lodges (n + 1) (with_terminal (Some (n + 1)) n system)
-unfolding with_terminal admitted resident_process
+unfolding with_terminal resident_process
 lodges_at n system w few free has =
     let p = n + 1 in
-    let table = system.kernel.procs in
+    let table = system.kernel.dispatcher.procs in
     let slots = w.sound.slots in
     let new = resident_process (terminal_name n) 198 n in
     let process = record (process_in (added table p new) p) { error_mode = 255 } in
@@ -136,7 +136,7 @@ lodges_at n system w few free has =
       interpreter = record {
         lives = lives_as_before table p 0 new process (not_zero n) ∙ has.interpreter.lives;
         name = ap (λ (x : Process). x.name) (same_as_before table p 0 new process (not_zero n)) ∙ has.interpreter.name;
-        unlisted = list_of_inserted_other system.kernel.lists ready (record { slot = p; priority = 198 }) 0 w.sound.table (omega arith)
+        unlisted = list_of_inserted_other system.kernel.dispatcher.lists ready (record { slot = p; priority = 198 }) 0 w.sound.table (omega arith)
             (omega (arith, few)) (free_is_unlisted system.kernel p w.sound free) (grind (arith, nat_tests)) ∙ has.interpreter.unlisted;
       };
       terminals = λ k less. elim (cases_lt k n) [
@@ -153,7 +153,7 @@ lodges_at n system w few free has =
     }
 
 lodges_more : (n : ℕ) (system : System) → IsWhole system → n < 8 → Lodges n system
-    → Lodges (n + 1) (with_terminal (lowest_free system.kernel.procs) n system)
+    → Lodges (n + 1) (with_terminal (lowest_free system.kernel.dispatcher.procs) n system)
 lodges_more n system w few has =
     let free = next_slot n system w.sound.slots few has in
     let P : Option ℕ → Type 0 = λ o. Lodges (n + 1) (with_terminal o n system) in
@@ -165,7 +165,7 @@ record LodgesWhole (n : ℕ) (start system : System) : Type 0 where
   pub begun : Begun start system
   pub lodges : Lodges n system
 
-all_lodge : (n : ℕ) (start : System) → IsWhole start → n ≤ start.kernel.consoles → Lodges 0 start → LodgesWhole n start (with_terminals n start)
+all_lodge : (n : ℕ) (start : System) → IsWhole start → n ≤ length start.kernel.units.consoles → Lodges 0 start → LodgesWhole n start (with_terminals n start)
 unfolding with_terminals
 all_lodge zero start w few has = record { begun = record { whole = w; completed = refl; consoles = refl; steps = refl }; lodges = has }
 all_lodge (suc n) start w few has =
@@ -180,15 +180,15 @@ all_lodge (suc n) start w few has =
         consoles = more.consoles ∙ others.begun.consoles;
         steps = more.steps ∙ others.begun.steps;
       };
-      lodges = subst (λ k. Lodges k (with_terminal (lowest_free system.kernel.procs) n system)) (add-one n)
-          (lodges_more n system whole (omega (arith, few, whole.sound.few, others.begun.consoles)) others.lodges);
+      lodges = subst (λ k. Lodges k (with_terminal (lowest_free system.kernel.dispatcher.procs) n system)) (add-one n)
+          (lodges_more n system whole (omega (arith, few, whole.sound.units.consoles, others.begun.consoles)) others.lodges);
     }
 
 -- before them, the interpreter alone
 
 placed : (file : MachineFile) (events : List Timed)
     → Lodges 0 (record (booted file events) { kernel = with_interpreter (Some 0) (with_command_queue (new_kernel file.consoles file.printers (moment_of file))) })
-unfolding booted new_kernel with_system_queue with_queue with_interpreter resident_process
+unfolding booted new_kernel new_dispatcher with_system_queue with_queue with_interpreter resident_process
 placed file events =
     let new = resident_process (record { 0 = codes "cli     " }) 190 0 in
     let process = record (process_in (added no_processes 0 new) 0) { error_mode = 255; multi = 16 } in
@@ -204,16 +204,16 @@ placed file events =
     }
 
 interpreter_first : (file : MachineFile) (events : List Timed) → Lodges 0 (begun_by_interpreter (booted file events))
-unfolding begun_by_interpreter booted new_kernel with_system_queue with_queue
+unfolding begun_by_interpreter booted new_kernel new_dispatcher with_system_queue with_queue
 interpreter_first file events =
     let free = lowest_is no_processes 0 (omega (arith, slots_none.alive)) (λ k less. absurd (omega (arith, less))) (nobody_lives 0) in
     let kernel = with_command_queue (new_kernel file.consoles file.printers (moment_of file)) in
     let P : Option ℕ → Type 0 = λ o. Lodges 0 (record (booted file events) { kernel = with_interpreter o kernel }) in
     subst P (sym free) (placed file events)
 
--- and so behind the dispatcher
+-- and so after the dispatcher
 
-picked_too : (n : ℕ) (system : System) → Lodges n system → HasResidents n (record system { kernel = picked false system.kernel })
+picked_too : (n : ℕ) (system : System) → Lodges n system → HasResidents n (record system { kernel = dispatched (picked false) system.kernel })
 picked_too n system has = record {
   interpreter = record { lives = has.interpreter.lives; name = has.interpreter.name; unlisted = has.interpreter.unlisted };
   terminals = λ k less.
@@ -228,7 +228,7 @@ opened_lodges file events w =
     let all = all_lodge file.consoles (begun_by_interpreter (booted file events)) first.whole (omega (arith, boots_so.consoles, first.consoles)) (interpreter_first file events) in
     picked_too file.consoles (with_terminals file.consoles (begun_by_interpreter (booted file events))) all.lodges
 
-pub has_residents : (file : MachineFile) (events : List Timed) (bare behind : System) → bare ≡ booted file events → IsWhole bare
-    → behind ≡ opened file events → HasResidents file.consoles behind
-has_residents file events bare behind is w was =
+pub has_residents : (file : MachineFile) (events : List Timed) (bare afterwards : System) → bare ≡ booted file events → IsWhole bare
+    → afterwards ≡ opened file events → HasResidents file.consoles afterwards
+has_residents file events bare afterwards is w was =
     subst (HasResidents file.consoles) (sym was) (opened_lodges file events (subst IsWhole is w))

@@ -1,54 +1,55 @@
 -- Laws of a step and of n steps.
-use Rattle.std.proofs.Common.{◌≡◌, ◌∙◌, ℕ, zero, suc, ◌+◌, ◌-◌, ◌<◌, ◌≤◌, Bool, false, not, ◌&&◌, ◌==◌, List, [], ◌∷◌, ◌++◌, Option, Some, None, is_some, refl, ap, sym, subst, arith, add-one}
+use Rattle.std.proofs.Common.{◌≡◌, ◌∙◌, ℕ, zero, suc, ◌+◌, ◌-◌, ◌<◌, ◌≤◌, Bool, false, not, ◌&&◌, ◌==◌, List, [], ◌∷◌, ◌++◌, Option, Some, None, Result, is_some, refl, ap, sym, subst, arith, add-one}
 use Rattle.std.proofs.lemmas.List.{append-nil}
 use Rattle.z80_regs.specs.Outcome.{Outcome}
 use Rattle.mpm_base.specs.Calls.{Taken, Answer}
 use Rattle.mpm_base.specs.declared.call.Outcome.{Outcome as CallOutcome}
 use Rattle.mpm_base.specs.declared.call.Outcome.TheVariants.{Done, Held, Retry, Ended}
-use Rattle.mpm_render.specs.Outputs.{Output, rendered}
-use Rattle.mpm_render.specs.Shown.{Kept, Shows, EndsBetween}
+use Rattle.mpm_render.specs.Outputs.{rendered}
+use Rattle.mpm_render.specs.Shown.{Shows, EndsBetween}
 use Rattle.mpm_script.specs.declared.event.Event.{Event}
 use Rattle.std.specs.List.{range_with_len}
 use Rattle.mpm_base.proofs.Choices.{either}
+use Rattle.mpm_base.specs.declared.functions.TheConstants.{ABSOLUTE_MEMORY_REQUEST, RELOCATABLE_MEMORY_REQUEST, MEMORY_FREE, CREATE_PROCESS, ABORT_SPECIFIED_PROCESS}
 use Rattle.mpm_procs.specs.Table.{process_in}
 use Rattle.mpm_xdos.specs.Aborting.{waits_to_end, target}
 use Rattle.mpm_machine.specs.declared.system.System.{System}
 use Rattle.mpm_machine.proofs.FinishLaws.{first_finished}
 use Rattle.mpm_processor.specs.declared.gate.Gate.{Gate}
 use Rattle.mpm_processor.specs.declared.gate.Gate.TheVariants.{End, Call, Return}
-use Rattle.mpm_output.specs.Writing.{Showed, Stopped}
+use Rattle.mpm_output.specs.Outside.{Outside, Device}
+use Rattle.mpm_output.specs.Writing.{Wrote, Stopped, Fails, Emits}
 use Rattle.mpm_machine.specs.State.{State, Change, speaking, StandsFor}
-use Rattle.mpm_machine.specs.Ending.{terminated}
+use Rattle.mpm_machine.specs.Ending.{ended}
 use Rattle.mpm_machine.specs.Serving.{asked, keeping, Served, reserving, releasing, creating, aborted, aborting_this, aborting, served, said_by, popped, replied, answering_call, with_entry, fulfilling, completing, returning, outcome_of, gate_step}
 use Rattle.mpm_residents.specs.Natives.{native_call, native_in}
 use Rattle.mpm_residents.specs.declared.native.Native.{Native}
 use Rattle.mpm_machine.specs.Residing.{native_outcome, native_step, resided}
-use Rattle.mpm_interrupts.specs.Interrupts.{behind_due}
+use Rattle.mpm_interrupts.specs.Interrupts.{due_taken}
 use Rattle.mpm_machine.specs.Finishing.{finished, completion_dequeued, finishing, all_finished}
-use Rattle.mpm_machine.specs.Due.{is_due, terminated_if_due, due_terminated, with_ends, settled}
-use Rattle.mpm_output.proofs.WritingLaws.{stopped_before, stopped_behind}
-use Rattle.mpm_machine.specs.Step.{ran, illegal, instructed, instruction_at, acted_at, gate_before, acted_by, acted, coming, key_aborted, happened_to, event_come, interrupted, interrupted_by, begun_by, with_settled, counted, step_of, next, after, system_after, EndsInStep}
+use Rattle.mpm_machine.specs.Due.{is_due, ended_if_due, due_terminated, with_ends, settled}
+use Rattle.mpm_output.proofs.WritingLaws.{fails_before, emits_after, emits_same}
+use Rattle.mpm_machine.specs.Step.{instructed, illegal, executed, instruction_at, acted_at, gate_before, acted_by, acted, coming, key_aborted, happened_to, event_come, interrupted, interrupted_by, begun_by, with_settled, counted, step_of, next, after, system_after, EndsInStep}
 
 -- a step that a machine does is the state's next
 
-pub step_stands : (old : System) (kept : Kept) (written : Option (List ℕ)) (new : System) (kept' : Kept) (written' : Option (List ℕ))
-    (s : State) (first : Option (List ℕ)) → new ≡ (step_of old).system → Showed kept written kept' written' (step_of old).emitted
-    → StandsFor old kept written s first → StandsFor new kept' written' (next s) first
+pub step_stands : (old new : System) (o n : Outside) (s : State) (first : Option (List ℕ)) → new ≡ (step_of old).system → Wrote o n (step_of old).emitted
+    → StandsFor old o.kept o.written s first → StandsFor new n.kept n.written (next s) first
 unfolding next
-step_stands old kept written new kept' written' s first e shown stands =
-    let P : System → Type 0 = λ system. Shows kept' written' ((step_of system).emitted ++ s.outputs) first in
+step_stands old new o n s first e wrote stands =
+    let P : System → Type 0 = λ system. Shows n.kept n.written ((step_of system).emitted ++ s.outputs) first in
     record {
       parts = e ∙ ap (λ system. (step_of system).system) stands.parts;
-      shown = subst P stands.parts (shown.all s.outputs first stands.shown);
+      shown = subst P stands.parts (wrote.shown s.outputs first stands.shown);
     }
 
-pub step_stops : (old : System) (kept : Kept) (written written' : Option (List ℕ)) (s : State) (first : Option (List ℕ))
-    → Stopped kept written written' (step_of old).emitted → StandsFor old kept written s first
-    → EndsBetween written' first (rendered kept.trace s.outputs) (rendered kept.trace (next s).outputs)
+pub step_stops : (old : System) (o n : Outside) (s : State) (first : Option (List ℕ)) → Stopped o n (step_of old).emitted
+    → StandsFor old o.kept o.written s first → EndsBetween n.written first (rendered o.kept.trace s.outputs) (rendered o.kept.trace (next s).outputs)
 unfolding next
-step_stops old kept written written' s first stopped stands =
-    let P : System → Type 0 = λ system. EndsBetween written' first (rendered kept.trace s.outputs) (rendered kept.trace ((step_of system).emitted ++ s.outputs)) in
-    subst P stands.parts (stopped.all s.outputs first stands.shown)
+step_stops old o n s first stopped stands =
+    let trace = o.kept.trace in
+    let P : System → Type 0 = λ system. EndsBetween n.written first (rendered trace s.outputs) (rendered trace ((step_of system).emitted ++ s.outputs)) in
+    subst P stands.parts (stopped.part s.outputs first stands.shown)
 
 -- no part of a step counts it but its beginning
 
@@ -63,15 +64,15 @@ unfolding served reserving releasing creating aborting
 served_steps call p system =
     let f = call.function in
     let P : Served → Type 0 = λ s. s.system.steps ≡ system.steps in
-    either P (f == 128) _ _ (λ _. refl)
-    (λ _. either P (f == 129) _ _ (λ _. refl)
-    (λ _. either P (f == 130) _ _ (λ _. refl)
-    (λ _. either P (f == 144) _ _ (λ _. refl)
-    (λ _. either P (f == 157) _ _ (λ _. aborted_steps (target system.kernel.procs p) p system) (λ _. refl)))))
+    either P (f == ABSOLUTE_MEMORY_REQUEST) _ _ (λ _. refl)
+    (λ _. either P (f == RELOCATABLE_MEMORY_REQUEST) _ _ (λ _. refl)
+    (λ _. either P (f == MEMORY_FREE) _ _ (λ _. refl)
+    (λ _. either P (f == CREATE_PROCESS) _ _ (λ _. refl)
+    (λ _. either P (f == ABORT_SPECIFIED_PROCESS) _ _ (λ _. aborted_steps (target system.kernel.dispatcher.procs p) p system) (λ _. refl)))))
 
 outcome_steps : (outcome : CallOutcome) (reply : Answer) (call : Taken) (p seg : ℕ) (system : System)
     → (outcome_of outcome reply call p seg system).system.steps ≡ system.steps
-unfolding completing said_by speaking popped with_entry fulfilling answering_call replied terminated
+unfolding completing said_by speaking popped with_entry fulfilling answering_call replied ended
 outcome_steps Done reply call p seg system = refl
 outcome_steps Ended reply call p seg system = refl
 outcome_steps Held reply call p seg system = refl
@@ -83,13 +84,13 @@ gate_step_steps p seg system =
     let call = asked p seg system in
     outcome_steps _ _ call p seg _ ∙ served_steps call p (keeping p call system)
 
-instructed_steps : (outcome : Option Outcome) (p seg : ℕ) (system : System) → (instructed outcome p seg system).system.steps ≡ system.steps
-unfolding instructed illegal speaking terminated ran
+instructed_steps : (outcome : Option Outcome) (p seg : ℕ) (system : System) → (executed outcome p seg system).system.steps ≡ system.steps
+unfolding executed illegal speaking ended instructed
 instructed_steps None p seg system = refl
 instructed_steps (Some outcome) p seg system = refl
 
 acted_at_steps : (gate : Option Gate) (p seg : ℕ) (system : System) → (acted_at gate p seg system).system.steps ≡ system.steps
-unfolding terminated returning
+unfolding ended returning
 acted_at_steps (Some End) p seg system = refl
 acted_at_steps (Some Call) p seg system = gate_step_steps p seg system
 acted_at_steps (Some Return) p seg system = refl
@@ -97,7 +98,7 @@ acted_at_steps None p seg system = instructed_steps (instruction_at p seg system
 
 native_steps : (outcome : CallOutcome) (reply : Answer) (call : Taken) (p : ℕ) (system : System)
     → (native_outcome outcome reply call p system).system.steps ≡ system.steps
-unfolding said_by speaking terminated
+unfolding said_by speaking ended
 native_steps Done reply call p system = refl
 native_steps Ended reply call p system = refl
 native_steps Held reply call p system = refl
@@ -120,9 +121,9 @@ key_steps (Some p) system = refl
 
 begun_steps : (event : Option Event) (system : System) → (begun_by event system).system.steps ≡ system.steps
 unfolding acted interrupted event_come
-begun_steps None system = acted_by_steps system.kernel.running _ system
+begun_steps None system = acted_by_steps system.kernel.dispatcher.running _ system
 begun_steps (Some event) system =
-    let timed = record system { interrupts = behind_due system.steps system.interrupts } in
+    let timed = record system { interrupts = due_taken system.steps system.interrupts } in
     key_steps (happened_to event timed).kernel.aborted (happened_to event timed)
 
 finished_steps : (seg : Option ℕ) (p : ℕ) (system : System) → (finished seg p system).system.steps ≡ system.steps
@@ -134,21 +135,21 @@ finishing_steps : (ps : List ℕ) (system : System) → (finishing ps system).sy
 unfolding finishing
 finishing_steps [] system = refl
 finishing_steps (p ∷ ps) system =
-    finishing_steps ps (first_finished p system) ∙ finished_steps (process_in system.kernel.procs p).seg p (completion_dequeued system)
+    finishing_steps ps (first_finished p system) ∙ finished_steps (process_in system.kernel.dispatcher.procs p).seg p (completion_dequeued system)
 
-due_steps : (p : ℕ) (system : System) → (terminated_if_due p system).system.steps ≡ system.steps
-unfolding terminated_if_due terminated
+due_steps : (p : ℕ) (system : System) → (ended_if_due p system).system.steps ≡ system.steps
+unfolding ended_if_due ended
 due_steps p system =
-    either (λ (c : Change). c.system.steps ≡ system.steps) (is_due system.kernel p) _ _ (λ _. finishing_steps _ (terminated p system)) (λ _. refl)
+    either (λ (c : Change). c.system.steps ≡ system.steps) (is_due system.kernel p) _ _ (λ _. finishing_steps _ (ended p system)) (λ _. refl)
 
 terminated_steps : (ps : List ℕ) (system : System) → (due_terminated ps system).system.steps ≡ system.steps
 unfolding due_terminated
 terminated_steps [] system = refl
-terminated_steps (p ∷ ps) system = terminated_steps ps (terminated_if_due p system).system ∙ due_steps p system
+terminated_steps (p ∷ ps) system = terminated_steps ps (ended_if_due p system).system ∙ due_steps p system
 
 settled_steps : (system : System) → (settled system).system.steps ≡ system.steps
 unfolding settled with_ends
-settled_steps system = terminated_steps (range_with_len 0 32) (all_finished system).system ∙ finishing_steps system.kernel.completed system
+settled_steps system = terminated_steps (range_with_len 0 32) (all_finished system).system ∙ finishing_steps system.kernel.dispatcher.completed system
 
 pub step_steps : (system : System) → (step_of system).system.steps ≡ system.steps + 1
 unfolding step_of with_settled
@@ -156,31 +157,30 @@ step_steps system =
     let begun = counted system in
     settled_steps (begun_by (coming begun) begun).system ∙ begun_steps (coming begun) begun
 
--- writing that stops at the beginning of a step, or at an answer or an end behind it, stops within the step
+-- what fails at the beginning of a step, fails in the step; and what is said after the beginning comes after it
 
-pub stopped_begun : (system : System) (kept : Kept) (written written' : Option (List ℕ))
-    → Stopped kept written written' (begun_by (coming (counted system)) (counted system)).emitted → Stopped kept written written' (step_of system).emitted
+pub begun_fails : (device : Device) (system : System) (o n : Outside) → Fails device o n (begun_by (coming (counted system)) (counted system)).emitted
+    → Fails device o n (step_of system).emitted
 unfolding step_of with_settled
-stopped_begun system kept written written' stopped = stopped_before kept written written' _ _ stopped
+begun_fails device system o n failed = fails_before device o n _ _ failed
 
-pub stopped_settled : (system begun : System) (k0 : Kept) (t0 : Option (List ℕ)) (k1 : Kept) (t1 t2 : Option (List ℕ)) → k1.trace ≡ k0.trace
+pub emits_settled : {A E : Type 0} (device : E → Device) (r : Result A E) (system begun : System) (o m n : Outside)
     → begun ≡ (begun_by (coming (counted system)) (counted system)).system
-    → Showed k0 t0 k1 t1 (begun_by (coming (counted system)) (counted system)).emitted → Stopped k1 t1 t2 (settled begun).emitted
-    → Stopped k0 t0 t2 (step_of system).emitted
+    → Wrote o m (begun_by (coming (counted system)) (counted system)).emitted → Emits device m n (settled begun).emitted r
+    → Emits device o n (step_of system).emitted r
 unfolding step_of with_settled
-stopped_settled system begun k0 t0 k1 t1 t2 same is shown stopped =
-    let P : System → Type 0 = λ s. Stopped k1 t1 t2 (settled s).emitted in
-    stopped_behind k0 t0 k1 t1 t2 _ _ same shown (subst P is stopped)
+emits_settled device r system begun o m n is wrote emits =
+    let P : System → Type 0 = λ s. Emits device m n (settled s).emitted r in
+    emits_after device o m n _ _ r wrote (subst P is emits)
 
--- where no event comes, writing that stops in what the running process does, stops there
-pub begun_stopped : (event : Option Event) (old behind : System) (k0 : Kept) (t0 : Option (List ℕ)) (k1 : Kept) (t1 t2 : Option (List ℕ))
-    → is_some event ≡ false → k1.trace ≡ k0.trace → behind ≡ (interrupted_by event old).system → Showed k0 t0 k1 t1 (interrupted_by event old).emitted
-    → Stopped k1 t1 t2 (acted behind).emitted → Stopped k0 t0 t2 (begun_by event old).emitted
-begun_stopped None old behind k0 t0 k1 t1 t2 none same is shown stopped =
-    let P : List Output → Type 0 = λ emitted. Stopped k0 t0 t2 emitted in
-    let Q : System → Type 0 = λ s. Stopped k1 t1 t2 (acted s).emitted in
-    subst P (append-nil (acted old).emitted) (stopped_behind k0 t0 k1 t1 t2 [] (acted old).emitted same shown (subst Q is stopped))
-begun_stopped (Some event) old behind k0 t0 k1 t1 t2 none same is shown stopped = absurd (cc)
+-- where no event comes, what the running process does is what the step begins with
+pub emits_acted : {A E : Type 0} (device : E → Device) (r : Result A E) (event : Option Event) (old afterwards : System) (o m n : Outside)
+    → is_some event ≡ false → afterwards ≡ (interrupted_by event old).system → Wrote o m (interrupted_by event old).emitted
+    → Emits device m n (acted afterwards).emitted r → Emits device o n (begun_by event old).emitted r
+emits_acted device r None old afterwards o m n none is wrote emits =
+    let P : System → Type 0 = λ s. Emits device m n (acted s).emitted r in
+    emits_same device o n _ _ r (append-nil (acted old).emitted) (emits_after device o m n [] (acted old).emitted r wrote (subst P is emits))
+emits_acted device r (Some event) old afterwards o m n none is wrote emits = absurd (cc)
 
 -- n steps
 
@@ -192,20 +192,20 @@ pub after_more : (n : ℕ) (s : State) → after (n + 1) s ≡ next (after n s)
 unfolding after
 after_more n s = ap (λ m. after m s) (add-one n)
 
--- a stop in the step behind the first done ones
+-- a stop in the step after the first done ones
 pub ends_in_step : (trace : Bool) (written first : Option (List ℕ)) (s : State) (n done step : ℕ) → done < n → step ≡ s.system.steps + done + 1
     → EndsBetween written first (rendered trace (after done s).outputs) (rendered trace (next (after done s)).outputs)
     → EndsInStep trace written first s n step
 ends_in_step trace written first s n done step below e ends =
     let before : step - 1 - s.system.steps ≡ done = omega arith in
-    let behind : step - s.system.steps ≡ done + 1 = omega arith in
+    let afterwards : step - s.system.steps ≡ done + 1 = omega arith in
     let P : State → Type 0 = λ t. EndsBetween written first (rendered trace (after done s).outputs) (rendered trace t.outputs) in
     let Q : ℕ → Type 0 = λ m. EndsBetween written first (rendered trace (after m s).outputs) (rendered trace (after (step - s.system.steps) s).outputs) in
     let R : ℕ → Type 0 = λ m. EndsBetween written first (rendered trace (after done s).outputs) (rendered trace (after m s).outputs) in
     record {
       later = omega arith;
       within = omega arith;
-      text = subst Q (sym before) (subst R (sym behind) (subst P (sym (after_more done s)) ends));
+      text = subst Q (sym before) (subst R (sym afterwards) (subst P (sym (after_more done s)) ends));
     }
 
 -- some steps, and then some more
@@ -233,14 +233,14 @@ pub system_after_nothing : (system : System) → system ≡ system_after 0 syste
 unfolding after
 system_after_nothing system = refl
 
-pub system_after_more : (n : ℕ) (system behind new : System) → behind ≡ system_after n system → new ≡ (step_of behind).system → new ≡ system_after (n + 1) system
+pub system_after_more : (n : ℕ) (system afterwards new : System) → afterwards ≡ system_after n system → new ≡ (step_of afterwards).system → new ≡ system_after (n + 1) system
 unfolding next
-system_after_more n system behind new is was =
+system_after_more n system afterwards new is was =
     was ∙ ap (λ s. (step_of s).system) is ∙ sym (ap (λ (s : State). s.system) (after_more n (record { system = system; outputs = [] })))
 
-pub system_after_both : (first more : ℕ) (system behind new : System) → behind ≡ system_after first system → new ≡ system_after more behind
+pub system_after_both : (first more : ℕ) (system afterwards new : System) → afterwards ≡ system_after first system → new ≡ system_after more afterwards
     → new ≡ system_after (first + more) system
-system_after_both first more system behind new is was =
+system_after_both first more system afterwards new is was =
     let start : State = record { system = system; outputs = [] } in
     was ∙ ap (system_after more) is ∙ sym (same_system_after more (after first start)) ∙ sym (ap (λ (s : State). s.system) (after_both first more start))
 
@@ -251,12 +251,12 @@ ends_later trace written first s n done step few ends =
     let steps = steps_after done s in
     let before : after (step - 1 - (after done s).system.steps) (after done s) ≡ after (step - 1 - s.system.steps) s =
     sym (after_both done (step - 1 - (after done s).system.steps) s) ∙ ap (λ k. after k s) (omega (arith, steps, ends.later, few)) in
-    let behind : after (step - (after done s).system.steps) (after done s) ≡ after (step - s.system.steps) s =
+    let afterwards : after (step - (after done s).system.steps) (after done s) ≡ after (step - s.system.steps) s =
     sym (after_both done (step - (after done s).system.steps) s) ∙ ap (λ k. after k s) (omega (arith, steps, ends.later, few)) in
     let P : State → Type 0 = λ t. EndsBetween written first (rendered trace t.outputs) (rendered trace (after (step - (after done s).system.steps) (after done s)).outputs) in
     let Q : State → Type 0 = λ t. EndsBetween written first (rendered trace (after (step - 1 - s.system.steps) s).outputs) (rendered trace t.outputs) in
     record {
       later = omega (arith, steps, ends.later);
       within = omega (arith, steps, ends.within, few);
-      text = subst Q behind (subst P before ends.text);
+      text = subst Q afterwards (subst P before ends.text);
     }

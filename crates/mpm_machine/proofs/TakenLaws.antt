@@ -3,6 +3,7 @@ use Rattle.std.proofs.Common.{◌≡◌, ℕ, ◌≤◌, length, subst, le_trans
 use Rattle.z80_regs.specs.declared.regs.Regs.{Regs}
 use Rattle.z80_regs.specs.Words.{word_of}
 use Rattle.mpm_base.specs.Calls.{Taken}
+use Rattle.mpm_base.specs.declared.functions.TheConstants.{CREATE_PROCESS}
 use Rattle.mpm_gate.specs.Calls.{taken_call}
 use Rattle.mpm_gate.specs.Reads.{reads_of, most_read}
 use Rattle.mpm_gate.proofs.ReadsLaws.{length_read, more_records}
@@ -15,7 +16,7 @@ call_is_taken regs memory dma multi h =
     le_trans (length_read reads (word_of regs.e regs.d) dma multi memory) (more_records reads multi h)
 
 -- function 144 reads at most 32 descriptors
-pub few_descriptors : (call : Taken) → IsTaken call → call.function ≡ 144 → length call.bytes ≤ 576
+pub few_descriptors : (call : Taken) → IsTaken call → call.function ≡ CREATE_PROCESS → length call.bytes ≤ 576
 unfolding reads_of
 few_descriptors call taken is =
     let P : ℕ → Type 0 = λ function. length call.bytes ≤ most_read (reads_of function) 16 in

@@ -9,6 +9,7 @@ use Rattle.z80_regs.specs.declared.regs.Regs.{Regs}
 use Rattle.mpm_base.specs.Calls.{Taken, Answer}
 use Rattle.mpm_base.specs.declared.call.Outcome.{Outcome as Ended_how}
 use Rattle.mpm_base.specs.declared.call.Outcome.TheVariants.{Done, Held, Retry, Ended}
+use Rattle.mpm_base.specs.declared.functions.TheConstants.{ABSOLUTE_MEMORY_REQUEST, RELOCATABLE_MEMORY_REQUEST, MEMORY_FREE, CREATE_PROCESS, ABORT_SPECIFIED_PROCESS}
 use Rattle.z80_ext.specs.Instruction.{registers_after, actions_of}
 use Rattle.mpm_banks.specs.Memory.{Memory, HasSegment, segment_of, byte_at}
 use Rattle.mpm_banks.specs.Allocations.{lowest_free}
@@ -16,8 +17,9 @@ use Rattle.mpm_banks.specs.Actions.{memory_after, devices_after}
 use Rattle.mpm_gate.specs.Replies.{answered, returned}
 use Rattle.mpm_procs.specs.Table.{Table, lives, Lives, process_in, call_of, with_process, with_call}
 use Rattle.mpm_procs.specs.Opening.{blank}
-use Rattle.mpm_procs.proofs.MapLaws.{lives_below, lives_changed, process_changed, process_behind, call_behind, call_changed, lives_behind}
-use Rattle.mpm_kernel.specs.Kernel.{Kernel, IsSound, IsReady, CompletedLive, is_aborted, with_changed}
+use Rattle.mpm_procs.proofs.MapLaws.{lives_below, lives_changed, process_changed, process_after, call_after, call_changed, lives_after}
+use Rattle.mpm_dispatcher.specs.Dispatch.{IsReady, with_procs}
+use Rattle.mpm_kernel.specs.Kernel.{Kernel, IsSound, CompletedLive, is_aborted, with_changed, dispatched, is_resident}
 use Rattle.mpm_kernel.specs.Columns.{spoke}
 use Rattle.mpm_kernel.specs.Ending.{discharged}
 use Rattle.mpm_queues.specs.Queues.{waits as waits_at_queues}
@@ -28,7 +30,7 @@ use Rattle.mpm_kernel.specs.Procedures.{given_back}
 use Rattle.mpm_kernel.proofs.ProcedureLaws.{stays_given_back, homes_given_back}
 use Rattle.mpm_xdos.specs.Creating.{home_base, created}
 use Rattle.mpm_xdos.specs.Ending.{is_segment, lives_in, memory_without}
-use Rattle.mpm_xdos.specs.Aborting.{is_resident, waits_to_end, with_abort_due, target, behind_abort, memory_behind_abort}
+use Rattle.mpm_xdos.specs.Aborting.{waits_to_end, with_abort_due, target, abort_done, memory_after_abort}
 use Rattle.mpm_xdos.specs.Procedures.{entering, entered, leaving, returned_from_procedure}
 use Rattle.mpm_xdos.proofs.TargetLaws.{target_lives}
 use Rattle.mpm_xdos.proofs.Homes.{home_here}
@@ -38,27 +40,27 @@ use Rattle.mpm_processor.specs.declared.gate.Gate.{Gate}
 use Rattle.mpm_processor.specs.declared.gate.Gate.TheVariants.{End, Call, Return}
 use Rattle.mpm_processor.specs.Gates.{IsHome}
 use Rattle.mpm_machine.specs.State.{IsWhole, NobodyAborted, speaking}
-use Rattle.mpm_machine.specs.Ending.{terminated}
+use Rattle.mpm_machine.specs.Ending.{ended}
 use Rattle.mpm_machine.specs.Serving.{with_regs, asked, keeping, Served, reserving, releasing, creating, aborted, aborting_this, aborting, calling, served, string_of, said_by, popped, replied, completion, is_entry, with_entry, reply_at_entry, fulfilling, answering_call, completing, returning, outcome_of, gate_step}
 use Rattle.mpm_residents.specs.Natives.{native_call, native_in}
 use Rattle.mpm_residents.specs.declared.native.Native.{Native}
 use Rattle.mpm_machine.specs.Residing.{asking, native_outcome, native_step, resided}
 use Rattle.mpm_output.specs.Texts.{illegal_text}
-use Rattle.mpm_machine.specs.Step.{illegal, instructed, ran, instruction_at, acted_at, gate_before, acted_by, acted}
+use Rattle.mpm_machine.specs.Step.{illegal, executed, instructed, instruction_at, acted_at, gate_before, acted_by, acted}
 use Rattle.mpm_machine.proofs.HomeLaws.{KeepsHomes, keeps_placed, keeps_acted, keeps_reserved, keeps_released, leaves_without, free_or_lived, found_is_free}
 
 -- the segment of a process is a home
-pub segment_is_home : (system : System) (p seg : ℕ) → IsWhole system → Lives system.kernel.procs p → (process_in system.kernel.procs p).seg ≡ Some seg
+pub segment_is_home : (system : System) (p seg : ℕ) → IsWhole system → Lives system.kernel.dispatcher.procs p → (process_in system.kernel.dispatcher.procs p).seg ≡ Some seg
     → IsHome system.memory seg
 segment_is_home system p seg w h home = w.homes p seg h home
 
-pub segment_is_there : (system : System) (p seg : ℕ) → IsWhole system → Lives system.kernel.procs p → (process_in system.kernel.procs p).seg ≡ Some seg
+pub segment_is_there : (system : System) (p seg : ℕ) → IsWhole system → Lives system.kernel.dispatcher.procs p → (process_in system.kernel.dispatcher.procs p).seg ≡ Some seg
     → HasSegment system.memory seg
 segment_is_there system p seg w h home = (w.homes p seg h home).exists
 
 -- a segment that can be reserved is nobody's home
 pub free_is_empty : (system : System) (base : Option ℕ) (pages p seg : ℕ) → IsWhole system → lowest_free system.memory base pages ≡ Some seg
-    → Lives system.kernel.procs p → (process_in system.kernel.procs p).seg ≢ Some seg
+    → Lives system.kernel.dispatcher.procs p → (process_in system.kernel.dispatcher.procs p).seg ≢ Some seg
 free_is_empty system base pages p seg w found h = λ home.
     free_or_lived (segment_of system.memory seg).allocation
     (found_is_free system.memory base pages seg found) (w.lived p seg h home)
@@ -69,8 +71,8 @@ not_now : (b was : Bool) → (b ≡ true → was ≡ true) → was ≡ false →
 not_now true was so none = absurd (false≢true (sym none ∙ so refl))
 not_now false was so none = refl
 
-pub nobody_more : (old new : Kernel) → ((p : ℕ) → is_aborted new.procs p ≡ true → is_aborted old.procs p ≡ true) → NobodyAborted old → NobodyAborted new
-nobody_more old new so none = λ p. not_now (is_aborted new.procs p) (is_aborted old.procs p) (so p) (none p)
+pub nobody_more : (old new : Kernel) → ((p : ℕ) → is_aborted new.dispatcher.procs p ≡ true → is_aborted old.dispatcher.procs p ≡ true) → NobodyAborted old → NobodyAborted new
+nobody_more old new so none = λ p. not_now (is_aborted new.dispatcher.procs p) (is_aborted old.dispatcher.procs p) (so p) (none p)
 
 -- another kernel, whose processes live where some lived before
 pub whole_kernel : (system : System) (kernel : Kernel) → IsWhole system → IsSound kernel → CompletedLive kernel → SameHomes system.kernel kernel
@@ -100,24 +102,24 @@ whole_memory system memory w keeps = record {
 pub whole_steps : (system : System) (steps : ℕ) → IsWhole system → IsWhole (record system { steps = steps })
 whole_steps system steps w = record { sound = w.sound; live = w.live; homes = w.homes; lived = w.lived; script = w.script; settled = w.settled }
 
--- a system is whole behind a part of the step of a process, which lives and keeps its call
+-- a system is whole after a part of the step of a process, which lives and keeps its call
 pub record StaysWhole (p : ℕ) (old new : System) : Type 0 where
   pub whole : IsWhole new
-  pub lives : Lives new.kernel.procs p
-  pub call : call_of new.kernel.procs p ≡ call_of old.kernel.procs p
+  pub lives : Lives new.kernel.dispatcher.procs p
+  pub call : call_of new.kernel.dispatcher.procs p ≡ call_of old.kernel.dispatcher.procs p
 
 -- the registers of a process change
-pub whole_regs : (p : ℕ) (regs : Regs) (system : System) → IsWhole system → Lives system.kernel.procs p
+pub whole_regs : (p : ℕ) (regs : Regs) (system : System) → IsWhole system → Lives system.kernel.dispatcher.procs p
     → StaysWhole p system (record system { kernel = with_regs system.kernel p regs })
 whole_regs p regs system w h =
-    let process = record (process_in system.kernel.procs p) { regs = regs } in
+    let process = record (process_in system.kernel.dispatcher.procs p) { regs = regs } in
     record {
       whole = whole_kernel system _ w
           (sound_process system.kernel p process w.sound h refl refl refl refl)
-          (live_kept system.kernel (with_changed system.kernel p process) refl (λ q living. lives_changed system.kernel.procs p q process ∙ living) w.live)
+          (live_kept system.kernel (with_changed system.kernel p process) refl (λ q living. lives_changed system.kernel.dispatcher.procs p q process ∙ living) w.live)
           (homes_changed system.kernel p process w.sound.slots h refl refl);
-      lives = lives_changed system.kernel.procs p p process ∙ h;
-      call = call_behind system.kernel.procs p p process;
+      lives = lives_changed system.kernel.dispatcher.procs p p process ∙ h;
+      call = call_after system.kernel.dispatcher.procs p p process;
     }
 
 -- bytes come to a console
@@ -125,7 +127,7 @@ live_spoke : (kernel : Kernel) (console : ℕ) (bytes : List ℕ) → CompletedL
 unfolding spoke
 live_spoke kernel console bytes live = live
 
-pub whole_speaking : (console p : ℕ) (bytes : List ℕ) (system : System) → IsWhole system → Lives system.kernel.procs p
+pub whole_speaking : (console p : ℕ) (bytes : List ℕ) (system : System) → IsWhole system → Lives system.kernel.dispatcher.procs p
     → StaysWhole p system (speaking console bytes system).system
 unfolding speaking
 whole_speaking console p bytes system w h =
@@ -136,9 +138,9 @@ whole_speaking console p bytes system w h =
       call = ap (λ procs. call_of procs p) same;
     }
 
-pub whole_behind_text : (system : System) (kernel : Kernel) (console : ℕ) (bytes : List ℕ) → IsWhole system → kernel ≡ spoke system.kernel console bytes
+pub whole_after_text : (system : System) (kernel : Kernel) (console : ℕ) (bytes : List ℕ) → IsWhole system → kernel ≡ spoke system.kernel console bytes
     → IsWhole (record system { kernel = kernel })
-whole_behind_text system kernel console bytes w is =
+whole_after_text system kernel console bytes w is =
     let P : Kernel → Type 0 = λ k. IsWhole (record system { kernel = k }) in
     subst P (sym is)
     (whole_kernel system _ w (sound_spoke system.kernel console bytes w.sound) (live_spoke system.kernel console bytes w.live)
@@ -152,9 +154,9 @@ same_number n = grind (arith, nat_tests)
 lives_there : (procs : Table) (seg q : ℕ) → Lives procs q → (process_in procs q).seg ≡ Some seg → lives_in procs seg q ≡ true
 lives_there procs seg q living there = ap (λ b. b && is_segment seg (process_in procs q).seg) living ∙ ap (is_segment seg) there ∙ same_number seg
 
-pub whole_terminated : (p : ℕ) (system : System) → IsWhole system → Lives system.kernel.procs p → IsWhole (terminated p system)
-unfolding terminated
-whole_terminated p system w h =
+pub whole_ended : (p : ℕ) (system : System) → IsWhole system → Lives system.kernel.dispatcher.procs p → IsWhole (ended p system)
+unfolding ended
+whole_ended p system w h =
     let gone = record system { kernel = discharged system.kernel p } in
     let whole = whole_kernel system _ w (sound_discharged system.kernel p w.sound h) (live_discharged system.kernel p w.sound h)
     (homes_discharged system.kernel p w.sound h) in
@@ -167,101 +169,101 @@ whole_terminated p system w h =
       homes = λ q seg living there. leaves.all seg (whole.homes q seg living there);
       lived = λ q seg living there.
           leaves.lived seg (whole.homes q seg living there)
-          (home_here gone.kernel.procs seg q (lives_below gone.kernel.procs q whole.sound.slots living) (lives_there gone.kernel.procs seg q living there))
+          (home_here gone.kernel.dispatcher.procs seg q (lives_below gone.kernel.dispatcher.procs q whole.sound.slots living) (lives_there gone.kernel.dispatcher.procs seg q living there))
           (whole.lived q seg living there);
     }
 
-whole_illegal : (p : ℕ) (system : System) → IsWhole system → Lives system.kernel.procs p → IsWhole (illegal p system).system
+whole_illegal : (p : ℕ) (system : System) → IsWhole system → Lives system.kernel.dispatcher.procs p → IsWhole (illegal p system).system
 unfolding illegal
 whole_illegal p system w h =
-    let spoke = whole_speaking (process_in system.kernel.procs p).console p (illegal_text (process_in system.kernel.procs p).regs.pc) system w h in
-    whole_terminated p _ spoke.whole spoke.lives
+    let spoke = whole_speaking (process_in system.kernel.dispatcher.procs p).console p (illegal_text (process_in system.kernel.dispatcher.procs p).regs.pc) system w h in
+    whole_ended p _ spoke.whole spoke.lives
 
 -- an instruction
-whole_ran : (outcome : Option Outcome) (p seg : ℕ) (system : System) → IsWhole system → Lives system.kernel.procs p → IsWhole (ran outcome p seg system)
-unfolding ran
+whole_ran : (outcome : Option Outcome) (p seg : ℕ) (system : System) → IsWhole system → Lives system.kernel.dispatcher.procs p → IsWhole (instructed outcome p seg system)
+unfolding instructed
 whole_ran outcome p seg system w h =
     let polled = record system.kernel { devices = devices_after (actions_of outcome) system.kernel.devices } in
     let before = whole_kernel system polled w (sound_devices system.kernel _ w.sound) w.live (homes_stay _ _ refl) in
-    whole_memory _ _ (whole_regs p (registers_after outcome (process_in system.kernel.procs p).regs) (record system { kernel = polled }) before h).whole
+    whole_memory _ _ (whole_regs p (registers_after outcome (process_in system.kernel.dispatcher.procs p).regs) (record system { kernel = polled }) before h).whole
     (keeps_acted (actions_of outcome) seg system.memory)
 
-whole_instructed : (outcome : Option Outcome) (p seg : ℕ) (system : System) → IsWhole system → Lives system.kernel.procs p
-    → IsWhole (instructed outcome p seg system).system
-unfolding instructed
+whole_instructed : (outcome : Option Outcome) (p seg : ℕ) (system : System) → IsWhole system → Lives system.kernel.dispatcher.procs p
+    → IsWhole (executed outcome p seg system).system
+unfolding executed
 whole_instructed None p seg system w h = whole_illegal p system w h
 whole_instructed (Some outcome) p seg system w h = whole_ran (Some outcome) p seg system w h
 
 -- where no listed instruction stands, nothing changes
 
-pub same_regs : (kernel : Kernel) (p : ℕ) → with_regs kernel p (process_in kernel.procs p).regs ≡ kernel
+pub same_regs : (kernel : Kernel) (p : ℕ) → with_regs kernel p (process_in kernel.dispatcher.procs p).regs ≡ kernel
 unfolding with_process
-same_regs kernel p = ap (λ processes. record kernel { procs = record kernel.procs { processes = processes } }) (set-get_or kernel.procs.processes p blank)
+same_regs kernel p = ap (λ processes. dispatched (with_procs (record kernel.dispatcher.procs { processes = processes })) kernel) (set-get_or kernel.dispatcher.procs.processes p blank)
 
-pub ran_nothing : (outcome : Option Outcome) (p seg : ℕ) (system : System) → IsNone outcome → ran outcome p seg system ≡ system
-unfolding ran memory_after devices_after
+pub ran_nothing : (outcome : Option Outcome) (p seg : ℕ) (system : System) → IsNone outcome → instructed outcome p seg system ≡ system
+unfolding instructed memory_after devices_after
 ran_nothing None p seg system none = ap (λ kernel. record system { kernel = kernel }) (same_regs system.kernel p)
 ran_nothing (Some outcome) p seg system none = absurd (cc)
 
 -- a call's text comes out, and its reply is placed
-pub whole_said : (call : Taken) (string : List ℕ) (p : ℕ) (system : System) → IsWhole system → Lives system.kernel.procs p
+pub whole_said : (call : Taken) (string : List ℕ) (p : ℕ) (system : System) → IsWhole system → Lives system.kernel.dispatcher.procs p
     → StaysWhole p system (said_by call string p system).system
 unfolding said_by
-whole_said call string p system w h = whole_speaking (process_in system.kernel.procs p).console p _ system w h
+whole_said call string p system w h = whole_speaking (process_in system.kernel.dispatcher.procs p).console p _ system w h
 
-pub whole_popped : (p seg : ℕ) (system : System) → IsWhole system → Lives system.kernel.procs p → StaysWhole p system (popped p seg system)
+pub whole_popped : (p seg : ℕ) (system : System) → IsWhole system → Lives system.kernel.dispatcher.procs p → StaysWhole p system (popped p seg system)
 unfolding popped
-whole_popped p seg system w h = whole_regs p (returned (byte_at system.memory seg) (process_in system.kernel.procs p).regs) system w h
+whole_popped p seg system w h = whole_regs p (returned (byte_at system.memory seg) (process_in system.kernel.dispatcher.procs p).regs) system w h
 
-whole_replied : (reply : Answer) (call : Taken) (p seg : ℕ) (system : System) → IsWhole system → Lives system.kernel.procs p
+whole_replied : (reply : Answer) (call : Taken) (p seg : ℕ) (system : System) → IsWhole system → Lives system.kernel.dispatcher.procs p
     → StaysWhole p system (answering_call reply call p seg system).system
 unfolding answering_call replied
 whole_replied reply call p seg system w h =
-    let changed = whole_regs p (answered reply.hl (process_in system.kernel.procs p).regs) system w h in
+    let changed = whole_regs p (answered reply.hl (process_in system.kernel.dispatcher.procs p).regs) system w h in
     record {
       whole = whole_memory _ _ changed.whole (keeps_placed reply call.word seg system.memory);
       lives = changed.lives;
       call = changed.call;
     }
 
-pub lives_replied : (reply : Answer) (call : Taken) (p seg : ℕ) (old behind : System) → Lives old.kernel.procs p → behind ≡ replied reply call p seg old
-    → Lives behind.kernel.procs p
+pub lives_replied : (reply : Answer) (call : Taken) (p seg : ℕ) (old afterwards : System) → Lives old.kernel.dispatcher.procs p → afterwards ≡ replied reply call p seg old
+    → Lives afterwards.kernel.dispatcher.procs p
 unfolding replied
-lives_replied reply call p seg old behind h is =
-    ap (λ (s : System). lives s.kernel.procs p) is ∙ lives_changed old.kernel.procs p p _ ∙ h
+lives_replied reply call p seg old afterwards h is =
+    ap (λ (s : System). lives s.kernel.dispatcher.procs p) is ∙ lives_changed old.kernel.dispatcher.procs p p _ ∙ h
 
 -- the record that follows is that of the call
-pub answered_emitted : (reply : Answer) (p seg : ℕ) (old behind : System) → behind ≡ replied reply (call_of old.kernel.procs p) p seg old
-    → completion (call_of behind.kernel.procs p) p behind ∷ [] ≡ (answering_call reply (call_of old.kernel.procs p) p seg old).emitted
+pub answered_emitted : (reply : Answer) (p seg : ℕ) (old afterwards : System) → afterwards ≡ replied reply (call_of old.kernel.dispatcher.procs p) p seg old
+    → completion (call_of afterwards.kernel.dispatcher.procs p) p afterwards ∷ [] ≡ (answering_call reply (call_of old.kernel.dispatcher.procs p) p seg old).emitted
 unfolding answering_call replied
-answered_emitted reply p seg old behind is =
-    ap (λ (s : System). completion (call_of s.kernel.procs p) p s ∷ []) is
-    ∙ ap (λ call. completion call p (replied reply (call_of old.kernel.procs p) p seg old) ∷ []) (call_behind old.kernel.procs p p _)
+answered_emitted reply p seg old afterwards is =
+    ap (λ (s : System). completion (call_of s.kernel.dispatcher.procs p) p s ∷ []) is
+    ∙ ap (λ call. completion call p (replied reply (call_of old.kernel.dispatcher.procs p) p seg old) ∷ []) (call_after old.kernel.dispatcher.procs p p _)
 
 -- a process enters a resident procedure
 
-whole_entered : (p : ℕ) (system : System) → IsWhole system → Lives system.kernel.procs p
+whole_entered : (p : ℕ) (system : System) → IsWhole system → Lives system.kernel.dispatcher.procs p
     → StaysWhole p system (record system { kernel = entered p system.kernel })
 unfolding entered entering
 whole_entered p system w h =
-    let process = entering (call_of system.kernel.procs p) (process_in system.kernel.procs p) in
+    let process = entering (call_of system.kernel.dispatcher.procs p) (process_in system.kernel.dispatcher.procs p) in
     record {
       whole = whole_kernel system _ w
           (sound_process system.kernel p process w.sound h refl refl refl refl)
-          (live_kept system.kernel (with_changed system.kernel p process) refl (λ q living. lives_changed system.kernel.procs p q process ∙ living) w.live)
+          (live_kept system.kernel (with_changed system.kernel p process) refl (λ q living. lives_changed system.kernel.dispatcher.procs p q process ∙ living) w.live)
           (homes_changed system.kernel p process w.sound.slots h refl refl);
-      lives = lives_changed system.kernel.procs p p process ∙ h;
-      call = call_behind system.kernel.procs p p process;
+      lives = lives_changed system.kernel.dispatcher.procs p p process ∙ h;
+      call = call_after system.kernel.dispatcher.procs p p process;
     }
 
-pub whole_entry : (reply : Answer) (call : Taken) (p : ℕ) (system : System) → IsWhole system → Lives system.kernel.procs p
+pub whole_entry : (reply : Answer) (call : Taken) (p : ℕ) (system : System) → IsWhole system → Lives system.kernel.dispatcher.procs p
     → StaysWhole p system (with_entry reply call p system)
 unfolding with_entry
 whole_entry reply call p system w h =
     either (λ (kernel : Kernel). StaysWhole p system (record system { kernel = kernel })) (is_entry call reply) _ _
     (λ _. whole_entered p system w h) (λ _. record { whole = w; lives = h; call = refl })
 
-pub whole_fulfilling : (reply : Answer) (call : Taken) (p seg : ℕ) (system : System) → IsWhole system → Lives system.kernel.procs p
+pub whole_fulfilling : (reply : Answer) (call : Taken) (p seg : ℕ) (system : System) → IsWhole system → Lives system.kernel.dispatcher.procs p
     → IsWhole (fulfilling reply call p seg system).system
 unfolding fulfilling
 whole_fulfilling reply call p seg system w h =
@@ -269,31 +271,31 @@ whole_fulfilling reply call p seg system w h =
     (whole_replied (reply_at_entry reply call p system) call p seg _ inside.whole inside.lives).whole
 
 -- and leaves it
-whole_returning : (p : ℕ) (system : System) → IsWhole system → Lives system.kernel.procs p → IsWhole (returning p system)
+whole_returning : (p : ℕ) (system : System) → IsWhole system → Lives system.kernel.dispatcher.procs p → IsWhole (returning p system)
 unfolding returning returned_from_procedure leaving
 whole_returning p system w h =
     let stays = stays_given_back p system.kernel w.sound h in
-    let behind = record system { kernel = given_back p system.kernel } in
+    let afterwards = record system { kernel = given_back p system.kernel } in
     let whole = whole_kernel system _ w stays.sound stays.completed (homes_given_back p system.kernel w.sound h) in
-    (whole_regs p _ behind whole stays.lives).whole
+    (whole_regs p _ afterwards whole stays.lives).whole
 
-whole_completing : (reply : Answer) (call : Taken) (p seg : ℕ) (system : System) → IsWhole system → Lives system.kernel.procs p
+whole_completing : (reply : Answer) (call : Taken) (p seg : ℕ) (system : System) → IsWhole system → Lives system.kernel.dispatcher.procs p
     → IsWhole (completing reply call p seg system).system
 unfolding completing
 whole_completing reply call p seg system w h =
     let said = whole_said call (string_of call seg system.memory) p system w h in
-    let behind = whole_popped p seg _ said.whole said.lives in
-    whole_fulfilling reply call p seg _ behind.whole behind.lives
+    let afterwards = whole_popped p seg _ said.whole said.lives in
+    whole_fulfilling reply call p seg _ afterwards.whole afterwards.lives
 
 -- a call is done
-whole_banks : (p : ℕ) (memory : Memory) (system : System) → IsWhole system → Lives system.kernel.procs p → KeepsHomes system.memory memory
+whole_banks : (p : ℕ) (memory : Memory) (system : System) → IsWhole system → Lives system.kernel.dispatcher.procs p → KeepsHomes system.memory memory
     → StaysWhole p system (record system { memory = memory })
 whole_banks p memory system w h keeps = record { whole = whole_memory system memory w keeps; lives = h; call = refl }
 
-whole_creating : (p : ℕ) (system : System) → IsWhole system → Lives system.kernel.procs p → StaysWhole p system (creating p system).system
+whole_creating : (p : ℕ) (system : System) → IsWhole system → Lives system.kernel.dispatcher.procs p → StaysWhole p system (creating p system).system
 unfolding creating
 whole_creating p system w h =
-    let base = home_base system.memory (process_in system.kernel.procs p).seg in
+    let base = home_base system.memory (process_in system.kernel.dispatcher.procs p).seg in
     let made = made_created system.kernel p base w.sound h in
     record {
       whole = whole_kernel system _ w made.sound (live_kept system.kernel (created system.kernel p base) made.completed made.lives w.live) made.homes;
@@ -318,15 +320,15 @@ aborted_by stays waits p system = record system {
   abort_deferred = system.abort_deferred || waits;
 }
 
-pub aborted_is : (stays waits : Bool) (p : ℕ) (system : System) → is_resident system.kernel p ≡ stays → waits_to_end system.kernel p false ≡ waits
+pub aborted_is : (stays waits : Bool) (p : ℕ) (system : System) → is_resident system.kernel.dispatcher.procs p ≡ stays → waits_to_end system.kernel p false ≡ waits
     → aborted p system ≡ aborted_by stays waits p system
-unfolding aborted behind_abort memory_behind_abort
+unfolding aborted abort_done memory_after_abort
 aborted_is stays waits p system resident e =
     ap (λ b. aborted_by b (waits_to_end system.kernel p false) p system) resident ∙ ap (λ b. aborted_by stays b p system) e
 
-pub ends_at_once : (p : ℕ) (system : System) → aborted_by false false p system ≡ terminated p system
-unfolding terminated
-ends_at_once p system = ap (λ b. record (terminated p system) { abort_deferred = b }) (or_off system.abort_deferred)
+pub ends_at_once : (p : ℕ) (system : System) → aborted_by false false p system ≡ ended p system
+unfolding ended
+ends_at_once p system = ap (λ b. record (ended p system) { abort_deferred = b }) (or_off system.abort_deferred)
 
 pub abort_deferred_is : (p : ℕ) (system : System) → aborted_by false true p system ≡ record system { kernel = with_abort_due system.kernel p; abort_deferred = true }
 abort_deferred_is p system = ap (λ b. record system { kernel = with_abort_due system.kernel p; abort_deferred = b }) (or_on system.abort_deferred)
@@ -345,34 +347,34 @@ whole_resident waits p system w = record {
   settled = λ off. w.settled (or_neither system.abort_deferred waits off);
 }
 
-pub whole_abort_deferred : (p : ℕ) (system : System) → IsWhole system → Lives system.kernel.procs p
+pub whole_abort_deferred : (p : ℕ) (system : System) → IsWhole system → Lives system.kernel.dispatcher.procs p
     → IsWhole (record system { kernel = with_abort_due system.kernel p; abort_deferred = true })
 whole_abort_deferred p system w h =
-    let process = record (process_in system.kernel.procs p) { abort_due = true } in
+    let process = record (process_in system.kernel.dispatcher.procs p) { abort_due = true } in
     let kernel = with_changed system.kernel p process in
     let there = lived_in_changed system.kernel p process w.sound.slots h refl in
     record {
       sound = sound_process system.kernel p process w.sound h refl refl refl refl;
-      live = live_kept system.kernel kernel refl (λ q living. lives_changed system.kernel.procs p q process ∙ living) w.live;
+      live = live_kept system.kernel kernel refl (λ q living. lives_changed system.kernel.dispatcher.procs p q process ∙ living) w.live;
       script = w.script;
       settled = λ off. absurd (false≢true (sym off));
       homes = λ q seg living home. let lived = there q seg living home in w.homes lived.who seg lived.lives lived.home;
       lived = λ q seg living home. let lived = there q seg living home in w.lived lived.who seg lived.lives lived.home;
     }
 
-stays_aborted : (stays waits : Bool) (other p : ℕ) (system : System) → IsWhole system → Lives system.kernel.procs p → Lives system.kernel.procs other
+stays_aborted : (stays waits : Bool) (other p : ℕ) (system : System) → IsWhole system → Lives system.kernel.dispatcher.procs p → Lives system.kernel.dispatcher.procs other
     → (waits ≡ false → p ≢ other) → waits_at_queues system.kernel.queues p ≡ 0 → StaysWhole p system (aborted_by stays waits other system)
 stays_aborted true waits other p system w h living apart none =
     record { whole = whole_resident waits other system w; lives = h; call = refl }
 stays_aborted false true other p system w h living apart none =
-    let process = record (process_in system.kernel.procs other) { abort_due = true } in
+    let process = record (process_in system.kernel.dispatcher.procs other) { abort_due = true } in
     record {
       whole = subst IsWhole (sym (abort_deferred_is other system)) (whole_abort_deferred other system w living);
-      lives = lives_changed system.kernel.procs other p process ∙ h;
-      call = call_behind system.kernel.procs other p process;
+      lives = lives_changed system.kernel.dispatcher.procs other p process ∙ h;
+      call = call_after system.kernel.dispatcher.procs other p process;
     }
 stays_aborted false false other p system w h living apart none = record {
-  whole = subst IsWhole (sym (ends_at_once other system)) (whole_terminated other system w living);
+  whole = subst IsWhole (sym (ends_at_once other system)) (whole_ended other system w living);
   lives = lives_discharged system.kernel other p w.sound living (apart refl) ∙ h;
   call = call_discharged system.kernel other p w.sound living (apart refl) none;
 }
@@ -382,12 +384,12 @@ another : (waits : Bool) (other p : ℕ) → (other == p && not waits) ≡ false
 another true other p e off = absurd (false≢true (sym off))
 another false other p e off = λ same. false≢true (sym e ∙ ap (λ b. b && true) (eq-eqb other p (sym same)))
 
-whole_aborting_this : (named : Option ℕ) (p : ℕ) (system : System) → IsWhole system → Lives system.kernel.procs p
-    → ((q : ℕ) → named ≡ Some q → Lives system.kernel.procs q) → waits_at_queues system.kernel.queues p ≡ 0
+whole_aborting_this : (named : Option ℕ) (p : ℕ) (system : System) → IsWhole system → Lives system.kernel.dispatcher.procs p
+    → ((q : ℕ) → named ≡ Some q → Lives system.kernel.dispatcher.procs q) → waits_at_queues system.kernel.queues p ≡ 0
     → StaysWhole p system (aborting_this named p system).system
 whole_aborting_this None p system w h living none = record { whole = w; lives = h; call = refl }
 whole_aborting_this (Some other) p system w h living none =
-    let stays = is_resident system.kernel other in
+    let stays = is_resident system.kernel.dispatcher.procs other in
     let waits = waits_to_end system.kernel other false in
     either (λ (s : Served). StaysWhole p system s.system) (other == p && not (waits_to_end system.kernel p false)) _ _
     (λ _. record { whole = w; lives = h; call = refl }) (λ e.
@@ -400,14 +402,14 @@ whole_aborting_this (Some other) p system w h living none =
         let there : waits_to_end system.kernel p false ≡ false = ap (λ n. waits_to_end system.kernel n false) same ∙ off in
         another (waits_to_end system.kernel p false) other p e there same
 
-whole_aborting : (p : ℕ) (system : System) → IsWhole system → Lives system.kernel.procs p → IsReady system.kernel p
+whole_aborting : (p : ℕ) (system : System) → IsWhole system → Lives system.kernel.dispatcher.procs p → IsReady system.kernel.dispatcher p
     → StaysWhole p system (aborting p system).system
 unfolding aborting
 whole_aborting p system w h is_ready =
-    whole_aborting_this (target system.kernel.procs p) p system w h (λ q named. target_lives system.kernel.procs p q named)
+    whole_aborting_this (target system.kernel.dispatcher.procs p) p system w h (λ q named. target_lives system.kernel.dispatcher.procs p q named)
     (ready_waits_at_none system.kernel p w.sound is_ready)
 
-pub whole_calling : (p : ℕ) (system : System) → IsWhole system → Lives system.kernel.procs p → IsReady system.kernel p
+pub whole_calling : (p : ℕ) (system : System) → IsWhole system → Lives system.kernel.dispatcher.procs p → IsReady system.kernel.dispatcher p
     → StaysWhole p system (calling p system).system
 whole_calling p system w h ready = record {
   whole = whole_kernel system _ w (sound_called p system.kernel w.sound h ready) (live_called p system.kernel w.sound h ready)
@@ -416,54 +418,54 @@ whole_calling p system w h ready = record {
   call = call_called p system.kernel w.sound h ready;
 }
 
-pub whole_served : (call : Taken) (p : ℕ) (system : System) → IsWhole system → Lives system.kernel.procs p → IsReady system.kernel p
+pub whole_served : (call : Taken) (p : ℕ) (system : System) → IsWhole system → Lives system.kernel.dispatcher.procs p → IsReady system.kernel.dispatcher p
     → StaysWhole p system (served call p system).system
 unfolding served reserving releasing
 whole_served call p system w h ready =
     let f = call.function in
     let P : Served → Type 0 = λ s. StaysWhole p system s.system in
-    either P (f == 128) _ _ (λ _. whole_banks p _ system w h (keeps_reserved system.memory p _ _))
-    (λ _. either P (f == 129) _ _ (λ _. whole_banks p _ system w h (keeps_reserved system.memory p _ _))
-    (λ _. either P (f == 130) _ _ (λ _. whole_banks p _ system w h (keeps_released system.memory p _))
-    (λ _. either P (f == 144) _ _ (λ _. whole_creating p system w h)
-    (λ _. either P (f == 157) _ _ (λ _. whole_aborting p system w h ready) (λ _. whole_calling p system w h ready)))))
+    either P (f == ABSOLUTE_MEMORY_REQUEST) _ _ (λ _. whole_banks p _ system w h (keeps_reserved system.memory p _ _))
+    (λ _. either P (f == RELOCATABLE_MEMORY_REQUEST) _ _ (λ _. whole_banks p _ system w h (keeps_reserved system.memory p _ _))
+    (λ _. either P (f == MEMORY_FREE) _ _ (λ _. whole_banks p _ system w h (keeps_released system.memory p _))
+    (λ _. either P (f == CREATE_PROCESS) _ _ (λ _. whole_creating p system w h)
+    (λ _. either P (f == ABORT_SPECIFIED_PROCESS) _ _ (λ _. whole_aborting p system w h ready) (λ _. whole_calling p system w h ready)))))
 
 -- a call is taken: the process keeps it, is ready as before, and has its segment
 pub record Keeps (p : ℕ) (taken : Taken) (old new : System) : Type 0 where
   pub whole : IsWhole new
-  pub lives : Lives new.kernel.procs p
-  pub ready : IsReady old.kernel p → IsReady new.kernel p
-  pub call : call_of new.kernel.procs p ≡ taken
-  pub home : (process_in new.kernel.procs p).seg ≡ (process_in old.kernel.procs p).seg
+  pub lives : Lives new.kernel.dispatcher.procs p
+  pub ready : IsReady old.kernel.dispatcher p → IsReady new.kernel.dispatcher p
+  pub call : call_of new.kernel.dispatcher.procs p ≡ taken
+  pub home : (process_in new.kernel.dispatcher.procs p).seg ≡ (process_in old.kernel.dispatcher.procs p).seg
 
-pub keeps_call : (p : ℕ) (call : Taken) (system : System) → IsWhole system → Lives system.kernel.procs p → Keeps p call system (keeping p call system)
+pub keeps_call : (p : ℕ) (call : Taken) (system : System) → IsWhole system → Lives system.kernel.dispatcher.procs p → Keeps p call system (keeping p call system)
 unfolding keeping
 keeps_call p call system w h =
-    let process = process_in system.kernel.procs p in
+    let process = process_in system.kernel.dispatcher.procs p in
     let quiet = record process { regs = record process.regs { shadow = false } } in
     let taken = whole_regs p quiet.regs system w h in
     let kernel = with_changed system.kernel p quiet in
     let slots = taken.whole.sound.slots in
-    let below = lives_below system.kernel.procs p w.sound.slots h in
+    let below = lives_below system.kernel.dispatcher.procs p w.sound.slots h in
     record {
       whole = whole_kernel _ _ taken.whole (sound_call kernel p call taken.whole.sound)
-          (live_kept kernel (record kernel { procs = with_call kernel.procs p call }) refl (λ q living. lives_behind kernel.procs p q call ∙ living) taken.whole.live)
+          (live_kept kernel (dispatched (with_procs (with_call kernel.dispatcher.procs p call)) kernel) refl (λ q living. lives_after kernel.dispatcher.procs p q call ∙ living) taken.whole.live)
           (homes_call kernel p call);
-      lives = lives_behind kernel.procs p p call ∙ taken.lives;
+      lives = lives_after kernel.dispatcher.procs p p call ∙ taken.lives;
       ready = λ ready. ready;
-      call = call_changed kernel.procs p call (omega (arith, slots.calls, below));
-      home = ap (λ x. x.seg) (process_behind kernel.procs p p call ∙ process_changed system.kernel.procs p quiet (omega (arith, w.sound.slots.processes, below)));
+      call = call_changed kernel.dispatcher.procs p call (omega (arith, slots.calls, below));
+      home = ap (λ x. x.seg) (process_after kernel.dispatcher.procs p p call ∙ process_changed system.kernel.dispatcher.procs p quiet (omega (arith, w.sound.slots.processes, below)));
     }
 
-whole_outcome : (outcome : Ended_how) (reply : Answer) (call : Taken) (p seg : ℕ) (system : System) → IsWhole system → Lives system.kernel.procs p
+whole_outcome : (outcome : Ended_how) (reply : Answer) (call : Taken) (p seg : ℕ) (system : System) → IsWhole system → Lives system.kernel.dispatcher.procs p
     → IsWhole (outcome_of outcome reply call p seg system).system
 whole_outcome Done reply call p seg system w h = whole_completing reply call p seg system w h
-whole_outcome Ended reply call p seg system w h = whole_terminated p system w h
+whole_outcome Ended reply call p seg system w h = whole_ended p system w h
 whole_outcome Held reply call p seg system w h = (whole_popped p seg system w h).whole
 whole_outcome Retry reply call p seg system w h = w
 
 -- the gate step of a call
-whole_gate_step : (p seg : ℕ) (system : System) → IsWhole system → Lives system.kernel.procs p → IsReady system.kernel p
+whole_gate_step : (p seg : ℕ) (system : System) → IsWhole system → Lives system.kernel.dispatcher.procs p → IsReady system.kernel.dispatcher p
     → IsWhole (gate_step p seg system).system
 unfolding gate_step
 whole_gate_step p seg system w h ready =
@@ -474,32 +476,32 @@ whole_gate_step p seg system w h ready =
 
 -- the step of a resident
 
-pub keeps_asked : (p : ℕ) (call : Taken) (system : System) → IsWhole system → Lives system.kernel.procs p → Keeps p call system (asking p call system)
+pub keeps_asked : (p : ℕ) (call : Taken) (system : System) → IsWhole system → Lives system.kernel.dispatcher.procs p → Keeps p call system (asking p call system)
 keeps_asked p call system w h =
     let kernel = system.kernel in
     let slots = w.sound.slots in
-    let below = lives_below kernel.procs p slots h in
+    let below = lives_below kernel.dispatcher.procs p slots h in
     record {
       whole = whole_kernel system _ w (sound_call kernel p call w.sound)
-          (live_kept kernel (record kernel { procs = with_call kernel.procs p call }) refl (λ q living. lives_behind kernel.procs p q call ∙ living) w.live)
+          (live_kept kernel (dispatched (with_procs (with_call kernel.dispatcher.procs p call)) kernel) refl (λ q living. lives_after kernel.dispatcher.procs p q call ∙ living) w.live)
           (homes_call kernel p call);
-      lives = lives_behind kernel.procs p p call ∙ h;
+      lives = lives_after kernel.dispatcher.procs p p call ∙ h;
       ready = λ ready. ready;
-      call = call_changed kernel.procs p call (omega (arith, slots.calls, below));
-      home = ap (λ x. x.seg) (process_behind kernel.procs p p call);
+      call = call_changed kernel.dispatcher.procs p call (omega (arith, slots.calls, below));
+      home = ap (λ x. x.seg) (process_after kernel.dispatcher.procs p p call);
     }
 
 pub whole_residents : (system : System) (residents : List Native) → IsWhole system → IsWhole (record system { residents = residents })
 whole_residents system residents w = record { sound = w.sound; live = w.live; homes = w.homes; lived = w.lived; script = w.script; settled = w.settled }
 
-whole_native : (outcome : Ended_how) (reply : Answer) (call : Taken) (p : ℕ) (system : System) → IsWhole system → Lives system.kernel.procs p
+whole_native : (outcome : Ended_how) (reply : Answer) (call : Taken) (p : ℕ) (system : System) → IsWhole system → Lives system.kernel.dispatcher.procs p
     → IsWhole (native_outcome outcome reply call p system).system
 whole_native Done reply call p system w h = whole_residents _ _ (whole_said call call.bytes p system w h).whole
-whole_native Ended reply call p system w h = whole_terminated p system w h
+whole_native Ended reply call p system w h = whole_ended p system w h
 whole_native Held reply call p system w h = w
 whole_native Retry reply call p system w h = w
 
-whole_resided : (native : Option Native) (p : ℕ) (system : System) → IsWhole system → Lives system.kernel.procs p → IsReady system.kernel p
+whole_resided : (native : Option Native) (p : ℕ) (system : System) → IsWhole system → Lives system.kernel.dispatcher.procs p → IsReady system.kernel.dispatcher p
     → IsWhole (resided native p system).system
 unfolding native_step
 whole_resided None p system w h ready = w
@@ -509,14 +511,14 @@ whole_resided (Some native) p system w h ready =
     whole_native _ _ (native_call native) p _ done.whole done.lives
 
 -- what the running process does
-whole_acted_at : (gate : Option Gate) (p seg : ℕ) (system : System) → IsWhole system → Lives system.kernel.procs p → IsReady system.kernel p
+whole_acted_at : (gate : Option Gate) (p seg : ℕ) (system : System) → IsWhole system → Lives system.kernel.dispatcher.procs p → IsReady system.kernel.dispatcher p
     → IsWhole (acted_at gate p seg system).system
-whole_acted_at (Some End) p seg system w h ready = whole_terminated p system w h
+whole_acted_at (Some End) p seg system w h ready = whole_ended p system w h
 whole_acted_at (Some Call) p seg system w h ready = whole_gate_step p seg system w h ready
 whole_acted_at (Some Return) p seg system w h ready = whole_returning p system w h
 whole_acted_at None p seg system w h ready = whole_instructed (instruction_at p seg system) p seg system w h
 
-whole_acted_by : (running seg : Option ℕ) (system : System) → IsWhole system → system.kernel.running ≡ running → IsWhole (acted_by running seg system).system
+whole_acted_by : (running seg : Option ℕ) (system : System) → IsWhole system → system.kernel.dispatcher.running ≡ running → IsWhole (acted_by running seg system).system
 whole_acted_by None seg system w e = w
 whole_acted_by (Some p) None system w e =
     whole_resided (native_in system.residents p) p system w (runner_lives system.kernel p w.sound e) (w.sound.runs p e)
@@ -525,4 +527,4 @@ whole_acted_by (Some p) (Some seg) system w e =
 
 pub whole_acted : (system : System) → IsWhole system → IsWhole (acted system).system
 unfolding acted
-whole_acted system w = whole_acted_by system.kernel.running _ system w refl
+whole_acted system w = whole_acted_by system.kernel.dispatcher.running _ system w refl

@@ -9,78 +9,78 @@ use Rattle.mpm_procs.specs.Table.{lives, Lives, process_in}
 use Rattle.mpm_procs.proofs.MapLaws.{lives_below}
 use Rattle.mpm_queues.specs.Queues.{lowest}
 use Rattle.mpm_queues.proofs.Finding.{lowest_none}
-use Rattle.mpm_kernel.specs.Kernel.{Kernel, IsSound, is_aborted}
+use Rattle.mpm_kernel.specs.Kernel.{Kernel, IsSound, is_aborted, dispatched, is_resident}
 use Rattle.mpm_script.specs.declared.event.Event.{Event}
 use Rattle.mpm_script.specs.Events.{IsTimed}
-use Rattle.mpm_kernel.specs.Dispatch.{picked}
-use Rattle.mpm_kernel.specs.Events.{MayCome, first_completed, happened}
+use Rattle.mpm_dispatcher.specs.Dispatch.{picked, first_completed}
+use Rattle.mpm_kernel.specs.Events.{MayCome, happened}
 use Rattle.mpm_kernel.proofs.SoundLaws.{sound_picked, sound_happened, live_happened, sound_completed, live_handed_out, completed_lives, runner_lives}
 use Rattle.mpm_kernel.proofs.HomeLaws.{homes_stay, homes_happened, homes_handed_out, lives_handed_out}
-use Rattle.mpm_xdos.specs.Aborting.{is_resident, waits_to_end}
+use Rattle.mpm_xdos.specs.Aborting.{waits_to_end}
 use Rattle.mpm_machine.specs.declared.system.System.{System}
 use Rattle.mpm_machine.specs.State.{Change, IsWhole, NobodyAborted}
-use Rattle.mpm_machine.specs.Ending.{terminated}
+use Rattle.mpm_machine.specs.Ending.{ended}
 use Rattle.mpm_kernel.specs.Consoling.{abort_taken}
 use Rattle.mpm_kernel.proofs.AbortLaws.{abort_lives, sound_abort_taken}
-use Rattle.mpm_interrupts.specs.Interrupts.{due, behind_due}
+use Rattle.mpm_interrupts.specs.Interrupts.{due, due_taken}
 use Rattle.mpm_interrupts.specs.declared.interrupts.Interrupts.{Interrupts}
 use Rattle.mpm_machine.specs.Finishing.{finished, completion_dequeued, finishing, all_finished}
-use Rattle.mpm_machine.specs.Due.{is_due, terminated_if_due, due_terminated, is_any_aborted, noted, with_ends, settled}
+use Rattle.mpm_machine.specs.Due.{is_due, ended_if_due, due_terminated, is_any_aborted, noted, with_ends, settled}
 use Rattle.mpm_machine.specs.Step.{counted, lets_in, coming, unhalted, key_aborted, happened_to, event_come, interrupted, begun_by, instruction_unless, with_settled, step_of}
 use Rattle.mpm_machine.proofs.InterruptLaws.{due_may}
-use Rattle.mpm_interrupts.proofs.InterruptLaws.{script_behind_due}
+use Rattle.mpm_interrupts.proofs.InterruptLaws.{script_after_due}
 use Rattle.mpm_machine.proofs.FinishLaws.{first_finished, left_completed}
 use Rattle.mpm_machine.proofs.DueLaws.{no_completions_settled}
-use Rattle.mpm_machine.proofs.WholeLaws.{whole_kernel, whole_steps, whole_regs, whole_terminated, aborted_by, aborted_is, ends_at_once, abort_deferred_is, whole_abort_deferred, whole_resident, whole_residents, whole_fulfilling, whole_acted}
+use Rattle.mpm_machine.proofs.WholeLaws.{whole_kernel, whole_steps, whole_regs, whole_ended, aborted_by, aborted_is, ends_at_once, abort_deferred_is, whole_abort_deferred, whole_resident, whole_residents, whole_fulfilling, whole_acted}
 
 -- an event comes
 
-whole_unhalted : (running : Option ℕ) (system : System) → IsWhole system → system.kernel.running ≡ running
+whole_unhalted : (running : Option ℕ) (system : System) → IsWhole system → system.kernel.dispatcher.running ≡ running
     → IsWhole (record system { kernel = unhalted running system.kernel })
 whole_unhalted None system w e = w
 whole_unhalted (Some p) system w e =
-    (whole_regs p (record (process_in system.kernel.procs p).regs { halted = false }) system w (runner_lives system.kernel p w.sound e)).whole
+    (whole_regs p (record (process_in system.kernel.dispatcher.procs p).regs { halted = false }) system w (runner_lives system.kernel p w.sound e)).whole
 
 whole_interrupts : (system : System) (interrupts : Interrupts) → IsWhole system → All IsTimed interrupts.script
     → IsWhole (record system { interrupts = interrupts })
 whole_interrupts system interrupts w script = record { sound = w.sound; live = w.live; homes = w.homes; lived = w.lived; script = script; settled = w.settled }
 
-pub whole_due : (system : System) (interrupts : Interrupts) → IsWhole system → interrupts ≡ behind_due system.steps system.interrupts
+pub whole_due : (system : System) (interrupts : Interrupts) → IsWhole system → interrupts ≡ due_taken system.steps system.interrupts
     → IsWhole (record system { interrupts = interrupts })
 whole_due system interrupts w is =
     let P : Interrupts → Type 0 = λ i. All IsTimed i.script in
-    whole_interrupts system interrupts w (subst P (sym is) (script_behind_due system.steps system.interrupts w.script))
+    whole_interrupts system interrupts w (subst P (sym is) (script_after_due system.steps system.interrupts w.script))
 
-pub sound_unhalted : (system behind : System) → IsWhole system → behind ≡ record system { kernel = unhalted system.kernel.running system.kernel }
-    → IsSound behind.kernel
-sound_unhalted system behind w is =
+pub sound_unhalted : (system afterwards : System) → IsWhole system → afterwards ≡ record system { kernel = unhalted system.kernel.dispatcher.running system.kernel }
+    → IsSound afterwards.kernel
+sound_unhalted system afterwards w is =
     let P : System → Type 0 = λ s. IsSound s.kernel in
-    subst P (sym is) (whole_unhalted system.kernel.running system w refl).sound
+    subst P (sym is) (whole_unhalted system.kernel.dispatcher.running system w refl).sound
 
--- an event, behind which the process that it aborts lives
-pub whole_happened : (event : Event) (system behind : System) (kernel : Kernel) → MayCome event → IsWhole system
-    → behind ≡ record system { kernel = unhalted system.kernel.running system.kernel } → kernel ≡ happened event behind.kernel
-    → IsWhole (record behind { kernel = kernel })
-whole_happened event system behind kernel may w is was =
-    let before : IsWhole behind = subst IsWhole (sym is) (whole_unhalted system.kernel.running system w refl) in
-    let P : Kernel → Type 0 = λ k. IsWhole (record behind { kernel = k }) in
+-- an event, after which the process that it aborts lives
+pub whole_happened : (event : Event) (system afterwards : System) (kernel : Kernel) → MayCome event → IsWhole system
+    → afterwards ≡ record system { kernel = unhalted system.kernel.dispatcher.running system.kernel } → kernel ≡ happened event afterwards.kernel
+    → IsWhole (record afterwards { kernel = kernel })
+whole_happened event system afterwards kernel may w is was =
+    let before : IsWhole afterwards = subst IsWhole (sym is) (whole_unhalted system.kernel.dispatcher.running system w refl) in
+    let P : Kernel → Type 0 = λ k. IsWhole (record afterwards { kernel = k }) in
     subst P (sym was)
-    (whole_kernel behind (happened event behind.kernel) before (sound_happened event behind.kernel may before.sound)
-    (live_happened event behind.kernel may before.sound) (homes_happened event behind.kernel))
+    (whole_kernel afterwards (happened event afterwards.kernel) before (sound_happened event afterwards.kernel may before.sound)
+    (live_happened event afterwards.kernel may before.sound) (homes_happened event afterwards.kernel))
 
-pub aborted_lives : (event : Event) (system behind : System) (kernel : Kernel) → IsWhole system
-    → behind ≡ record system { kernel = unhalted system.kernel.running system.kernel } → kernel ≡ happened event behind.kernel
-    → IfSome kernel.aborted (λ p. Lives kernel.procs p)
-aborted_lives event system behind kernel w is was =
-    let before : IsWhole behind = subst IsWhole (sym is) (whole_unhalted system.kernel.running system w refl) in
-    let P : Kernel → Type 0 = λ k. IfSome k.aborted (λ p. Lives k.procs p) in
-    subst P (sym was) (abort_lives event behind.kernel before.sound)
+pub aborted_lives : (event : Event) (system afterwards : System) (kernel : Kernel) → IsWhole system
+    → afterwards ≡ record system { kernel = unhalted system.kernel.dispatcher.running system.kernel } → kernel ≡ happened event afterwards.kernel
+    → IfSome kernel.aborted (λ p. Lives kernel.dispatcher.procs p)
+aborted_lives event system afterwards kernel w is was =
+    let before : IsWhole afterwards = subst IsWhole (sym is) (whole_unhalted system.kernel.dispatcher.running system w refl) in
+    let P : Kernel → Type 0 = λ k. IfSome k.aborted (λ p. Lives k.dispatcher.procs p) in
+    subst P (sym was) (abort_lives event afterwards.kernel before.sound)
 
-whole_aborted_by : (stays waits : Bool) (p : ℕ) (system : System) → IsWhole system → Lives system.kernel.procs p
+whole_aborted_by : (stays waits : Bool) (p : ℕ) (system : System) → IsWhole system → Lives system.kernel.dispatcher.procs p
     → IsWhole (aborted_by stays waits p system)
 whole_aborted_by true waits p system w h = whole_resident waits p system w
 whole_aborted_by false true p system w h = subst IsWhole (sym (abort_deferred_is p system)) (whole_abort_deferred p system w h)
-whole_aborted_by false false p system w h = subst IsWhole (sym (ends_at_once p system)) (whole_terminated p system w h)
+whole_aborted_by false false p system w h = subst IsWhole (sym (ends_at_once p system)) (whole_ended p system w h)
 
 pub whole_abort_taken : (system : System) → IsWhole system → IsWhole (record system { kernel = abort_taken system.kernel })
 whole_abort_taken system w =
@@ -90,19 +90,19 @@ pub whole_taken : (system : System) (kernel : Kernel) → IsWhole system → ker
 whole_taken system kernel w is =
     let P : Kernel → Type 0 = λ k. IsWhole (record system { kernel = k }) in subst P (sym is) (whole_abort_taken system w)
 
-whole_key_aborted : (aborts : Option ℕ) (system : System) → IsWhole system → IfSome aborts (λ p. Lives system.kernel.procs p)
+whole_key_aborted : (aborts : Option ℕ) (system : System) → IsWhole system → IfSome aborts (λ p. Lives system.kernel.dispatcher.procs p)
     → IsWhole (key_aborted aborts system)
 whole_key_aborted None system w lives = w
 whole_key_aborted (Some p) system w lives =
     let taken = record system { kernel = abort_taken system.kernel } in
-    let stays = is_resident taken.kernel p in
+    let stays = is_resident taken.kernel.dispatcher.procs p in
     let waits = waits_to_end taken.kernel p false in
     subst IsWhole (sym (aborted_is stays waits p taken refl refl)) (whole_aborted_by stays waits p taken (whole_abort_taken system w) lives)
 
 whole_event_come : (event : Event) (system : System) → MayCome event → IsWhole system → IsWhole (event_come event system).system
 unfolding event_come
 whole_event_come event system may w =
-    let unhalted_system = record system { kernel = unhalted system.kernel.running system.kernel } in
+    let unhalted_system = record system { kernel = unhalted system.kernel.dispatcher.running system.kernel } in
     whole_key_aborted (happened_to event system).kernel.aborted (happened_to event system)
     (whole_happened event system unhalted_system (happened event unhalted_system.kernel) may w refl refl)
     (aborted_lives event system unhalted_system (happened event unhalted_system.kernel) w refl refl)
@@ -110,8 +110,8 @@ whole_event_come event system may w =
 whole_interrupted : (event : Event) (system : System) → MayCome event → IsWhole system → IsWhole (interrupted event system).system
 unfolding interrupted
 whole_interrupted event system may w =
-    whole_event_come event (record system { interrupts = behind_due system.steps system.interrupts }) may
-    (whole_interrupts system (behind_due system.steps system.interrupts) w (script_behind_due system.steps system.interrupts w.script))
+    whole_event_come event (record system { interrupts = due_taken system.steps system.interrupts }) may
+    (whole_interrupts system (due_taken system.steps system.interrupts) w (script_after_due system.steps system.interrupts w.script))
 
 whole_begun : (event : Option Event) (system : System) → IfSome event MayCome → IsWhole system → IsWhole (begun_by event system).system
 whole_begun None system may w = whole_acted system w
@@ -119,7 +119,7 @@ whole_begun (Some event) system may w = whole_interrupted event system may w
 
 -- the held calls that were completed are answered
 
-whole_finished : (seg : Option ℕ) (p : ℕ) (system : System) → IsWhole system → Lives system.kernel.procs p → IsWhole (finished seg p system).system
+whole_finished : (seg : Option ℕ) (p : ℕ) (system : System) → IsWhole system → Lives system.kernel.dispatcher.procs p → IsWhole (finished seg p system).system
 whole_finished None p system w h = whole_residents system _ w
 whole_finished (Some seg) p system w h = whole_fulfilling _ _ p seg system w h
 
@@ -129,46 +129,46 @@ whole_dequeued system w =
     (homes_handed_out system.kernel w.sound w.live)
 
 -- the first of them is answered
-pub whole_first : (p : ℕ) (system : System) → IsWhole system → first_completed system.kernel.completed ≡ Some p → IsWhole (first_finished p system)
+pub whole_first : (p : ℕ) (system : System) → IsWhole system → first_completed system.kernel.dispatcher.completed ≡ Some p → IsWhole (first_finished p system)
 whole_first p system w first =
     let same = lives_handed_out system.kernel p ∙ completed_lives system.kernel p w.live first in
-    whole_finished (process_in system.kernel.procs p).seg p (completion_dequeued system) (whole_dequeued system w) same
+    whole_finished (process_in system.kernel.dispatcher.procs p).seg p (completion_dequeued system) (whole_dequeued system w) same
 
-pub whole_left : (now new : System) (p : ℕ) → IsWhole now → first_completed now.kernel.completed ≡ Some p → new ≡ first_finished p now → IsWhole new
+pub whole_left : (now new : System) (p : ℕ) → IsWhole now → first_completed now.kernel.dispatcher.completed ≡ Some p → new ≡ first_finished p now → IsWhole new
 whole_left now new p w first is = subst IsWhole (sym is) (whole_first p now w first)
 
-whole_finishing : (ps : List ℕ) (system : System) → IsWhole system → system.kernel.completed ≡ ps → IsWhole (finishing ps system).system
+whole_finishing : (ps : List ℕ) (system : System) → IsWhole system → system.kernel.dispatcher.completed ≡ ps → IsWhole (finishing ps system).system
 unfolding finishing
 whole_finishing [] system w e = w
 whole_finishing (p ∷ ps) system w e =
     whole_finishing ps (first_finished p system) (whole_first p system w (ap first_completed e)) (left_completed p ps system e)
 
 -- where they all were
-pub whole_answered : (system behind : System) → IsWhole system → behind ≡ (all_finished system).system → IsWhole behind
-whole_answered system behind w is = subst IsWhole (sym is) (whole_finishing system.kernel.completed system w refl)
+pub whole_answered : (system afterwards : System) → IsWhole system → afterwards ≡ (all_finished system).system → IsWhole afterwards
+whole_answered system afterwards w is = subst IsWhole (sym is) (whole_finishing system.kernel.dispatcher.completed system w refl)
 
 -- the ends that are due come
 
-pub whole_if_due : (p : ℕ) (system : System) → IsWhole system → IsWhole (terminated_if_due p system).system
-unfolding terminated_if_due
+pub whole_if_due : (p : ℕ) (system : System) → IsWhole system → IsWhole (ended_if_due p system).system
+unfolding ended_if_due
 whole_if_due p system w =
     either (λ (c : Change). IsWhole c.system) (is_due system.kernel p) _ _
     (λ due.
-    let aborted = (and_parts (is_aborted system.kernel.procs p) _ due).0 in
-    whole_finishing _ (terminated p system) (whole_terminated p system w (and_parts (lives system.kernel.procs p) _ aborted).0) refl)
+    let aborted = (and_parts (is_aborted system.kernel.dispatcher.procs p) _ due).0 in
+    whole_finishing _ (ended p system) (whole_ended p system w (and_parts (lives system.kernel.dispatcher.procs p) _ aborted).0) refl)
     (λ _. w)
 
 pub whole_due_terminated : (ps : List ℕ) (system : System) → IsWhole system → IsWhole (due_terminated ps system).system
 unfolding due_terminated
 whole_due_terminated [] system w = w
-whole_due_terminated (p ∷ ps) system w = whole_due_terminated ps (terminated_if_due p system).system (whole_if_due p system w)
+whole_due_terminated (p ∷ ps) system w = whole_due_terminated ps (ended_if_due p system).system (whole_if_due p system w)
 
--- a process whose end is due lives, and all is whole behind its end
-pub due_lives : (kernel : Kernel) (p : ℕ) → is_due kernel p ≡ true → Lives kernel.procs p
-due_lives kernel p due = (and_parts (lives kernel.procs p) _ (and_parts (is_aborted kernel.procs p) _ due).0).0
+-- a process whose end is due lives, and all is whole after its end
+pub due_lives : (kernel : Kernel) (p : ℕ) → is_due kernel p ≡ true → Lives kernel.dispatcher.procs p
+due_lives kernel p due = (and_parts (lives kernel.dispatcher.procs p) _ (and_parts (is_aborted kernel.dispatcher.procs p) _ due).0).0
 
-pub whole_due_end : (system behind : System) (p : ℕ) → IsWhole system → is_due system.kernel p ≡ true → behind ≡ terminated p system → IsWhole behind
-whole_due_end system behind p w due is = subst IsWhole (sym is) (whole_terminated p system w (due_lives system.kernel p due))
+pub whole_due_end : (system afterwards : System) (p : ℕ) → IsWhole system → is_due system.kernel p ≡ true → afterwards ≡ ended p system → IsWhole afterwards
+whole_due_end system afterwards p w due is = subst IsWhole (sym is) (whole_ended p system w (due_lives system.kernel p due))
 
 -- nobody is aborted where none of the slots has one who is
 
@@ -180,15 +180,15 @@ no_slot : (b below : Bool) → (b ≡ true → below ≡ true) → (below ≡ tr
 no_slot true below there none = none (there refl)
 no_slot false below there none = refl
 
-none_aborted : (system : System) → IsWhole system → is_any_aborted system.kernel.procs ≡ false → NobodyAborted system.kernel
+none_aborted : (system : System) → IsWhole system → is_any_aborted system.kernel.dispatcher.procs ≡ false → NobodyAborted system.kernel
 none_aborted system w none = λ p.
-    let each = lowest_none (is_aborted system.kernel.procs) (none_found (lowest (is_aborted system.kernel.procs)) none) in
-    no_slot (is_aborted system.kernel.procs p) (nat_lt p 32)
-    (λ due. below p system w (and_parts (lives system.kernel.procs p) _ due).0)
+    let each = lowest_none (is_aborted system.kernel.dispatcher.procs) (none_found (lowest (is_aborted system.kernel.dispatcher.procs)) none) in
+    no_slot (is_aborted system.kernel.dispatcher.procs p) (nat_lt p 32)
+    (λ due. below p system w (and_parts (lives system.kernel.dispatcher.procs p) _ due).0)
     (λ less. each p (grind (arith, nat_tests, less)))
   where
-    below : (p : ℕ) (system : System) → IsWhole system → Lives system.kernel.procs p → nat_lt p 32 ≡ true
-    below p system w living = grind (arith, nat_tests, lives_below system.kernel.procs p w.sound.slots living)
+    below : (p : ℕ) (system : System) → IsWhole system → Lives system.kernel.dispatcher.procs p → nat_lt p 32 ≡ true
+    below p system w living = grind (arith, nat_tests, lives_below system.kernel.dispatcher.procs p w.sound.slots living)
 
 either_off : (a b : Bool) → (a && b) ≡ false → (a ≡ false) ⊎ (b ≡ false)
 either_off true b e = inr e
@@ -213,7 +213,7 @@ whole_with_ends system w = whole_noted _ (whole_due_terminated (range_with_len 0
 
 whole_settled : (system : System) → IsWhole system → IsWhole (settled system).system
 unfolding settled
-whole_settled system w = whole_with_ends _ (whole_finishing system.kernel.completed system w refl)
+whole_settled system w = whole_with_ends _ (whole_finishing system.kernel.dispatcher.completed system w refl)
 
 -- a step
 pub whole_counted : (system : System) → IsWhole system → IsWhole (counted system)
@@ -229,24 +229,24 @@ whole_settled_all event system may w = whole_settled (begun_by event system).sys
 coming_may : (system : System) → IsWhole system → IfSome (coming system) MayCome
 unfolding coming
 coming_may system w =
-    either (λ (event : Option Event). IfSome event MayCome) (lets_in system.kernel.running system.kernel) _ _ (λ _. due_may system.steps system.interrupts w.script) (λ _. tt)
+    either (λ (event : Option Event). IfSome event MayCome) (lets_in system.kernel.dispatcher.running system.kernel) _ _ (λ _. due_may system.steps system.interrupts w.script) (λ _. tt)
 
--- behind the beginning of a step, and behind its answers
+-- after the beginning of a step, and after its answers
 
-pub whole_behind_begun : (system behind : System) → IsWhole system → behind ≡ (begun_by (coming system) system).system → IsWhole behind
-whole_behind_begun system behind w is = subst IsWhole (sym is) (whole_begun (coming system) system (coming_may system w) w)
+pub whole_after_begun : (system afterwards : System) → IsWhole system → afterwards ≡ (begun_by (coming system) system).system → IsWhole afterwards
+whole_after_begun system afterwards w is = subst IsWhole (sym is) (whole_begun (coming system) system (coming_may system w) w)
 
-pub sound_settled : (system begun behind : System) → IsWhole system → begun ≡ (begun_by (coming system) system).system
-    → behind ≡ (settled begun).system → IsSound behind.kernel
-sound_settled system begun behind w is was =
+pub sound_settled : (system begun afterwards : System) → IsWhole system → begun ≡ (begun_by (coming system) system).system
+    → afterwards ≡ (settled begun).system → IsSound afterwards.kernel
+sound_settled system begun afterwards w is was =
     let P : System → Type 0 = λ s. IsSound s.kernel in
-    subst P (sym was) (whole_settled begun (whole_behind_begun system begun w is)).sound
+    subst P (sym was) (whole_settled begun (whole_after_begun system begun w is)).sound
 
--- nobody is left to be handed out behind a step
-pub no_completions_step : (begun behind : System) (kernel : Kernel) (instruction : Bool) → behind ≡ (settled begun).system
-    → kernel ≡ picked instruction behind.kernel → kernel.completed ≡ []
-no_completions_step begun behind kernel instruction is was =
-    ap (λ (k : Kernel). k.completed) was ∙ ap (λ (s : System). s.kernel.completed) is
+-- nobody is left to be handed out after a step
+pub no_completions_step : (begun afterwards : System) (kernel : Kernel) (instruction : Bool) → afterwards ≡ (settled begun).system
+    → kernel ≡ dispatched (picked instruction) afterwards.kernel → kernel.dispatcher.completed ≡ []
+no_completions_step begun afterwards kernel instruction is was =
+    ap (λ (k : Kernel). k.dispatcher.completed) was ∙ ap (λ (s : System). s.kernel.dispatcher.completed) is
     ∙ no_completions_settled begun
 
 pub whole_step : (system : System) → IsWhole system → IsWhole (step_of system).system
@@ -256,5 +256,5 @@ whole_step system w =
     let event = coming begun in
     let counts = whole_counted system w in
     let instruction = instruction_unless event begun in
-    let behind = whole_settled_all event begun (coming_may begun counts) counts in
-    whole_kernel _ _ behind (sound_picked _ instruction behind.sound) behind.live (homes_stay _ _ refl)
+    let afterwards = whole_settled_all event begun (coming_may begun counts) counts in
+    whole_kernel _ _ afterwards (sound_picked _ instruction afterwards.sound) afterwards.live (homes_stay _ _ refl)

@@ -14,11 +14,11 @@ use Rattle.mpm_kernel.specs.Waiting.{completion_reply}
 use Rattle.mpm_machine.specs.declared.system.System.{System}
 use Rattle.mpm_processor.specs.declared.gate.Gate.{Gate}
 use Rattle.mpm_processor.specs.declared.gate.Gate.TheVariants.{End, Call, Return}
-use Rattle.mpm_machine.specs.Serving.{with_regs, asked, keeping, Served, served, string_of, said_by, popped, reply_at_entry}
-use Rattle.mpm_machine.specs.Ending.{terminated}
+use Rattle.mpm_machine.specs.Serving.{with_regs, asked, keeping, Served, served, string_of, said_by, popped, reply_at_entry, after_echo, outcome_of}
+use Rattle.mpm_machine.specs.Ending.{ended}
 use Rattle.mpm_machine.specs.Finishing.{finished, completion_dequeued, all_finished}
-use Rattle.mpm_machine.specs.Due.{is_due, terminated_if_due, with_ends}
-use Rattle.mpm_machine.specs.Step.{instruction_at, gate_before, coming, begun_by, counted, dispatched}
+use Rattle.mpm_machine.specs.Due.{is_due, ended_if_due, with_ends}
+use Rattle.mpm_machine.specs.Step.{instruction_at, gate_before, coming, begun_by, with_settled, counted, dispatched}
 
 -- the reply that is placed where a call is done: for one that enters a resident procedure the gate that it pushes
 abbrev pub placed_reply : Answer → Taken → ℕ → ℕ → System → Answer
@@ -45,45 +45,45 @@ WritesAt None p seg system at = list_any (writes_to at) (actions_of (instruction
 pub record IsWritten (system : System) (seg at : ℕ) : Type 0 where
   pub quiet : coming (counted system) ≡ None
   pub who : ℕ
-  pub runs : system.kernel.running ≡ Some who
-  pub lives : Lives system.kernel.procs who
-  pub home : (process_in system.kernel.procs who).seg ≡ Some seg
+  pub runs : system.kernel.dispatcher.running ≡ Some who
+  pub lives : Lives system.kernel.dispatcher.procs who
+  pub home : (process_in system.kernel.dispatcher.procs who).seg ≡ Some seg
   pub writes : WritesAt (gate_before who seg system) who seg (counted system) at
 
--- the system behind what a step begins with, an event or what the running process does, as the held calls that were
+-- the system after what a step begins with, an event or what the running process does, as the held calls that were
 -- completed are to be answered
-abbrev pub behind_begun : System → System
-behind_begun system = let begun = counted system in (begun_by (coming begun) begun).system
+abbrev pub after_begun : System → System
+after_begun system = let begun = counted system in (begun_by (coming begun) begun).system
 
 -- a process lives in that segment, and the reply to its call that is completed is placed at the address
 pub record Answers (p : ℕ) (system : System) (seg at : ℕ) : Type 0 where
-  pub lives : Lives system.kernel.procs p
-  pub home : (process_in system.kernel.procs p).seg ≡ Some seg
-  pub places : IsPlacedAt (reply_at_entry (completion_reply system.kernel p) (call_of system.kernel.procs p) p system) (call_of system.kernel.procs p).word at
+  pub lives : Lives system.kernel.dispatcher.procs p
+  pub home : (process_in system.kernel.dispatcher.procs p).seg ≡ Some seg
+  pub places : IsPlacedAt (reply_at_entry (completion_reply system.kernel p) (call_of system.kernel.dispatcher.procs p) p system) (call_of system.kernel.dispatcher.procs p).word at
 
--- so does one of several, as they are handed out and answered one behind another
+-- so does one of several, as they are handed out and answered one after another
 unfoldable pub AnswersAmong : List ℕ → System → ℕ → ℕ → Type 0
 AnswersAmong [] system seg at = ⊥
 AnswersAmong (p ∷ ps) system seg at =
-    Answers p (completion_dequeued system) seg at ⊎ AnswersAmong ps (finished (process_in system.kernel.procs p).seg p (completion_dequeued system)).system seg at
+    Answers p (completion_dequeued system) seg at ⊎ AnswersAmong ps (finished (process_in system.kernel.dispatcher.procs p).seg p (completion_dequeued system)).system seg at
 
 -- one of those whose held calls were completed
 abbrev pub AnswersOne : System → ℕ → ℕ → Type 0
-AnswersOne system seg at = AnswersAmong system.kernel.completed system seg at
+AnswersOne system seg at = AnswersAmong system.kernel.dispatcher.completed system seg at
 
 -- a process ends, as that is due, whose end completes such a call
 abbrev pub AnswersAtEnd : ℕ → System → ℕ → ℕ → Type 0
-AnswersAtEnd p system seg at = (is_due system.kernel p ≡ true) × AnswersOne (terminated p system) seg at
+AnswersAtEnd p system seg at = (is_due system.kernel p ≡ true) × AnswersOne (ended p system) seg at
 
 -- so does one of several, as their ends come
 unfoldable pub AnswersAtEnds : List ℕ → System → ℕ → ℕ → Type 0
 AnswersAtEnds [] system seg at = ⊥
-AnswersAtEnds (p ∷ ps) system seg at = AnswersAtEnd p system seg at ⊎ AnswersAtEnds ps (terminated_if_due p system).system seg at
+AnswersAtEnds (p ∷ ps) system seg at = AnswersAtEnd p system seg at ⊎ AnswersAtEnds ps (ended_if_due p system).system seg at
 
 -- in this step such a call is completed, by what the step begins with or by an end that is due
 unfoldable pub IsAnswered : System → ℕ → ℕ → Type 0
 IsAnswered system seg at =
-    AnswersOne (behind_begun system) seg at ⊎ AnswersAtEnds (range_with_len 0 32) (all_finished (behind_begun system)).system seg at
+    AnswersOne (after_begun system) seg at ⊎ AnswersAtEnds (range_with_len 0 32) (all_finished (after_begun system)).system seg at
 
 -- a byte of a segment stays unless a process that lives there writes it or has its call's reply placed there, and a byte of
 -- common memory, whoever reads it, unless some process does
@@ -97,8 +97,8 @@ pub record IsContained (old new : System) : Type 0 where
 -- and no gate
 pub record Instructs (system : System) (p seg : ℕ) : Type 0 where
   pub quiet : coming (counted system) ≡ None
-  pub runs : system.kernel.running ≡ Some p
-  pub home : (process_in system.kernel.procs p).seg ≡ Some seg
+  pub runs : system.kernel.dispatcher.running ≡ Some p
+  pub home : (process_in system.kernel.dispatcher.procs p).seg ≡ Some seg
   pub no_gate : gate_before p seg system ≡ None
   pub listed : IsSome (instruction_at p seg system)
 
@@ -128,10 +128,19 @@ pub record ServedAlike (one other : Served) : Type 0 where
   pub outcome : other.outcome ≡ one.outcome
   pub reply : other.reply ≡ one.reply
 
--- the call that a process of a segment asks is served by what it took: whatever bytes stand in memory then, the kernel, the
--- hands that have the segments, the outcome and the reply are the same
-abbrev pub IsServedByValue : System → ℕ → ℕ → Type 0
-IsServedByValue system p seg =
-    let call = asked p seg system in
-    let kept = keeping p call system in
-    (other : System) → DiffersInBytes kept other → ServedAlike (served call p kept) (served call p other)
+-- no event comes in this step, and the process that runs lives in that segment, and stands at the gate of calls
+pub record Calls (system : System) (p seg : ℕ) : Type 0 where
+  pub quiet : coming (counted system) ≡ None
+  pub runs : system.kernel.dispatcher.running ≡ Some p
+  pub home : (process_in system.kernel.dispatcher.procs p).seg ≡ Some seg
+  pub gate : gate_before p seg system ≡ Some Call
+
+-- the call that a process asked was served by what it took: whatever bytes had stood in memory then, the kernel, the hands that
+-- have the segments, the outcome and the reply would be the same; its outcome followed, then what was completed was answered
+-- and the ends came that were due, and it was picked who runs
+pub record ServedByValue (p seg : ℕ) (old new : System) : Type 0 where
+  pub done : Served
+  pub by_value : (other : System) → DiffersInBytes (keeping p (asked p seg (counted old)) (counted old)) other
+      → ServedAlike done (served (asked p seg (counted old)) p other)
+  pub is : new ≡ (dispatched false (with_settled (after_echo (asked p seg (counted old)) p done.system
+      (outcome_of done.outcome done.reply (asked p seg (counted old)) p seg done.system)))).system

@@ -1,5 +1,5 @@
 -- Ends by an abort that were put off: a process that was aborted while it held the message of a mutual exclusion queue ends in
--- the first step behind which it holds none. (MP/M II Programmer's Guide, "Function 157: Abort Specified Process".)
+-- the first step after which it holds none. (MP/M II Programmer's Guide, "Function 157: Abort Specified Process".)
 use Rattle.std.specs.Prelude.{◌≡◌, ℕ, Bool, false, not, ◌&&◌, if◌then◌else◌, List, [], ◌∷◌, ◌++◌, is_some}
 use Rattle.std.specs.List.{range_with_len}
 use Rattle.mpm_procs.specs.Table.{Table}
@@ -8,26 +8,26 @@ use Rattle.mpm_kernel.specs.Kernel.{Kernel, is_aborted}
 use Rattle.mpm_xdos.specs.Aborting.{waits_to_end}
 use Rattle.mpm_machine.specs.declared.system.System.{System}
 use Rattle.mpm_machine.specs.State.{Change, silent}
-use Rattle.mpm_machine.specs.Ending.{terminated}
+use Rattle.mpm_machine.specs.Ending.{ended}
 use Rattle.mpm_machine.specs.Finishing.{all_finished}
 
 -- the end of a process is due: it was aborted, and needn't wait
 abbrev pub is_due : Kernel → ℕ → Bool
-is_due kernel p = is_aborted kernel.procs p && not (waits_to_end kernel p false)
+is_due kernel p = is_aborted kernel.dispatcher.procs p && not (waits_to_end kernel p false)
 
 -- nobody's end is due: whose end is put off still holds the message of a mutual exclusion queue
 unfoldable pub NobodyDue : Kernel → Type 0
 NobodyDue kernel = (p : ℕ) → is_due kernel p ≡ false
 
 -- a process ends, where that is due, and the held calls that its end completes are answered
-unfoldable pub terminated_if_due : ℕ → System → Change
-terminated_if_due p system = if is_due system.kernel p then all_finished (terminated p system) else silent system
+unfoldable pub ended_if_due : ℕ → System → Change
+ended_if_due p system = if is_due system.kernel p then all_finished (ended p system) else silent system
 
--- the processes of slots end, where that is due, one behind another
+-- the processes of slots end, where that is due, one after another
 unfoldable pub due_terminated : List ℕ → System → Change
 due_terminated [] system = silent system
 due_terminated (p ∷ ps) system =
-    let first = terminated_if_due p system in
+    let first = ended_if_due p system in
     let others = due_terminated ps first.system in
     record { system = others.system; emitted = others.emitted ++ first.emitted }
 
@@ -41,15 +41,15 @@ is_any_aborted procs = is_some (lowest (is_aborted procs))
 
 -- what is known of ends that are put off
 abbrev pub noted : System → System
-noted system = record system { abort_deferred = system.abort_deferred && is_any_aborted system.kernel.procs }
+noted system = record system { abort_deferred = system.abort_deferred && is_any_aborted system.kernel.dispatcher.procs }
 
 -- the ends that are due come
 unfoldable pub with_ends : System → Change
-with_ends system = let behind = all_due_terminated system in record behind { system = noted behind.system }
+with_ends system = let afterwards = all_due_terminated system in record afterwards { system = noted afterwards.system }
 
 -- the end of a step: the held calls that were completed are answered, and then the ends that are due come
 unfoldable pub settled : System → Change
 settled system =
     let answered = all_finished system in
-    let behind = with_ends answered.system in
-    record { system = behind.system; emitted = behind.emitted ++ answered.emitted }
+    let afterwards = with_ends answered.system in
+    record { system = afterwards.system; emitted = afterwards.emitted ++ answered.emitted }

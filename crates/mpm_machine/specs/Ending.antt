@@ -5,8 +5,8 @@ use Rattle.mpm_xdos.specs.Ending.{memory_without}
 use Rattle.mpm_machine.specs.declared.system.System.{System}
 
 -- the process is gone, and what it had is given back
-unfoldable pub terminated : ℕ → System → System
-terminated p system = record system {
+unfoldable pub ended : ℕ → System → System
+ended p system = record system {
   kernel = discharged system.kernel p;
   memory = memory_without system.memory system.kernel p;
 }

@@ -13,7 +13,7 @@ use Rattle.mpm_machine.specs.Residing.{taking}
 -- the held call of a process is completed: it is fulfilled in its segment, and a resident, which has none, takes the answer
 abbrev pub finished : Option ℕ → ℕ → System → Change
 finished None p system = silent (taking (completion_reply system.kernel p) p system)
-finished (Some seg) p system = fulfilling (completion_reply system.kernel p) (call_of system.kernel.procs p) p seg system
+finished (Some seg) p system = fulfilling (completion_reply system.kernel p) (call_of system.kernel.dispatcher.procs p) p seg system
 
 -- the next process is handed out
 abbrev pub completion_dequeued : System → System
@@ -23,10 +23,10 @@ completion_dequeued system = record system { kernel = handed_out system.kernel }
 unfoldable pub finishing : List ℕ → System → Change
 finishing [] system = silent system
 finishing (p ∷ ps) system =
-    let first = finished (process_in system.kernel.procs p).seg p (completion_dequeued system) in
+    let first = finished (process_in system.kernel.dispatcher.procs p).seg p (completion_dequeued system) in
     let others = finishing ps first.system in
     record { system = others.system; emitted = others.emitted ++ first.emitted }
 
 -- all that were completed
 abbrev pub all_finished : System → Change
-all_finished system = finishing system.kernel.completed system
+all_finished system = finishing system.kernel.dispatcher.completed system

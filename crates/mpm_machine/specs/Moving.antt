@@ -3,7 +3,7 @@ use Rattle.std.specs.Prelude.{◌≡◌, ℕ, ◌+◌, ◌<◌, false, [], Some,
 use Rattle.mpm_ready.specs.Order.{first_of}
 use Rattle.mpm_ready.specs.Tables.{list_at}
 use Rattle.mpm_procs.specs.Table.{process_in}
-use Rattle.mpm_kernel.specs.Kernel.{ready}
+use Rattle.mpm_dispatcher.specs.Dispatch.{ready}
 use Rattle.mpm_processor.specs.Moving.{View, Moves}
 use Rattle.mpm_machine.specs.declared.system.System.{System}
 use Rattle.mpm_machine.specs.State.{NobodyAborted}
@@ -14,9 +14,9 @@ use Rattle.mpm_machine.specs.Serving.{with_regs}
 -- what a process of a system sees
 abbrev pub view_of : System → ℕ → View
 view_of system p =
-    record { regs = (process_in system.kernel.procs p).regs; memory = system.memory; devices = system.kernel.devices }
+    record { regs = (process_in system.kernel.dispatcher.procs p).regs; memory = system.memory; devices = system.kernel.devices }
 
--- the system behind n steps that left its process a view
+-- the system after n steps that left its process a view
 unfoldable pub with_view : System → ℕ → View → ℕ → System
 with_view system p view n = record system {
   steps = system.steps + n;
@@ -28,26 +28,26 @@ with_view system p view n = record system {
 abbrev pub Quiet : ℕ → System → Type 0
 Quiet n system = (k : ℕ) → k < n → due (system.steps + k + 1) system.interrupts ≡ None
 
--- the running process, of that segment, is the first of the ready list, so that it runs on behind each instruction, nobody's
+-- the running process, of that segment, is the first of the ready list, so that it runs on after each instruction, nobody's
 -- call was completed, and no end by an abort is put off
 pub record RunsOn (system : System) (p seg : ℕ) : Type 0 where
-  pub running : system.kernel.running ≡ Some p
-  pub first : first_of (list_at system.kernel.lists ready) ≡ Some p
-  pub home : (process_in system.kernel.procs p).seg ≡ Some seg
-  pub no_completions : system.kernel.completed ≡ []
+  pub running : system.kernel.dispatcher.running ≡ Some p
+  pub first : first_of (list_at system.kernel.dispatcher.lists ready) ≡ Some p
+  pub home : (process_in system.kernel.dispatcher.procs p).seg ≡ Some seg
+  pub no_completions : system.kernel.dispatcher.completed ≡ []
   pub none_deferred : system.abort_deferred ≡ false
   pub settled : NobodyAborted system.kernel
 
 -- a system ran n instructions of a process
 pub record Moved (n p seg : ℕ) (old new : System) : Type 0 where
   pub view : View
-  pub moves : Moves (is_inside old.kernel.procs p) n seg (view_of old p) view
+  pub moves : Moves (is_inside old.kernel.dispatcher.procs p) n seg (view_of old p) view
   pub is : new ≡ with_view old p view n
 
 -- no process runs, and none is ready
 pub record IsIdle (system : System) : Type 0 where
-  pub running : system.kernel.running ≡ None
-  pub nobody : first_of (list_at system.kernel.lists ready) ≡ None
+  pub running : system.kernel.dispatcher.running ≡ None
+  pub nobody : first_of (list_at system.kernel.dispatcher.lists ready) ≡ None
 
 -- the system so many steps later, in which nothing else changed
 abbrev pub later : System → ℕ → System

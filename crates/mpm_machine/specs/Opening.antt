@@ -4,6 +4,7 @@ use Rattle.std.specs.Prelude.{◌≡◌, ℕ, zero, suc, ◌+◌, ◌-◌, ◌*�
 use Rattle.mpm_base.specs.Lists.{zeros}
 use Rattle.mpm_base.specs.declared.number.Name8.{Name8}
 use Rattle.mpm_base.specs.declared.segment.SegmentSpec.{SegmentSpec}
+use Rattle.mpm_banks.specs.Gates.{last_page, end_gate, call_gate}
 use Rattle.mpm_banks.specs.Memory.{Memory, segment_of, with_bytes}
 use Rattle.mpm_banks.specs.Allocations.{new_memory, occupied, spec_of}
 use Rattle.mpm_banks.specs.declared.segment.Segment.{Segment}
@@ -11,8 +12,8 @@ use Rattle.mpm_banks.specs.declared.segment.Allocation.{Allocation}
 use Rattle.mpm_banks.specs.declared.segment.Allocation.TheVariants.{Free, Reserved, Occupied}
 use Rattle.mpm_procs.specs.Table.{living, process_in, lowest_free}
 use Rattle.mpm_procs.specs.declared.process.NewProcess.{NewProcess}
-use Rattle.mpm_kernel.specs.Kernel.{Kernel, with_changed}
-use Rattle.mpm_kernel.specs.Dispatch.{new_kernel, admitted, picked}
+use Rattle.mpm_kernel.specs.Kernel.{Kernel, with_changed, new_kernel, dispatched}
+use Rattle.mpm_dispatcher.specs.Dispatch.{admitted, picked}
 use Rattle.mpm_kernel.specs.Joining.{joined}
 use Rattle.mpm_kernel.specs.Queueing.{with_system_queue}
 use Rattle.mpm_kernel.specs.Consoling.{given}
@@ -21,13 +22,13 @@ use Rattle.mpm_residents.specs.declared.native.Native.TheVariants.{Tmp}
 use Rattle.mpm_clock.specs.declared.moment.Moment.{Moment}
 use Rattle.mpm_script.specs.declared.event.Timed.{Timed}
 use Rattle.mpm_machine_file.specs.declared.machine_file.MachineFile.{MachineFile}
-use Rattle.mpm_processor.specs.Gates.{IsHome, last_page}
+use Rattle.mpm_processor.specs.Gates.{IsHome}
 use Rattle.mpm_machine.specs.declared.system.System.{System}
 use Rattle.mpm_machine.specs.State.{IsWhole}
 
 -- the jumps to the gates of a last page: at 00h to the one that ends the process, at 05h to the one that calls the kernel
 abbrev pub gate_jumps : ℕ → List ℕ
-gate_jumps page = 195 ∷ 3 ∷ page ∷ 0 ∷ 0 ∷ 195 ∷ 6 ∷ page ∷ []
+gate_jumps page = 195 ∷ end_gate ∷ page ∷ 0 ∷ 0 ∷ 195 ∷ call_gate ∷ page ∷ []
 
 -- the first bytes of a file control block without a name: the drive, eleven spaces, four zeros
 abbrev pub no_name : List ℕ
@@ -86,24 +87,24 @@ is_occupied segment = is_lived_in segment.allocation
 -- a machine into which programs may be placed: no step was done, and no more processes live than segments are lived in
 pub record IsBare (system : System) : Type 0 where
   pub whole : IsWhole system
-  pub no_completions : system.kernel.completed ≡ []
+  pub no_completions : system.kernel.dispatcher.completed ≡ []
   pub start : system.steps ≡ 0
   pub few : length system.memory.segments ≤ 16
-  pub counted : living system.kernel.procs ≤ count_by is_occupied system.memory.segments
+  pub counted : living system.kernel.dispatcher.procs ≤ count_by is_occupied system.memory.segments
 
 -- a program of a length can be placed into a segment in which no process lives, with a console
 pub record MayPlace (system : System) (seg console size : ℕ) : Type 0 where
   pub bare : IsBare system
   pub home : IsHome system.memory seg
   pub empty : is_occupied (segment_of system.memory seg) ≡ false
-  pub has_console : console < system.kernel.consoles
+  pub has_console : console < length system.kernel.units.consoles
   pub room : size + 640 ≤ 256 * (segment_of system.memory seg).pages
 
 -- the system with a program placed: its process owns its console where nobody does, and the first of the ready list runs
 unfoldable pub with_placed : System → ℕ → ℕ → Name8 → ℕ → ℕ → List ℕ → System
 with_placed system p seg name priority console program = record system {
-  kernel = picked false (given console None (Some p)
-      (admitted system.kernel p (placed_process (spec_of system.memory seg) seg name priority console)));
+  kernel = dispatched (picked false) (given console None (Some p)
+      (dispatched (admitted p (placed_process (spec_of system.memory seg) seg name priority console)) system.kernel));
   memory = occupied (laid_out system.memory seg program) seg;
 }
 
@@ -137,7 +138,7 @@ unfoldable pub with_interpreter : Option ℕ → Kernel → Kernel
 with_interpreter None kernel = kernel
 with_interpreter (Some p) kernel =
     let begun = joined kernel p (resident_process (record { 0 = codes "cli     " }) 190 0) in
-    with_changed begun p (record (process_in begun.procs p) { error_mode = 255; multi = 16 })
+    with_changed begun p (record (process_in begun.dispatcher.procs p) { error_mode = 255; multi = 16 })
 
 -- the name of the terminal message processor of a console
 abbrev pub terminal_name : ℕ → Name8
@@ -147,9 +148,9 @@ terminal_name console = record { 0 = codes "Tmp" ++ ((48 + console) ∷ codes " 
 unfoldable pub with_terminal : Option ℕ → ℕ → System → System
 with_terminal None console system = system
 with_terminal (Some p) console system =
-    let begun = admitted system.kernel p (resident_process (terminal_name console) 198 console) in
+    let begun = dispatched (admitted p (resident_process (terminal_name console) 198 console)) system.kernel in
     record system {
-      kernel = with_changed begun p (record (process_in begun.procs p) { error_mode = 255 });
+      kernel = with_changed begun p (record (process_in begun.dispatcher.procs p) { error_mode = 255 });
       residents = system.residents ++ Tmp (opening console) ∷ [];
     }
 
@@ -157,7 +158,7 @@ with_terminal (Some p) console system =
 unfoldable pub with_terminals : ℕ → System → System
 with_terminals zero system = system
 with_terminals (suc n) system =
-    let others = with_terminals n system in with_terminal (lowest_free others.kernel.procs) n others
+    let others = with_terminals n system in with_terminal (lowest_free others.kernel.dispatcher.procs) n others
 
 -- the command queue, which is the system's: messages of 130 bytes, with room for 15
 abbrev pub command_queue : Name8
@@ -170,14 +171,14 @@ with_command_queue kernel = with_system_queue kernel command_queue 130 15
 unfoldable pub begun_by_interpreter : System → System
 begun_by_interpreter system =
     let queued = with_command_queue system.kernel in
-    record system { kernel = with_interpreter (lowest_free queued.procs) queued }
+    record system { kernel = with_interpreter (lowest_free queued.dispatcher.procs) queued }
 
 -- what a machine has as it is run, beside what its file says: these, and a terminal message processor for each console behind
 -- them; the first of the ready list runs
 unfoldable pub with_residents : ℕ → System → System
 with_residents consoles system =
     let begun = with_terminals consoles (begun_by_interpreter system) in
-    record begun { kernel = picked false begun.kernel }
+    record begun { kernel = dispatched (picked false) begun.kernel }
 
 -- the machine of a machine file and of the events of its script, as it is run
 unfoldable pub opened : MachineFile → List Timed → System

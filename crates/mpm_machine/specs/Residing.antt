@@ -10,8 +10,10 @@ use Rattle.mpm_residents.specs.Natives.{native_call, native_in, answer_taken}
 use Rattle.mpm_residents.specs.declared.native.Native.{Native}
 use Rattle.mpm_machine.specs.declared.system.System.{System}
 use Rattle.mpm_machine.specs.State.{Change, silent}
-use Rattle.mpm_machine.specs.Ending.{terminated}
-use Rattle.mpm_machine.specs.Serving.{calling, said_by, behind_echo}
+use Rattle.mpm_machine.specs.Ending.{ended}
+use Rattle.mpm_machine.specs.Serving.{calling, said_by, after_echo}
+use Rattle.mpm_dispatcher.specs.Dispatch.{with_procs}
+use Rattle.mpm_kernel.specs.Kernel.{dispatched}
 
 -- the resident of a slot takes the answer to its call
 abbrev pub taking : Answer → ℕ → System → System
@@ -19,7 +21,7 @@ taking reply p system = record system { residents = answer_taken (native_in syst
 
 -- a resident keeps the call that it makes
 abbrev pub asking : ℕ → Taken → System → System
-asking p call system = record system { kernel = record system.kernel { procs = with_call system.kernel.procs p call } }
+asking p call system = record system { kernel = dispatched (with_procs (with_call system.kernel.dispatcher.procs p call)) system.kernel }
 
 -- the resident of a slot makes its next call
 abbrev pub asked_by : Option Native → ℕ → System → System
@@ -32,7 +34,7 @@ abbrev pub native_outcome : Outcome → Answer → Taken → ℕ → System → 
 native_outcome Done reply call p system =
     let spoke = said_by call call.bytes p system in
     record spoke { system = taking reply p spoke.system }
-native_outcome Ended reply call p system = silent (terminated p system)
+native_outcome Ended reply call p system = silent (ended p system)
 native_outcome Held reply call p system = silent system
 native_outcome Retry reply call p system = silent system
 
@@ -41,7 +43,7 @@ unfoldable pub native_step : Native → ℕ → System → Change
 native_step native p system =
     let call = native_call native in
     let done = calling p (asking p call system) in
-    behind_echo call p done.system (native_outcome done.outcome done.reply call p done.system)
+    after_echo call p done.system (native_outcome done.outcome done.reply call p done.system)
 
 -- a process without a segment takes its step as the resident of its slot, if one acts there
 abbrev pub resided : Option Native → ℕ → System → Change

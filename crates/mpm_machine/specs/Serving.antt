@@ -7,6 +7,7 @@ use Rattle.z80_regs.specs.Words.{word_of}
 use Rattle.mpm_base.specs.Calls.{Taken, Answer, answering, byte_in}
 use Rattle.mpm_base.specs.declared.call.Outcome.{Outcome}
 use Rattle.mpm_base.specs.declared.call.Outcome.TheVariants.{Done, Held, Retry, Ended}
+use Rattle.mpm_base.specs.declared.functions.TheConstants.{CONSOLE_OUTPUT, LIST_OUTPUT, PRINT_STRING, ABSOLUTE_MEMORY_REQUEST, RELOCATABLE_MEMORY_REQUEST, MEMORY_FREE, CREATE_PROCESS, CALL_RESIDENT_SYSTEM_PROCEDURE, ABORT_SPECIFIED_PROCESS}
 use Rattle.mpm_banks.specs.Memory.{Memory, segment_of, byte_at}
 use Rattle.mpm_banks.specs.Allocations.{lowest_free, reserved, is_reserved, released}
 use Rattle.mpm_gate.specs.Calls.{taken_call}
@@ -15,29 +16,30 @@ use Rattle.mpm_gate.specs.Replies.{answered, placed, returned}
 use Rattle.mpm_gate.specs.Texts.{text_from}
 use Rattle.mpm_gate.specs.declared.take.TextEnd.TheVariants.{Dollar}
 use Rattle.mpm_procs.specs.Table.{process_in, with_call}
-use Rattle.mpm_kernel.specs.Kernel.{Kernel, with_changed}
-use Rattle.mpm_kernel.specs.Calls.{called, failure_code}
+use Rattle.mpm_kernel.specs.Kernel.{Kernel, with_changed, dispatched}
+use Rattle.mpm_kernel.specs.Calls.{called, does_echo, failure_code}
 use Rattle.mpm_kernel.specs.Columns.{column_of, expanded, tab_text}
 use Rattle.mpm_kernel.specs.Called.{low_parameter}
 use Rattle.mpm_kernel.specs.ConsoleInput.{writes}
 use Rattle.mpm_xdos.specs.Creating.{home_base, created, create_answer}
-use Rattle.mpm_xdos.specs.Aborting.{waits_to_end, target, behind_abort, memory_behind_abort}
+use Rattle.mpm_xdos.specs.Aborting.{waits_to_end, target, abort_done, memory_after_abort}
 use Rattle.mpm_xdos.specs.Procedures.{entered, entry_reply, returned_from_procedure}
 use Rattle.mpm_render.specs.declared.unit.Unit2.TheVariants.{Printer}
 use Rattle.mpm_render.specs.Outputs.{Output, Completed, said}
 use Rattle.mpm_machine.specs.declared.system.System.{System}
 use Rattle.mpm_output.specs.Writing.{spoken}
 use Rattle.mpm_machine.specs.State.{Change, silent, speaking}
-use Rattle.mpm_machine.specs.Ending.{terminated}
+use Rattle.mpm_machine.specs.Ending.{ended}
+use Rattle.mpm_dispatcher.specs.Dispatch.{with_procs}
 
 -- a process with its registers changed
 abbrev pub with_regs : Kernel → ℕ → Regs → Kernel
-with_regs kernel p regs = with_changed kernel p (record (process_in kernel.procs p) { regs = regs })
+with_regs kernel p regs = with_changed kernel p (record (process_in kernel.dispatcher.procs p) { regs = regs })
 
 -- the call that a process asks at the gate
 unfoldable pub asked : ℕ → ℕ → System → Taken
 asked p seg system =
-    let process = process_in system.kernel.procs p in
+    let process = process_in system.kernel.dispatcher.procs p in
     taken_call process.regs (byte_at system.memory seg) process.dma process.multi
 
 -- a call has at most the bytes that its function reads
@@ -47,9 +49,9 @@ IsTaken call = length call.bytes ≤ most_read (reads_of call.function) 16
 -- the process keeps the call, and an EI takes effect
 unfoldable pub keeping : ℕ → Taken → System → System
 keeping p call system =
-    let process = process_in system.kernel.procs p in
+    let process = process_in system.kernel.dispatcher.procs p in
     let kernel = with_regs system.kernel p (record process.regs { shadow = false }) in
-    record system { kernel = record kernel { procs = with_call kernel.procs p call } }
+    record system { kernel = dispatched (with_procs (with_call kernel.dispatcher.procs p call)) kernel }
 
 -- what becomes of the system and of the call, and the reply
 pub record Served : Type 0 where
@@ -89,7 +91,7 @@ releasing call p system =
 -- processes are created in the caller's segment
 unfoldable pub creating : ℕ → System → Served
 creating p system =
-    let base = home_base system.memory (process_in system.kernel.procs p).seg in
+    let base = home_base system.memory (process_in system.kernel.dispatcher.procs p).seg in
     record {
       system = record system { kernel = created system.kernel p base };
       outcome = Done;
@@ -99,8 +101,8 @@ creating p system =
 -- a process is aborted: it ends, or its end is put off
 unfoldable pub aborted : ℕ → System → System
 aborted p system = record system {
-  kernel = behind_abort system.kernel p false;
-  memory = memory_behind_abort system.memory system.kernel p false;
+  kernel = abort_done system.kernel p false;
+  memory = memory_after_abort system.memory system.kernel p false;
   abort_deferred = system.abort_deferred || waits_to_end system.kernel p false;
 }
 
@@ -112,7 +114,7 @@ aborting_this (Some other) p system =
     else (record { system = aborted other system; outcome = Done; reply = answering 0 })
 
 unfoldable pub aborting : ℕ → System → Served
-aborting p system = aborting_this (target system.kernel.procs p) p system
+aborting p system = aborting_this (target system.kernel.dispatcher.procs p) p system
 
 -- a call that concerns the kernel alone
 abbrev pub calling : ℕ → System → Served
@@ -127,24 +129,24 @@ base_asked absolute call = if absolute then Some (byte_in call 0) else None
 -- the call is done
 unfoldable pub served : Taken → ℕ → System → Served
 served call p system =
-    if call.function == 128 then reserving (base_asked true call) call p system
-    else (if call.function == 129 then reserving (base_asked false call) call p system
-    else (if call.function == 130 then releasing call p system
-    else (if call.function == 144 then creating p system
-    else (if call.function == 157 then aborting p system
+    if call.function == ABSOLUTE_MEMORY_REQUEST then reserving (base_asked true call) call p system
+    else (if call.function == RELOCATABLE_MEMORY_REQUEST then reserving (base_asked false call) call p system
+    else (if call.function == MEMORY_FREE then releasing call p system
+    else (if call.function == CREATE_PROCESS then creating p system
+    else (if call.function == ABORT_SPECIFIED_PROCESS then aborting p system
     else (calling p system)))))
 
 -- what a call writes to its process's console: functions 2 and 9 with tabs expanded, the byte in E or a string, and
 -- functions 4 and 6 the byte in E as it is
 unfoldable pub call_text : Taken → ℕ → List ℕ → List ℕ
 call_text call column string =
-    if call.function == 2 then tab_text column (low_parameter call)
-    else (if call.function == 9 then expanded column string
+    if call.function == CONSOLE_OUTPUT then tab_text column (low_parameter call)
+    else (if call.function == PRINT_STRING then expanded column string
     else (if writes call then low_parameter call ∷ [] else []))
 
 -- what function 5 writes to its process's printer, where there are printers: the byte in E
 abbrev pub printed : Taken → Kernel → List ℕ
-printed call kernel = if call.function == 5 && nat_lt 0 kernel.printers then low_parameter call ∷ [] else []
+printed call kernel = if call.function == LIST_OUTPUT && nat_lt 0 (length kernel.units.printers) then low_parameter call ∷ [] else []
 
 -- the string of function 9 stands at DE, up to a dollar sign
 abbrev pub string_of : Taken → ℕ → Memory → List ℕ
@@ -153,13 +155,13 @@ string_of call seg memory = text_from Dollar (byte_at memory seg) call.word 6553
 -- the return address is taken from the stack
 unfoldable pub popped : ℕ → ℕ → System → System
 popped p seg system =
-    let process = process_in system.kernel.procs p in
+    let process = process_in system.kernel.dispatcher.procs p in
     record system { kernel = with_regs system.kernel p (returned (byte_at system.memory seg) process.regs) }
 
 -- the reply is placed
 unfoldable pub replied : Answer → Taken → ℕ → ℕ → System → System
 replied reply call p seg system =
-    let process = process_in system.kernel.procs p in
+    let process = process_in system.kernel.dispatcher.procs p in
     record system {
       kernel = with_regs system.kernel p (answered reply.hl process.regs);
       memory = placed reply call.word seg system.memory;
@@ -168,7 +170,7 @@ replied reply call p seg system =
 -- the record of a completed call: the registers as its reply left them
 unfoldable pub completion : Taken → ℕ → System → Output
 completion call p system =
-    let regs = (process_in system.kernel.procs p).regs in
+    let regs = (process_in system.kernel.dispatcher.procs p).regs in
     Completed (record {
       step = system.steps;
       process = p;
@@ -182,28 +184,28 @@ completion call p system =
 -- the text of a call comes to its process's console, and its byte to its printer; a string is the one that is given
 unfoldable pub said_by : Taken → List ℕ → ℕ → System → Change
 said_by call string p system =
-    let process = process_in system.kernel.procs p in
+    let process = process_in system.kernel.dispatcher.procs p in
     let spoke = speaking process.console (call_text call (column_of system.kernel process.console) string) system in
     record spoke { emitted = said (Printer process.printer) (printed call system.kernel) spoke.emitted }
 
--- what the kernel itself wrote to the console of a process in its call: functions 1 and 10 echo the key that they take
+-- what the kernel itself wrote to the console of a process in its call: the key that it took, where its function echoes it
 abbrev pub echo_of : Taken → Kernel → List ℕ
-echo_of call kernel = if call.function == 1 || call.function == 10 then kernel.echo else []
+echo_of call kernel = if does_echo call.function then kernel.echo else []
 
 -- that comes before what else the call brings about
-abbrev pub behind_echo : Taken → ℕ → System → Change → Change
-behind_echo call p system change =
-    record change { emitted = change.emitted ++ spoken (process_in system.kernel.procs p).console (echo_of call system.kernel) }
+abbrev pub after_echo : Taken → ℕ → System → Change → Change
+after_echo call p system change =
+    record change { emitted = change.emitted ++ spoken (process_in system.kernel.dispatcher.procs p).console (echo_of call system.kernel) }
 
 -- a call whose reply is placed, and then its record
 unfoldable pub answering_call : Answer → Taken → ℕ → ℕ → System → Change
 answering_call reply call p seg system =
-    let behind = replied reply call p seg system in
-    record { system = behind; emitted = completion call p behind ∷ [] }
+    let afterwards = replied reply call p seg system in
+    record { system = afterwards; emitted = completion call p afterwards ∷ [] }
 
 -- a call 151 got its message, since it is refused by FFFFh alone: its process enters the resident procedure
 abbrev pub is_entry : Taken → Answer → Bool
-is_entry call reply = call.function == 151 && reply.hl == 0
+is_entry call reply = call.function == CALL_RESIDENT_SYSTEM_PROCEDURE && reply.hl == 0
 
 unfoldable pub with_entry : Answer → Taken → ℕ → System → System
 with_entry reply call p system =
@@ -212,19 +214,19 @@ with_entry reply call p system =
 -- and the reply that is placed is the gate that it pushes
 unfoldable pub reply_at_entry : Answer → Taken → ℕ → System → Answer
 reply_at_entry reply call p system =
-    if is_entry call reply then entry_reply system.memory (process_in system.kernel.procs p) else reply
+    if is_entry call reply then entry_reply system.memory (process_in system.kernel.dispatcher.procs p) else reply
 
 -- a call is fulfilled, whose return address was taken: at once, or later where it was held
 unfoldable pub fulfilling : Answer → Taken → ℕ → ℕ → System → Change
 fulfilling reply call p seg system =
     answering_call (reply_at_entry reply call p system) call p seg (with_entry reply call p system)
 
--- a call that is done: its text, its reply behind the return address, its record
+-- a call that is done: its text, its reply after the return address, its record
 unfoldable pub completing : Answer → Taken → ℕ → ℕ → System → Change
 completing reply call p seg system =
     let spoke = said_by call (string_of call seg system.memory) p system in
-    let behind = fulfilling reply call p seg (popped p seg spoke.system) in
-    record { system = behind.system; emitted = behind.emitted ++ spoke.emitted }
+    let afterwards = fulfilling reply call p seg (popped p seg spoke.system) in
+    record { system = afterwards.system; emitted = afterwards.emitted ++ spoke.emitted }
 
 -- a process leaves the resident procedure that it is in
 unfoldable pub returning : ℕ → System → System
@@ -234,7 +236,7 @@ returning p system = record system { kernel = returned_from_procedure p system.k
 -- at the gate
 abbrev pub outcome_of : Outcome → Answer → Taken → ℕ → ℕ → System → Change
 outcome_of Done reply call p seg system = completing reply call p seg system
-outcome_of Ended reply call p seg system = silent (terminated p system)
+outcome_of Ended reply call p seg system = silent (ended p system)
 outcome_of Held reply call p seg system = silent (popped p seg system)
 outcome_of Retry reply call p seg system = silent system
 
@@ -243,4 +245,4 @@ unfoldable pub gate_step : ℕ → ℕ → System → Change
 gate_step p seg system =
     let call = asked p seg system in
     let done = served call p (keeping p call system) in
-    behind_echo call p done.system (outcome_of done.outcome done.reply call p seg done.system)
+    after_echo call p done.system (outcome_of done.outcome done.reply call p seg done.system)

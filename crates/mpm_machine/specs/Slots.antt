@@ -11,14 +11,14 @@ use Rattle.mpm_residents.specs.Natives.{native_in}
 
 -- slot 0 has the process of the command line interpreter, which stands in no list
 pub record HasInterpreter (system : System) : Type 0 where
-  pub lives : Lives system.kernel.procs 0
-  pub name : (process_in system.kernel.procs 0).name ≡ record { 0 = codes "cli     " }
-  pub unlisted : list_of system.kernel.lists 0 ≡ None
+  pub lives : Lives system.kernel.dispatcher.procs 0
+  pub name : (process_in system.kernel.dispatcher.procs 0).name ≡ record { 0 = codes "cli     " }
+  pub unlisted : list_of system.kernel.dispatcher.lists 0 ≡ None
 
 -- the slot behind the number of a console has the process of its terminal message processor, which is at its opening
 pub record HasTerminal (console : ℕ) (system : System) : Type 0 where
-  pub lives : Lives system.kernel.procs (console + 1)
-  pub name : (process_in system.kernel.procs (console + 1)).name ≡ terminal_name console
+  pub lives : Lives system.kernel.dispatcher.procs (console + 1)
+  pub name : (process_in system.kernel.dispatcher.procs (console + 1)).name ≡ terminal_name console
   pub resident : native_in system.residents (console + 1) ≡ Some (Tmp (opening console))
 
 -- the interpreter, and a terminal message processor for each of so many consoles

@@ -42,15 +42,15 @@ IsOccupied memory seg = (segment_of memory seg).allocation ≡ Occupied
 
 -- no end by an abort is put off
 abbrev pub NobodyAborted : Kernel → Type 0
-NobodyAborted kernel = (p : ℕ) → is_aborted kernel.procs p ≡ false
+NobodyAborted kernel = (p : ℕ) → is_aborted kernel.dispatcher.procs p ≡ false
 
--- what is so of the system within a step and behind it: the kernel is sound, whose held calls were completed lives, each
+-- what is so of the system within a step and after it: the kernel is sound, whose held calls were completed lives, each
 -- process's segment exists and is nobody's to reserve, the script has events that there may be, and it is known where no end
 -- by an abort is put off
 pub record IsWhole (system : System) : Type 0 where
   pub sound : IsSound system.kernel
   pub live : CompletedLive system.kernel
-  pub homes : (p seg : ℕ) → Lives system.kernel.procs p → (process_in system.kernel.procs p).seg ≡ Some seg → IsHome system.memory seg
-  pub lived : (p seg : ℕ) → Lives system.kernel.procs p → (process_in system.kernel.procs p).seg ≡ Some seg → IsOccupied system.memory seg
+  pub homes : (p seg : ℕ) → Lives system.kernel.dispatcher.procs p → (process_in system.kernel.dispatcher.procs p).seg ≡ Some seg → IsHome system.memory seg
+  pub lived : (p seg : ℕ) → Lives system.kernel.dispatcher.procs p → (process_in system.kernel.dispatcher.procs p).seg ≡ Some seg → IsOccupied system.memory seg
   pub script : All IsTimed system.interrupts.script
   pub settled : system.abort_deferred ≡ false → NobodyAborted system.kernel

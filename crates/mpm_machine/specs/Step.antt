@@ -8,8 +8,8 @@ use Rattle.mpm_banks.specs.Actions.{memory_after, devices_after}
 use Rattle.mpm_procs.specs.Table.{process_in}
 use Rattle.mpm_script.specs.declared.event.Event.{Event}
 use Rattle.mpm_script.specs.declared.event.Event.TheVariants.{Tick, Key, Ready, Int}
-use Rattle.mpm_kernel.specs.Kernel.{Kernel}
-use Rattle.mpm_kernel.specs.Dispatch.{picked}
+use Rattle.mpm_kernel.specs.Kernel.{Kernel, dispatched as with_dispatcher}
+use Rattle.mpm_dispatcher.specs.Dispatch.{picked}
 use Rattle.mpm_kernel.specs.Events.{happened}
 use Rattle.mpm_kernel.specs.Consoling.{abort_taken}
 use Rattle.mpm_render.specs.Outputs.{Output, rendered}
@@ -22,50 +22,50 @@ use Rattle.mpm_machine.specs.declared.system.System.{System}
 use Rattle.mpm_output.specs.Writing.{spoken}
 use Rattle.mpm_output.specs.Texts.{illegal_text}
 use Rattle.mpm_machine.specs.State.{State, Change, silent, speaking}
-use Rattle.mpm_machine.specs.Ending.{terminated}
+use Rattle.mpm_machine.specs.Ending.{ended}
 use Rattle.mpm_machine.specs.Serving.{with_regs, aborted, gate_step, returning}
 use Rattle.mpm_residents.specs.Natives.{native_in}
 use Rattle.mpm_machine.specs.Residing.{resided}
 use Rattle.mpm_machine.specs.Due.{settled}
-use Rattle.mpm_interrupts.specs.Interrupts.{due, behind_due}
+use Rattle.mpm_interrupts.specs.Interrupts.{due, due_taken}
 
 -- a process comes to an unlisted opcode: a text on its console, and its end
 unfoldable pub illegal : ℕ → System → Change
 illegal p system =
-    let process = process_in system.kernel.procs p in
+    let process = process_in system.kernel.dispatcher.procs p in
     let spoke = speaking process.console (illegal_text process.regs.pc) system in
-    record spoke { system = terminated p spoke.system }
+    record spoke { system = ended p spoke.system }
 
--- the system behind an instruction of a process
-unfoldable pub ran : Option Outcome → ℕ → ℕ → System → System
-ran outcome p seg system =
+-- the system after an instruction of a process
+unfoldable pub instructed : Option Outcome → ℕ → ℕ → System → System
+instructed outcome p seg system =
     let polled = record system.kernel { devices = devices_after (actions_of outcome) system.kernel.devices } in
     record system {
-      kernel = with_regs polled p (registers_after outcome (process_in system.kernel.procs p).regs);
+      kernel = with_regs polled p (registers_after outcome (process_in system.kernel.dispatcher.procs p).regs);
       memory = memory_after (actions_of outcome) seg system.memory;
     }
 
 -- an instruction of a process, where a listed one stands
-unfoldable pub instructed : Option Outcome → ℕ → ℕ → System → Change
-instructed None p seg system = illegal p system
-instructed (Some outcome) p seg system = silent (ran (Some outcome) p seg system)
+unfoldable pub executed : Option Outcome → ℕ → ℕ → System → Change
+executed None p seg system = illegal p system
+executed (Some outcome) p seg system = silent (instructed (Some outcome) p seg system)
 
 -- the instruction at which a process stands
 abbrev pub instruction_at : ℕ → ℕ → System → Option Outcome
 instruction_at p seg system =
-    instruction (process_in system.kernel.procs p).regs (byte_at system.memory seg) (port_byte system.kernel.devices)
+    instruction (process_in system.kernel.dispatcher.procs p).regs (byte_at system.memory seg) (port_byte system.kernel.devices)
 
 -- what a process of a segment does: at its gates it ends, calls the kernel, or leaves its resident procedure; elsewhere an
 -- instruction stands
 abbrev pub acted_at : Option Gate → ℕ → ℕ → System → Change
-acted_at (Some End) p seg system = silent (terminated p system)
+acted_at (Some End) p seg system = silent (ended p system)
 acted_at (Some Call) p seg system = gate_step p seg system
 acted_at (Some Return) p seg system = silent (returning p system)
-acted_at None p seg system = instructed (instruction_at p seg system) p seg system
+acted_at None p seg system = executed (instruction_at p seg system) p seg system
 
 -- the gate at which a process of a segment stands
 abbrev pub gate_before : ℕ → ℕ → System → Option Gate
-gate_before p seg system = gate_of (is_inside system.kernel.procs p) system.memory seg (process_in system.kernel.procs p).regs.pc
+gate_before p seg system = gate_of (is_inside system.kernel.dispatcher.procs p) system.memory seg (process_in system.kernel.dispatcher.procs p).regs.pc
 
 -- what the running process does: in its segment, or as a resident
 abbrev pub acted_by : Option ℕ → Option ℕ → System → Change
@@ -76,10 +76,10 @@ acted_by (Some p) (Some seg) system = acted_at (gate_before p seg system) p seg 
 -- the segment of the running process
 abbrev pub running_segment : Option ℕ → System → Option ℕ
 running_segment None system = None
-running_segment (Some p) system = (process_in system.kernel.procs p).seg
+running_segment (Some p) system = (process_in system.kernel.dispatcher.procs p).seg
 
 unfoldable pub acted : System → Change
-acted system = acted_by system.kernel.running (running_segment system.kernel.running system) system
+acted system = acted_by system.kernel.dispatcher.running (running_segment system.kernel.dispatcher.running system) system
 
 -- there is no gate
 abbrev pub is_no_gate : Option Gate → Bool
@@ -93,25 +93,25 @@ instruction_by (Some p) None system = false
 instruction_by (Some p) (Some seg) system = is_no_gate (gate_before p seg system)
 
 unfoldable pub at_instruction : System → Bool
-at_instruction system = instruction_by system.kernel.running (running_segment system.kernel.running system) system
+at_instruction system = instruction_by system.kernel.dispatcher.running (running_segment system.kernel.dispatcher.running system) system
 
 -- an interrupt may come: no process runs, or a resident does, which has no segment, or the process that runs has interrupts on
 -- and no EI that has not taken effect yet
 abbrev pub lets_in : Option ℕ → Kernel → Bool
 lets_in None kernel = true
 lets_in (Some p) kernel =
-    let process = process_in kernel.procs p in
+    let process = process_in kernel.dispatcher.procs p in
     is_none process.seg || (process.regs.iff1 && not process.regs.shadow)
 
 -- the event that comes in a step
 unfoldable pub coming : System → Option Event
 coming system =
-    if lets_in system.kernel.running system.kernel then due system.steps system.interrupts else None
+    if lets_in system.kernel.dispatcher.running system.kernel then due system.steps system.interrupts else None
 
 -- the process that runs waits for an interrupt no more
 abbrev pub unhalted : Option ℕ → Kernel → Kernel
 unhalted None kernel = kernel
-unhalted (Some p) kernel = with_regs kernel p (record (process_in kernel.procs p).regs { halted = false })
+unhalted (Some p) kernel = with_regs kernel p (record (process_in kernel.dispatcher.procs p).regs { halted = false })
 
 -- the process that a key aborts, if any: it ends, or its end is put off
 abbrev pub key_aborted : Option ℕ → System → System
@@ -127,17 +127,17 @@ event_text (Int flag) kernel = []
 
 -- an event comes, and who waits for it becomes ready
 abbrev pub happened_to : Event → System → System
-happened_to event system = record system { kernel = happened event (unhalted system.kernel.running system.kernel) }
+happened_to event system = record system { kernel = happened event (unhalted system.kernel.dispatcher.running system.kernel) }
 
 -- the change that an event brings about
 unfoldable pub event_come : Event → System → Change
 event_come event system =
-    let behind = happened_to event system in
-    record { system = key_aborted behind.kernel.aborted behind; emitted = event_text event behind.kernel }
+    let afterwards = happened_to event system in
+    record { system = key_aborted afterwards.kernel.aborted afterwards; emitted = event_text event afterwards.kernel }
 
 -- the event that is due comes
 unfoldable pub interrupted : Event → System → Change
-interrupted event system = event_come event (record system { interrupts = behind_due system.steps system.interrupts })
+interrupted event system = event_come event (record system { interrupts = due_taken system.steps system.interrupts })
 
 -- the event that comes, if one does
 abbrev pub interrupted_by : Option Event → System → Change
@@ -157,8 +157,8 @@ instruction_unless (Some event) system = false
 -- then the held calls that it completed are answered, and the ends that are due come
 unfoldable pub with_settled : Change → Change
 with_settled change =
-    let behind = settled change.system in
-    record { system = behind.system; emitted = behind.emitted ++ change.emitted }
+    let afterwards = settled change.system in
+    record { system = afterwards.system; emitted = afterwards.emitted ++ change.emitted }
 
 -- one more step counted
 abbrev pub counted : System → System
@@ -167,7 +167,7 @@ counted system = record system { steps = system.steps + 1 }
 -- and it is picked who runs
 abbrev pub dispatched : Bool → Change → Change
 dispatched instruction change =
-    record change { system = record change.system { kernel = picked instruction change.system.kernel } }
+    record change { system = record change.system { kernel = with_dispatcher (picked instruction) change.system.kernel } }
 
 -- what a step makes of a system
 unfoldable pub step_of : System → Change
@@ -184,12 +184,12 @@ unfoldable pub after : ℕ → State → State
 after zero s = s
 after (suc n) s = next (after n s)
 
--- a system behind n steps, whatever was written before them
+-- a system after n steps, whatever was written before them
 abbrev pub system_after : ℕ → System → System
 system_after n system = (after n (record { system = system; outputs = [] })).system
 
--- writing stopped in that step, one of the n steps behind a state: all of the steps before it was written, and then a
--- part of what it writes, which isn't empty
+-- writing stopped in that step, one of the n steps after a state, which writes something: all of the steps before it was
+-- written, and then a first part of what it writes, perhaps none
 pub record EndsInStep (trace : Bool) (written first : Option (List ℕ)) (s : State) (n step : ℕ) : Type 0 where
   pub later : s.system.steps < step
   pub within : step ≤ s.system.steps + n

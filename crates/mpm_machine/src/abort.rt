@@ -1,9 +1,8 @@
 ghost use Rattle.std.specs.Prelude.{◌≡◌};
 ghost use Rattle.mpm_procs.specs.Table.{Lives};
 
-use crate::call::REFUSED;
 use crate::system::System;
-use mpm_base::{Outcome, Pid, Reply};
+use mpm_base::{FAILURE_CODE, Outcome, Pid, Reply};
 
 impl System {
     ghost use Rattle.mpm_machine.specs.State.{IsWhole};
@@ -14,13 +13,13 @@ impl System {
     #[tactic(auto, unfolding(crate::specs::Serving::aborting))]
     pub fn abort(&mut self, p: Pid, reply: &mut Reply) -> Outcome
         requires whole { IsWhole self.old }
-        requires lives { Lives self.old.kernel.procs p }
+        requires lives { Lives self.old.kernel.dispatcher.procs p }
         ensures system { self.new ≡ (aborting p self.old).system }
         ensures outcome { result ≡ (aborting p self.old).outcome }
         ensures reply { reply.new ≡ (aborting p self.old).reply }
     {
         let Some(other) = mpm_xdos::target(&self.kernel, p) else {
-            reply.answer(REFUSED);
+            reply.answer(FAILURE_CODE);
             return Outcome::Done;
         };
         reply.answer(0);
@@ -35,7 +34,7 @@ impl System {
     #[tactic(auto, using(crate::proofs::WholeLaws::segment_is_there), unfolding(crate::specs::Serving::aborted))]
     pub fn abort_process(&mut self, p: Pid)
         requires whole { IsWhole self.old }
-        requires lives { Lives self.old.kernel.procs p }
+        requires lives { Lives self.old.kernel.dispatcher.procs p }
         ensures { self.new ≡ aborted p self.old }
     {
         let waits = self.kernel.holds(p);

@@ -1,21 +1,16 @@
-ghost use Rattle.std.specs.Prelude.{◌∷◌, [], ◌≡◌, ◌≢◌, List, ◌<◌, ◌≤◌, ◌%◌, ℕ, Some, OnOk, OnErr, length};
-ghost use Rattle.mpm_port.specs.Causes.{HasCause};
+ghost use Rattle.std.specs.Prelude.{◌∷◌, [], ◌≡◌, ◌≢◌, List, ◌<◌, ◌≤◌, ◌%◌, ℕ, Some, OnOk, length};
 ghost use Rattle.mpm_base.specs.declared.call.Outcome.TheVariants.{Done};
+ghost use Rattle.mpm_base.specs.declared.functions.TheConstants.{PRINT_STRING};
 ghost use Rattle.mpm_procs.specs.Table.{Lives, process_in, call_of};
-ghost use Rattle.mpm_kernel.specs.Kernel.{IsReady};
-ghost use Rattle.mpm_output.specs.Writing.{spoken, Showed, Stopped};
+ghost use Rattle.mpm_dispatcher.specs.Dispatch.{IsReady};
+ghost use Rattle.mpm_output.specs.Writing.{spoken, Writes};
 
 use crate::system::System;
-use mpm_base::{Outcome, Pid, Reply, Seg};
+use mpm_base::{FAILURE_CODE, Outcome, Pid, Reply, Seg, functions};
+use mpm_consoles::{AWAIT_KEY, echoes};
 use mpm_output::{put_bytes, write_bytes, write_string, write_tabbed};
 use mpm_port::{Failed, Sink};
 use mpm_render::{Render, Unit2};
-
-/// The answer of a call that is refused.
-pub(crate) const REFUSED: u16 = 0x00FF;
-
-/// The first parameter of function 6 that asks for a key or for what the console has; it writes those below.
-const FIRST_REQUEST: u8 = 0xFD;
 
 /// The attributes of a memory segment's descriptor: it is allocated.
 const ALLOCATED: u8 = 0x80;
@@ -24,7 +19,7 @@ impl System {
     ghost use Rattle.mpm_banks.specs.Allocations.{released, is_reserved};
     ghost use Rattle.mpm_machine.specs.State.{IsWhole};
     ghost use Rattle.mpm_machine.specs.Serving.{asked, keeping, IsTaken, served, reserving, releasing, creating, base_asked, string_of, said_by, echo_of, popped, replied, answering_call, fulfilling, completing, completion, outcome_of, gate_step};
-    ghost use Rattle.mpm_machine.specs.Ending.{terminated};
+    ghost use Rattle.mpm_machine.specs.Ending.{ended};
 
     /// The gate step of a kernel call of a process of a segment.
     pub fn call<S: Sink>(
@@ -36,14 +31,11 @@ impl System {
         sink: &mut S,
     ) -> Result<(), Failed>
         requires whole { IsWhole self.old }
-        requires lives { Lives self.old.kernel.procs p }
-        requires ready { IsReady self.old.kernel p }
-        requires home { (process_in self.old.kernel.procs p).seg ≡ Some seg }
+        requires lives { Lives self.old.kernel.dispatcher.procs p }
+        requires ready { IsReady self.old.kernel.dispatcher p }
+        requires home { (process_in self.old.kernel.dispatcher.procs p).seg ≡ Some seg }
         ensures system { OnOk result (self.new ≡ (gate_step p seg self.old).system) }
-        ensures ok { OnOk result (Showed render.old (S.written sink.old) render.new (S.written sink.new) (gate_step p seg self.old).emitted) }
-        ensures err { OnErr result (Stopped render.old (S.written sink.old) (S.written sink.new) (gate_step p seg self.old).emitted) }
-        ensures cause { HasCause (S.faults sink.old) (S.faults sink.new) result }
-        ensures trace { render.new.trace ≡ render.old.trace }
+        ensures wrote { Writes S.written S.faults render.old sink.old render.new sink.new (gate_step p seg self.old).emitted result }
     {
         self.take_call(p, seg);
         let outcome = self.serve(p, reply);
@@ -62,12 +54,9 @@ impl System {
         sink: &mut S,
     ) -> Result<(), Failed>
         requires whole { IsWhole self.old }
-        requires lives { Lives self.old.kernel.procs p }
-        ensures system { OnOk result (self.new ≡ (outcome_of outcome reply.old (call_of self.old.kernel.procs p) p seg self.old).system) }
-        ensures ok { OnOk result (Showed render.old (S.written sink.old) render.new (S.written sink.new) (outcome_of outcome reply.old (call_of self.old.kernel.procs p) p seg self.old).emitted) }
-        ensures err { OnErr result (Stopped render.old (S.written sink.old) (S.written sink.new) (outcome_of outcome reply.old (call_of self.old.kernel.procs p) p seg self.old).emitted) }
-        ensures cause { HasCause (S.faults sink.old) (S.faults sink.new) result }
-        ensures trace { render.new.trace ≡ render.old.trace }
+        requires lives { Lives self.old.kernel.dispatcher.procs p }
+        ensures system { OnOk result (self.new ≡ (outcome_of outcome reply.old (call_of self.old.kernel.dispatcher.procs p) p seg self.old).system) }
+        ensures wrote { Writes S.written S.faults render.old sink.old render.new sink.new (outcome_of outcome reply.old (call_of self.old.kernel.dispatcher.procs p) p seg self.old).emitted result }
     {
         match outcome {
             Outcome::Done => self.complete(p, seg, reply, render, sink),
@@ -87,7 +76,7 @@ impl System {
     #[tactic(auto, using(mpm_procs::proofs::MapLaws::lives_changed), unfolding(crate::specs::Serving::keeping, crate::specs::Serving::asked))]
     fn take_call(&mut self, p: Pid, seg: Seg)
         requires whole { IsWhole self.old }
-        requires lives { Lives self.old.kernel.procs p }
+        requires lives { Lives self.old.kernel.dispatcher.procs p }
         ensures { self.new ≡ keeping p (asked p seg self.old) self.old }
     {
         let process = self.kernel.process_mut(p);
@@ -103,19 +92,20 @@ impl System {
     #[tactic(auto, using(crate::proofs::TakenLaws::few_descriptors), unfolding(crate::specs::Serving::served))]
     fn serve(&mut self, p: Pid, reply: &mut Reply) -> Outcome
         requires whole { IsWhole self.old }
-        requires lives { Lives self.old.kernel.procs p }
-        requires ready { IsReady self.old.kernel p }
-        requires taken { IsTaken (call_of self.old.kernel.procs p) }
-        ensures system { self.new ≡ (served (call_of self.old.kernel.procs p) p self.old).system }
-        ensures outcome { result ≡ (served (call_of self.old.kernel.procs p) p self.old).outcome }
-        ensures reply { reply.new ≡ (served (call_of self.old.kernel.procs p) p self.old).reply }
+        requires lives { Lives self.old.kernel.dispatcher.procs p }
+        requires ready { IsReady self.old.kernel.dispatcher p }
+        requires taken { IsTaken (call_of self.old.kernel.dispatcher.procs p) }
+        ensures system { self.new ≡ (served (call_of self.old.kernel.dispatcher.procs p) p self.old).system }
+        ensures outcome { result ≡ (served (call_of self.old.kernel.dispatcher.procs p) p self.old).outcome }
+        ensures reply { reply.new ≡ (served (call_of self.old.kernel.dispatcher.procs p) p self.old).reply }
     {
         let function = self.kernel.kept_call(p).function;
         match function {
-            128 | 129 => self.reserve(p, function == 128, reply),
-            130 => self.release(p, reply),
-            144 => self.create(p, reply),
-            157 => self.abort(p, reply),
+            functions::ABSOLUTE_MEMORY_REQUEST => self.reserve(p, true, reply),
+            functions::RELOCATABLE_MEMORY_REQUEST => self.reserve(p, false, reply),
+            functions::MEMORY_FREE => self.release(p, reply),
+            functions::CREATE_PROCESS => self.create(p, reply),
+            functions::ABORT_SPECIFIED_PROCESS => self.abort(p, reply),
             _ => self.kernel.call(p, reply),
         }
     }
@@ -123,10 +113,10 @@ impl System {
     /// Functions 128 and 129: reserves a segment, of the base page that the call gives or of any.
     #[tactic(auto, using(mpm_banks::proofs::SegmentLaws::reserved_is_there, mpm_banks::proofs::SegmentLaws::spec_of_reserved), unfolding(crate::specs::Serving::reserving))]
     fn reserve(&mut self, p: Pid, absolute: bool, reply: &mut Reply) -> Outcome
-        requires lives { Lives self.old.kernel.procs p }
-        ensures system { self.new ≡ (reserving (base_asked absolute (call_of self.old.kernel.procs p)) (call_of self.old.kernel.procs p) p self.old).system }
-        ensures outcome { result ≡ (reserving (base_asked absolute (call_of self.old.kernel.procs p)) (call_of self.old.kernel.procs p) p self.old).outcome }
-        ensures reply { reply.new ≡ (reserving (base_asked absolute (call_of self.old.kernel.procs p)) (call_of self.old.kernel.procs p) p self.old).reply }
+        requires lives { Lives self.old.kernel.dispatcher.procs p }
+        ensures system { self.new ≡ (reserving (base_asked absolute (call_of self.old.kernel.dispatcher.procs p)) (call_of self.old.kernel.dispatcher.procs p) p self.old).system }
+        ensures outcome { result ≡ (reserving (base_asked absolute (call_of self.old.kernel.dispatcher.procs p)) (call_of self.old.kernel.dispatcher.procs p) p self.old).outcome }
+        ensures reply { reply.new ≡ (reserving (base_asked absolute (call_of self.old.kernel.dispatcher.procs p)) (call_of self.old.kernel.dispatcher.procs p) p self.old).reply }
     {
         let call = self.kernel.kept_call(p);
         let word = call.word;
@@ -137,7 +127,7 @@ impl System {
                 let spec = self.memory.spec(seg);
                 reply.answer_with(0, word, &[spec.base, spec.pages, ALLOCATED, seg.0]);
             }
-            None => reply.answer(REFUSED),
+            None => reply.answer(FAILURE_CODE),
         }
         Outcome::Done
     }
@@ -145,13 +135,17 @@ impl System {
     /// Function 130: frees a segment that the process reserved.
     #[tactic(auto, unfolding(crate::specs::Serving::releasing))]
     fn release(&mut self, p: Pid, reply: &mut Reply) -> Outcome
-        requires lives { Lives self.old.kernel.procs p }
-        ensures system { self.new ≡ (releasing (call_of self.old.kernel.procs p) p self.old).system }
-        ensures outcome { result ≡ (releasing (call_of self.old.kernel.procs p) p self.old).outcome }
-        ensures reply { reply.new ≡ (releasing (call_of self.old.kernel.procs p) p self.old).reply }
+        requires lives { Lives self.old.kernel.dispatcher.procs p }
+        ensures system { self.new ≡ (releasing (call_of self.old.kernel.dispatcher.procs p) p self.old).system }
+        ensures outcome { result ≡ (releasing (call_of self.old.kernel.dispatcher.procs p) p self.old).outcome }
+        ensures reply { reply.new ≡ (releasing (call_of self.old.kernel.dispatcher.procs p) p self.old).reply }
     {
         let bank = self.kernel.kept_call(p).byte(3);
-        let answer = if self.give_back(p, bank) { 0 } else { REFUSED };
+        let answer = if self.give_back(p, bank) {
+            0
+        } else {
+            FAILURE_CODE
+        };
         reply.answer(answer);
         Outcome::Done
     }
@@ -172,8 +166,8 @@ impl System {
     #[tactic(auto, using(crate::proofs::WholeLaws::segment_is_there), unfolding(crate::specs::Serving::creating))]
     fn create(&mut self, p: Pid, reply: &mut Reply) -> Outcome
         requires whole { IsWhole self.old }
-        requires lives { Lives self.old.kernel.procs p }
-        requires few { length (call_of self.old.kernel.procs p).bytes ≤ 576 }
+        requires lives { Lives self.old.kernel.dispatcher.procs p }
+        requires few { length (call_of self.old.kernel.dispatcher.procs p).bytes ≤ 576 }
         ensures system { self.new ≡ (creating p self.old).system }
         ensures outcome { result ≡ (creating p self.old).outcome }
         ensures reply { reply.new ≡ (creating p self.old).reply }
@@ -193,12 +187,9 @@ impl System {
         sink: &mut S,
     ) -> Result<(), Failed>
         requires whole { IsWhole self.old }
-        requires lives { Lives self.old.kernel.procs p }
-        ensures system { OnOk result (self.new ≡ (completing reply.old (call_of self.old.kernel.procs p) p seg self.old).system) }
-        ensures ok { OnOk result (Showed render.old (S.written sink.old) render.new (S.written sink.new) (completing reply.old (call_of self.old.kernel.procs p) p seg self.old).emitted) }
-        ensures err { OnErr result (Stopped render.old (S.written sink.old) (S.written sink.new) (completing reply.old (call_of self.old.kernel.procs p) p seg self.old).emitted) }
-        ensures cause { HasCause (S.faults sink.old) (S.faults sink.new) result }
-        ensures trace { render.new.trace ≡ render.old.trace }
+        requires lives { Lives self.old.kernel.dispatcher.procs p }
+        ensures system { OnOk result (self.new ≡ (completing reply.old (call_of self.old.kernel.dispatcher.procs p) p seg self.old).system) }
+        ensures wrote { Writes S.written S.faults render.old sink.old render.new sink.new (completing reply.old (call_of self.old.kernel.dispatcher.procs p) p seg self.old).emitted result }
     {
         self.speak(p, seg, render, sink)?;
         self.pop(p, seg);
@@ -218,12 +209,9 @@ impl System {
         sink: &mut S,
     ) -> Result<(), Failed>
         requires whole { IsWhole self.old }
-        requires lives { Lives self.old.kernel.procs p }
-        ensures system { OnOk result (self.new ≡ (fulfilling reply.old (call_of self.old.kernel.procs p) p seg self.old).system) }
-        ensures ok { OnOk result (Showed render.old (S.written sink.old) render.new (S.written sink.new) (fulfilling reply.old (call_of self.old.kernel.procs p) p seg self.old).emitted) }
-        ensures err { OnErr result (Stopped render.old (S.written sink.old) (S.written sink.new) (fulfilling reply.old (call_of self.old.kernel.procs p) p seg self.old).emitted) }
-        ensures cause { HasCause (S.faults sink.old) (S.faults sink.new) result }
-        ensures trace { render.new.trace ≡ render.old.trace }
+        requires lives { Lives self.old.kernel.dispatcher.procs p }
+        ensures system { OnOk result (self.new ≡ (fulfilling reply.old (call_of self.old.kernel.dispatcher.procs p) p seg self.old).system) }
+        ensures wrote { Writes S.written S.faults render.old sink.old render.new sink.new (fulfilling reply.old (call_of self.old.kernel.dispatcher.procs p) p seg self.old).emitted result }
     {
         self.enter(p, reply);
         self.answer(p, seg, reply, render, sink)
@@ -240,12 +228,9 @@ impl System {
         render: &mut Render,
         sink: &mut S,
     ) -> Result<(), Failed>
-        requires lives { Lives self.old.kernel.procs p }
-        ensures system { OnOk result (self.new ≡ (answering_call reply.now (call_of self.old.kernel.procs p) p seg self.old).system) }
-        ensures ok { OnOk result (Showed render.old (S.written sink.old) render.new (S.written sink.new) (answering_call reply.now (call_of self.old.kernel.procs p) p seg self.old).emitted) }
-        ensures err { OnErr result (Stopped render.old (S.written sink.old) (S.written sink.new) (answering_call reply.now (call_of self.old.kernel.procs p) p seg self.old).emitted) }
-        ensures cause { HasCause (S.faults sink.old) (S.faults sink.new) result }
-        ensures trace { render.new.trace ≡ render.old.trace }
+        requires lives { Lives self.old.kernel.dispatcher.procs p }
+        ensures system { OnOk result (self.new ≡ (answering_call reply.now (call_of self.old.kernel.dispatcher.procs p) p seg self.old).system) }
+        ensures wrote { Writes S.written S.faults render.old sink.old render.new sink.new (answering_call reply.now (call_of self.old.kernel.dispatcher.procs p) p seg self.old).emitted result }
     {
         self.reply(p, seg, reply);
         self.record(p, render, sink)
@@ -260,17 +245,12 @@ impl System {
         sink: &mut S,
     ) -> Result<(), Failed>
         requires whole { IsWhole self.old }
-        requires lives { Lives self.old.kernel.procs p }
-        ensures system { OnOk result (self.new ≡ (said_by (call_of self.old.kernel.procs p) (string_of (call_of self.old.kernel.procs p) seg self.old.memory) p self.old).system) }
-        ensures ok { OnOk result (Showed render.old (S.written sink.old) render.new (S.written sink.new)
-            (said_by (call_of self.old.kernel.procs p) (string_of (call_of self.old.kernel.procs p) seg self.old.memory) p self.old).emitted) }
-        ensures err { OnErr result (Stopped render.old (S.written sink.old) (S.written sink.new)
-            (said_by (call_of self.old.kernel.procs p) (string_of (call_of self.old.kernel.procs p) seg self.old.memory) p self.old).emitted) }
-        ensures cause { HasCause (S.faults sink.old) (S.faults sink.new) result }
-        ensures trace { render.new.trace ≡ render.old.trace }
+        requires lives { Lives self.old.kernel.dispatcher.procs p }
+        ensures system { OnOk result (self.new ≡ (said_by (call_of self.old.kernel.dispatcher.procs p) (string_of (call_of self.old.kernel.dispatcher.procs p) seg self.old.memory) p self.old).system) }
+        ensures wrote { Writes S.written S.faults render.old sink.old render.new sink.new (said_by (call_of self.old.kernel.dispatcher.procs p) (string_of (call_of self.old.kernel.dispatcher.procs p) seg self.old.memory) p self.old).emitted result }
     {
         let call = self.kernel.kept_call(p);
-        if call.function == 9 {
+        if call.function == functions::PRINT_STRING {
             let word = call.word;
             let console = self.kernel.living(p).console;
             return write_string(
@@ -294,15 +274,10 @@ impl System {
         sink: &mut S,
     ) -> Result<(), Failed>
         requires whole { IsWhole self.old }
-        requires lives { Lives self.old.kernel.procs p }
-        requires byte { (call_of self.old.kernel.procs p).function ≢ 9 }
-        ensures system { (string : List ℕ) → OnOk result (self.new ≡ (said_by (call_of self.old.kernel.procs p) string p self.old).system) }
-        ensures ok { (string : List ℕ) → OnOk result (Showed render.old (S.written sink.old) render.new (S.written sink.new)
-            (said_by (call_of self.old.kernel.procs p) string p self.old).emitted) }
-        ensures err { (string : List ℕ) → OnErr result (Stopped render.old (S.written sink.old) (S.written sink.new)
-            (said_by (call_of self.old.kernel.procs p) string p self.old).emitted) }
-        ensures cause { HasCause (S.faults sink.old) (S.faults sink.new) result }
-        ensures trace { render.new.trace ≡ render.old.trace }
+        requires lives { Lives self.old.kernel.dispatcher.procs p }
+        requires byte { (call_of self.old.kernel.dispatcher.procs p).function ≢ PRINT_STRING }
+        ensures system { (string : List ℕ) → OnOk result (self.new ≡ (said_by (call_of self.old.kernel.dispatcher.procs p) string p self.old).system) }
+        ensures wrote { (string : List ℕ) → Writes S.written S.faults render.old sink.old render.new sink.new (said_by (call_of self.old.kernel.dispatcher.procs p) string p self.old).emitted result }
     {
         let process = self.kernel.living(p);
         let console = process.console;
@@ -310,14 +285,26 @@ impl System {
         let call = self.kernel.kept_call(p);
         let byte = (call.word % 256) as u8;
         match call.function {
-            2 => write_tabbed(&mut self.kernel, console, byte, render, sink),
-            4 => write_bytes(&mut self.kernel, console, &[byte], render, sink),
-            5 if 0 < self.kernel.printers() => render.put(
+            functions::CONSOLE_OUTPUT => write_tabbed(
+                &mut self.kernel,
+                console,
+                byte,
+                render,
+                sink,
+            ),
+            functions::RAW_CONSOLE_OUTPUT => write_bytes(
+                &mut self.kernel,
+                console,
+                &[byte],
+                render,
+                sink,
+            ),
+            functions::LIST_OUTPUT if 0 < self.kernel.printers() => render.put(
                 Unit2::Printer { n: printer },
                 byte,
                 sink,
             ),
-            6 if byte < FIRST_REQUEST => write_bytes(
+            functions::DIRECT_CONSOLE_IO if byte < AWAIT_KEY => write_bytes(
                 &mut self.kernel,
                 console,
                 &[byte],
@@ -328,31 +315,24 @@ impl System {
         }
     }
 
-    /// What the kernel itself wrote to the console of a process in its call comes out: functions 1 and 10 echo the key that they
-    /// take.
+    /// What the kernel itself wrote to the console of a process in its call comes out: the key that it took, where its function
+    /// echoes it.
     pub fn put_echo<S: Sink>(&self, p: Pid, render: &mut Render, sink: &mut S) -> Result<(), Failed>
         requires whole { IsWhole self.now }
-        requires lives { Lives self.now.kernel.procs p }
-        ensures ok { OnOk result (Showed render.old (S.written sink.old) render.new (S.written sink.new)
-            (spoken (process_in self.now.kernel.procs p).console (echo_of (call_of self.now.kernel.procs p) self.now.kernel))) }
-        ensures err { OnErr result (Stopped render.old (S.written sink.old) (S.written sink.new)
-            (spoken (process_in self.now.kernel.procs p).console (echo_of (call_of self.now.kernel.procs p) self.now.kernel))) }
-        ensures cause { HasCause (S.faults sink.old) (S.faults sink.new) result }
-        ensures trace { render.new.trace ≡ render.old.trace }
+        requires lives { Lives self.now.kernel.dispatcher.procs p }
+        ensures wrote { Writes S.written S.faults render.old sink.old render.new sink.new (spoken (process_in self.now.kernel.dispatcher.procs p).console (echo_of (call_of self.now.kernel.dispatcher.procs p) self.now.kernel)) result }
     {
-        match self.kernel.kept_call(p).function {
-            1 | 10 => {
-                let console = self.kernel.living(p).console;
-                put_bytes(console, self.kernel.echo().written(), render, sink)
-            }
-            _ => Ok(()),
+        if !echoes(self.kernel.kept_call(p).function) {
+            return Ok(());
         }
+        let console = self.kernel.living(p).console;
+        put_bytes(console, self.kernel.echo().written(), render, sink)
     }
 
     /// The return address of a call is taken from its caller's stack.
     #[tactic(auto, unfolding(crate::specs::Serving::popped))]
     fn pop(&mut self, p: Pid, seg: Seg)
-        requires lives { Lives self.old.kernel.procs p }
+        requires lives { Lives self.old.kernel.dispatcher.procs p }
         ensures { self.new ≡ popped p seg self.old }
     {
         let regs = self.kernel.regs_mut(p);
@@ -363,8 +343,8 @@ impl System {
     #[inline(always)]
     #[tactic(auto, unfolding(crate::specs::Serving::replied))]
     fn reply(&mut self, p: Pid, seg: Seg, reply: &Reply)
-        requires lives { Lives self.old.kernel.procs p }
-        ensures { self.new ≡ replied reply.now (call_of self.old.kernel.procs p) p seg self.old }
+        requires lives { Lives self.old.kernel.dispatcher.procs p }
+        ensures { self.new ≡ replied reply.now (call_of self.old.kernel.dispatcher.procs p) p seg self.old }
     {
         let word = self.kernel.kept_call(p).word;
         let regs = self.kernel.regs_mut(p);
@@ -375,12 +355,9 @@ impl System {
     #[inline(always)]
     #[tactic(auto, unfolding(crate::specs::Serving::completion))]
     fn record<S: Sink>(&mut self, p: Pid, render: &mut Render, sink: &mut S) -> Result<(), Failed>
-        requires lives { Lives self.old.kernel.procs p }
+        requires lives { Lives self.old.kernel.dispatcher.procs p }
         ensures system { self.new ≡ self.old }
-        ensures ok { OnOk result (Showed render.old (S.written sink.old) render.new (S.written sink.new) (completion (call_of self.old.kernel.procs p) p self.old ∷ [])) }
-        ensures err { OnErr result (Stopped render.old (S.written sink.old) (S.written sink.new) (completion (call_of self.old.kernel.procs p) p self.old ∷ [])) }
-        ensures cause { HasCause (S.faults sink.old) (S.faults sink.new) result }
-        ensures trace { render.new.trace ≡ render.old.trace }
+        ensures wrote { Writes S.written S.faults render.old sink.old render.new sink.new (completion (call_of self.old.kernel.dispatcher.procs p) p self.old ∷ []) result }
     {
         let regs = self.kernel.regs(p);
         render.trace(
@@ -396,11 +373,11 @@ impl System {
     }
 
     /// A process ends, and gives back what it had.
-    #[tactic(auto, using(crate::proofs::WholeLaws::segment_is_there), unfolding(crate::specs::Ending::terminated))]
+    #[tactic(auto, using(crate::proofs::WholeLaws::segment_is_there), unfolding(crate::specs::Ending::ended))]
     pub fn end(&mut self, p: Pid)
         requires whole { IsWhole self.old }
-        requires lives { Lives self.old.kernel.procs p }
-        ensures { self.new ≡ terminated p self.old }
+        requires lives { Lives self.old.kernel.dispatcher.procs p }
+        ensures { self.new ≡ ended p self.old }
     {
         mpm_xdos::end(&mut self.kernel, &mut self.memory, p);
     }

@@ -1,6 +1,5 @@
-ghost use Rattle.std.specs.Prelude.{◌≡◌, OnOk, OnErr};
-ghost use Rattle.mpm_port.specs.Causes.{HasCause};
-ghost use Rattle.mpm_output.specs.Writing.{Showed, Stopped};
+ghost use Rattle.std.specs.Prelude.{◌≡◌, OnOk};
+ghost use Rattle.mpm_output.specs.Writing.{Writes};
 
 use crate::system::System;
 use mpm_base::{Pid, Reply};
@@ -10,7 +9,7 @@ use mpm_render::Render;
 impl System {
     ghost use Rattle.mpm_kernel.specs.Kernel.{is_aborted};
     ghost use Rattle.mpm_machine.specs.State.{IsWhole};
-    ghost use Rattle.mpm_machine.specs.Due.{is_due, is_any_aborted, noted, terminated_if_due, all_due_terminated, with_ends, settled};
+    ghost use Rattle.mpm_machine.specs.Due.{is_due, is_any_aborted, noted, ended_if_due, all_due_terminated, with_ends, settled};
 
     /// The end of a step: the held calls that were completed are answered, and then the ends that are due come.
     #[tactic(auto, using(crate::proofs::WholeStepLaws::whole_answered), unfolding(crate::specs::Due::settled))]
@@ -22,10 +21,7 @@ impl System {
     ) -> Result<(), Failed>
         requires whole { IsWhole self.old }
         ensures system { OnOk result (self.new ≡ (settled self.old).system) }
-        ensures ok { OnOk result (Showed render.old (S.written sink.old) render.new (S.written sink.new) (settled self.old).emitted) }
-        ensures err { OnErr result (Stopped render.old (S.written sink.old) (S.written sink.new) (settled self.old).emitted) }
-        ensures cause { HasCause (S.faults sink.old) (S.faults sink.new) result }
-        ensures trace { render.new.trace ≡ render.old.trace }
+        ensures wrote { Writes S.written S.faults render.old sink.old render.new sink.new (settled self.old).emitted result }
     {
         self.finish_all(reply, render, sink)?;
         self.end_due(reply, render, sink)
@@ -41,10 +37,7 @@ impl System {
     ) -> Result<(), Failed>
         requires whole { IsWhole self.old }
         ensures system { OnOk result (self.new ≡ (with_ends self.old).system) }
-        ensures ok { OnOk result (Showed render.old (S.written sink.old) render.new (S.written sink.new) (with_ends self.old).emitted) }
-        ensures err { OnErr result (Stopped render.old (S.written sink.old) (S.written sink.new) (with_ends self.old).emitted) }
-        ensures cause { HasCause (S.faults sink.old) (S.faults sink.new) result }
-        ensures trace { render.new.trace ≡ render.old.trace }
+        ensures wrote { Writes S.written S.faults render.old sink.old render.new sink.new (with_ends self.old).emitted result }
     {
         if self.abort_deferred {
             self.end_each_due(reply, render, sink)?;
@@ -62,10 +55,7 @@ impl System {
     ) -> Result<(), Failed>
         requires whole { IsWhole self.old }
         ensures system { OnOk result (self.new ≡ (all_due_terminated self.old).system) }
-        ensures ok { OnOk result (Showed render.old (S.written sink.old) render.new (S.written sink.new) (all_due_terminated self.old).emitted) }
-        ensures err { OnErr result (Stopped render.old (S.written sink.old) (S.written sink.new) (all_due_terminated self.old).emitted) }
-        ensures cause { HasCause (S.faults sink.old) (S.faults sink.new) result }
-        ensures trace { render.new.trace ≡ render.old.trace }
+        ensures wrote { Writes S.written S.faults render.old sink.old render.new sink.new (all_due_terminated self.old).emitted result }
     {
         for number in 0..32 {
             if let Err(Failed) = self.end_if_due(Pid(number), reply, render, sink) {
@@ -76,7 +66,7 @@ impl System {
     }
 
     /// A process ends, where that is due, and the held calls that its end completes are answered.
-    #[tactic(auto, using(crate::proofs::WholeStepLaws::whole_due_end), unfolding(crate::specs::Due::terminated_if_due))]
+    #[tactic(auto, using(crate::proofs::WholeStepLaws::whole_due_end), unfolding(crate::specs::Due::ended_if_due))]
     fn end_if_due<S: Sink>(
         &mut self,
         p: Pid,
@@ -85,11 +75,8 @@ impl System {
         sink: &mut S,
     ) -> Result<(), Failed>
         requires whole { IsWhole self.old }
-        ensures system { OnOk result (self.new ≡ (terminated_if_due p self.old).system) }
-        ensures ok { OnOk result (Showed render.old (S.written sink.old) render.new (S.written sink.new) (terminated_if_due p self.old).emitted) }
-        ensures err { OnErr result (Stopped render.old (S.written sink.old) (S.written sink.new) (terminated_if_due p self.old).emitted) }
-        ensures cause { HasCause (S.faults sink.old) (S.faults sink.new) result }
-        ensures trace { render.new.trace ≡ render.old.trace }
+        ensures system { OnOk result (self.new ≡ (ended_if_due p self.old).system) }
+        ensures wrote { Writes S.written S.faults render.old sink.old render.new sink.new (ended_if_due p self.old).emitted result }
     {
         if self.is_due(p) {
             self.end(p);
@@ -107,7 +94,7 @@ impl System {
 
     /// Whether a process lives, and its end by an abort is put off.
     fn is_aborted(&self, p: Pid) -> bool
-        ensures { result ≡ is_aborted self.now.kernel.procs p }
+        ensures { result ≡ is_aborted self.now.kernel.dispatcher.procs p }
     {
         self.kernel.lives(p) && self.kernel.living(p).abort_due
     }
@@ -122,7 +109,7 @@ impl System {
     /// Whether an end by an abort is put off.
     #[tactic(auto, using(mpm_queues::proofs::Finding::failed_none, mpm_queues::proofs::Finding::failed_more, mpm_queues::proofs::Finding::found_lowest, mpm_queues::proofs::Finding::found_none))]
     fn is_any_aborted(&self) -> bool
-        ensures { result ≡ is_any_aborted self.now.kernel.procs }
+        ensures { result ≡ is_any_aborted self.now.kernel.dispatcher.procs }
     {
         for number in 0..32 {
             if self.is_aborted(Pid(number)) {

@@ -1,6 +1,5 @@
-ghost use Rattle.std.specs.Prelude.{◌≡◌, OnOk, OnErr};
-ghost use Rattle.mpm_port.specs.Causes.{HasCause};
-ghost use Rattle.mpm_output.specs.Writing.{Showed, Stopped};
+ghost use Rattle.std.specs.Prelude.{◌≡◌, OnOk};
+ghost use Rattle.mpm_output.specs.Writing.{Writes};
 
 use crate::system::System;
 use mpm_base::{Pid, Reply};
@@ -11,14 +10,13 @@ impl System {
     ghost use Rattle.mpm_procs.specs.Table.{Lives, process_in};
     ghost use Rattle.std.specs.Prelude.{IfSome, IfNone};
     ghost use Rattle.mpm_kernel.specs.Waiting.{completion_reply};
-    ghost use Rattle.mpm_kernel.specs.Events.{first_completed};
+    ghost use Rattle.mpm_dispatcher.specs.Dispatch.{first_completed};
     ghost use Rattle.mpm_machine.specs.State.{IsWhole};
     ghost use Rattle.mpm_machine.specs.Residing.{taking};
     ghost use Rattle.mpm_machine.specs.Finishing.{finished, completion_dequeued, all_finished};
 
     /// The held calls that were completed are answered: mostly there are none.
     #[inline(always)]
-    #[tactic(auto, using(crate::proofs::FinishLaws::finished_nobody, crate::proofs::FinishLaws::shown_nobody))]
     pub fn finish_all<S: Sink>(
         &mut self,
         reply: &mut Reply,
@@ -27,10 +25,7 @@ impl System {
     ) -> Result<(), Failed>
         requires whole { IsWhole self.old }
         ensures system { OnOk result (self.new ≡ (all_finished self.old).system) }
-        ensures ok { OnOk result (Showed render.old (S.written sink.old) render.new (S.written sink.new) (all_finished self.old).emitted) }
-        ensures err { OnErr result (Stopped render.old (S.written sink.old) (S.written sink.new) (all_finished self.old).emitted) }
-        ensures cause { HasCause (S.faults sink.old) (S.faults sink.new) result }
-        ensures trace { render.new.trace ≡ render.old.trace }
+        ensures wrote { Writes S.written S.faults render.old sink.old render.new sink.new (all_finished self.old).emitted result }
     {
         if self.kernel.has_completed() {
             return self.finish_each(reply, render, sink);
@@ -48,10 +43,7 @@ impl System {
     ) -> Result<(), Failed>
         requires whole { IsWhole self.old }
         ensures system { OnOk result (self.new ≡ (all_finished self.old).system) }
-        ensures ok { OnOk result (Showed render.old (S.written sink.old) render.new (S.written sink.new) (all_finished self.old).emitted) }
-        ensures err { OnErr result (Stopped render.old (S.written sink.old) (S.written sink.new) (all_finished self.old).emitted) }
-        ensures cause { HasCause (S.faults sink.old) (S.faults sink.new) result }
-        ensures trace { render.new.trace ≡ render.old.trace }
+        ensures wrote { Writes S.written S.faults render.old sink.old render.new sink.new (all_finished self.old).emitted result }
     {
         while let Some(p) = self.next_completed(reply) {
             if let Err(Failed) = self.finish(p, reply, render, sink) {
@@ -65,11 +57,11 @@ impl System {
     #[tactic(auto, using(crate::proofs::WholeStepLaws::whole_dequeued, crate::proofs::FinishLaws::dequeued_nobody, crate::proofs::FinishLaws::dequeued_lives, crate::proofs::FinishLaws::dequeued_reply))]
     fn next_completed(&mut self, reply: &mut Reply) -> Option<Pid>
         requires { IsWhole self.old }
-        ensures process { result ≡ first_completed self.old.kernel.completed }
+        ensures process { result ≡ first_completed self.old.kernel.dispatcher.completed }
         ensures system { self.new ≡ completion_dequeued self.old }
         ensures whole { IsWhole self.new }
         ensures nothing { IfNone result (self.new ≡ self.old) }
-        ensures lives { IfSome result (λ p. Lives self.new.kernel.procs p) }
+        ensures lives { IfSome result (λ p. Lives self.new.kernel.dispatcher.procs p) }
         ensures reply { IfSome result (λ p. reply.new ≡ completion_reply self.new.kernel p) }
     {
         self.kernel.completed(reply)
@@ -84,13 +76,10 @@ impl System {
         sink: &mut S,
     ) -> Result<(), Failed>
         requires whole { IsWhole self.old }
-        requires lives { Lives self.old.kernel.procs p }
+        requires lives { Lives self.old.kernel.dispatcher.procs p }
         requires reply { reply.old ≡ completion_reply self.old.kernel p }
-        ensures system { OnOk result (self.new ≡ (finished (process_in self.old.kernel.procs p).seg p self.old).system) }
-        ensures ok { OnOk result (Showed render.old (S.written sink.old) render.new (S.written sink.new) (finished (process_in self.old.kernel.procs p).seg p self.old).emitted) }
-        ensures err { OnErr result (Stopped render.old (S.written sink.old) (S.written sink.new) (finished (process_in self.old.kernel.procs p).seg p self.old).emitted) }
-        ensures cause { HasCause (S.faults sink.old) (S.faults sink.new) result }
-        ensures trace { render.new.trace ≡ render.old.trace }
+        ensures system { OnOk result (self.new ≡ (finished (process_in self.old.kernel.dispatcher.procs p).seg p self.old).system) }
+        ensures wrote { Writes S.written S.faults render.old sink.old render.new sink.new (finished (process_in self.old.kernel.dispatcher.procs p).seg p self.old).emitted result }
     {
         match self.kernel.segment(p) {
             Some(seg) => self.fulfil(p, seg, reply, render, sink),

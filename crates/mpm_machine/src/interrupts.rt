@@ -1,3 +1,5 @@
+ghost use Rattle.mpm_script.specs.declared.line.TheConstants.{GREATEST_STEP};
+
 use crate::system::System;
 use mpm_output::put_bytes;
 use mpm_port::{Failed, Sink};
@@ -5,27 +7,23 @@ use mpm_render::Render;
 use mpm_script::Event;
 
 impl System {
-    ghost use Rattle.std.specs.Prelude.{◌≡◌, ◌≤◌, None, is_some, IfOk, OnOk, OnErr};
+    ghost use Rattle.std.specs.Prelude.{◌≡◌, ◌≤◌, None, is_some, IfOk, OnOk};
     ghost use Rattle.std.specs.Bool.{OnTrue, OnFalse};
-    ghost use Rattle.mpm_port.specs.Causes.{HasCause};
     ghost use Rattle.mpm_script.specs.Events.{IsEvent};
     ghost use Rattle.mpm_kernel.specs.Consoling.{AbortLives};
     ghost use Rattle.mpm_interrupts.specs.Interrupts.{due};
     ghost use Rattle.mpm_machine.specs.State.{IsWhole};
-    ghost use Rattle.mpm_output.specs.Writing.{Showed, Stopped};
+    ghost use Rattle.mpm_output.specs.Writing.{Writes};
     ghost use Rattle.mpm_machine.specs.Step.{lets_in, coming, unhalted, interrupted_by, event_come, key_aborted, event_text};
 
     /// The event that is due in this step comes, if one is and it may; answers whether one did.
     #[tactic(auto, unfolding(crate::specs::Step::interrupted))]
     pub fn interrupt<S: Sink>(&mut self, render: &mut Render, sink: &mut S) -> Result<bool, Failed>
         requires whole { IsWhole self.old }
-        requires most { self.old.steps ≤ 4000000000 }
+        requires most { self.old.steps ≤ GREATEST_STEP }
         ensures came { IfOk result (λ came. came ≡ is_some (coming self.old)) }
         ensures system { OnOk result (self.new ≡ (interrupted_by (coming self.old) self.old).system) }
-        ensures ok { OnOk result (Showed render.old (S.written sink.old) render.new (S.written sink.new) (interrupted_by (coming self.old) self.old).emitted) }
-        ensures err { OnErr result (Stopped render.old (S.written sink.old) (S.written sink.new) (interrupted_by (coming self.old) self.old).emitted) }
-        ensures cause { HasCause (S.faults sink.old) (S.faults sink.new) result }
-        ensures trace { render.new.trace ≡ render.old.trace }
+        ensures wrote { Writes S.written S.faults render.old sink.old render.new sink.new (interrupted_by (coming self.old) self.old).emitted result }
     {
         if !self.is_open() {
             return Ok(false);
@@ -50,10 +48,7 @@ impl System {
         requires whole { IsWhole self.old }
         requires is { IsEvent event }
         ensures system { OnOk result (self.new ≡ (event_come event self.old).system) }
-        ensures ok { OnOk result (Showed render.old (S.written sink.old) render.new (S.written sink.new) (event_come event self.old).emitted) }
-        ensures err { OnErr result (Stopped render.old (S.written sink.old) (S.written sink.new) (event_come event self.old).emitted) }
-        ensures cause { HasCause (S.faults sink.old) (S.faults sink.new) result }
-        ensures trace { render.new.trace ≡ render.old.trace }
+        ensures wrote { Writes S.written S.faults render.old sink.old render.new sink.new (event_come event self.old).emitted result }
     {
         self.unhalt();
         self.kernel.event(event);
@@ -70,10 +65,7 @@ impl System {
         sink: &mut S,
     ) -> Result<(), Failed>
         requires { IsEvent event }
-        ensures ok { OnOk result (Showed render.old (S.written sink.old) render.new (S.written sink.new) (event_text event self.now.kernel)) }
-        ensures err { OnErr result (Stopped render.old (S.written sink.old) (S.written sink.new) (event_text event self.now.kernel)) }
-        ensures cause { HasCause (S.faults sink.old) (S.faults sink.new) result }
-        ensures trace { render.new.trace ≡ render.old.trace }
+        ensures wrote { Writes S.written S.faults render.old sink.old render.new sink.new (event_text event self.now.kernel) result }
     {
         match event {
             Event::Key { console, .. } => put_bytes(
@@ -115,7 +107,7 @@ impl System {
     #[tactic(auto, using(mpm_kernel::proofs::SoundLaws::runner_lives))]
     fn lets_in(&self) -> bool
         requires whole { IsWhole self.now }
-        ensures { result ≡ lets_in self.now.kernel.running self.now.kernel }
+        ensures { result ≡ lets_in self.now.kernel.dispatcher.running self.now.kernel }
     {
         match self.kernel.running() {
             Some(p) => {
@@ -130,7 +122,7 @@ impl System {
     #[tactic(auto, using(mpm_kernel::proofs::SoundLaws::runner_lives))]
     fn unhalt(&mut self)
         requires whole { IsWhole self.old }
-        ensures { self.new ≡ record self.old { kernel = unhalted self.old.kernel.running self.old.kernel } }
+        ensures { self.new ≡ record self.old { kernel = unhalted self.old.kernel.dispatcher.running self.old.kernel } }
     {
         if let Some(p) = self.kernel.running() {
             let regs = self.kernel.regs_mut(p);

@@ -1,4 +1,5 @@
 ghost use Rattle.std.specs.Prelude.{◌≡◌, ℕ, ◌+◌, ◌-◌, ◌*◌, ◌<◌, ◌≤◌, List, [], Option, Some, None, IfOk, OnOk, IfErr, OnErr, MatchOption, length, option_map};
+ghost use Rattle.mpm_script.specs.declared.line.TheConstants.{GREATEST_STEP};
 ghost use Rattle.mpm_port.specs.Causes.{HasCause};
 ghost use Rattle.mpm_port.specs.Texts.{appended};
 
@@ -67,7 +68,7 @@ impl Machine {
     ghost use Rattle.mpm_machine.specs.Opening.{booted, opened, IsBare, MayPlace, with_placed, opening_system, command_queue, with_residents};
     ghost use Rattle.mpm_kernel.specs.Queueing.{OnlySystems};
     ghost use Rattle.mpm_queues.specs.Queues.{make_error};
-    ghost use Rattle.mpm_machine.specs.Contained.{IsContained, Instructs, OnlyInstructed, IsServedByValue};
+    ghost use Rattle.mpm_machine.specs.Contained.{IsContained, Instructs, OnlyInstructed, Calls, ServedByValue};
     ghost use Rattle.mpm_machine.specs.Step.{step_of, next, after, system_after, EndsInStep};
 
     /// The machine of a machine file, and of its script's events, as it is run: the command queue, the command line
@@ -81,7 +82,7 @@ impl Machine {
         ensures residents { IfOk result (λ machine. HasResidents file.now.consoles machine) }
         ensures start { IfOk result (λ machine. machine.steps ≡ 0) }
         ensures whole { IfOk result (λ machine. IsWhole machine) }
-        ensures no_completions { IfOk result (λ machine. machine.kernel.completed ≡ []) }
+        ensures no_completions { IfOk result (λ machine. machine.kernel.dispatcher.completed ≡ []) }
     {
         let mut machine = Machine::boot_bare(alloc, file, script)?;
         match machine.begin_residents(file.consoles) {
@@ -96,13 +97,13 @@ impl Machine {
     /// Where no memory is found.
     fn begin_residents(&mut self, consoles: u8) -> Result<(), AllocError>
         requires whole { IsWhole self.old }
-        requires no_completions { self.old.kernel.completed ≡ [] }
-        requires consoles { consoles ≡ self.old.kernel.consoles }
+        requires no_completions { self.old.kernel.dispatcher.completed ≡ [] }
+        requires consoles { consoles ≡ length self.old.kernel.units.consoles }
         requires queues { OnlySystems self.old.kernel }
         requires room { make_error self.old.kernel.queues command_queue 130 15 ≡ None }
         ensures system { OnOk result (self.new ≡ with_residents consoles self.old) }
         ensures whole { OnOk result (IsWhole self.new) }
-        ensures no_completions { OnOk result (self.new.kernel.completed ≡ []) }
+        ensures no_completions { OnOk result (self.new.kernel.dispatcher.completed ≡ []) }
         ensures steps { OnOk result (self.new.steps ≡ self.old.steps) }
     {
         self.system.begin_residents(consoles)
@@ -151,7 +152,7 @@ impl Machine {
         ensures opening { IfOk result (λ machine. machine ≡ opening_system program.now) }
         ensures start { IfOk result (λ machine. machine.steps ≡ 0) }
         ensures whole { IfOk result (λ machine. IsWhole machine) }
-        ensures no_completions { IfOk result (λ machine. machine.kernel.completed ≡ []) }
+        ensures no_completions { IfOk result (λ machine. machine.kernel.dispatcher.completed ≡ []) }
     {
         let file = match program_file(alloc) {
             Ok(file) => file,
@@ -167,7 +168,7 @@ impl Machine {
     /// gates' page.
     pub fn place(&mut self, seg: Seg, name: Name8, priority: u8, console: u8, program: &[u8]) -> Pid
         requires { MayPlace self.old seg console (length program.now) }
-        ensures slot { lowest_free self.old.kernel.procs ≡ Some result }
+        ensures slot { lowest_free self.old.kernel.dispatcher.procs ≡ Some result }
         ensures system { self.new ≡ with_placed self.old result seg name priority console program.now }
         ensures bare { IsBare self.new }
     {
@@ -183,8 +184,8 @@ impl Machine {
 
     /// The registers of the process of that number, None where it doesn't live.
     pub fn regs(&self, p: Pid) -> Option<&Regs>
-        ensures { MatchOption result (process_at self.now.kernel.procs p ≡ None)
-            (λ regs. option_map (λ process. process.regs) (process_at self.now.kernel.procs p) ≡ Some regs.now) }
+        ensures { MatchOption result (process_at self.now.kernel.dispatcher.procs p ≡ None)
+            (λ regs. option_map (λ process. process.regs) (process_at self.now.kernel.dispatcher.procs p) ≡ Some regs.now) }
     {
         let process = self.system.kernel.process(p)?;
         Some(&process.regs)
@@ -207,9 +208,9 @@ impl Machine {
 
     /// One step. After an error the machine isn't stepped again.
     pub fn step<S: Sink>(&mut self, render: &mut Render, sink: &mut S) -> Result<(), StepFault>
-        requires most { self.old.steps < 4000000000 }
+        requires most { self.old.steps < GREATEST_STEP }
         requires whole { IsWhole self.old }
-        requires no_completions { self.old.kernel.completed ≡ [] }
+        requires no_completions { self.old.kernel.dispatcher.completed ≡ [] }
         ensures ok { (s : State) (first : Option (List ℕ)) → StandsFor self.old render.old (S.written sink.old) s first
             → OnOk result (StandsFor self.new render.new (S.written sink.new) (next s) first) }
         ensures err { (s : State) (first : Option (List ℕ)) → StandsFor self.old render.old (S.written sink.old) s first
@@ -217,10 +218,10 @@ impl Machine {
         ensures system { OnOk result (self.new ≡ (step_of self.old).system) }
         ensures contained { OnOk result (IsContained self.old self.new) }
         ensures instruction { (p seg : ℕ) → Instructs self.old p seg → OnOk result (OnlyInstructed p self.old self.new) }
-        ensures calls { (p seg : ℕ) → IsServedByValue self.old p seg }
+        ensures calls { (p seg : ℕ) → Calls self.old p seg → OnOk result (ServedByValue p seg self.old self.new) }
         ensures due { OnOk result (NobodyDue self.new.kernel) }
         ensures whole { OnOk result (IsWhole self.new) }
-        ensures no_completions { OnOk result (self.new.kernel.completed ≡ []) }
+        ensures no_completions { OnOk result (self.new.kernel.dispatcher.completed ≡ []) }
         ensures count { OnOk result (self.new.steps ≡ self.old.steps + 1) }
         ensures trace { render.new.trace ≡ render.old.trace }
         ensures cause { HasCause (S.faults sink.old) (S.faults sink.new) result }
@@ -231,24 +232,30 @@ impl Machine {
         Ok(())
     }
 
-    /// Does `n` steps; no step is done past the 4,000,000,000th.
+    /// Does `n` steps; no step is done past the 4,000,000,000th. What `step` says of memory, of an instruction and of a call
+    /// is so of each of them.
     pub fn run<S: Sink>(
         &mut self,
         n: u64,
         render: &mut Render,
         sink: &mut S,
     ) -> Result<(), RunFault>
-        requires most { self.old.steps + n ≤ 4000000000 }
+        requires most { self.old.steps + n ≤ GREATEST_STEP }
         requires whole { IsWhole self.old }
-        requires no_completions { self.old.kernel.completed ≡ [] }
+        requires no_completions { self.old.kernel.dispatcher.completed ≡ [] }
         ensures ok { (s : State) (first : Option (List ℕ)) → StandsFor self.old render.old (S.written sink.old) s first
             → OnOk result (StandsFor self.new render.new (S.written sink.new) (after n s) first) }
         ensures err { (s : State) (first : Option (List ℕ)) → StandsFor self.old render.old (S.written sink.old) s first
             → IfErr result (λ fault. EndsInStep render.old.trace (S.written sink.new) first s n fault.step) }
         ensures system { OnOk result (self.new ≡ system_after n self.old) }
+        ensures contained { (k : ℕ) → k < n → IsContained (system_after k self.old) (system_after (k + 1) self.old) }
+        ensures instruction { (k p seg : ℕ) → k < n → Instructs (system_after k self.old) p seg
+            → OnlyInstructed p (system_after k self.old) (system_after (k + 1) self.old) }
+        ensures calls { (k p seg : ℕ) → k < n → Calls (system_after k self.old) p seg
+            → ServedByValue p seg (system_after k self.old) (system_after (k + 1) self.old) }
         ensures due { 0 < n → OnOk result (NobodyDue self.new.kernel) }
         ensures whole { OnOk result (IsWhole self.new) }
-        ensures no_completions { OnOk result (self.new.kernel.completed ≡ []) }
+        ensures no_completions { OnOk result (self.new.kernel.dispatcher.completed ≡ []) }
         ensures count { OnOk result (self.new.steps ≡ self.old.steps + n) }
         ensures trace { render.new.trace ≡ render.old.trace }
         ensures cause { HasCause (S.faults sink.old) (S.faults sink.new) result }
@@ -263,7 +270,7 @@ impl Machine {
         Ok(())
     }
 
-    /// At least one step and at most so many: instructions of the running process, and what comes behind them.
+    /// At least one step and at most so many: instructions of the running process, and what comes after them.
     fn advance<S: Sink>(
         &mut self,
         most: u64,
@@ -271,9 +278,9 @@ impl Machine {
         sink: &mut S,
     ) -> Result<u64, RunFault>
         requires some { 0 < most }
-        requires room { self.old.steps + most ≤ 4000000000 }
+        requires room { self.old.steps + most ≤ GREATEST_STEP }
         requires whole { IsWhole self.old }
-        requires no_completions { self.old.kernel.completed ≡ [] }
+        requires no_completions { self.old.kernel.dispatcher.completed ≡ [] }
         ensures ok { (s : State) (first : Option (List ℕ)) → StandsFor self.old render.old (S.written sink.old) s first
             → IfOk result (λ steps. StandsFor self.new render.new (S.written sink.new) (after steps s) first) }
         ensures err { (s : State) (first : Option (List ℕ)) → StandsFor self.old render.old (S.written sink.old) s first
@@ -282,7 +289,7 @@ impl Machine {
         ensures some { IfOk result (λ steps. 0 < steps) }
         ensures few { IfOk result (λ steps. steps ≤ most) }
         ensures whole { OnOk result (IsWhole self.new) }
-        ensures no_completions { OnOk result (self.new.kernel.completed ≡ []) }
+        ensures no_completions { OnOk result (self.new.kernel.dispatcher.completed ≡ []) }
         ensures count { IfOk result (λ steps. self.new.steps ≡ self.old.steps + steps) }
         ensures trace { render.new.trace ≡ render.old.trace }
         ensures cause { HasCause (S.faults sink.old) (S.faults sink.new) result }
@@ -301,14 +308,14 @@ impl Machine {
     /// Instructions of the running process, at most so many, each of which is a step. Answers how many were done.
     fn run_on(&mut self, most: u64) -> u64
         requires whole { IsWhole self.old }
-        requires no_completions { self.old.kernel.completed ≡ [] }
-        requires room { self.old.steps + most ≤ 4000000000 }
+        requires no_completions { self.old.kernel.dispatcher.completed ≡ [] }
+        requires room { self.old.steps + most ≤ GREATEST_STEP }
         ensures count { result ≤ most }
         ensures stands { (s : State) (kept : Kept) (written : Option (List ℕ)) (first : Option (List ℕ)) → StandsFor self.old kept written s first
             → StandsFor self.new kept written (after result s) first }
         ensures system { self.new ≡ system_after result self.old }
         ensures whole { IsWhole self.new }
-        ensures no_completions { self.new.kernel.completed ≡ [] }
+        ensures no_completions { self.new.kernel.dispatcher.completed ≡ [] }
         ensures steps { self.new.steps ≡ self.old.steps + result }
     {
         self.system.run_on(most)

@@ -1,8 +1,8 @@
 ghost use Rattle.std.specs.Prelude.{IfOk, ◌≡◌, ◌+◌, ◌*◌, ◌-◌, ◌≤◌, ◌<◌, false, Some, None, IsSome, OnOk, [], length};
 ghost use Rattle.mpm_banks.specs.Memory.{HasSegment, segment_of};
 ghost use Rattle.mpm_procs.specs.Table.{lowest_free};
-ghost use Rattle.mpm_kernel.specs.Kernel.{IsSound};
-ghost use Rattle.mpm_kernel.specs.Dispatch.{admitted, picked};
+ghost use Rattle.mpm_kernel.specs.Kernel.{IsSound, dispatched};
+ghost use Rattle.mpm_dispatcher.specs.Dispatch.{admitted, picked};
 ghost use Rattle.mpm_kernel.specs.Consoling.{given};
 ghost use Rattle.mpm_kernel.specs.Queueing.{OnlySystems};
 ghost use Rattle.mpm_queues.specs.Queues.{make_error};
@@ -10,7 +10,7 @@ ghost use Rattle.mpm_machine.specs.State.{IsWhole};
 ghost use Rattle.mpm_machine.specs.Opening.{IsBare, MayPlace, with_placed, base_page as base_page_of, laid_out, placed_process as process_placed, moment_of as moment_said, program_file as program_said, command_queue, terminal_name as name_of_terminal, resident_process as process_of_resident, begun_by_interpreter, with_terminal, with_terminals, with_residents};
 
 use crate::system::System;
-use mpm_banks::Banks;
+use mpm_banks::{Banks, CALL_GATE, END_GATE, last_page};
 use mpm_base::{Name8, Pid, Seg, SegmentSpec};
 use mpm_clock::Moment;
 use mpm_gate::put_bytes;
@@ -24,7 +24,7 @@ impl System {
     #[tactic(auto, using(crate::proofs::PlacedLaws::laid_out_is_there), unfolding(crate::specs::Opening::with_placed))]
     pub fn place(&mut self, seg: Seg, name: Name8, priority: u8, console: u8, program: &[u8]) -> Pid
         requires { MayPlace self.old seg console (length program.now) }
-        ensures slot { lowest_free self.old.kernel.procs ≡ Some result }
+        ensures slot { lowest_free self.old.kernel.dispatcher.procs ≡ Some result }
         ensures system { self.new ≡ with_placed self.old result seg name priority console program.now }
         ensures bare { IsBare self.new }
     {
@@ -42,13 +42,13 @@ impl System {
     /// Where no memory is found.
     pub fn begin_residents(&mut self, consoles: u8) -> Result<(), AllocError>
         requires whole { IsWhole self.old }
-        requires no_completions { self.old.kernel.completed ≡ [] }
-        requires consoles { consoles ≡ self.old.kernel.consoles }
+        requires no_completions { self.old.kernel.dispatcher.completed ≡ [] }
+        requires consoles { consoles ≡ length self.old.kernel.units.consoles }
         requires queues { OnlySystems self.old.kernel }
         requires room { make_error self.old.kernel.queues command_queue 130 15 ≡ None }
         ensures system { OnOk result (self.new ≡ with_residents consoles self.old) }
         ensures whole { OnOk result (IsWhole self.new) }
-        ensures no_completions { OnOk result (self.new.kernel.completed ≡ []) }
+        ensures no_completions { OnOk result (self.new.kernel.dispatcher.completed ≡ []) }
         ensures steps { OnOk result (self.new.steps ≡ self.old.steps) }
     {
         self.begin_interpreter();
@@ -80,10 +80,10 @@ impl System {
     /// Where no memory is found.
     fn begin_terminals(&mut self, consoles: u8) -> Result<(), AllocError>
         requires whole { IsWhole self.old }
-        requires consoles { consoles ≡ self.old.kernel.consoles }
+        requires consoles { consoles ≡ length self.old.kernel.units.consoles }
         ensures system { OnOk result (self.new ≡ with_terminals consoles self.old) }
         ensures whole { OnOk result (IsWhole self.new) }
-        ensures completed { OnOk result (self.new.kernel.completed ≡ self.old.kernel.completed) }
+        ensures completed { OnOk result (self.new.kernel.dispatcher.completed ≡ self.old.kernel.dispatcher.completed) }
         ensures steps { OnOk result (self.new.steps ≡ self.old.steps) }
     {
         for console in 0..consoles {
@@ -98,8 +98,8 @@ impl System {
     /// Where no memory is found.
     fn begin_terminal(&mut self, console: u8) -> Result<(), AllocError>
         requires whole { IsWhole self.old }
-        requires console { console < self.old.kernel.consoles }
-        ensures { OnOk result (self.new ≡ with_terminal (lowest_free self.old.kernel.procs) console self.old) }
+        requires console { console < length self.old.kernel.units.consoles }
+        ensures { OnOk result (self.new ≡ with_terminal (lowest_free self.old.kernel.dispatcher.procs) console self.old) }
     {
         let new = resident_process(terminal_name(console), TERMINAL_PRIORITY, console);
         if let Ok(p) = self.kernel.admit(new) {
@@ -197,7 +197,7 @@ fn base_page(last_page: u8) -> [u8; 256]
     let mut page = [0; 256];
     page[0x6C..0x7C].copy_from_slice(&NO_NAME);
     page[0x5C..0x6C].copy_from_slice(&NO_NAME);
-    page[..8].copy_from_slice(&[0xC3, 0x03, last_page, 0, 0, 0xC3, 0x06, last_page]);
+    page[..8].copy_from_slice(&[0xC3, END_GATE, last_page, 0, 0, 0xC3, CALL_GATE, last_page]);
     page
 }
 
@@ -211,11 +211,11 @@ pub(crate) fn lay_out(banks: &mut Banks, seg: Seg, program: &[u8])
     ensures { banks.new ≡ laid_out banks.old seg program.now }
 {
     let spec = banks.spec(seg);
-    let last_page = spec.base + spec.pages - 1;
+    let page = last_page(spec);
     let first = u16::from_le_bytes([0, spec.base]);
-    put_bytes(&base_page(last_page), banks, seg, first);
+    put_bytes(&base_page(page), banks, seg, first);
     put_bytes(program, banks, seg, first + 0x0100);
-    let stack = u16::from_le_bytes([0, last_page]) - 2;
+    let stack = u16::from_le_bytes([0, page]) - 2;
     put_bytes(&[0, spec.base], banks, seg, stack);
 }
 
@@ -233,14 +233,14 @@ pub(crate) fn placed_process(
     ensures process { result ≡ process_placed spec seg name priority console }
     ensures console { result.console ≡ console }
 {
-    let last_page = spec.base + spec.pages - 1;
+    let page = last_page(spec);
     NewProcess {
         name,
         priority,
         console,
         seg: Some(seg),
         pc: u16::from_le_bytes([0, spec.base]) + 0x0100,
-        sp: u16::from_le_bytes([0, last_page]) - 2,
+        sp: u16::from_le_bytes([0, page]) - 2,
         dma: u16::from_le_bytes([0, spec.base]) + 0x0080,
         user: 0,
         drive: 0,
@@ -251,10 +251,10 @@ pub(crate) fn placed_process(
 #[tactic(auto, using(mpm_kernel::proofs::SoundLaws::sound_in_slot))]
 pub(crate) fn begin(kernel: &mut Kernel, new: NewProcess) -> Pid
     requires sound { IsSound kernel.old }
-    requires slot { IsSome (lowest_free kernel.old.procs) }
-    requires console { new.console < kernel.old.consoles }
-    ensures slot { lowest_free kernel.old.procs ≡ Some result }
-    ensures kernel { kernel.new ≡ picked false (given new.console None (Some result) (admitted kernel.old result new)) }
+    requires slot { IsSome (lowest_free kernel.old.dispatcher.procs) }
+    requires console { new.console < length kernel.old.units.consoles }
+    ensures slot { lowest_free kernel.old.dispatcher.procs ≡ Some result }
+    ensures kernel { kernel.new ≡ dispatched (picked false) (given new.console None (Some result) (dispatched (admitted result new) kernel.old)) }
 {
     let console = new.console;
     match kernel.admit(new) {

@@ -1,11 +1,10 @@
-ghost use Rattle.std.specs.Prelude.{◌≡◌, is_some, true, OnOk, OnErr};
-ghost use Rattle.mpm_port.specs.Causes.{HasCause};
+ghost use Rattle.std.specs.Prelude.{◌≡◌, is_some, true, OnOk};
 ghost use Rattle.mpm_procs.specs.Table.{Lives, call_of};
-ghost use Rattle.mpm_kernel.specs.Kernel.{IsReady};
-ghost use Rattle.mpm_output.specs.Writing.{Showed, Stopped};
+ghost use Rattle.mpm_dispatcher.specs.Dispatch.{IsReady};
+ghost use Rattle.mpm_output.specs.Writing.{Writes};
 
 use crate::system::System;
-use mpm_base::{Outcome, Pid, Reply};
+use mpm_base::{Outcome, Pid, Reply, functions};
 use mpm_output::write_kept;
 use mpm_port::{Failed, Sink};
 use mpm_render::Render;
@@ -25,13 +24,10 @@ impl System {
         sink: &mut S,
     ) -> Result<(), Failed>
         requires whole { IsWhole self.old }
-        requires lives { Lives self.old.kernel.procs p }
-        requires ready { IsReady self.old.kernel p }
+        requires lives { Lives self.old.kernel.dispatcher.procs p }
+        requires ready { IsReady self.old.kernel.dispatcher p }
         ensures system { OnOk result (self.new ≡ (resided (native_in self.old.residents p) p self.old).system) }
-        ensures ok { OnOk result (Showed render.old (S.written sink.old) render.new (S.written sink.new) (resided (native_in self.old.residents p) p self.old).emitted) }
-        ensures err { OnErr result (Stopped render.old (S.written sink.old) (S.written sink.new) (resided (native_in self.old.residents p) p self.old).emitted) }
-        ensures cause { HasCause (S.faults sink.old) (S.faults sink.new) result }
-        ensures trace { render.new.trace ≡ render.old.trace }
+        ensures wrote { Writes S.written S.faults render.old sink.old render.new sink.new (resided (native_in self.old.residents p) p self.old).emitted result }
     {
         if self.residents.has(p) {
             self.make_call(p, reply, render, sink)
@@ -49,14 +45,11 @@ impl System {
         sink: &mut S,
     ) -> Result<(), Failed>
         requires whole { IsWhole self.old }
-        requires lives { Lives self.old.kernel.procs p }
-        requires ready { IsReady self.old.kernel p }
+        requires lives { Lives self.old.kernel.dispatcher.procs p }
+        requires ready { IsReady self.old.kernel.dispatcher p }
         requires has { is_some (native_in self.old.residents p) ≡ true }
         ensures system { OnOk result (self.new ≡ (resided (native_in self.old.residents p) p self.old).system) }
-        ensures ok { OnOk result (Showed render.old (S.written sink.old) render.new (S.written sink.new) (resided (native_in self.old.residents p) p self.old).emitted) }
-        ensures err { OnErr result (Stopped render.old (S.written sink.old) (S.written sink.new) (resided (native_in self.old.residents p) p self.old).emitted) }
-        ensures cause { HasCause (S.faults sink.old) (S.faults sink.new) result }
-        ensures trace { render.new.trace ≡ render.old.trace }
+        ensures wrote { Writes S.written S.faults render.old sink.old render.new sink.new (resided (native_in self.old.residents p) p self.old).emitted result }
     {
         self.ask_call(p);
         let outcome = self.kernel.call(p, reply);
@@ -66,7 +59,7 @@ impl System {
 
     /// The resident of a slot asks the call that it makes next, and its process keeps it.
     fn ask_call(&mut self, p: Pid)
-        requires lives { Lives self.old.kernel.procs p }
+        requires lives { Lives self.old.kernel.dispatcher.procs p }
         requires has { is_some (native_in self.old.residents p) ≡ true }
         ensures { self.new ≡ asked_by (native_in self.old.residents p) p self.old }
     {
@@ -83,13 +76,10 @@ impl System {
         sink: &mut S,
     ) -> Result<(), Failed>
         requires whole { IsWhole self.old }
-        requires lives { Lives self.old.kernel.procs p }
+        requires lives { Lives self.old.kernel.dispatcher.procs p }
         requires has { is_some (native_in self.old.residents p) ≡ true }
-        ensures system { OnOk result (self.new ≡ (native_outcome outcome reply.now (call_of self.old.kernel.procs p) p self.old).system) }
-        ensures ok { OnOk result (Showed render.old (S.written sink.old) render.new (S.written sink.new) (native_outcome outcome reply.now (call_of self.old.kernel.procs p) p self.old).emitted) }
-        ensures err { OnErr result (Stopped render.old (S.written sink.old) (S.written sink.new) (native_outcome outcome reply.now (call_of self.old.kernel.procs p) p self.old).emitted) }
-        ensures cause { HasCause (S.faults sink.old) (S.faults sink.new) result }
-        ensures trace { render.new.trace ≡ render.old.trace }
+        ensures system { OnOk result (self.new ≡ (native_outcome outcome reply.now (call_of self.old.kernel.dispatcher.procs p) p self.old).system) }
+        ensures wrote { Writes S.written S.faults render.old sink.old render.new sink.new (native_outcome outcome reply.now (call_of self.old.kernel.dispatcher.procs p) p self.old).emitted result }
     {
         match outcome {
             Outcome::Done => {
@@ -110,14 +100,11 @@ impl System {
         sink: &mut S,
     ) -> Result<(), Failed>
         requires whole { IsWhole self.old }
-        requires lives { Lives self.old.kernel.procs p }
-        ensures system { OnOk result (self.new ≡ (said_by (call_of self.old.kernel.procs p) (call_of self.old.kernel.procs p).bytes p self.old).system) }
-        ensures ok { OnOk result (Showed render.old (S.written sink.old) render.new (S.written sink.new) (said_by (call_of self.old.kernel.procs p) (call_of self.old.kernel.procs p).bytes p self.old).emitted) }
-        ensures err { OnErr result (Stopped render.old (S.written sink.old) (S.written sink.new) (said_by (call_of self.old.kernel.procs p) (call_of self.old.kernel.procs p).bytes p self.old).emitted) }
-        ensures cause { HasCause (S.faults sink.old) (S.faults sink.new) result }
-        ensures trace { render.new.trace ≡ render.old.trace }
+        requires lives { Lives self.old.kernel.dispatcher.procs p }
+        ensures system { OnOk result (self.new ≡ (said_by (call_of self.old.kernel.dispatcher.procs p) (call_of self.old.kernel.dispatcher.procs p).bytes p self.old).system) }
+        ensures wrote { Writes S.written S.faults render.old sink.old render.new sink.new (said_by (call_of self.old.kernel.dispatcher.procs p) (call_of self.old.kernel.dispatcher.procs p).bytes p self.old).emitted result }
     {
-        if self.kernel.kept_call(p).function == 9 {
+        if self.kernel.kept_call(p).function == functions::PRINT_STRING {
             let console = self.kernel.living(p).console;
             return write_kept(&mut self.kernel, p, console, render, sink);
         }

@@ -1,4 +1,4 @@
-//! Scenes: runs of one or two programs, and what is seen of the machine behind so many steps.
+//! Scenes: runs of one or two programs, and what is seen of the machine after so many steps.
 ghost use Rattle.std.specs.Prelude.{ℕ, ◌≡◌, ◌<◌, ◌≤◌, ◌+◌, ◌*◌, [], OnOk, length, get_or};
 ghost use Rattle.std.specs.Bool.{OnTrue};
 ghost use Rattle.mpm_machine_file.specs.MachineFiles.{IsMachine};
@@ -66,7 +66,7 @@ pub(crate) enum Sight {
     Lost(u64),
 }
 
-/// What is seen behind so many steps, in which just that text was written.
+/// What is seen after so many steps, in which just that text was written.
 #[derive(Clone, Copy)]
 pub(crate) struct Behind<'a>(pub u64, pub &'a [u8], pub &'a [Sight]);
 
@@ -110,7 +110,7 @@ impl Scene<'_> {
             return Err(Fail::from("the program is too long"));
         }
         match Machine::boot_program(alloc, self.first) {
-            Ok(mut machine) => is_seen(alloc, &mut machine, self.trace, look, apart),
+            Ok(mut machine) => self.is_seen(alloc, &mut machine, true, look, apart),
             Err(error) => Err(Fail::from(error)),
         }
     }
@@ -132,11 +132,36 @@ impl Scene<'_> {
         match Machine::boot_bare(alloc, file, script) {
             Ok(mut machine) => {
                 let placed = place_both(&mut machine, file, self.first, self.second);
-                let seen = is_seen(alloc, &mut machine, self.trace, look, apart)?;
-                Ok(placed && seen)
+                self.is_seen(alloc, &mut machine, placed, look, apart)
             }
             Err(error) => Err(Fail::from(error)),
         }
+    }
+
+    /// Whether a machine that has done no step, with its programs placed or not, shows what is said of its run.
+    fn is_seen(
+        &self,
+        alloc: Global,
+        machine: &mut Machine,
+        placed: bool,
+        look: &Behind,
+        apart: bool,
+    ) -> Result<bool, Fail>
+        requires whole { IsWhole machine.old }
+        requires no_completions { machine.old.kernel.dispatcher.completed ≡ [] }
+        requires start { machine.old.steps ≡ 0 }
+    {
+        let Behind(steps, text, sights) = *look;
+        let mut render = Render::new(self.trace);
+        let mut sink = MemorySink::new(alloc, 512)?;
+        go(machine, steps, apart, &mut render, &mut sink)?;
+        machine.settle(&mut render, &mut sink)?;
+        for sight in sights {
+            if !sees(machine, *sight) {
+                return Ok(false);
+            }
+        }
+        Ok(placed && machine.steps_done() == steps && sink.written() == text)
     }
 }
 
@@ -180,31 +205,6 @@ fn place_both(machine: &mut Machine, file: &MachineFile, first: &[u8], second: &
     p.0 == 0 && q.0 == 1
 }
 
-/// Whether a machine that has done no step shows what is said of its run.
-fn is_seen(
-    alloc: Global,
-    machine: &mut Machine,
-    trace: bool,
-    look: &Behind,
-    apart: bool,
-) -> Result<bool, Fail>
-    requires whole { IsWhole machine.old }
-    requires no_completions { machine.old.kernel.completed ≡ [] }
-    requires start { machine.old.steps ≡ 0 }
-{
-    let Behind(steps, text, sights) = *look;
-    let mut render = Render::new(trace);
-    let mut sink = MemorySink::new(alloc, 512)?;
-    go(machine, steps, apart, &mut render, &mut sink)?;
-    machine.settle(&mut render, &mut sink)?;
-    for sight in sights {
-        if !sees(machine, *sight) {
-            return Ok(false);
-        }
-    }
-    Ok(machine.steps_done() == steps && sink.written() == text)
-}
-
 /// Does so many steps, at most 10,000, the last of them apart or not.
 fn go(
     machine: &mut Machine,
@@ -214,7 +214,7 @@ fn go(
     sink: &mut MemorySink,
 ) -> Result<(), Fail>
     requires whole { IsWhole machine.old }
-    requires no_completions { machine.old.kernel.completed ≡ [] }
+    requires no_completions { machine.old.kernel.dispatcher.completed ≡ [] }
     requires start { machine.old.steps ≡ 0 }
     ensures { OnOk result (IsWhole machine.new) }
 {

@@ -1,9 +1,9 @@
-ghost use Rattle.std.specs.Prelude.{◌≡◌, ◌<◌, ◌≤◌, ◌+◌, ℕ, true, List, [], Option, Some, None, is_some, IfSome, IfOk, OnOk, OnErr};
-ghost use Rattle.mpm_port.specs.Causes.{HasCause};
+ghost use Rattle.std.specs.Prelude.{◌≡◌, ◌<◌, ◌≤◌, ◌+◌, ℕ, true, List, [], Option, Some, None, is_some, IfSome, IfOk, OnOk};
+ghost use Rattle.mpm_script.specs.declared.line.TheConstants.{GREATEST_STEP};
 ghost use Rattle.mpm_procs.specs.Table.{Lives, process_in};
-ghost use Rattle.mpm_kernel.specs.Kernel.{IsReady};
+ghost use Rattle.mpm_dispatcher.specs.Dispatch.{IsReady};
 ghost use Rattle.mpm_render.specs.Shown.{Kept};
-ghost use Rattle.mpm_output.specs.Writing.{Showed, Stopped};
+ghost use Rattle.mpm_output.specs.Writing.{Writes};
 
 use mpm_banks::Banks;
 use mpm_base::{Pid, Reply, Seg};
@@ -34,25 +34,25 @@ impl System {
     ghost use Rattle.mpm_machine.specs.State.{State, StandsFor, IsWhole};
     ghost use Rattle.mpm_ready.specs.Order.{first_of};
     ghost use Rattle.mpm_ready.specs.Tables.{list_at};
-    ghost use Rattle.mpm_kernel.specs.Kernel.{ready};
+    ghost use Rattle.mpm_dispatcher.specs.Dispatch.{ready};
     ghost use Rattle.mpm_machine.specs.Moving.{Moved, IsIdle, later};
     ghost use Rattle.mpm_interrupts.specs.Interrupts.{due};
     ghost use Rattle.mpm_processor.specs.declared.gate.Gate.TheVariants.{Return};
-    ghost use Rattle.mpm_machine.specs.Step.{acted, acted_at, at_instruction, gate_before, is_no_gate, coming, begun_by, instruction_unless, step_of, instruction_at, ran, instructed, illegal, after, system_after};
+    ghost use Rattle.mpm_machine.specs.Step.{acted, acted_at, at_instruction, gate_before, is_no_gate, coming, begun_by, instruction_unless, step_of, instruction_at, instructed, executed, illegal, after, system_after};
 
     /// Steps at most so many, that need no look at anything between them. Answers how many were done. They are instructions of
     /// the running process, up to a gate or an unlisted opcode, as long as it runs on; where no process runs and none is
     /// ready, nothing is done in them.
     pub fn run_on(&mut self, most: u64) -> u64
         requires whole { IsWhole self.old }
-        requires no_completions { self.old.kernel.completed ≡ [] }
-        requires room { self.old.steps + most ≤ 4000000000 }
+        requires no_completions { self.old.kernel.dispatcher.completed ≡ [] }
+        requires room { self.old.steps + most ≤ GREATEST_STEP }
         ensures count { result ≤ most }
         ensures stands { (s : State) (kept : Kept) (written : Option (List ℕ)) (first : Option (List ℕ)) → StandsFor self.old kept written s first
             → StandsFor self.new kept written (after result s) first }
         ensures system { self.new ≡ system_after result self.old }
         ensures whole { IsWhole self.new }
-        ensures no_completions { self.new.kernel.completed ≡ [] }
+        ensures no_completions { self.new.kernel.dispatcher.completed ≡ [] }
         ensures steps { self.new.steps ≡ self.old.steps + result }
     {
         if self.abort_deferred {
@@ -70,7 +70,7 @@ impl System {
 
     /// Steps in which nothing is done, at most so many: where no process runs and none is ready. Answers how many.
     fn idle(&mut self, most: u64) -> u64
-        requires room { self.old.steps + most ≤ 4000000000 }
+        requires room { self.old.steps + most ≤ GREATEST_STEP }
         ensures count { result ≤ most }
         ensures idle { 0 < result → IsIdle self.old }
         ensures system { self.new ≡ later self.old result }
@@ -92,10 +92,10 @@ impl System {
             .saturating_sub(1)
     }
 
-    /// The running process, where it is the first of the ready list, so that it runs on behind each instruction.
+    /// The running process, where it is the first of the ready list, so that it runs on after each instruction.
     fn runner(&self) -> Option<Pid>
-        ensures running { IfSome result (λ p. self.now.kernel.running ≡ Some p) }
-        ensures first { IfSome result (λ p. first_of (list_at self.now.kernel.lists ready) ≡ Some p) }
+        ensures running { IfSome result (λ p. self.now.kernel.dispatcher.running ≡ Some p) }
+        ensures first { IfSome result (λ p. first_of (list_at self.now.kernel.dispatcher.lists ready) ≡ Some p) }
     {
         let p = self.kernel.running()?;
         let first = self.kernel.first_ready()?;
@@ -105,9 +105,9 @@ impl System {
     /// Instructions of a process of a segment, at most so many.
     #[tactic(auto, unfolding(crate::specs::Moving::with_view))]
     fn run_process(&mut self, p: Pid, seg: Seg, most: u64) -> u64
-        requires lives { Lives self.old.kernel.procs p }
+        requires lives { Lives self.old.kernel.dispatcher.procs p }
         requires home { IsHome self.old.memory seg }
-        requires room { self.old.steps + most ≤ 4000000000 }
+        requires room { self.old.steps + most ≤ GREATEST_STEP }
         ensures count { result ≤ most }
         ensures moved { Moved result p seg self.old self.new }
     {
@@ -129,17 +129,14 @@ impl System {
         render: &mut Render,
         sink: &mut S,
     ) -> Result<(), Failed>
-        requires most { self.old.steps < 4000000000 }
+        requires most { self.old.steps < GREATEST_STEP }
         requires whole { IsWhole self.old }
-        requires no_completions { self.old.kernel.completed ≡ [] }
+        requires no_completions { self.old.kernel.dispatcher.completed ≡ [] }
         ensures system { OnOk result (self.new ≡ (step_of self.old).system) }
-        ensures ok { OnOk result (Showed render.old (S.written sink.old) render.new (S.written sink.new) (step_of self.old).emitted) }
-        ensures err { OnErr result (Stopped render.old (S.written sink.old) (S.written sink.new) (step_of self.old).emitted) }
+        ensures wrote { Writes S.written S.faults render.old sink.old render.new sink.new (step_of self.old).emitted result }
         ensures whole { OnOk result (IsWhole self.new) }
-        ensures no_completions { OnOk result (self.new.kernel.completed ≡ []) }
+        ensures no_completions { OnOk result (self.new.kernel.dispatcher.completed ≡ []) }
         ensures count { OnOk result (self.new.steps ≡ self.old.steps + 1) }
-        ensures cause { HasCause (S.faults sink.old) (S.faults sink.new) result }
-        ensures trace { render.new.trace ≡ render.old.trace }
     {
         self.steps += 1;
         let instruction = self.begin(reply, render, sink)?;
@@ -156,14 +153,11 @@ impl System {
         render: &mut Render,
         sink: &mut S,
     ) -> Result<bool, Failed>
-        requires most { self.old.steps ≤ 4000000000 }
+        requires most { self.old.steps ≤ GREATEST_STEP }
         requires whole { IsWhole self.old }
         ensures system { OnOk result (self.new ≡ (begun_by (coming self.old) self.old).system) }
         ensures instruction { IfOk result (λ instruction. instruction ≡ instruction_unless (coming self.old) self.old) }
-        ensures ok { OnOk result (Showed render.old (S.written sink.old) render.new (S.written sink.new) (begun_by (coming self.old) self.old).emitted) }
-        ensures err { OnErr result (Stopped render.old (S.written sink.old) (S.written sink.new) (begun_by (coming self.old) self.old).emitted) }
-        ensures cause { HasCause (S.faults sink.old) (S.faults sink.new) result }
-        ensures trace { render.new.trace ≡ render.old.trace }
+        ensures wrote { Writes S.written S.faults render.old sink.old render.new sink.new (begun_by (coming self.old) self.old).emitted result }
     {
         let came = self.interrupt(render, sink)?;
         if came {
@@ -183,10 +177,7 @@ impl System {
         requires whole { IsWhole self.old }
         ensures system { OnOk result (self.new ≡ (acted self.old).system) }
         ensures instruction { IfOk result (λ instruction. instruction ≡ at_instruction self.old) }
-        ensures ok { OnOk result (Showed render.old (S.written sink.old) render.new (S.written sink.new) (acted self.old).emitted) }
-        ensures err { OnErr result (Stopped render.old (S.written sink.old) (S.written sink.new) (acted self.old).emitted) }
-        ensures cause { HasCause (S.faults sink.old) (S.faults sink.new) result }
-        ensures trace { render.new.trace ≡ render.old.trace }
+        ensures wrote { Writes S.written S.faults render.old sink.old render.new sink.new (acted self.old).emitted result }
     {
         let Some(p) = self.kernel.running() else {
             return Ok(false);
@@ -210,15 +201,12 @@ impl System {
         sink: &mut S,
     ) -> Result<bool, Failed>
         requires whole { IsWhole self.old }
-        requires lives { Lives self.old.kernel.procs p }
-        requires ready { IsReady self.old.kernel p }
-        requires home { (process_in self.old.kernel.procs p).seg ≡ Some seg }
+        requires lives { Lives self.old.kernel.dispatcher.procs p }
+        requires ready { IsReady self.old.kernel.dispatcher p }
+        requires home { (process_in self.old.kernel.dispatcher.procs p).seg ≡ Some seg }
         ensures system { OnOk result (self.new ≡ (acted_at (gate_before p seg self.old) p seg self.old).system) }
         ensures instruction { IfOk result (λ instruction. instruction ≡ is_no_gate (gate_before p seg self.old)) }
-        ensures ok { OnOk result (Showed render.old (S.written sink.old) render.new (S.written sink.new) (acted_at (gate_before p seg self.old) p seg self.old).emitted) }
-        ensures err { OnErr result (Stopped render.old (S.written sink.old) (S.written sink.new) (acted_at (gate_before p seg self.old) p seg self.old).emitted) }
-        ensures cause { HasCause (S.faults sink.old) (S.faults sink.new) result }
-        ensures trace { render.new.trace ≡ render.old.trace }
+        ensures wrote { Writes S.written S.faults render.old sink.old render.new sink.new (acted_at (gate_before p seg self.old) p seg self.old).emitted result }
     {
         match self.gate(p, seg) {
             Some(Gate::End) => {
@@ -243,17 +231,17 @@ impl System {
     /// The gate at which a process of a segment stands, if any.
     #[tactic(auto, using(mpm_processor::proofs::GateLaws::returns_inside))]
     fn gate(&self, p: Pid, seg: Seg) -> Option<Gate>
-        requires lives { Lives self.now.kernel.procs p }
+        requires lives { Lives self.now.kernel.dispatcher.procs p }
         requires home { IsHome self.now.memory seg }
         ensures gate { result ≡ gate_before p seg self.now }
-        ensures inside { result ≡ Some Return → is_inside self.now.kernel.procs p ≡ true }
+        ensures inside { result ≡ Some Return → is_inside self.now.kernel.dispatcher.procs p ≡ true }
     {
         let page = page_of_gates(&self.memory, seg);
         gate_at(self.is_inside(p), page, self.kernel.regs(p).pc)
     }
 
     /// One instruction of a process of a segment, which is at no gate.
-    #[tactic(auto, using(crate::proofs::WholeLaws::ran_nothing), unfolding(crate::specs::Step::instructed))]
+    #[tactic(auto, using(crate::proofs::WholeLaws::ran_nothing), unfolding(crate::specs::Step::executed))]
     fn execute<S: Sink>(
         &mut self,
         p: Pid,
@@ -262,14 +250,11 @@ impl System {
         sink: &mut S,
     ) -> Result<(), Failed>
         requires whole { IsWhole self.old }
-        requires lives { Lives self.old.kernel.procs p }
+        requires lives { Lives self.old.kernel.dispatcher.procs p }
         requires home { IsHome self.old.memory seg }
         requires gate { gate_before p seg self.old ≡ None }
-        ensures system { OnOk result (self.new ≡ (instructed (instruction_at p seg self.old) p seg self.old).system) }
-        ensures ok { OnOk result (Showed render.old (S.written sink.old) render.new (S.written sink.new) (instructed (instruction_at p seg self.old) p seg self.old).emitted) }
-        ensures err { OnErr result (Stopped render.old (S.written sink.old) (S.written sink.new) (instructed (instruction_at p seg self.old) p seg self.old).emitted) }
-        ensures cause { HasCause (S.faults sink.old) (S.faults sink.new) result }
-        ensures trace { render.new.trace ≡ render.old.trace }
+        ensures system { OnOk result (self.new ≡ (executed (instruction_at p seg self.old) p seg self.old).system) }
+        ensures wrote { Writes S.written S.faults render.old sink.old render.new sink.new (executed (instruction_at p seg self.old) p seg self.old).emitted result }
     {
         if self.instruct(p, seg) {
             return Ok(());
@@ -279,13 +264,13 @@ impl System {
 
     /// Runs the instruction at which a process of a segment stands, which is at no gate. False comes exactly where no listed
     /// one stands there, and then nothing changes.
-    #[tactic(auto, unfolding(crate::specs::Step::ran))]
+    #[tactic(auto, unfolding(crate::specs::Step::instructed))]
     fn instruct(&mut self, p: Pid, seg: Seg) -> bool
-        requires lives { Lives self.old.kernel.procs p }
+        requires lives { Lives self.old.kernel.dispatcher.procs p }
         requires home { IsHome self.old.memory seg }
         requires gate { gate_before p seg self.old ≡ None }
         ensures listed { result ≡ is_some (instruction_at p seg self.old) }
-        ensures system { self.new ≡ ran (instruction_at p seg self.old) p seg self.old }
+        ensures system { self.new ≡ instructed (instruction_at p seg self.old) p seg self.old }
     {
         let inside = self.is_inside(p);
         let mut regs = *self.kernel.regs(p);
@@ -296,15 +281,12 @@ impl System {
     }
 
     /// A process comes to an unlisted opcode: a text on its console, and its end.
-    #[tactic(auto, using(mpm_output::proofs::KernelLaws::lives_behind_text), unfolding(crate::specs::Step::illegal, crate::specs::State::speaking))]
+    #[tactic(auto, using(mpm_output::proofs::KernelLaws::lives_after_text), unfolding(crate::specs::Step::illegal, crate::specs::State::speaking))]
     fn illegal<S: Sink>(&mut self, p: Pid, render: &mut Render, sink: &mut S) -> Result<(), Failed>
         requires whole { IsWhole self.old }
-        requires lives { Lives self.old.kernel.procs p }
+        requires lives { Lives self.old.kernel.dispatcher.procs p }
         ensures system { OnOk result (self.new ≡ (illegal p self.old).system) }
-        ensures ok { OnOk result (Showed render.old (S.written sink.old) render.new (S.written sink.new) (illegal p self.old).emitted) }
-        ensures err { OnErr result (Stopped render.old (S.written sink.old) (S.written sink.new) (illegal p self.old).emitted) }
-        ensures cause { HasCause (S.faults sink.old) (S.faults sink.new) result }
-        ensures trace { render.new.trace ≡ render.old.trace }
+        ensures wrote { Writes S.written S.faults render.old sink.old render.new sink.new (illegal p self.old).emitted result }
     {
         let process = self.kernel.living(p);
         let console = process.console;

@@ -11,14 +11,10 @@ use Rattle.std.specs.Prelude.{IsUtf8}
 use Rattle.std.specs.Str.{is_utf8}
 use Rattle.toml.specs.Data.{Data, Items, no_items, item, Members, get_member, as_integer, as_str}
 use Rattle.toml.specs.Parse.{parse_document}
-use Rattle.mpm_machine_file.specs.Reading.{◌>>=◌}
+use Rattle.mpm_script.specs.Numbers.{◌>>=◌}
+use Rattle.mpm_script.proofs.Finds.{bind_some}
 use Rattle.mpm_machine_file.specs.Fields.{within, number_of, named, text_of, number_at, number_or, text_at, text_if, all_of, counted}
 use Rattle.mpm_machine_file.specs.MachineFiles.{document_of}
-
--- a step that found something found it from something
-pub bind_some : {A B : Type 0} (found : Option A) (more : A → Option B) (y : B) → (found >>= more) ≡ Some y → (x : A) × (found ≡ Some x) × (more x ≡ Some y)
-bind_some None more y e = absurd (none-some y e)
-bind_some (Some x) more y e = (x, refl, e)
 
 -- a number between two limits
 abbrev pub IsBetween : ℕ → ℕ → ℕ → Type 0

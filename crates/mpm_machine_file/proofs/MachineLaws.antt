@@ -15,7 +15,8 @@ use Rattle.mpm_machine_file.specs.Fields.{only_keys, number_at, number_or, text_
 use Rattle.mpm_machine_file.specs.Segments.{segment_keys, segment_of, segments_of, segments_in}
 use Rattle.mpm_machine_file.specs.Drives.{drive_keys, letter_of, kind_of, drive_of, all_differ, by_letter, drives_of, drives_in}
 use Rattle.mpm_machine_file.specs.MachineFiles.{machine_keys, ticks_of, machine_of, document_of, whole_file_of, IsSegment, IsDrive, IsMachine}
-use Rattle.mpm_machine_file.proofs.LimitLaws.{bind_some, IsBetween, between_test, number_at_limits, number_or_limits, text_at_limits, text_if_limits, all_of_each, counted_limits}
+use Rattle.mpm_script.proofs.Finds.{bind_some}
+use Rattle.mpm_machine_file.proofs.LimitLaws.{IsBetween, between_test, number_at_limits, number_or_limits, text_at_limits, text_if_limits, all_of_each, counted_limits}
 use Rattle.std.specs.List.Sorted.{IsStrictlyIncreasing}
 use Rattle.mpm_machine_file.proofs.OrderLaws.{each_by_letter, length_by_letter, apart_from_differ, differ_from_apart, apart_by_letter, ascend_by_letter, increase_from_ascend}
 

@@ -4,9 +4,9 @@ use Rattle.std.specs.List.{list_any}
 use Rattle.std.specs.Option.{option_map_or}
 use Rattle.toml.specs.Data.{Data, Members, get_member, as_table, as_array}
 use Rattle.mpm_base.specs.declared.kind.Kind.{Kind}
-use Rattle.mpm_base.specs.declared.kind.Kind.TheVariants.{Ibm3740, Hd4}
+use Rattle.mpm_base.specs.declared.kind.Kind.TheVariants.{Ibm3740, Hd4, Hd8}
 use Rattle.mpm_machine_file.specs.declared.lists.DriveSpec.{DriveSpec}
-use Rattle.mpm_machine_file.specs.Reading.{◌>>=◌}
+use Rattle.mpm_script.specs.Numbers.{◌>>=◌}
 use Rattle.mpm_machine_file.specs.Fields.{only_keys, text_at, all_of, counted}
 
 abbrev pub drive_keys : List (List ℕ)
@@ -20,7 +20,7 @@ letter_of (letter ∷ more ∷ rest) = None
 
 -- the name of a kind of disks
 abbrev pub kind_of : List ℕ → Option Kind
-kind_of text = if bytes_eq text (codes "ibm3740") then Some Ibm3740 else if bytes_eq text (codes "hd4") then Some Hd4 else None
+kind_of text = if bytes_eq text (codes "ibm3740") then Some Ibm3740 else if bytes_eq text (codes "hd4") then Some Hd4 else if bytes_eq text (codes "hd8") then Some Hd8 else None
 
 -- a letter, a kind and the name of an image
 unfoldable pub drive_of : Data → Option DriveSpec

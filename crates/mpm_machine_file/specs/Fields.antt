@@ -3,7 +3,7 @@ use Rattle.std.specs.Prelude.{ℕ, ℤ, pos, negsuc, Bool, true, ◌&&◌, ◌==
 use Rattle.std.specs.List.{list_any}
 use Rattle.std.specs.Option.{option_map_or}
 use Rattle.toml.specs.Data.{Data, Members, no_members, member, Items, no_items, item, get_member, as_integer, as_str}
-use Rattle.mpm_machine_file.specs.Reading.{◌>>=◌}
+use Rattle.mpm_script.specs.Numbers.{◌>>=◌}
 
 -- a table has no keys but these
 abbrev pub only_keys : List (List ℕ) → Members → Bool

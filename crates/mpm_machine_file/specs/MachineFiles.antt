@@ -7,7 +7,7 @@ use Rattle.toml.specs.Parse.{parse_document}
 use Rattle.mpm_base.specs.declared.segment.SegmentSpec.{SegmentSpec}
 use Rattle.mpm_machine_file.specs.declared.lists.DriveSpec.{DriveSpec}
 use Rattle.mpm_machine_file.specs.declared.machine_file.MachineFile.{MachineFile}
-use Rattle.mpm_machine_file.specs.Reading.{◌>>=◌}
+use Rattle.mpm_script.specs.Numbers.{◌>>=◌}
 use Rattle.mpm_machine_file.specs.Fields.{only_keys, number_at, number_or, text_if}
 use Rattle.mpm_machine_file.specs.Segments.{segments_in}
 use Rattle.mpm_machine_file.specs.Drives.{drives_in, all_differ}

@@ -1,11 +1,7 @@
 -- What a reading answers.
-use Rattle.std.specs.Prelude.{◌≡◌, Option, Some, None, Result, Ok, Err, option_and_then}
+use Rattle.std.specs.Prelude.{◌≡◌, Option, Some, None, Result, Ok, Err}
 use Rattle.mpm_machine_file.specs.declared.error.MachineError.{MachineError}
 use Rattle.mpm_machine_file.specs.declared.error.MachineError.TheVariants.{Fault, OutOfMemory}
-
-infixl 10 ◌>>=◌
-abbrev pub ◌>>=◌ : {A B : Type 0} → Option A → (A → Option B) → Option B
-found >>= more = option_and_then more found
 
 -- a fault exactly where nothing is found; want of memory may come in any case
 abbrev pub Fails : {A : Type 0} → MachineError → Option A → Type 0

@@ -2,7 +2,7 @@
 use Rattle.std.specs.Prelude.{ℕ, ◌+◌, ◌&&◌, nat_le, if◌then◌else◌, List, [], ◌∷◌, codes, Option, Some, None}
 use Rattle.toml.specs.Data.{Data, Members, get_member, as_table, as_array}
 use Rattle.mpm_base.specs.declared.segment.SegmentSpec.{SegmentSpec}
-use Rattle.mpm_machine_file.specs.Reading.{◌>>=◌}
+use Rattle.mpm_script.specs.Numbers.{◌>>=◌}
 use Rattle.mpm_machine_file.specs.Fields.{only_keys, number_at, all_of, counted}
 
 abbrev pub segment_keys : List (List ℕ)

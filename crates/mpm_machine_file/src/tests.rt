@@ -77,7 +77,7 @@ fn each_key_is_kept(rt: HostRuntime) -> Result<(), Fail> {
         script = 'keys.txt'
         segment = [{ base = 64, pages = 8 }, { pages = 4, base = 188 }]
         drive = [
-            { letter = 'P', kind = 'hd4', image = 'p.img' },
+            { letter = 'P', kind = 'hd8', image = 'p.img' },
             { letter = 'A', kind = 'ibm3740', image = 'a.img' },
             { letter = 'C', kind = 'hd4', image = 'c.img' },
         ]
@@ -101,7 +101,7 @@ fn each_key_is_kept(rt: HostRuntime) -> Result<(), Fail> {
     let drives = [
         (b'A', Kind::Ibm3740, "a.img"),
         (b'C', Kind::Hd4, "c.img"),
-        (b'P', Kind::Hd4, "p.img"),
+        (b'P', Kind::Hd8, "p.img"),
     ];
     assert_eq!(rt; file.drives.as_slice().len(), drives.len());
     for (drive, (letter, kind, image)) in file.drives.as_slice().iter().zip(drives.iter()) {
@@ -236,7 +236,8 @@ fn drives_have_their_limits(rt: HostRuntime) -> Result<(), Fail> {
         ("[{ letter = '', kind = 'hd4', image = 'a' }]", false),
         ("[{ letter = 1, kind = 'hd4', image = 'a' }]", false),
         ("[{ letter = 'A', kind = 'HD4', image = 'a' }]", false),
-        ("[{ letter = 'A', kind = 'hd8', image = 'a' }]", false),
+        ("[{ letter = 'A', kind = 'hd8', image = 'a' }]", true),
+        ("[{ letter = 'A', kind = 'hd6', image = 'a' }]", false),
         ("[{ letter = 'A', kind = 'hd4', image = '' }]", false),
         ("[{ kind = 'hd4', image = 'a' }]", false),
         ("[{ letter = 'A', image = 'a' }]", false),

@@ -22,116 +22,148 @@ fn locked(
     })
 }
 
+/// Whether each text is read as it says.
+fn all_read(cases: &[(&[u8], Result<Parsed, BadName>)]) -> bool {
+    for (text, wanted) in cases {
+        if 128 < text.len() || parse_filename(text) != *wanted {
+            return false;
+        }
+    }
+    true
+}
+
 #[test]
 fn names_and_types(rt: HostRuntime) {
-    assert_eq!(rt;
-        parse_filename(b"b:letter.txt now"),
-        plain(2, b"LETTER  TXT", Some(12))
-    );
-    assert_eq!(rt; parse_filename(b"a"), plain(0, b"A          ", None));
-    assert_eq!(rt; parse_filename(b"12345678"), plain(0, b"12345678   ", None));
-    assert_eq!(rt; parse_filename(b"123456789"), Err(BadName));
-    assert_eq!(rt; parse_filename(b"a.b12"), plain(0, b"A       B12", None));
-    assert_eq!(rt; parse_filename(b"a.b123"), Err(BadName));
-    assert_eq!(rt; parse_filename(b"a."), plain(0, b"A          ", None));
-    assert_eq!(rt; parse_filename(b"a..b"), Err(BadName));
-    assert_eq!(rt; parse_filename(b"a.b.c"), Err(BadName));
-    assert_eq!(rt; parse_filename(b".."), Err(BadName));
-    assert_eq!(rt; parse_filename(b".a"), Err(BadName));
-    assert_eq!(rt;
-        parse_filename(b"a-z_$#.{~}"),
-        plain(0, b"A-Z_$#  {~}", None)
-    );
+    let cases = [
+        (
+            b"b:letter.txt now".as_slice(),
+            plain(2, b"LETTER  TXT", Some(12)),
+        ),
+        (b"a".as_slice(), plain(0, b"A          ", None)),
+        (b"12345678".as_slice(), plain(0, b"12345678   ", None)),
+        (b"123456789".as_slice(), Err(BadName)),
+        (b"a.b12".as_slice(), plain(0, b"A       B12", None)),
+        (b"a.b123".as_slice(), Err(BadName)),
+        (b"a.".as_slice(), plain(0, b"A          ", None)),
+        (b"a..b".as_slice(), Err(BadName)),
+        (b"a.b.c".as_slice(), Err(BadName)),
+        (b"..".as_slice(), Err(BadName)),
+        (b".a".as_slice(), Err(BadName)),
+        (b"a-z_$#.{~}".as_slice(), plain(0, b"A-Z_$#  {~}", None)),
+    ];
+    assert!(rt; all_read(&cases));
 }
 
 #[test]
 fn blanks_and_ends(rt: HostRuntime) {
-    assert_eq!(rt; parse_filename(b""), Err(BadName));
-    assert_eq!(rt; parse_filename(b" \t "), Err(BadName));
-    assert_eq!(rt; parse_filename(b"\ta b"), plain(0, b"A          ", Some(2)));
-    assert_eq!(rt;
-        parse_filename(b"  a\tb"),
-        plain(0, b"A          ", Some(3))
-    );
-    assert_eq!(rt; parse_filename(b"x=y"), plain(0, b"X          ", Some(1)));
-    assert_eq!(rt; parse_filename(b"x.y,z"), plain(0, b"X       Y  ", Some(3)));
-    assert_eq!(rt; parse_filename(b"x]"), plain(0, b"X          ", Some(1)));
-    assert_eq!(rt; parse_filename(b"x["), plain(0, b"X          ", Some(1)));
-    assert_eq!(rt; parse_filename(b"x<y"), plain(0, b"X          ", Some(1)));
-    assert_eq!(rt; parse_filename(b"x>y"), plain(0, b"X          ", Some(1)));
-    assert_eq!(rt; parse_filename(b"x|y"), plain(0, b"X          ", Some(1)));
-    assert_eq!(rt; parse_filename(b"x\ry"), plain(0, b"X          ", None));
-    assert_eq!(rt; parse_filename(b"x\0y"), plain(0, b"X          ", None));
-    assert_eq!(rt; parse_filename(b"\0x"), Err(BadName));
-    assert_eq!(rt; parse_filename(b"x\x7F"), Err(BadName));
-    assert_eq!(rt; parse_filename(b"x\x01"), Err(BadName));
-    assert_eq!(rt; parse_filename(b"x\n"), Err(BadName));
-    assert_eq!(rt; parse_filename(b"x\x80"), Err(BadName));
-    assert_eq!(rt; parse_filename(&[b'a'; 128]), Err(BadName));
-    let mut text = [b' '; 128];
-    text[127] = b'z';
-    assert_eq!(rt; parse_filename(&text), plain(0, b"Z          ", None));
+    let mut blanks = [b' '; 128];
+    blanks[127] = b'z';
+    let cases = [
+        (b"".as_slice(), Err(BadName)),
+        (b" \t ".as_slice(), Err(BadName)),
+        (b"\ta b".as_slice(), plain(0, b"A          ", Some(2))),
+        (b"  a\tb".as_slice(), plain(0, b"A          ", Some(3))),
+        (b"x=y".as_slice(), plain(0, b"X          ", Some(1))),
+        (b"x.y,z".as_slice(), plain(0, b"X       Y  ", Some(3))),
+        (b"x]".as_slice(), plain(0, b"X          ", Some(1))),
+        (b"x[".as_slice(), plain(0, b"X          ", Some(1))),
+        (b"x<y".as_slice(), plain(0, b"X          ", Some(1))),
+        (b"x>y".as_slice(), plain(0, b"X          ", Some(1))),
+        (b"x|y".as_slice(), plain(0, b"X          ", Some(1))),
+        (b"x\ry".as_slice(), plain(0, b"X          ", None)),
+        (b"x\0y".as_slice(), plain(0, b"X          ", None)),
+        (b"\0x".as_slice(), Err(BadName)),
+        (b"x\x7F".as_slice(), Err(BadName)),
+        (b"x\x01".as_slice(), Err(BadName)),
+        (b"x\n".as_slice(), Err(BadName)),
+        (b"x\x80".as_slice(), Err(BadName)),
+        ([b'a'; 128].as_slice(), Err(BadName)),
+        (blanks.as_slice(), plain(0, b"Z          ", None)),
+    ];
+    assert!(rt; all_read(&cases));
 }
 
 #[test]
 fn drives(rt: HostRuntime) {
-    assert_eq!(rt; parse_filename(b"a:x"), plain(1, b"X          ", None));
-    assert_eq!(rt; parse_filename(b"P:x"), plain(16, b"X          ", None));
-    assert_eq!(rt; parse_filename(b"p:x"), plain(16, b"X          ", None));
-    assert_eq!(rt; parse_filename(b"q:x"), Err(BadName));
-    assert_eq!(rt; parse_filename(b"@:x"), Err(BadName));
-    assert_eq!(rt; parse_filename(b"a:"), Err(BadName));
-    assert_eq!(rt; parse_filename(b":"), Err(BadName));
-    assert_eq!(rt; parse_filename(b":a"), Err(BadName));
-    assert_eq!(rt; parse_filename(b"a:b:c"), Err(BadName));
-    assert_eq!(rt; parse_filename(b"a: b"), Err(BadName));
+    let cases = [
+        (b"a:x".as_slice(), plain(1, b"X          ", None)),
+        (b"P:x".as_slice(), plain(16, b"X          ", None)),
+        (b"p:x".as_slice(), plain(16, b"X          ", None)),
+        (b"q:x".as_slice(), Err(BadName)),
+        (b"@:x".as_slice(), Err(BadName)),
+        (b"a:".as_slice(), Err(BadName)),
+        (b":".as_slice(), Err(BadName)),
+        (b":a".as_slice(), Err(BadName)),
+        (b"a:b:c".as_slice(), Err(BadName)),
+        (b"a: b".as_slice(), Err(BadName)),
+    ];
+    assert!(rt; all_read(&cases));
 }
 
 #[test]
 fn stars(rt: HostRuntime) {
-    assert_eq!(rt; parse_filename(b"*"), plain(0, b"????????   ", None));
-    assert_eq!(rt; parse_filename(b"*.*"), plain(0, b"???????????", None));
-    assert_eq!(rt; parse_filename(b"a*b.c*"), plain(0, b"A???????C??", None));
-    assert_eq!(rt; parse_filename(b"a?b.?"), plain(0, b"A?B     ?  ", None));
-    assert_eq!(rt; parse_filename(b"1234567*"), plain(0, b"1234567?   ", None));
-    assert_eq!(rt; parse_filename(b"*abcdefg"), plain(0, b"????????   ", None));
-    assert_eq!(rt; parse_filename(b"*abcdefgh"), Err(BadName));
-    assert_eq!(rt; parse_filename(b"a.*xyz"), Err(BadName));
+    let cases = [
+        (b"*".as_slice(), plain(0, b"????????   ", None)),
+        (b"*.*".as_slice(), plain(0, b"???????????", None)),
+        (b"a*b.c*".as_slice(), plain(0, b"A???????C??", None)),
+        (b"a?b.?".as_slice(), plain(0, b"A?B     ?  ", None)),
+        (b"1234567*".as_slice(), plain(0, b"1234567?   ", None)),
+        (b"*abcdefg".as_slice(), plain(0, b"????????   ", None)),
+        (b"*abcdefgh".as_slice(), Err(BadName)),
+        (b"a.*xyz".as_slice(), Err(BadName)),
+    ];
+    assert!(rt; all_read(&cases));
 }
 
 #[test]
 fn passwords(rt: HostRuntime) {
-    assert_eq!(rt;
-        parse_filename(b"a;b"),
-        locked(0, b"A          ", b"B       ", 1, None)
-    );
-    assert_eq!(rt;
-        parse_filename(b"a.b;sEcret12 x"),
-        locked(0, b"A       B  ", b"SECRET12", 8, Some(12))
-    );
-    assert_eq!(rt;
-        parse_filename(b"a;*"),
-        locked(0, b"A          ", b"*       ", 1, None)
-    );
-    assert_eq!(rt;
-        parse_filename(b"a.;b,"),
-        locked(0, b"A          ", b"B       ", 1, Some(4))
-    );
-    assert_eq!(rt; parse_filename(b"a;"), Err(BadName));
-    assert_eq!(rt; parse_filename(b"a; b"), Err(BadName));
-    assert_eq!(rt; parse_filename(b"a;123456789"), Err(BadName));
-    assert_eq!(rt; parse_filename(b"a;b;c"), Err(BadName));
-    assert_eq!(rt; parse_filename(b"a;b.c"), Err(BadName));
-    assert_eq!(rt; parse_filename(b";a"), Err(BadName));
+    let cases = [
+        (
+            b"a;b".as_slice(),
+            locked(0, b"A          ", b"B       ", 1, None),
+        ),
+        (
+            b"a.b;sEcret12 x".as_slice(),
+            locked(0, b"A       B  ", b"SECRET12", 8, Some(12)),
+        ),
+        (
+            b"a;*".as_slice(),
+            locked(0, b"A          ", b"*       ", 1, None),
+        ),
+        (
+            b"a.;b,".as_slice(),
+            locked(0, b"A          ", b"B       ", 1, Some(4)),
+        ),
+        (b"a;".as_slice(), Err(BadName)),
+        (b"a; b".as_slice(), Err(BadName)),
+        (b"a;123456789".as_slice(), Err(BadName)),
+        (b"a;b;c".as_slice(), Err(BadName)),
+        (b"a;b.c".as_slice(), Err(BadName)),
+        (b";a".as_slice(), Err(BadName)),
+    ];
+    assert!(rt; all_read(&cases));
+}
+
+/// Whether each pattern fits its name or not, as it says.
+fn all_fit(cases: &[(&[u8; 11], &[u8; 11], bool)]) -> bool {
+    for (pattern, name, fits) in cases {
+        if matches(pattern, name) != *fits {
+            return false;
+        }
+    }
+    true
 }
 
 #[test]
 fn patterns(rt: HostRuntime) {
-    assert!(rt; matches(b"???????????", b"LETTER  TXT"));
-    assert!(rt; matches(b"LETTER  TXT", b"LETTER  TXT"));
-    assert!(rt; matches(b"L?TTER  T\xBFT", b"LETTER  TXT"));
-    assert!(rt; matches(b"LETTER  \xD4XT", b"LETTER  T\xD8T"));
-    assert!(rt; !matches(b"LETTER  TXS", b"LETTER  TXT"));
-    assert!(rt; !matches(b"letter  TXT", b"LETTER  TXT"));
-    assert!(rt; !matches(b"LETTER  TXT", b"LETTER  TX?"));
+    let cases = [
+        (b"???????????", b"LETTER  TXT", true),
+        (b"LETTER  TXT", b"LETTER  TXT", true),
+        (b"L?TTER  T\xBFT", b"LETTER  TXT", true),
+        (b"LETTER  \xD4XT", b"LETTER  T\xD8T", true),
+        (b"LETTER  TXS", b"LETTER  TXT", false),
+        (b"letter  TXT", b"LETTER  TXT", false),
+        (b"LETTER  TXT", b"LETTER  TX?", false),
+    ];
+    assert!(rt; all_fit(&cases));
 }

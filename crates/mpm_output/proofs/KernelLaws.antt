@@ -5,11 +5,11 @@ use Rattle.mpm_kernel.specs.Kernel.{Kernel}
 use Rattle.mpm_kernel.specs.Columns.{spoke}
 use Rattle.mpm_kernel.proofs.HomeLaws.{procs_spoke}
 
-pub lives_behind_text : (old kernel : Kernel) (console p : ℕ) (bytes : List ℕ) → Lives old.procs p → kernel ≡ spoke old console bytes → Lives kernel.procs p
-lives_behind_text old kernel console p bytes h is =
-    ap (λ (k : Kernel). lives k.procs p) is ∙ ap (λ procs. lives procs p) (procs_spoke old console bytes) ∙ h
+pub lives_after_text : (old kernel : Kernel) (console p : ℕ) (bytes : List ℕ) → Lives old.dispatcher.procs p → kernel ≡ spoke old console bytes → Lives kernel.dispatcher.procs p
+lives_after_text old kernel console p bytes h is =
+    ap (λ (k : Kernel). lives k.dispatcher.procs p) is ∙ ap (λ procs. lives procs p) (procs_spoke old console bytes) ∙ h
 
-pub call_behind_text : (old kernel : Kernel) (console p : ℕ) (bytes : List ℕ) → kernel ≡ spoke old console bytes
-    → call_of kernel.procs p ≡ call_of old.procs p
-call_behind_text old kernel console p bytes is =
-    ap (λ (k : Kernel). call_of k.procs p) is ∙ ap (λ procs. call_of procs p) (procs_spoke old console bytes)
+pub call_after_text : (old kernel : Kernel) (console p : ℕ) (bytes : List ℕ) → kernel ≡ spoke old console bytes
+    → call_of kernel.dispatcher.procs p ≡ call_of old.dispatcher.procs p
+call_after_text old kernel console p bytes is =
+    ap (λ (k : Kernel). call_of k.dispatcher.procs p) is ∙ ap (λ procs. call_of procs p) (procs_spoke old console bytes)

@@ -1,7 +1,6 @@
 -- How far a string is written to a console, tabs expanded.
-use Rattle.std.proofs.Common.{◌≡◌, ◌∙◌, ℕ, ◌+◌, ◌-◌, ◌<◌, false, length, arith, List, [], ◌∷◌, ◌++◌, Option, refl, ap, sym, subst, append_assoc}
+use Rattle.std.proofs.Common.{◌≡◌, ◌∙◌, ℕ, ◌+◌, ◌-◌, ◌<◌, false, length, arith, List, [], ◌∷◌, ◌++◌, ap, sym, subst, append_assoc}
 use Rattle.z80_regs.specs.Words.{onward}
-use Rattle.mpm_render.specs.Shown.{Kept}
 use Rattle.mpm_gate.specs.Bytes.{bytes_from}
 use Rattle.mpm_gate.specs.Texts.{text_from, ends}
 use Rattle.mpm_gate.specs.declared.take.TextEnd.TheVariants.{Dollar}
@@ -11,14 +10,14 @@ use Rattle.mpm_kernel.specs.Kernel.{Kernel, HasConsole}
 use Rattle.mpm_kernel.specs.Columns.{columns_after, tab_text, column_of, expanded, spoke}
 use Rattle.mpm_kernel.proofs.ColumnLaws.{expanded_nil, expanded_cons, expanded_byte, expanded_append}
 use Rattle.mpm_kernel.proofs.SpokeLaws.{column_spoke, spoke_none, spoke_both}
-use Rattle.mpm_output.specs.Writing.{spoken, Showed, Stopped}
+use Rattle.mpm_output.specs.Outside.{Outside}
+use Rattle.mpm_output.specs.Writing.{spoken, Wrote, Stopped}
 use Rattle.mpm_output.proofs.WritingLaws.{spoke_nothing, spoke_more, stopped_more}
 
 -- a part of a string came out to a console, with tabs expanded
-pub record WrittenTo (console : ℕ) (kept : Kept) (written : Option (List ℕ)) (kernel : Kernel) (kept' : Kept) (written' : Option (List ℕ)) (kernel' : Kernel) (part : List ℕ) : Type 0 where
+pub record WrittenTo (console : ℕ) (kernel kernel' : Kernel) (o m : Outside) (part : List ℕ) : Type 0 where
   pub kernel_is : kernel' ≡ spoke kernel console (expanded (column_of kernel console) part)
-  pub shown : Showed kept written kept' written' (spoken console (expanded (column_of kernel console) part))
-  pub trace : kept'.trace ≡ kept.trace
+  pub wrote : Wrote o m (spoken console (expanded (column_of kernel console) part))
 
 -- the string has one byte more, and goes on behind it
 pub string_goes_on : (memory : ℕ → ℕ) (address k byte : ℕ) → text_from Dollar memory address k ≡ bytes_from memory address k → byte ≡ memory (onward address k)
@@ -34,14 +33,13 @@ string_goes_on memory address k byte whole here goes_on h =
     ∙ ap (λ t. t ++ rest) (more ∙ bytes_more memory address k ∙ ap (λ b. part ++ (b ∷ [])) (sym here))
     ∙ append_assoc part (byte ∷ []) rest
 
-pub written_nothing : (console : ℕ) (kept : Kept) (written : Option (List ℕ)) (kernel : Kernel) → WrittenTo console kept written kernel kept written kernel []
-written_nothing console kept written kernel =
+pub written_nothing : (console : ℕ) (kernel : Kernel) (o : Outside) → WrittenTo console kernel kernel o o []
+written_nothing console kernel o =
     let column = column_of kernel console in
-    let P : List ℕ → Type 0 = λ bytes. Showed kept written kept written (spoken console bytes) in
+    let P : List ℕ → Type 0 = λ bytes. Wrote o o (spoken console bytes) in
     record {
       kernel_is = sym (spoke_none kernel console) ∙ ap (spoke kernel console) (sym (expanded_nil column));
-      shown = subst P (sym (expanded_nil column)) (spoke_nothing console kept written);
-      trace = refl;
+      wrote = subst P (sym (expanded_nil column)) (spoke_nothing console o);
     }
 
 -- a part and one byte more, expanded, by the column at which the byte stands
@@ -56,13 +54,10 @@ expanded_more console byte kernel now part has e =
     expanded_append column part (byte ∷ [])
     ∙ ap (λ t. expanded column part ++ t) (ap (λ c. expanded c (byte ∷ [])) (sym at) ∙ expanded_byte (column_of now console) byte)
 
-pub written_more : (console byte : ℕ) (k0 : Kept) (t0 : Option (List ℕ)) (kernel : Kernel) (k1 : Kept) (t1 : Option (List ℕ)) (now : Kernel)
-    (k2 : Kept) (t2 : Option (List ℕ)) (later : Kernel) (part : List ℕ) → HasConsole kernel console
-    → WrittenTo console k0 t0 kernel k1 t1 now part
-    → later ≡ spoke now console (tab_text (column_of now console) byte)
-    → Showed k1 t1 k2 t2 (spoken console (tab_text (column_of now console) byte)) → k2.trace ≡ k1.trace
-    → WrittenTo console k0 t0 kernel k2 t2 later (part ++ (byte ∷ []))
-written_more console byte k0 t0 kernel k1 t1 now k2 t2 later part has w is shown trace =
+pub written_more : (console byte : ℕ) (kernel now later : Kernel) (o m n : Outside) (part : List ℕ) → HasConsole kernel console
+    → WrittenTo console kernel now o m part → later ≡ spoke now console (tab_text (column_of now console) byte)
+    → Wrote m n (spoken console (tab_text (column_of now console) byte)) → WrittenTo console kernel later o n (part ++ (byte ∷ []))
+written_more console byte kernel now later o m n part has w is wrote =
     let column = column_of kernel console in
     let tab = tab_text (column_of now console) byte in
     let both = expanded_more console byte kernel now part has w.kernel_is in
@@ -71,17 +66,14 @@ written_more console byte k0 t0 kernel k1 t1 now k2 t2 later part has w is shown
           ∙ ap (λ k. spoke k console tab) w.kernel_is
           ∙ spoke_both kernel console (expanded column part) tab has
           ∙ ap (spoke kernel console) (sym both);
-      shown = spoke_more console k0 t0 k1 t1 k2 t2 (expanded column part) tab (expanded column (part ++ (byte ∷ []))) both w.shown shown;
-      trace = trace ∙ w.trace;
+      wrote = spoke_more console o m n (expanded column part) tab (expanded column (part ++ (byte ∷ []))) both w.wrote wrote;
     }
 
 -- a byte of a string that stops, stops the string
-pub stopped_string : (console byte : ℕ) (k0 : Kept) (t0 : Option (List ℕ)) (kernel : Kernel) (k1 : Kept) (t1 t2 : Option (List ℕ)) (now : Kernel)
-    (part rest whole : List ℕ) → whole ≡ part ++ (byte ∷ rest) → HasConsole kernel console
-    → WrittenTo console k0 t0 kernel k1 t1 now part
-    → Stopped k1 t1 t2 (spoken console (tab_text (column_of now console) byte))
-    → Stopped k0 t0 t2 (spoken console (expanded (column_of kernel console) whole))
-stopped_string console byte k0 t0 kernel k1 t1 t2 now part rest whole e has w stopped =
+pub stopped_string : (console byte : ℕ) (kernel now : Kernel) (o m n : Outside) (part rest whole : List ℕ) → whole ≡ part ++ (byte ∷ rest)
+    → HasConsole kernel console → WrittenTo console kernel now o m part → Stopped m n (spoken console (tab_text (column_of now console) byte))
+    → Stopped o n (spoken console (expanded (column_of kernel console) whole))
+stopped_string console byte kernel now o m n part rest whole e has w stopped =
     let column = column_of kernel console in
     let here = column_of now console in
     let tab = tab_text here byte in
@@ -92,4 +84,4 @@ stopped_string console byte k0 t0 kernel k1 t1 t2 now part rest whole e has w st
     ap (expanded column) e
     ∙ expanded_append column part (byte ∷ rest)
     ∙ ap (λ t. expanded column part ++ t) (ap (λ c. expanded c (byte ∷ rest)) (sym at) ∙ expanded_cons here byte rest) in
-    stopped_more console k0 t0 k1 t1 t2 (expanded column part) tab tail (expanded column whole) all w.trace w.shown stopped
+    stopped_more console o m n (expanded column part) tab tail (expanded column whole) all w.wrote stopped

@@ -1,14 +1,17 @@
--- Laws of writing: nothing, one part behind another, and a stop in a later part.
-use Rattle.std.proofs.Common.{◌≡◌, ◌∙◌, ℕ, Bool, List, [], ◌∷◌, ◌++◌, Option, Result, Ok, Err, OnOk, OnErr, refl, ap, sym, subst, append_assoc}
+-- Laws of writing: nothing, one part behind another, and a failure in a later part.
+use Rattle.std.proofs.Common.{◌≡◌, ◌∙◌, ℕ, Bool, List, [], ◌∷◌, ◌++◌, ◌≤◌, Option, Result, Ok, Err, OnOk, OnErr, IsErr, inl, inr, refl, ap, sym, subst, append_assoc, arith}
 use Rattle.std.proofs.lemmas.List.{append-nil}
+use Rattle.mpm_port.specs.Causes.{Rose, HasCause}
 use Rattle.mpm_port.specs.Texts.{Begins}
+use Rattle.mpm_port.specs.declared.Failed.{Failed}
 use Rattle.mpm_render.specs.declared.unit.Unit2.{Unit2}
 use Rattle.mpm_render.specs.declared.unit.Unit2.TheVariants.{Console}
 use Rattle.mpm_render.specs.Outputs.{Output, Said, said, rendered}
-use Rattle.mpm_render.specs.Shown.{Kept, Shows, EndsBetween}
+use Rattle.mpm_render.specs.Shown.{Shows, EndsBetween}
 use Rattle.mpm_render.proofs.Laws.{said_nil, said_cons, said_append, rendered_grows}
 use Rattle.mpm_render.proofs.Grows.{begins_refl, begins_trans, widened}
-use Rattle.mpm_output.specs.Writing.{spoken, Showed, Stopped}
+use Rattle.mpm_output.specs.Outside.{Faults, Outside, Device, TheSink, by_sink}
+use Rattle.mpm_output.specs.Writing.{spoken, Wrote, Stopped, Fails, Emits}
 
 said_before : (u : Unit2) (bytes : List ℕ) (os : List Output) → said u bytes os ≡ said u bytes [] ++ os
 said_before u [] os = said_nil u os ∙ ap (λ t. t ++ os) (sym (said_nil u []))
@@ -36,93 +39,123 @@ rendered_onward trace (o ∷ emitted) os =
     begins_trans (rendered trace os) (rendered trace (emitted ++ os)) (rendered trace (o ∷ (emitted ++ os)))
     (rendered_onward trace emitted os) (rendered_grows trace o (emitted ++ os))
 
-pub showed_nothing : (kept : Kept) (written : Option (List ℕ)) → Showed kept written kept written []
-showed_nothing kept written = record { all = λ outputs first shows. shows }
+-- nothing, and one part behind another
 
-pub showed_behind : (k0 : Kept) (t0 : Option (List ℕ)) (k1 : Kept) (t1 : Option (List ℕ)) (k2 : Kept) (t2 : Option (List ℕ))
-    (a b : List Output) → Showed k0 t0 k1 t1 a → Showed k1 t1 k2 t2 b → Showed k0 t0 k2 t2 (b ++ a)
-showed_behind k0 t0 k1 t1 k2 t2 a b p q = record {
-  all = λ outputs first shows.
-      let P : List Output → Type 0 = λ os. Shows k2 t2 os first in
-      subst P (sym (append_assoc b a outputs)) (q.all (a ++ outputs) first (p.all outputs first shows));
+pub wrote_nothing : (o : Outside) → Wrote o o []
+wrote_nothing o = record { shown = λ outputs first shows. shows; faults = refl; trace = refl }
+
+pub wrote_after : (o m n : Outside) (a b : List Output) → Wrote o m a → Wrote m n b → Wrote o n (b ++ a)
+wrote_after o m n a b p q = record {
+  shown = λ outputs first shows.
+      let P : List Output → Type 0 = λ os. Shows n.kept n.written os first in
+      subst P (sym (append_assoc b a outputs)) (q.shown (a ++ outputs) first (p.shown outputs first shows));
+  faults = q.faults ∙ p.faults;
+  trace = q.trace ∙ p.trace;
 }
 
--- what stops behind some outputs, and before others, stops all of them
-pub stopped_within : (k0 : Kept) (t0 : Option (List ℕ)) (k1 : Kept) (t1 t2 : Option (List ℕ)) (a b c : List Output)
-    → k1.trace ≡ k0.trace → Showed k0 t0 k1 t1 a → Stopped k1 t1 t2 b → Stopped k0 t0 t2 (c ++ (b ++ a))
-stopped_within k0 t0 k1 t1 t2 a b c same p q = record {
-  all = λ outputs first shows.
-      let behind = a ++ outputs in
-      let whole = append_assoc c (b ++ a) outputs ∙ ap (λ t. c ++ t) (append_assoc b a outputs) in
-      let P : List Output → Type 0 = λ os. EndsBetween t2 first (rendered k0.trace outputs) (rendered k0.trace os) in
-      let Q : Bool → Type 0 = λ trace. EndsBetween t2 first (rendered trace behind) (rendered trace (b ++ behind)) in
-      subst P (sym whole)
-      (widened t2 first (rendered k0.trace outputs) (rendered k0.trace behind) (rendered k0.trace (b ++ behind)) (rendered k0.trace (c ++ (b ++ behind)))
-      (rendered_onward k0.trace a outputs) (rendered_onward k0.trace c (b ++ behind))
-      (subst Q same (q.all behind first (p.all outputs first shows))));
-}
+-- what fails behind some outputs, and before others, fails in all of them
+pub fails_within : (device : Device) (o m n : Outside) (a b c : List Output) → Wrote o m a → Fails device m n b → Fails device o n (c ++ (b ++ a))
+fails_within TheSink o m n a b c p q =
+    let trace = o.kept.trace in
+    let R : Faults → Type 0 = λ faults. Rose faults.sink n.faults.sink in
+    record {
+      part = λ outputs first shows.
+          let afterwards = a ++ outputs in
+          let whole = append_assoc c (b ++ a) outputs ∙ ap (λ t. c ++ t) (append_assoc b a outputs) in
+          let P : List Output → Type 0 = λ os. EndsBetween n.written first (rendered trace outputs) (rendered trace os) in
+          let Q : Bool → Type 0 = λ t. EndsBetween n.written first (rendered t afterwards) (rendered t (b ++ afterwards)) in
+          subst P (sym whole)
+          (widened n.written first (rendered trace outputs) (rendered trace afterwards) (rendered trace (b ++ afterwards)) (rendered trace (c ++ (b ++ afterwards)))
+          (rendered_onward trace a outputs) (rendered_onward trace c (b ++ afterwards))
+          (subst Q p.trace (q.part afterwards first (p.shown outputs first shows))));
+      rose = subst R p.faults q.rose;
+      trace = q.trace ∙ p.trace;
+    }
 
--- a stop in the first part, and in the last
+-- a failure in the first part
 
-pub stopped_before : (kept : Kept) (written written' : Option (List ℕ)) (a b : List Output) → Stopped kept written written' a → Stopped kept written written' (b ++ a)
-stopped_before kept written written' a b stopped =
-    let P : List Output → Type 0 = λ os. Stopped kept written written' (b ++ os) in
-    subst P (append-nil a) (stopped_within kept written kept written written' [] a b refl (showed_nothing kept written) stopped)
+pub fails_before : (device : Device) (o n : Outside) (a b : List Output) → Fails device o n a → Fails device o n (b ++ a)
+fails_before device o n a b failed =
+    let P : List Output → Type 0 = λ os. Fails device o n (b ++ os) in
+    subst P (append-nil a) (fails_within device o o n [] a b (wrote_nothing o) failed)
 
-pub stopped_behind : (k0 : Kept) (t0 : Option (List ℕ)) (k1 : Kept) (t1 t2 : Option (List ℕ)) (a b : List Output)
-    → k1.trace ≡ k0.trace → Showed k0 t0 k1 t1 a → Stopped k1 t1 t2 b → Stopped k0 t0 t2 (b ++ a)
-stopped_behind k0 t0 k1 t1 t2 a b same p q = stopped_within k0 t0 k1 t1 t2 a b [] same p q
+-- the same of calls: nothing is said, and the last part is that of the call
 
--- the same of bytes: none, more of them, and a stop among them
+pub emits_nothing : {A E : Type 0} (device : E → Device) (o : Outside) (x : A) → Emits device o o [] (Ok x)
+emits_nothing device o x = record { ok = wrote_nothing o; err = tt }
 
-pub spoke_nothing : (n : ℕ) (kept : Kept) (written : Option (List ℕ)) → Showed kept written kept written (spoken n [])
-spoke_nothing n kept written =
-    let P : List Output → Type 0 = λ emitted. Showed kept written kept written emitted in subst P (sym (spoken_nil n)) (showed_nothing kept written)
+pub emits_after : {A E : Type 0} (device : E → Device) (o m n : Outside) (a b : List Output) (r : Result A E)
+    → Wrote o m a → Emits device m n b r → Emits device o n (b ++ a) r
+emits_after device o m n a b (Ok x) p q = record { ok = wrote_after o m n a b p q.ok; err = tt }
+emits_after device o m n a b (Err e) p q = record { ok = tt; err = fails_within (device e) o m n a b [] p q.err }
 
-pub spoke_more : (n : ℕ) (k0 : Kept) (t0 : Option (List ℕ)) (k1 : Kept) (t1 : Option (List ℕ)) (k2 : Kept) (t2 : Option (List ℕ))
-    (a b whole : List ℕ) → whole ≡ a ++ b → Showed k0 t0 k1 t1 (spoken n a) → Showed k1 t1 k2 t2 (spoken n b)
-    → Showed k0 t0 k2 t2 (spoken n whole)
-spoke_more n k0 t0 k1 t1 k2 t2 a b whole e p q =
-    let P : List Output → Type 0 = λ emitted. Showed k0 t0 k2 t2 emitted in
-    subst P (sym (spoken_append n a b) ∙ ap (spoken n) (sym e)) (showed_behind k0 t0 k1 t1 k2 t2 (spoken n a) (spoken n b) p q)
+-- a call that only passes on that the sink failed
+pub passes_on : {A : Type 0} (r : Result A Failed) (o n : Outside) (emitted : List Output) → IsErr r → Stopped o n emitted → Emits by_sink o n emitted r
+passes_on (Ok x) o n emitted is stopped = absurd (cc)
+passes_on (Err e) o n emitted is stopped = record { ok = tt; err = stopped }
 
-pub stopped_more : (n : ℕ) (k0 : Kept) (t0 : Option (List ℕ)) (k1 : Kept) (t1 t2 : Option (List ℕ)) (a b rest whole : List ℕ)
-    → whole ≡ a ++ (b ++ rest) → k1.trace ≡ k0.trace → Showed k0 t0 k1 t1 (spoken n a) → Stopped k1 t1 t2 (spoken n b) → Stopped k0 t0 t2 (spoken n whole)
-stopped_more n k0 t0 k1 t1 t2 a b rest whole e same p q =
-    let P : List Output → Type 0 = λ emitted. Stopped k0 t0 t2 emitted in
+-- what is so of outputs is so of the same ones by another name
+
+pub fails_same : (device : Device) (o n : Outside) (a b : List Output) → a ≡ b → Fails device o n a → Fails device o n b
+fails_same device o n a b same failed = let P : List Output → Type 0 = λ os. Fails device o n os in subst P same failed
+
+pub emits_same : {A E : Type 0} (device : E → Device) (o n : Outside) (a b : List Output) (r : Result A E) → a ≡ b → Emits device o n a r → Emits device o n b r
+emits_same device o n a b r same emits = let P : List Output → Type 0 = λ os. Emits device o n os r in subst P same emits
+
+-- bytes: none, more of them, and a stop among them
+
+pub spoke_nothing : (n : ℕ) (o : Outside) → Wrote o o (spoken n [])
+spoke_nothing n o = let P : List Output → Type 0 = λ emitted. Wrote o o emitted in subst P (sym (spoken_nil n)) (wrote_nothing o)
+
+pub spoke_more : (n : ℕ) (o m k : Outside) (a b whole : List ℕ) → whole ≡ a ++ b → Wrote o m (spoken n a) → Wrote m k (spoken n b)
+    → Wrote o k (spoken n whole)
+spoke_more n o m k a b whole e p q =
+    let P : List Output → Type 0 = λ emitted. Wrote o k emitted in
+    subst P (sym (spoken_append n a b) ∙ ap (spoken n) (sym e)) (wrote_after o m k (spoken n a) (spoken n b) p q)
+
+pub stopped_more : (n : ℕ) (o m k : Outside) (a b rest whole : List ℕ) → whole ≡ a ++ (b ++ rest) → Wrote o m (spoken n a) → Stopped m k (spoken n b)
+    → Stopped o k (spoken n whole)
+stopped_more n o m k a b rest whole e p q =
+    let P : List Output → Type 0 = λ emitted. Stopped o k emitted in
     let parts : spoken n whole ≡ spoken n rest ++ (spoken n b ++ spoken n a) =
     ap (spoken n) e ∙ (spoken_append n a (b ++ rest) ∙ (ap (λ t. t ++ spoken n a) (spoken_append n b rest) ∙ append_assoc (spoken n rest) (spoken n b) (spoken n a))) in
-    subst P (sym parts) (stopped_within k0 t0 k1 t1 t2 (spoken n a) (spoken n b) (spoken n rest) same p q)
+    subst P (sym parts) (fails_within TheSink o m k (spoken n a) (spoken n b) (spoken n rest) p q)
 
--- one byte, by what the renderer says of it
+-- one output, by what the renderer says of it
 
-pub spoke_byte : (n : ℕ) (k0 : Kept) (t0 : Option (List ℕ)) (k1 : Kept) (t1 : Option (List ℕ)) (byte : ℕ)
-    → ((os : List Output) (first : Option (List ℕ)) → Shows k0 t0 os first → Shows k1 t1 (Said (Console n) byte ∷ os) first)
-    → Showed k0 t0 k1 t1 (spoken n (byte ∷ []))
-spoke_byte n k0 t0 k1 t1 byte h =
-    let P : List Output → Type 0 = λ emitted. Showed k0 t0 k1 t1 emitted in
-    subst P (sym (spoken_one n byte)) (record { all = h })
+pub emits_one : {A : Type 0} (r : Result A Failed) (o n : Outside) (output : Output) → HasCause o.faults.sink n.faults.sink r → n.kept.trace ≡ o.kept.trace
+    → ((os : List Output) (first : Option (List ℕ)) → Shows o.kept o.written os first → OnOk r (Shows n.kept n.written (output ∷ os) first))
+    → ((os : List Output) (first : Option (List ℕ)) → Shows o.kept o.written os first
+    → OnErr r (EndsBetween n.written first (rendered o.kept.trace os) (rendered o.kept.trace (output ∷ os))))
+    → Emits by_sink o n (output ∷ []) r
+emits_one (Ok x) o n output cause same shown part = record {
+  ok = record { shown = shown; faults = ap (λ (k : ℕ). let faults : Faults = record { sink = k } in faults) cause.stays; trace = same };
+  err = tt;
+}
+emits_one (Err e) o n output cause same shown part = record { ok = tt; err = record { part = part; rose = cause.failed; trace = same } }
 
-pub stopped_byte : (n : ℕ) (k0 : Kept) (t0 t1 : Option (List ℕ)) (byte : ℕ)
-    → ((os : List Output) (first : Option (List ℕ)) → Shows k0 t0 os first
-    → EndsBetween t1 first (rendered k0.trace os) (rendered k0.trace (Said (Console n) byte ∷ os)))
-    → Stopped k0 t0 t1 (spoken n (byte ∷ []))
-stopped_byte n k0 t0 t1 byte h =
-    let P : List Output → Type 0 = λ emitted. Stopped k0 t0 t1 emitted in
-    subst P (sym (spoken_one n byte)) (record { all = h })
+pub emits_byte : {A : Type 0} (r : Result A Failed) (n byte : ℕ) (o m : Outside) → Emits by_sink o m (Said (Console n) byte ∷ []) r
+    → Emits by_sink o m (spoken n (byte ∷ [])) r
+emits_byte r n byte o m emits = let P : List Output → Type 0 = λ emitted. Emits by_sink o m emitted r in subst P (sym (spoken_one n byte)) emits
 
--- a byte to a unit, by what the renderer says of it
+-- from what such a call leaves, the counts
 
-pub showed_by : {A E : Type 0} (r : Result A E) (k0 : Kept) (t0 : Option (List ℕ)) (k1 : Kept) (t1 : Option (List ℕ)) (o : Output)
-    → ((os : List Output) (first : Option (List ℕ)) → Shows k0 t0 os first → OnOk r (Shows k1 t1 (o ∷ os) first)) → OnOk r (Showed k0 t0 k1 t1 (o ∷ []))
-showed_by (Ok x) k0 t0 k1 t1 o h = record { all = h }
-showed_by (Err e) k0 t0 k1 t1 o h = tt
+risen : (before now : ℕ) → Rose before now → before ≤ now
+unfolding Rose
+risen before now (inl above) = omega arith
+risen before now (inr last) = omega arith
 
-pub stopped_by : {A E : Type 0} (r : Result A E) (k0 : Kept) (t0 t1 : Option (List ℕ)) (o : Output)
-    → ((os : List Output) (first : Option (List ℕ)) → Shows k0 t0 os first → OnErr r (EndsBetween t1 first (rendered k0.trace os) (rendered k0.trace (o ∷ os))))
-    → OnErr r (Stopped k0 t0 t1 (o ∷ []))
-stopped_by (Ok x) k0 t0 t1 o h = tt
-stopped_by (Err e) k0 t0 t1 o h = record { all = h }
+pub wrote_cause : {A E : Type 0} (x : A) (o n : Outside) (emitted : List Output) → Wrote o n emitted → HasCause {E = E} o.faults.sink n.faults.sink (Ok x)
+wrote_cause x o n emitted wrote =
+    let same = ap (λ (faults : Faults). faults.sink) wrote.faults in
+    record { later = omega (arith, same); stays = same; failed = tt }
+
+pub stopped_cause : {A E : Type 0} (e : E) (o n : Outside) (emitted : List Output) → Stopped o n emitted → HasCause {A = A} o.faults.sink n.faults.sink (Err e)
+stopped_cause e o n emitted stopped = record {
+  later = risen o.faults.sink n.faults.sink stopped.rose;
+  stays = tt;
+  failed = stopped.rose;
+}
 
 pub on_ok_always : {A E P : Type 0} (r : Result A E) → P → OnOk r P
 on_ok_always (Ok x) p = p

@@ -1,12 +1,11 @@
-ghost use Rattle.std.specs.Prelude.{◌≡◌, ◌<◌, OnOk, OnErr};
-ghost use Rattle.mpm_port.specs.Causes.{HasCause};
+ghost use Rattle.std.specs.Prelude.{◌≡◌, ◌<◌, OnOk};
 ghost use Rattle.mpm_gate.specs.Texts.{text_from};
 ghost use Rattle.mpm_gate.specs.declared.take.TextEnd.TheVariants.{Dollar};
 ghost use Rattle.mpm_banks.specs.Memory.{byte_at};
 ghost use Rattle.mpm_procs.specs.Table.{Lives, call_of};
 ghost use Rattle.mpm_kernel.specs.Kernel.{HasConsole};
 ghost use Rattle.mpm_kernel.specs.Columns.{tab_text, expanded, spoke, column_of};
-ghost use Rattle.mpm_output.specs.Writing.{spoken, Showed, Stopped};
+ghost use Rattle.mpm_output.specs.Writing.{spoken, Writes};
 
 use mpm_banks::Banks;
 use mpm_base::{Pid, Seg};
@@ -23,10 +22,7 @@ pub fn put_bytes<S: Sink>(
     sink: &mut S,
 ) -> Result<(), Failed>
     requires { console < 8 }
-    ensures ok { OnOk result (Showed render.old (S.written sink.old) render.new (S.written sink.new) (spoken console bytes.now)) }
-    ensures err { OnErr result (Stopped render.old (S.written sink.old) (S.written sink.new) (spoken console bytes.now)) }
-    ensures cause { HasCause (S.faults sink.old) (S.faults sink.new) result }
-    ensures trace { render.new.trace ≡ render.old.trace }
+    ensures wrote { Writes S.written S.faults render.old sink.old render.new sink.new (spoken console bytes.now) result }
 {
     for &byte in bytes {
         render.put(Unit2::Console { n: console }, byte, sink)?;
@@ -45,16 +41,13 @@ pub fn write_bytes<S: Sink>(
     requires console { console < 8 }
     requires exists { HasConsole kernel.old console }
     ensures kernel { kernel.new ≡ spoke kernel.old console bytes.now }
-    ensures ok { OnOk result (Showed render.old (S.written sink.old) render.new (S.written sink.new) (spoken console bytes.now)) }
-    ensures err { OnErr result (Stopped render.old (S.written sink.old) (S.written sink.new) (spoken console bytes.now)) }
-    ensures cause { HasCause (S.faults sink.old) (S.faults sink.new) result }
-    ensures trace { render.new.trace ≡ render.old.trace }
+    ensures wrote { Writes S.written S.faults render.old sink.old render.new sink.new (spoken console bytes.now) result }
 {
     move_column(kernel, console, bytes);
     put_bytes(console, bytes, render, sink)
 }
 
-/// Moves a console's column behind bytes that come to it as they are.
+/// Moves a console's column after bytes that come to it as they are.
 fn move_column(kernel: &mut Kernel, console: u8, bytes: &[u8])
     requires console { console < 8 }
     requires exists { HasConsole kernel.old console }
@@ -76,12 +69,7 @@ pub fn write_tabbed<S: Sink>(
     requires console { console < 8 }
     requires exists { HasConsole kernel.old console }
     ensures kernel { kernel.new ≡ spoke kernel.old console (tab_text (column_of kernel.old console) byte) }
-    ensures ok { OnOk result (Showed render.old (S.written sink.old) render.new (S.written sink.new)
-        (spoken console (tab_text (column_of kernel.old console) byte))) }
-    ensures err { OnErr result (Stopped render.old (S.written sink.old) (S.written sink.new)
-        (spoken console (tab_text (column_of kernel.old console) byte))) }
-    ensures cause { HasCause (S.faults sink.old) (S.faults sink.new) result }
-    ensures trace { render.new.trace ≡ render.old.trace }
+    ensures wrote { Writes S.written S.faults render.old sink.old render.new sink.new (spoken console (tab_text (column_of kernel.old console) byte)) result }
 {
     let spaces = kernel.write(Unit::Console { n: console }, byte, true);
     if spaces > 0 {
@@ -106,12 +94,7 @@ pub fn write_string<S: Sink>(
     requires exists { HasConsole kernel.old console }
     ensures kernel { OnOk result (kernel.new ≡ spoke kernel.old console
         (expanded (column_of kernel.old console) (text_from Dollar (byte_at banks.now seg) address 65536))) }
-    ensures ok { OnOk result (Showed render.old (S.written sink.old) render.new (S.written sink.new)
-        (spoken console (expanded (column_of kernel.old console) (text_from Dollar (byte_at banks.now seg) address 65536)))) }
-    ensures err { OnErr result (Stopped render.old (S.written sink.old) (S.written sink.new)
-        (spoken console (expanded (column_of kernel.old console) (text_from Dollar (byte_at banks.now seg) address 65536)))) }
-    ensures cause { HasCause (S.faults sink.old) (S.faults sink.new) result }
-    ensures trace { render.new.trace ≡ render.old.trace }
+    ensures wrote { Writes S.written S.faults render.old sink.old render.new sink.new (spoken console (expanded (column_of kernel.old console) (text_from Dollar (byte_at banks.now seg) address 65536))) result }
 {
     for offset in 0..65_536u32 {
         let byte = banks.byte(seg, address.wrapping_add(offset as u16));
@@ -131,16 +114,11 @@ pub fn write_kept<S: Sink>(
     render: &mut Render,
     sink: &mut S,
 ) -> Result<(), Failed>
-    requires lives { Lives kernel.old.procs p }
+    requires lives { Lives kernel.old.dispatcher.procs p }
     requires console { console < 8 }
     requires exists { HasConsole kernel.old console }
-    ensures kernel { OnOk result (kernel.new ≡ spoke kernel.old console (expanded (column_of kernel.old console) (call_of kernel.old.procs p).bytes)) }
-    ensures ok { OnOk result (Showed render.old (S.written sink.old) render.new (S.written sink.new)
-        (spoken console (expanded (column_of kernel.old console) (call_of kernel.old.procs p).bytes))) }
-    ensures err { OnErr result (Stopped render.old (S.written sink.old) (S.written sink.new)
-        (spoken console (expanded (column_of kernel.old console) (call_of kernel.old.procs p).bytes))) }
-    ensures cause { HasCause (S.faults sink.old) (S.faults sink.new) result }
-    ensures trace { render.new.trace ≡ render.old.trace }
+    ensures kernel { OnOk result (kernel.new ≡ spoke kernel.old console (expanded (column_of kernel.old console) (call_of kernel.old.dispatcher.procs p).bytes)) }
+    ensures wrote { Writes S.written S.faults render.old sink.old render.new sink.new (spoken console (expanded (column_of kernel.old console) (call_of kernel.old.dispatcher.procs p).bytes)) result }
 {
     for place in 0..kernel.kept_call(p).taken().len() {
         let byte = kernel.kept_call(p).byte(place);

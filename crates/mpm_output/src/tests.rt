@@ -13,7 +13,7 @@ use std::alloc::Global;
 use std::test::Fail;
 
 /// A kernel of one console, as day 1 begins.
-#[tactic(auto, unfolding(mpm_kernel::specs::Dispatch::new_kernel, mpm_consoles::specs::Consoles::no_owners))]
+#[tactic(auto, unfolding(mpm_kernel::specs::Kernel::new_kernel, mpm_consoles::specs::Consoles::no_owners))]
 fn kernel_of_one_console(alloc: Global) -> Result<Kernel, OutOfMemory>
     ensures { IfOk result (λ kernel. HasConsole kernel 0) }
 {

@@ -2,109 +2,148 @@
 use crate::{
     Drives, Failed, FetchError, Fetched, Files, MemoryDrives, MemoryFiles, MemorySink, Sink,
 };
+use std::alloc::Global;
 use std::test::Fail;
 
+/// Whether some texts are put, or fail, as is said of each, and a text is written then.
+fn puts(sink: &mut MemorySink, texts: &[(&[u8], bool)], written: &[u8]) -> bool {
+    for (text, is_put) in texts {
+        if sink.put(text).is_ok() != *is_put {
+            return false;
+        }
+    }
+    sink.written() == written
+}
+
 #[test]
-fn sink_keeps_what_was_put(rt: HostRuntime) -> Result<(), Fail> {
+fn a_sink_keeps_what_was_put_and_refuses_one_byte_too_many(rt: HostRuntime) -> Result<(), Fail> {
     let mut sink = MemorySink::new(rt.alloc(), 5)?;
-    assert_eq!(rt; sink.put(b"ab"), Ok(()));
-    assert_eq!(rt; sink.put(b"cde"), Ok(()));
-    assert_eq!(rt; sink.written(), b"abcde".as_slice());
+    let texts = [
+        (b"ab".as_slice(), true),
+        (b"cdef".as_slice(), false),
+        (b"cde".as_slice(), true),
+    ];
+    let all = puts(&mut sink, &texts, b"abcde");
+    assert!(rt; all);
     Ok(())
 }
 
 #[test]
-fn sink_refuses_one_byte_too_many(rt: HostRuntime) -> Result<(), Fail> {
-    let mut sink = MemorySink::new(rt.alloc(), 5)?;
-    assert_eq!(rt; sink.put(b"abc"), Ok(()));
-    assert_eq!(rt; sink.put(b"def"), Err(Failed));
-    assert_eq!(rt; sink.written(), b"abc".as_slice());
-    assert_eq!(rt; sink.put(b"de"), Ok(()));
-    Ok(())
-}
-
-#[test]
-fn sink_fails_at_a_listed_call(rt: HostRuntime) -> Result<(), Fail> {
+fn a_sink_fails_at_a_listed_call(rt: HostRuntime) -> Result<(), Fail> {
     let mut sink = MemorySink::new(rt.alloc(), 5)?;
     sink.fail_at(2)?;
-    assert_eq!(rt; sink.put(b"a"), Ok(()));
-    assert_eq!(rt; sink.put(b"b"), Err(Failed));
-    assert_eq!(rt; sink.put(b"c"), Ok(()));
-    assert_eq!(rt; sink.written(), b"ac".as_slice());
+    let texts = [
+        (b"a".as_slice(), true),
+        (b"b".as_slice(), false),
+        (b"c".as_slice(), true),
+    ];
+    let all = puts(&mut sink, &texts, b"ac");
+    assert!(rt; all);
     Ok(())
+}
+
+/// Files of two names, the first of which is given its bytes twice.
+fn two_files(alloc: Global) -> Result<MemoryFiles, Fail> {
+    let mut files = MemoryFiles::new(alloc);
+    files.add("MPM.SYS", b"old")?;
+    files.add("B.PRL", b"four")?;
+    files.add("MPM.SYS", b"abc")?;
+    Ok(files)
+}
+
+/// Whether those files give their bytes, at most three of each.
+fn give_their_bytes(files: &mut MemoryFiles, out: &mut Vec<u8>) -> bool {
+    let whole = files.fetch("MPM.SYS", 3, out) == Ok(Fetched::Whole);
+    let longer = files.fetch("B.PRL", 3, out) == Ok(Fetched::Longer);
+    whole && longer && out.as_slice() == b"abcfou".as_slice()
 }
 
 #[test]
 fn files_give_their_bytes(rt: HostRuntime) -> Result<(), Fail> {
-    let mut files = MemoryFiles::new(rt.alloc());
-    files.add("MPM.SYS", b"old")?;
-    files.add("B.PRL", b"four")?;
-    files.add("MPM.SYS", b"abc")?;
+    let mut files = two_files(rt.alloc())?;
     let mut out = Vec::new(rt.alloc());
-    assert_eq!(rt; files.fetch("MPM.SYS", 3, &mut out), Ok(Fetched::Whole));
-    assert_eq!(rt; files.fetch("B.PRL", 3, &mut out), Ok(Fetched::Longer));
-    assert_eq!(rt; out.as_slice(), b"abcfou".as_slice());
+    let given = give_their_bytes(&mut files, &mut out);
+    assert!(rt; given);
     Ok(())
+}
+
+/// Whether the first fetch fails, though its file is there, and then one of a missing name alone.
+fn fail_as_listed(files: &mut MemoryFiles, out: &mut Vec<u8>) -> bool {
+    let first = files.fetch("B.PRL", 9, out) == Err(FetchError::Failed);
+    let missing = files.fetch("C", 9, out) == Err(FetchError::Failed);
+    let second = files.fetch("B.PRL", 9, out) == Ok(Fetched::Whole);
+    first && missing && second && out.as_slice() == b"four".as_slice()
 }
 
 #[test]
 fn files_fail_at_a_listed_call_and_a_missing_name(rt: HostRuntime) -> Result<(), Fail> {
-    let mut files = MemoryFiles::new(rt.alloc());
-    files.add("A", b"a")?;
+    let mut files = two_files(rt.alloc())?;
     files.fail_at(1)?;
     let mut out = Vec::new(rt.alloc());
-    assert_eq!(rt; files.fetch("A", 9, &mut out), Err(FetchError::Failed));
-    assert_eq!(rt; files.fetch("B", 9, &mut out), Err(FetchError::Failed));
-    assert_eq!(rt; files.fetch("A", 9, &mut out), Ok(Fetched::Whole));
-    assert_eq!(rt; out.as_slice(), b"a".as_slice());
+    let failed = fail_as_listed(&mut files, &mut out);
+    assert!(rt; failed);
     Ok(())
 }
 
-fn two_sectors(rt: &HostRuntime) -> Result<Vec<u8>, Fail> {
-    let mut image = Vec::with_capacity(rt.alloc(), 256)?;
+/// Drives with one image of two sectors, of ones and of twos.
+fn two_sectors(alloc: Global) -> Result<MemoryDrives, Fail> {
+    let mut image = Vec::with_capacity(alloc, 256)?;
     image.extend_from_slice(&[1; 128])?;
     image.extend_from_slice(&[2; 128])?;
-    Ok(image)
+    let mut drives = MemoryDrives::new(alloc);
+    drives.add("SYSTEM.DSK", image.as_slice())?;
+    Ok(drives)
+}
+
+/// Whether drive D, once it is attached, has two sectors, of which the second reads as it was written.
+fn read_what_was_written(drives: &mut MemoryDrives) -> bool {
+    if drives.attach(3, "SYSTEM.DSK") != Ok(()) || drives.size(3) != Ok(256) {
+        return false;
+    }
+    let mut before = [0; 128];
+    let mut other = [0; 128];
+    let mut after = [0; 128];
+    let first = drives.read(3, 1, &mut before) == Ok(()) && before[127] == 2;
+    let written = drives.write(3, 1, &[7; 128]) == Ok(());
+    let stays = drives.read(3, 0, &mut other) == Ok(()) && other[127] == 1;
+    let second = drives.read(3, 1, &mut after) == Ok(()) && after[0] == 7;
+    first && written && stays && second && drives.sync(3) == Ok(())
 }
 
 #[test]
 fn drives_read_what_was_written(rt: HostRuntime) -> Result<(), Fail> {
-    let mut drives = MemoryDrives::new(rt.alloc());
-    drives.add("SYSTEM.DSK", two_sectors(&rt)?.as_slice())?;
-    let mut sector = [0; 128];
-    drives.attach(3, "SYSTEM.DSK").map_err(|_| "attach")?;
-    assert_eq!(rt; drives.size(3), Ok(256));
-    drives.read(3, 1, &mut sector).map_err(|_| "read")?;
-    assert_eq!(rt; sector[127], 2);
-    drives.write(3, 1, &[7; 128]).map_err(|_| "write")?;
-    drives.read(3, 0, &mut sector).map_err(|_| "read")?;
-    assert_eq!(rt; sector[127], 1);
-    drives.read(3, 1, &mut sector).map_err(|_| "read")?;
-    assert_eq!(rt; sector[0], 7);
-    assert_eq!(rt; drives.sync(3), Ok(()));
+    let mut drives = two_sectors(rt.alloc())?;
+    let read = read_what_was_written(&mut drives);
+    assert!(rt; read);
     Ok(())
 }
 
 #[test]
 fn drives_fail_at_a_listed_attach_and_a_missing_name(rt: HostRuntime) -> Result<(), Fail> {
-    let mut drives = MemoryDrives::new(rt.alloc());
-    drives.add("A", &[1; 128])?;
+    let mut drives = two_sectors(rt.alloc())?;
     drives.fail_at(1)?;
-    assert_eq!(rt; drives.attach(0, "A"), Err(FetchError::Failed));
-    assert_eq!(rt; drives.attach(0, "B"), Err(FetchError::Failed));
-    assert_eq!(rt; drives.attach(0, "A"), Ok(()));
+    let first = drives.attach(0, "SYSTEM.DSK") == Err(FetchError::Failed);
+    let missing = drives.attach(0, "B") == Err(FetchError::Failed);
+    let second = drives.attach(0, "SYSTEM.DSK") == Ok(());
+    assert!(rt; first && missing && second);
     Ok(())
+}
+
+/// Whether a write to drive A, once it is attached, fails and changes nothing.
+fn fail_to_write(drives: &mut MemoryDrives) -> bool {
+    if drives.attach(0, "SYSTEM.DSK") != Ok(()) || drives.size(0) != Ok(256) {
+        return false;
+    }
+    let mut sector = [0; 128];
+    let failed = drives.write(0, 0, &[7; 128]) == Err(Failed);
+    failed && drives.read(0, 0, &mut sector) == Ok(()) && sector[0] == 1
 }
 
 #[test]
 fn drives_fail_at_a_listed_write(rt: HostRuntime) -> Result<(), Fail> {
-    let mut drives = MemoryDrives::new(rt.alloc());
-    drives.add("A", &[1; 128])?;
-    drives.fail_at(2)?;
-    drives.attach(0, "A").map_err(|_| "attach")?;
-    assert_eq!(rt; drives.write(0, 0, &[7; 128]), Err(Failed));
-    let mut sector = [0; 128];
-    drives.read(0, 0, &mut sector).map_err(|_| "read")?;
-    assert_eq!(rt; sector[0], 1);
+    let mut drives = two_sectors(rt.alloc())?;
+    drives.fail_at(3)?;
+    let failed = fail_to_write(&mut drives);
+    assert!(rt; failed);
     Ok(())
 }

@@ -79,7 +79,7 @@ own_view seg view = record view { memory = reach_of view.memory seg }
 own_alike : (seg : ℕ) (view : View) → AlikeViews view.memory seg view (own_view seg view)
 own_alike seg view = record { regs = refl; bytes = reach_alike view.memory seg; devices = refl }
 
--- the view behind a burst, of what it left of memory
+-- the view after a burst, of what it left of memory
 new_alike : (inside : Bool) (n seg : ℕ) (old new : View) → HasSegment old.memory seg → Moves inside n 0 (own_view seg old) (own_view seg new)
     → new.memory ≡ with_sides old.memory seg (segment_of new.memory seg).bytes new.memory.common → new ≡ moves n seg old
 new_alike inside n seg old new there m others =

@@ -2,7 +2,8 @@
 use Rattle.std.proofs.Common.{◌≡◌, ◌∙◌, ℕ, Bool, true, false, ◌&&◌, ◌==◌, ◌+◌, ◌-◌, ◌*◌, Some, None, if◌then◌else◌, refl, ap, arith}
 use Rattle.mpm_banks.specs.Memory.{Memory, SameSegments, segment_of}
 use Rattle.mpm_processor.specs.declared.gate.Gate.TheVariants.{End, Call, Return}
-use Rattle.mpm_processor.specs.Gates.{IsHome, last_page, gate_in}
+use Rattle.mpm_banks.specs.Gates.{last_page, end_gate, call_gate, return_gate}
+use Rattle.mpm_processor.specs.Gates.{IsHome, gate_in}
 
 by_tests : (a b inside c : Bool) → (if a then Some End else (if b then Some Call else (if inside && c then Some Return else None))) ≡ Some Return → inside ≡ true
 by_tests true b inside c e = absurd (cc)
@@ -13,7 +14,7 @@ by_tests false false false c e = absurd (cc)
 pub returns_inside : (inside : Bool) (page address : ℕ) → gate_in inside page address ≡ Some Return → inside ≡ true
 unfolding gate_in
 returns_inside inside page address e =
-    by_tests (address == 256 * page + 3) (address == 256 * page + 6) inside (address == 256 * page + 9) e
+    by_tests (address == 256 * page + end_gate) (address == 256 * page + call_gate) inside (address == 256 * page + return_gate) e
 
 -- a home, and its gates, stay where they are while its segment does
 

@@ -1,4 +1,4 @@
--- Views behind instructions, one behind another.
+-- Views after instructions, one after another.
 use Rattle.std.proofs.Common.{◌≡◌, ◌∙◌, ℕ, zero, suc, ◌+◌, ◌<◌, ◌≤◌, Bool, false, ◌==◌, Option, Some, None, IsSome, IsNone, is_some, inl, inr, refl, sym, ap, subst, arith, add-one}
 use Rattle.std.proofs.lemmas.Bool.{cases_eq}
 use Rattle.z80_regs.specs.Outcome.{Outcome}

@@ -1,4 +1,4 @@
--- Instructions of one process, one behind another, as long as nothing else may come between them.
+-- Instructions of one process, one after another, as long as nothing else may come between them.
 use Rattle.std.specs.Prelude.{◌≡◌, ℕ, zero, suc, ◌<◌, ◌≤◌, Bool, Option, None, IsSome}
 use Rattle.z80_regs.specs.declared.regs.Regs.{Regs}
 use Rattle.z80_regs.specs.Outcome.{Outcome}
@@ -20,7 +20,7 @@ pub record View : Type 0 where
 abbrev pub instruction_in : ℕ → View → Option Outcome
 instruction_in seg view = instruction view.regs (byte_at view.memory seg) (port_byte view.devices)
 
--- the view behind it
+-- the view after it
 abbrev pub moved : ℕ → View → View
 moved seg view =
     let outcome = instruction_in seg view in
@@ -30,7 +30,7 @@ moved seg view =
       devices = devices_after (actions_of outcome) view.devices;
     }
 
--- the view behind n of them
+-- the view after n of them
 unfoldable pub moves : ℕ → ℕ → View → View
 moves zero seg view = view
 moves (suc n) seg view = moved seg (moves n seg view)

@@ -1,9 +1,9 @@
-ghost use Rattle.std.specs.Prelude.{◌≡◌, ◌+◌, ◌-◌, is_some};
-ghost use Rattle.mpm_banks.specs.Allocations.{FitsBelowCommon};
-ghost use Rattle.mpm_processor.specs.Gates.{IsHome, last_page as last_page_of, gate_in};
+ghost use Rattle.std.specs.Prelude.{◌≡◌, is_some};
+ghost use Rattle.mpm_banks.specs.Gates.{last_page as last_page_of};
+ghost use Rattle.mpm_processor.specs.Gates.{IsHome, gate_in};
 
-use mpm_banks::Banks;
-use mpm_base::{Seg, SegmentSpec};
+use mpm_banks::{Banks, CALL_GATE, END_GATE, RETURN_GATE, last_page};
+use mpm_base::Seg;
 
 /// The gates of a segment, in its last page, where the kernel acts whatever bytes stand there.
 pub enum Gate {
@@ -15,15 +15,6 @@ pub enum Gate {
     Return,
 }
 
-/// The place in the last page of the gate that ends the process.
-const END: u8 = 0x03;
-
-/// The place of the gate that calls the kernel.
-const CALL: u8 = 0x06;
-
-/// The place of the gate that ends a resident procedure.
-const RETURN: u8 = 0x09;
-
 /// The last page of a segment, in which its gates are.
 pub fn page_of_gates(banks: &Banks, seg: Seg) -> u8
     requires { IsHome banks.now seg }
@@ -32,24 +23,16 @@ pub fn page_of_gates(banks: &Banks, seg: Seg) -> u8
     last_page(banks.spec(seg))
 }
 
-/// The last page of a segment that lies there.
-pub(crate) fn last_page(spec: SegmentSpec) -> u8
-    requires { FitsBelowCommon spec }
-    ensures { result ≡ spec.base + spec.pages - 1 }
-{
-    spec.base + spec.pages - 1
-}
-
 /// The gate at an address, if any, for a process that is in a resident procedure (`inside`) or in none.
 #[tactic(auto, unfolding(crate::specs::Gates::gate_in))]
 pub fn gate_at(inside: bool, page: u8, address: u16) -> Option<Gate>
     ensures { result ≡ gate_in inside page address }
 {
-    if address == u16::from_le_bytes([END, page]) {
+    if address == u16::from_le_bytes([END_GATE, page]) {
         Some(Gate::End)
-    } else if address == u16::from_le_bytes([CALL, page]) {
+    } else if address == u16::from_le_bytes([CALL_GATE, page]) {
         Some(Gate::Call)
-    } else if inside && address == u16::from_le_bytes([RETURN, page]) {
+    } else if inside && address == u16::from_le_bytes([RETURN_GATE, page]) {
         Some(Gate::Return)
     } else {
         None
@@ -67,8 +50,8 @@ pub(crate) fn is_gate(inside: bool, page: u8, address: u16) -> bool
         return false;
     }
     match place {
-        END | CALL => true,
-        RETURN => inside,
+        END_GATE | CALL_GATE => true,
+        RETURN_GATE => inside,
         _ => false,
     }
 }

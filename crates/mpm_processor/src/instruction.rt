@@ -7,8 +7,8 @@ ghost use Rattle.mpm_banks.specs.Actions.{memory_after, devices_after};
 ghost use Rattle.mpm_processor.specs.Gates.{IsHome, gate_of};
 ghost use Rattle.mpm_processor.specs.Moving.{CanMove, Moves};
 
-use crate::gate::{is_gate, last_page};
-use mpm_banks::{Banks, Burst, SliceBus};
+use crate::gate::is_gate;
+use mpm_banks::{Banks, Burst, SliceBus, last_page};
 use mpm_base::{Devices, Seg, SegmentSpec};
 use z80_ext::{Stepped, step_prefixed, step_unprefixed};
 use z80_regs::Regs;

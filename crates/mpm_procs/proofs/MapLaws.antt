@@ -43,9 +43,9 @@ pub lives_changed : (table : Table) (p q : ℕ) (process : Process) → lives (w
 unfolding with_process
 lives_changed table p q process = refl
 
-pub call_behind : (table : Table) (p q : ℕ) (process : Process) → call_of (with_process table p process) q ≡ call_of table q
+pub call_after : (table : Table) (p q : ℕ) (process : Process) → call_of (with_process table p process) q ≡ call_of table q
 unfolding with_process
-call_behind table p q process = refl
+call_after table p q process = refl
 
 pub slots_changed : (table : Table) (p : ℕ) (process : Process) → HasSlots table → HasSlots (with_process table p process)
 unfolding with_process
@@ -58,17 +58,17 @@ pub call_changed : (table : Table) (p : ℕ) (call : Taken) → p < length table
 unfolding with_call
 call_changed table p call h = get_or-set_same table.calls p call no_call h
 
-pub process_behind : (table : Table) (p q : ℕ) (call : Taken) → process_in (with_call table p call) q ≡ process_in table q
+pub process_after : (table : Table) (p q : ℕ) (call : Taken) → process_in (with_call table p call) q ≡ process_in table q
 unfolding with_call
-process_behind table p q call = refl
+process_after table p q call = refl
 
-pub lives_behind : (table : Table) (p q : ℕ) (call : Taken) → lives (with_call table p call) q ≡ lives table q
+pub lives_after : (table : Table) (p q : ℕ) (call : Taken) → lives (with_call table p call) q ≡ lives table q
 unfolding with_call
-lives_behind table p q call = refl
+lives_after table p q call = refl
 
-pub slots_behind : (table : Table) (p : ℕ) (call : Taken) → HasSlots table → HasSlots (with_call table p call)
+pub slots_after : (table : Table) (p : ℕ) (call : Taken) → HasSlots table → HasSlots (with_call table p call)
 unfolding with_call
-slots_behind table p call h =
+slots_after table p call h =
     record { alive = h.alive; processes = h.processes; calls = length-set table.calls p call ∙ h.calls }
 
 -- one process more

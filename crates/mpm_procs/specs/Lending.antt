@@ -8,10 +8,10 @@ use Rattle.mpm_procs.specs.declared.process.Process.{Process}
 use Rattle.mpm_procs.specs.contracts.procs.Procs.{the_row}
 use Rattle.mpm_procs.specs.contracts.process.Process.{the_row as process_row}
 
--- the table ends with the last process behind what is lent
+-- the table ends with the last process after what is lent
 abbrev pub LendsProcess : MutBor Table → ℕ → MutBor Process → Fml
 LendsProcess procs slot lent = Lends the_row process_row procs lent (with_process procs.now slot)
 
--- the table ends with the last call behind what is lent
+-- the table ends with the last call after what is lent
 abbrev pub LendsCall : MutBor Table → ℕ → MutBor Taken → Fml
 LendsCall procs slot lent = Lends the_row call_row procs lent (with_call procs.now slot)

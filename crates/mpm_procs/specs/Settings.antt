@@ -1,6 +1,7 @@
 -- What a process sets for itself. (MP/M II Programmer's Guide, functions 32, "Set/Get User Code", and 44, "Set Multi-Sector
 -- Count".)
 use Rattle.std.specs.Prelude.{ℕ, ◌%◌, Bool, ◌&&◌, ◌==◌, nat_le, if◌then◌else◌}
+use Rattle.mpm_base.specs.declared.call.TheConstants.{FAILURE_CODE}
 use Rattle.mpm_procs.specs.declared.process.Process.{Process}
 
 -- FFh asks for the user, another byte sets it modulo 16
@@ -15,7 +16,7 @@ abbrev pub is_count : ℕ → Bool
 is_count n = nat_le 1 n && nat_le n 16
 
 abbrev pub multi_value : ℕ → ℕ
-multi_value count = if is_count count then 0 else 255
+multi_value count = if is_count count then 0 else FAILURE_CODE
 
 abbrev pub with_multi : ℕ → Process → Process
 with_multi count process = record process { multi = if is_count count then count else process.multi }

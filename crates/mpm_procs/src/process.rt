@@ -112,32 +112,10 @@ fn opening_registers(pc: u16, sp: u16) -> Regs
     ensures { result ≡ registers_at_opening pc sp }
 {
     Regs {
-        a: 0,
-        f: 0,
-        b: 0,
-        c: 0,
-        d: 0,
-        e: 0,
-        h: 0,
-        l: 0,
-        a2: 0,
-        f2: 0,
-        b2: 0,
-        c2: 0,
-        d2: 0,
-        e2: 0,
-        h2: 0,
-        l2: 0,
-        ix: 0,
-        iy: 0,
         sp,
         pc,
-        i: 0,
-        r: 0,
         iff1: true,
         iff2: true,
-        mode: 0,
-        halted: false,
-        shadow: false,
+        ..Regs::default()
     }
 }

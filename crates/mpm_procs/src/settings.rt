@@ -1,9 +1,7 @@
 ghost use Rattle.std.specs.Prelude.{◌≡◌, Some};
 
 use crate::process::Process;
-
-/// The answer of a count that is refused.
-const REFUSED: u16 = 0x00FF;
+use mpm_base::FAILURE_CODE;
 
 impl Process {
     ghost use Rattle.mpm_procs.specs.Settings.{user_value, with_user, multi_value, with_multi};
@@ -56,7 +54,7 @@ impl Process {
         ensures value { result ≡ multi_value count }
     {
         if count < 1 || 16 < count {
-            return REFUSED;
+            return FAILURE_CODE;
         }
         self.multi = count;
         0

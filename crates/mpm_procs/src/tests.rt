@@ -1,5 +1,5 @@
 use super::*;
-use mpm_base::{Name8, Pid, Seg};
+use mpm_base::{Name8, Pid, Seg, functions};
 
 /// A program in segment 2.
 fn program(name: [u8; 8], console: u8) -> NewProcess {
@@ -91,7 +91,9 @@ fn what_is_lent_is_written_back(rt: HostRuntime) -> Result<(), OutOfMemory> {
     assert!(rt; procs.lives(Pid(1)));
     procs.get_mut(Pid(1)).priority = 10;
     assert!(rt; procs.lives(Pid(1)));
-    procs.call_mut(Pid(1)).begin(137, 0x0200, 0x0080);
+    procs
+        .call_mut(Pid(1))
+        .begin(functions::READ_QUEUE, 0x0200, 0x0080);
     assert!(rt; procs.lives(Pid(0)) && procs.lives(Pid(1)));
     assert_eq!(rt;
         (procs.get(Pid(0)).priority, procs.get(Pid(1)).priority),
@@ -99,7 +101,7 @@ fn what_is_lent_is_written_back(rt: HostRuntime) -> Result<(), OutOfMemory> {
     );
     assert_eq!(rt;
         (procs.call(Pid(0)).function, procs.call(Pid(1)).function),
-        (0, 137)
+        (0, functions::READ_QUEUE)
     );
     Ok(())
 }
@@ -109,7 +111,9 @@ fn a_slot_forgets_the_call_of_who_ended(rt: HostRuntime) -> Result<(), OutOfMemo
     let mut procs = Procs::new(rt.alloc())?;
     assert_eq!(rt; procs.add(program(*b"FIRST   ", 0)), Ok(Pid(0)));
     assert!(rt; procs.lives(Pid(0)));
-    procs.call_mut(Pid(0)).begin(137, 0x0200, 0x0080);
+    procs
+        .call_mut(Pid(0))
+        .begin(functions::READ_QUEUE, 0x0200, 0x0080);
     procs.end(Pid(0));
     assert_eq!(rt; procs.add(program(*b"SECOND  ", 0)), Ok(Pid(0)));
     assert!(rt; procs.lives(Pid(0)));

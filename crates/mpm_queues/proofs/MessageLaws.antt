@@ -177,15 +177,15 @@ block_kept bytes size kept lacking fits is lacks =
     ap (λ (xs : List ℕ). xs ++ take lacking (replicate 12 0)) front ∙ ap (λ (xs : List ℕ). take 12 (take size bytes) ++ xs) zeros
 
 -- a message put behind the block of a call
-pub given_bytes : (array message behind old : List ℕ) (size width : ℕ) → length array ≡ 4096 → size ≤ 4096 → take size array ≡ in_width 12 old → length message ≡ width → take (12 + width) (take 12 array ++ (message ++ behind)) ≡ in_width 12 old ++ message
-given_bytes array message behind old size width whole fits block is =
+pub given_bytes : (array message afterwards old : List ℕ) (size width : ℕ) → length array ≡ 4096 → size ≤ 4096 → take size array ≡ in_width 12 old → length message ≡ width → take (12 + width) (take 12 array ++ (message ++ afterwards)) ≡ in_width 12 old ++ message
+given_bytes array message afterwards old size width whole fits block is =
     let twelve : size ≡ 12 = omega (arith, ap length block, length-take size array, length_in_width 12 old) in
     let front : take 12 array ≡ in_width 12 old = ap (λ (k : ℕ). take k array) (sym twelve) ∙ block in
     let long : length (in_width 12 old ++ message) ≡ 12 + width = length-append (in_width 12 old) message ∙ omega (arith, length_in_width 12 old) in
-    ap (λ (xs : List ℕ). take (12 + width) (xs ++ (message ++ behind))) front
-    ∙ ap (take (12 + width)) (sym (append_assoc (in_width 12 old) message behind))
-    ∙ ap (λ (k : ℕ). take k ((in_width 12 old ++ message) ++ behind)) (sym long)
-    ∙ take-append_seam (in_width 12 old ++ message) behind
+    ap (λ (xs : List ℕ). take (12 + width) (xs ++ (message ++ afterwards))) front
+    ∙ ap (take (12 + width)) (sym (append_assoc (in_width 12 old) message afterwards))
+    ∙ ap (λ (k : ℕ). take k ((in_width 12 old ++ message) ++ afterwards)) (sym long)
+    ∙ take-append_seam (in_width 12 old ++ message) afterwards
 
 pub first_width : (name : Name8) (width count stored : ℕ) (holder : Option ℕ) (bytes : Buffer ℕ) → IsStore width count stored bytes → 0 < stored → length (first_message (queue_of name width count stored holder bytes)) ≡ width
 unfolding first_message

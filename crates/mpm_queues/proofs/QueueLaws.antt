@@ -29,6 +29,11 @@ pub one_message : (queue : Queue) → is_exclusive queue ≡ true → queue.coun
 unfolding is_exclusive
 one_message queue is = grind (arith, nat_tests)
 
+-- which has no bytes
+pub no_bytes : (queue : Queue) → is_exclusive queue ≡ true → queue.width ≡ 0
+unfolding is_exclusive
+no_bytes queue is = grind (arith, nat_tests)
+
 -- as it is made
 pub proper_new : (name : Name8) (width count : ℕ) → width * count ≤ 2048 → IsProper (new_queue name width count)
 unfolding new_queue
@@ -52,7 +57,7 @@ pub proper_none : IsProper no_queue
 unfolding no_queue
 proper_none = proper_new (record { 0 = replicate 8 0 }) 0 0 (omega arith)
 
--- behind a message read
+-- after a message read
 all_dropped : (P : List ℕ → Type 0) (ms : List (List ℕ)) → AllByRecursion P ms → AllByRecursion P (drop 1 ms)
 all_dropped P [] all = tt
 all_dropped P (m ∷ ms) all = all.1
@@ -76,7 +81,7 @@ proper_read queue p proper = record {
   away = λ r is. none_left queue.messages (let one = one_message queue (held_exclusive (is_exclusive queue) p r is) in let room = proper.room in omega arith);
 }
 
--- behind a message handed over
+-- after a message handed over
 pub proper_held : (queue : Queue) (p : ℕ) → IsProper queue → is_drained queue ≡ true → IsProper (held_by p queue)
 unfolding held_by is_exclusive
 proper_held queue p proper none = record {
@@ -87,7 +92,7 @@ proper_held queue p proper none = record {
   away = λ r is. drained_empty queue none;
 }
 
--- behind a message written
+-- after a message written
 all_appended : (P : List ℕ → Type 0) (ms : List (List ℕ)) (message : List ℕ) → AllByRecursion P ms → P message → AllByRecursion P (ms ++ message ∷ [])
 all_appended P [] message all one = (one, tt)
 all_appended P (m ∷ ms) message all one = (all.0, all_appended P ms message all.1 one)
@@ -103,9 +108,9 @@ proper_written queue message proper some is = record {
 }
 
 -- a read makes room for one message, and one message more fills it again
-pub room_behind : (queue : Queue) (p : ℕ) → IsProper queue → is_drained queue ≡ false → is_full (read_by p queue) ≡ false
+pub room_after : (queue : Queue) (p : ℕ) → IsProper queue → is_drained queue ≡ false → is_full (read_by p queue) ≡ false
 unfolding held_by shortened
-room_behind queue p proper some =
+room_after queue p proper some =
     let fewer = length-drop 1 queue.messages in
     let room = proper.room in
     let one = some_message queue.messages some in

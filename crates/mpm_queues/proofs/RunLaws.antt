@@ -6,8 +6,8 @@ use Rattle.std.proofs.lemmas.List.{append-nil, append_assoc}
 use Rattle.mpm_procs.specs.Table.{Table}
 use Rattle.mpm_queues.specs.Queue.{Queue, is_drained, is_full, first_message, held_by, shortened, read_by, with_message}
 use Rattle.mpm_queues.specs.Queues.{Queues, IsMade, queue_in, IsSound}
-use Rattle.mpm_queues.specs.Handling.{first_reader, first_writer, written_by, dequeued, let_in, delivered, behind_read, behind_write, enlisted, queues_without_waiter}
-use Rattle.mpm_queues.specs.Runs.{out_by_read, in_by_read, waiting_message, out_by_write, in_by_write, delivered_message, Conserves, Operation, Reads, Writes, Waits, Leaves, behind_operation, out_by, in_by, MayBe, behind_all, all_out, all_in, AllMayBe}
+use Rattle.mpm_queues.specs.Handling.{first_reader, first_writer, written_by, dequeued, let_in, delivered, message_read, message_written, enlisted, queues_without_waiter}
+use Rattle.mpm_queues.specs.Runs.{out_by_read, in_by_read, waiting_message, out_by_write, in_by_write, delivered_message, Conserves, Operation, Reads, Writes, Waits, Leaves, operation_made, out_by, in_by, MayBe, operations_made, all_out, all_in, AllMayBe}
 use Rattle.mpm_queues.proofs.QueueLaws.{drained_empty}
 use Rattle.mpm_queues.proofs.SoundLaws.{changed, queue_there, reader_drained, sound_read, sound_write, sound_enlisted, sound_queues_without}
 
@@ -32,8 +32,8 @@ read_done t p q procs sound is some =
     ap (λ (x : Queue). (first_message (queue_in t q) ∷ []) ++ x.messages) (queue_there t q _ (dequeued (first_writer t q) t.waiters) sound is)
     ∙ read_messages t p q procs (first_writer t q) some
 
-pub conserves_read : (t : Queues) (p q : ℕ) (procs : Table) → IsSound t → IsMade t q → Conserves t (behind_read t p q procs) q (out_by_read t q) (in_by_read t q procs)
-unfolding behind_read out_by_read in_by_read
+pub conserves_read : (t : Queues) (p q : ℕ) (procs : Table) → IsSound t → IsMade t q → Conserves t (message_read t p q procs) q (out_by_read t q) (in_by_read t q procs)
+unfolding message_read out_by_read in_by_read
 conserves_read t p q procs sound is = elim (cases_Bool (is_drained (queue_in t q))) [
   | inl none ↦ subst P (sym none) (nothing t q)
   | inr some ↦ subst P (sym some) (read_done t p q procs sound is some)
@@ -55,8 +55,8 @@ write_done t p q procs sound is =
     ap (λ (x : Queue). delivered_message (written_by t q procs p) (first_reader t q) ++ x.messages) (queue_there t q _ (dequeued (first_reader t q) t.waiters) sound is)
     ∙ written_messages t q (written_by t q procs p) (first_reader t q) (λ r first. reader_drained t q r sound is first)
 
-pub conserves_write : (t : Queues) (p q : ℕ) (procs : Table) → IsSound t → IsMade t q → Conserves t (behind_write t p q procs) q (out_by_write t p q procs) (in_by_write t p q procs)
-unfolding behind_write out_by_write in_by_write
+pub conserves_write : (t : Queues) (p q : ℕ) (procs : Table) → IsSound t → IsMade t q → Conserves t (message_written t p q procs) q (out_by_write t p q procs) (in_by_write t p q procs)
+unfolding message_written out_by_write in_by_write
 conserves_write t p q procs sound is =
     by_test (is_full (queue_in t q)) (nothing t q) (write_done t p q procs sound is)
   where
@@ -65,14 +65,14 @@ conserves_write t p q procs sound is =
     by_test false full room = room
 
 -- one operation
-pub conserves_operation : (t : Queues) (q : ℕ) (operation : Operation) → IsSound t → IsMade t q → Conserves t (behind_operation t q operation) q (out_by t q operation) (in_by t q operation)
+pub conserves_operation : (t : Queues) (q : ℕ) (operation : Operation) → IsSound t → IsMade t q → Conserves t (operation_made t q operation) q (out_by t q operation) (in_by t q operation)
 unfolding enlisted queues_without_waiter
 conserves_operation t q (Reads p procs) sound is = conserves_read t p q procs sound is
 conserves_operation t q (Writes p procs) sound is = conserves_write t p q procs sound is
 conserves_operation t q (Waits p priority reader) sound is = nothing t q
 conserves_operation t q (Leaves p) sound is = nothing t q
 
-pub sound_operation : (t : Queues) (q : ℕ) (operation : Operation) → IsSound t → IsMade t q → MayBe t q operation → IsSound (behind_operation t q operation)
+pub sound_operation : (t : Queues) (q : ℕ) (operation : Operation) → IsSound t → IsMade t q → MayBe t q operation → IsSound (operation_made t q operation)
 sound_operation t q (Reads p procs) sound is may = sound_read t p q procs sound is
 sound_operation t q (Writes p procs) sound is may = sound_write t p q procs sound is
 sound_operation t q (Waits p priority reader) sound is may = sound_enlisted t p priority q reader sound is may.0 may.1 may.2
@@ -82,8 +82,8 @@ alive_kept : (b : Bool) (t other : Queues) → other.alive ≡ t.alive → (cond
 alive_kept true t other same = refl
 alive_kept false t other same = same
 
-pub made_operation : (t : Queues) (q : ℕ) (operation : Operation) → (behind_operation t q operation).alive ≡ t.alive
-unfolding behind_read behind_write enlisted queues_without_waiter
+pub made_operation : (t : Queues) (q : ℕ) (operation : Operation) → (operation_made t q operation).alive ≡ t.alive
+unfolding message_read message_written enlisted queues_without_waiter
 made_operation t q (Reads p procs) = alive_kept (is_drained (queue_in t q)) t _ refl
 made_operation t q (Writes p procs) = alive_kept (is_full (queue_in t q)) t _ refl
 made_operation t q (Waits p priority reader) = refl
@@ -95,11 +95,11 @@ joined given rest now before into more middle one all =
     append_assoc given rest now ∙ ap (λ (ms : List (List ℕ)). given ++ ms) all ∙ sym (append_assoc given middle more)
     ∙ ap (λ (ms : List (List ℕ)). ms ++ more) one ∙ append_assoc before into more
 
-pub conserves_all : (t : Queues) (q : ℕ) (operations : List Operation) → IsSound t → IsMade t q → AllMayBe t q operations → Conserves t (behind_all t q operations) q (all_out t q operations) (all_in t q operations)
-unfolding behind_all all_out all_in AllMayBe
+pub conserves_all : (t : Queues) (q : ℕ) (operations : List Operation) → IsSound t → IsMade t q → AllMayBe t q operations → Conserves t (operations_made t q operations) q (all_out t q operations) (all_in t q operations)
+unfolding operations_made all_out all_in AllMayBe
 conserves_all t q [] sound is may = nothing t q
 conserves_all t q (operation ∷ operations) sound is may =
     let still = ap (λ (alive : List Bool). get_or alive q false) (made_operation t q operation) ∙ is in
-    joined (out_by t q operation) (all_out (behind_operation t q operation) q operations) _ (queue_in t q).messages (in_by t q operation) (all_in (behind_operation t q operation) q operations) _
+    joined (out_by t q operation) (all_out (operation_made t q operation) q operations) _ (queue_in t q).messages (in_by t q operation) (all_in (operation_made t q operation) q operations) _
     (conserves_operation t q operation sound is)
-    (conserves_all (behind_operation t q operation) q operations (sound_operation t q operation sound is may.0) still may.1)
+    (conserves_all (operation_made t q operation) q operations (sound_operation t q operation sound is may.0) still may.1)

@@ -1,4 +1,4 @@
--- What is so of the queues stays so behind each call.
+-- What is so of the queues stays so after each call.
 use Rattle.std.proofs.Common.{◌≡◌, ◌≢◌, ◌∙◌, ℕ, ◌+◌, ◌*◌, ◌<◌, ◌≤◌, ◌⊎◌, inl, inr, Bool, true, false, not, cond, List, [], ◌∷◌, Option, Some, None, ◌&&◌, ◌||◌, ◌==◌, length, get_or, replicate, refl, sym, ap, subst, arith}
 use Rattle.std.specs.Prelude.{bytes_eq, slice_set, is_none}
 use Rattle.std.proofs.lemmas.Bool.{false≢true, cases_Bool, cases_eq, cases_lt, eq-eqb, eqb-true}
@@ -12,9 +12,9 @@ use Rattle.mpm_ready.specs.Tables.{list_at, list_of, no_lists, inserted, removed
 use Rattle.mpm_ready.proofs.TableLaws.{in_list_removed, in_list_inserted, table_removed, table_inserted, table_none, list_at_none, none_in_none}
 use Rattle.mpm_procs.specs.Table.{Table, call_of}
 use Rattle.mpm_queues.specs.Queue.{Queue, new_queue, no_queue, is_drained, is_full, first_message, held_by, read_by, with_message, message_of, IsProper}
-use Rattle.mpm_queues.specs.Queues.{Queues, waits_at, IsMade, is_made, is_free, is_named, found, lowest_free, queue_in, readers_of, writers_of, no_queues, made, may_end, without, behind_delete, IsSound}
-use Rattle.mpm_queues.specs.Handling.{dequeued, let_in, delivered, first_reader, first_writer, behind_read, behind_write, written_by, read_by_waiter, delivered_to, procs_behind_write, queues_without_waiter, enlisted, may_wait}
-use Rattle.mpm_queues.proofs.QueueLaws.{length_message, proper_none, proper_new, new_count, new_name, proper_read, proper_held, proper_written, room_behind, full_again, read_at_once, first_written}
+use Rattle.mpm_queues.specs.Queues.{Queues, waits_at, IsMade, is_made, is_free, is_named, found, lowest_free, queue_in, readers_of, writers_of, no_queues, made, may_end, without, without_queue, IsSound}
+use Rattle.mpm_queues.specs.Handling.{dequeued, let_in, delivered, first_reader, first_writer, message_read, message_written, written_by, read_by_waiter, delivered_to, procs_after_write, queues_without_waiter, enlisted, may_wait}
+use Rattle.mpm_queues.proofs.QueueLaws.{length_message, proper_none, proper_new, new_count, new_name, proper_read, proper_held, proper_written, room_after, full_again, read_at_once, first_written}
 
 -- a number that names a queue is below 32
 pub made_below : (t : Queues) (q : ℕ) → IsSound t → IsMade t q → q < 32
@@ -118,7 +118,7 @@ read_changes t p q procs sound is some =
     let kept = let_in_keeps procs o read in
     let same = read_keeps p (queue_in t q) in
     record {
-      proper = proper_let_in procs o read (proper_read (queue_in t q) p (sound.proper q)) (room_behind (queue_in t q) p (sound.proper q) some);
+      proper = proper_let_in procs o read (proper_read (queue_in t q) p (sound.proper q)) (room_after (queue_in t q) p (sound.proper q) some);
       some = subst (λ (n : ℕ). 1 ≤ n) (sym (kept.1 ∙ same.1)) (sound.some q is);
       name = kept.0 ∙ same.0;
       table = table_dequeued o t.waiters sound.table;
@@ -168,16 +168,16 @@ write_changes t q message sound is room size =
       writers = λ w there. absurd (false≢true (sym room ∙ (sound.writers q w (made_below t q sound is) (in_dequeued o t.waiters w (32 + q) there)).1));
     }
 
--- behind the calls
-pub sound_read : (t : Queues) (p q : ℕ) (procs : Table) → IsSound t → IsMade t q → IsSound (behind_read t p q procs)
-unfolding behind_read
+-- after the calls
+pub sound_read : (t : Queues) (p q : ℕ) (procs : Table) → IsSound t → IsMade t q → IsSound (message_read t p q procs)
+unfolding message_read
 sound_read t p q procs sound is = elim (cases_Bool (is_drained (queue_in t q))) [
   | inl none ↦ subst IsSound (sym (ap (λ (b : Bool). cond b t (changed t q (let_in procs (first_writer t q) (read_by p (queue_in t q))) (dequeued (first_writer t q) t.waiters))) none)) sound
   | inr some ↦ subst IsSound (sym (ap (λ (b : Bool). cond b t (changed t q (let_in procs (first_writer t q) (read_by p (queue_in t q))) (dequeued (first_writer t q) t.waiters))) some)) (sound_changed t q _ _ sound is (read_changes t p q procs sound is some))
 ]
 
-pub sound_write : (t : Queues) (p q : ℕ) (procs : Table) → IsSound t → IsMade t q → IsSound (behind_write t p q procs)
-unfolding behind_write
+pub sound_write : (t : Queues) (p q : ℕ) (procs : Table) → IsSound t → IsMade t q → IsSound (message_written t p q procs)
+unfolding message_written
 sound_write t p q procs sound is = elim (cases_Bool (is_full (queue_in t q))) [
   | inl full ↦ subst IsSound (sym (ap (λ (b : Bool). cond b t (changed t q (delivered (first_reader t q) (written_by t q procs p) (queue_in t q)) (dequeued (first_reader t q) t.waiters))) full)) sound
   | inr room ↦ subst IsSound (sym (ap (λ (b : Bool). cond b t (changed t q (delivered (first_reader t q) (written_by t q procs p) (queue_in t q)) (dequeued (first_reader t q) t.waiters))) room)) (sound_changed t q _ _ sound is (write_changes t q _ sound is room (length_message _ _)))
@@ -207,32 +207,32 @@ same_change t k q store queue waiters left number same less =
     ap (λ (j : ℕ). changed t j store waiters) number ∙ ap (λ (x : Queue). changed t q x waiters) same ∙ ap (λ (ws : List (List Member)). changed t q queue ws) less
 
 -- the parts of a read: the queue was picked and read, and a writer let in
-pub record IsRead (t : Queues) (p q k : ℕ) (procs : Table) (queue behind store : Queue) (other : Option ℕ) (left : List (List Member)) : Type 0 where
+pub record IsRead (t : Queues) (p q k : ℕ) (procs : Table) (queue afterwards store : Queue) (other : Option ℕ) (left : List (List Member)) : Type 0 where
   pub number : k ≡ q
   pub value : queue ≡ get_or t.queues k queue
   pub some : is_drained queue ≡ false
-  pub reading : behind ≡ read_by p queue
+  pub reading : afterwards ≡ read_by p queue
   pub first : other ≡ first_writer t q
-  pub letting : store ≡ let_in procs other behind
+  pub letting : store ≡ let_in procs other afterwards
   pub leaving : left ≡ dequeued other t.waiters
 
-pub sound_read_parts : (t : Queues) (p q k : ℕ) (procs : Table) (queue behind store : Queue) (other : Option ℕ) (left : List (List Member)) → IsSound t → IsMade t q → IsRead t p q k procs queue behind store other left → IsSound (changed t k store left)
-sound_read_parts t p q k procs queue behind store other left sound is parts =
+pub sound_read_parts : (t : Queues) (p q k : ℕ) (procs : Table) (queue afterwards store : Queue) (other : Option ℕ) (left : List (List Member)) → IsSound t → IsMade t q → IsRead t p q k procs queue afterwards store other left → IsSound (changed t k store left)
+sound_read_parts t p q k procs queue afterwards store other left sound is parts =
     let it = picked t q k queue sound is parts.number parts.value in
     let some = ap is_drained (sym it) ∙ parts.some in
-    let after : store ≡ let_in procs (first_writer t q) (read_by p (queue_in t q)) = parts.letting ∙ ap (λ (o : Option ℕ). let_in procs o behind) parts.first ∙ ap (let_in procs (first_writer t q)) (parts.reading ∙ ap (read_by p) it) in
+    let after : store ≡ let_in procs (first_writer t q) (read_by p (queue_in t q)) = parts.letting ∙ ap (λ (o : Option ℕ). let_in procs o afterwards) parts.first ∙ ap (let_in procs (first_writer t q)) (parts.reading ∙ ap (read_by p) it) in
     let less = parts.leaving ∙ ap (λ (o : Option ℕ). dequeued o t.waiters) parts.first in
     subst IsSound (sym (same_change t k q store _ left _ parts.number after less)) (sound_changed t q _ _ sound is (read_changes t p q procs sound is some))
 
 -- the parts of a write: the message was added, and handed to a reader
-pub record IsWritten (t : Queues) (p q k : ℕ) (procs new : Table) (queue behind store : Queue) (other : Option ℕ) (left : List (List Member)) : Type 0 where
+pub record IsWritten (t : Queues) (p q k : ℕ) (procs new : Table) (queue afterwards store : Queue) (other : Option ℕ) (left : List (List Member)) : Type 0 where
   pub number : k ≡ q
   pub value : queue ≡ get_or t.queues k queue
   pub room : is_full queue ≡ false
-  pub adding : behind ≡ with_message (message_of queue.width (call_of procs p)) queue
+  pub adding : afterwards ≡ with_message (message_of queue.width (call_of procs p)) queue
   pub first : other ≡ first_reader t q
-  pub taking : store ≡ read_by_waiter other behind
-  pub telling : new ≡ delivered_to other (first_message behind) procs
+  pub taking : store ≡ read_by_waiter other afterwards
+  pub telling : new ≡ delivered_to other (first_message afterwards) procs
   pub leaving : left ≡ dequeued other t.waiters
 
 delivered_is : (o : Option ℕ) (message : List ℕ) (queue : Queue) → ((r : ℕ) → o ≡ Some r → is_drained queue ≡ true) → read_by_waiter o (with_message message queue) ≡ delivered o message queue
@@ -244,29 +244,29 @@ delivered_to_is None message queue procs none = refl
 delivered_to_is (Some r) message queue procs none =
     ap (λ (m : List ℕ). delivered_to (Some r) m procs) (first_written queue message (none r refl))
 
-pub write_is_change : (t : Queues) (p q k : ℕ) (procs new : Table) (queue behind store : Queue) (other : Option ℕ) (left : List (List Member)) → IsSound t → IsMade t q → IsWritten t p q k procs new queue behind store other left → (is_full (queue_in t q) ≡ false) × (changed t k store left ≡ changed t q (delivered (first_reader t q) (written_by t q procs p) (queue_in t q)) (dequeued (first_reader t q) t.waiters)) × (new ≡ delivered_to (first_reader t q) (written_by t q procs p) procs)
-write_is_change t p q k procs new queue behind store other left sound is parts =
+pub write_is_change : (t : Queues) (p q k : ℕ) (procs new : Table) (queue afterwards store : Queue) (other : Option ℕ) (left : List (List Member)) → IsSound t → IsMade t q → IsWritten t p q k procs new queue afterwards store other left → (is_full (queue_in t q) ≡ false) × (changed t k store left ≡ changed t q (delivered (first_reader t q) (written_by t q procs p) (queue_in t q)) (dequeued (first_reader t q) t.waiters)) × (new ≡ delivered_to (first_reader t q) (written_by t q procs p) procs)
+write_is_change t p q k procs new queue afterwards store other left sound is parts =
     let it = picked t q k queue sound is parts.number parts.value in
     let message = written_by t q procs p in
     let o = first_reader t q in
     let none = λ (r : ℕ) (first : o ≡ Some r). reader_drained t q r sound is first in
-    let added : behind ≡ with_message message (queue_in t q) = parts.adding ∙ ap (λ (x : Queue). with_message (message_of x.width (call_of procs p)) x) it in
-    let after : store ≡ delivered o message (queue_in t q) = parts.taking ∙ ap (λ (f : Option ℕ). read_by_waiter f behind) parts.first ∙ ap (read_by_waiter o) added ∙ delivered_is o message (queue_in t q) none in
+    let added : afterwards ≡ with_message message (queue_in t q) = parts.adding ∙ ap (λ (x : Queue). with_message (message_of x.width (call_of procs p)) x) it in
+    let after : store ≡ delivered o message (queue_in t q) = parts.taking ∙ ap (λ (f : Option ℕ). read_by_waiter f afterwards) parts.first ∙ ap (read_by_waiter o) added ∙ delivered_is o message (queue_in t q) none in
     let less = parts.leaving ∙ ap (λ (f : Option ℕ). dequeued f t.waiters) parts.first in (
       ap is_full (sym it) ∙ parts.room,
       same_change t k q store _ left _ parts.number after less,
-      parts.telling ∙ ap (λ (f : Option ℕ). delivered_to f (first_message behind) procs) parts.first ∙ ap (λ (x : Queue). delivered_to o (first_message x) procs) added ∙ delivered_to_is o message (queue_in t q) procs none,
+      parts.telling ∙ ap (λ (f : Option ℕ). delivered_to f (first_message afterwards) procs) parts.first ∙ ap (λ (x : Queue). delivered_to o (first_message x) procs) added ∙ delivered_to_is o message (queue_in t q) procs none,
     )
 
-pub sound_write_parts : (t : Queues) (p q k : ℕ) (procs new : Table) (queue behind store : Queue) (other : Option ℕ) (left : List (List Member)) → IsSound t → IsMade t q → IsWritten t p q k procs new queue behind store other left → IsSound (changed t k store left)
-sound_write_parts t p q k procs new queue behind store other left sound is parts =
-    let all = write_is_change t p q k procs new queue behind store other left sound is parts in
+pub sound_write_parts : (t : Queues) (p q k : ℕ) (procs new : Table) (queue afterwards store : Queue) (other : Option ℕ) (left : List (List Member)) → IsSound t → IsMade t q → IsWritten t p q k procs new queue afterwards store other left → IsSound (changed t k store left)
+sound_write_parts t p q k procs new queue afterwards store other left sound is parts =
+    let all = write_is_change t p q k procs new queue afterwards store other left sound is parts in
     subst IsSound (sym all.1) (sound_changed t q _ _ sound is (write_changes t q _ sound is all.0 (length_message _ _)))
 
-pub write_parts : (t : Queues) (p q k : ℕ) (procs new : Table) (queue behind store : Queue) (other : Option ℕ) (left : List (List Member)) → IsSound t → IsMade t q → IsWritten t p q k procs new queue behind store other left → (changed t k store left ≡ behind_write t p q procs) × (new ≡ procs_behind_write t p q procs)
-unfolding behind_write procs_behind_write
-write_parts t p q k procs new queue behind store other left sound is parts =
-    let all = write_is_change t p q k procs new queue behind store other left sound is parts in
+pub write_parts : (t : Queues) (p q k : ℕ) (procs new : Table) (queue afterwards store : Queue) (other : Option ℕ) (left : List (List Member)) → IsSound t → IsMade t q → IsWritten t p q k procs new queue afterwards store other left → (changed t k store left ≡ message_written t p q procs) × (new ≡ procs_after_write t p q procs)
+unfolding message_written procs_after_write
+write_parts t p q k procs new queue afterwards store other left sound is parts =
+    let all = write_is_change t p q k procs new queue afterwards store other left sound is parts in
     let o = first_reader t q in
     let message = written_by t q procs p in (
       all.1 ∙ sym (ap (λ (b : Bool). cond b t (changed t q (delivered o message (queue_in t q)) (dequeued o t.waiters))) all.0),
@@ -321,7 +321,7 @@ pub sound_queues_without : (t : Queues) (p : ℕ) → IsSound t → IsSound (que
 unfolding queues_without_waiter
 sound_queues_without t p sound = sound_fewer t.alive t.queues t.waiters (removed t.waiters p) p sound refl
 
--- who is in a list behind an insertion was there before, or was put in
+-- who is in a list after an insertion was there before, or was put in
 or_none : (b : Bool) → (b || false) ≡ b
 or_none true = refl
 or_none false = refl
@@ -475,8 +475,8 @@ sound_without t q sound is may =
     and_left true b h = refl
     and_left false b h = absurd (cc)
 
-pub sound_delete : (t : Queues) (q : ℕ) → IsSound t → IsMade t q → IsSound (behind_delete t q)
-unfolding behind_delete
+pub sound_delete : (t : Queues) (q : ℕ) → IsSound t → IsMade t q → IsSound (without_queue t q)
+unfolding without_queue
 sound_delete t q sound is = elim (cases_Bool (may_end t q)) [
   | inl may ↦ subst IsSound (sym (ap (λ (b : Bool). cond b (without t q) t) may)) (sound_without t q sound is may)
   | inr kept ↦ subst IsSound (sym (ap (λ (b : Bool). cond b (without t q) t) kept)) sound

@@ -1,4 +1,4 @@
--- Who waits behind each call: only its own process, and the one whose wait it ends, come to wait or cease to. And who holds a
+-- Who waits after each call: only its own process, and the one whose wait it ends, come to wait or cease to. And who holds a
 -- message.
 use Rattle.std.proofs.Common.{◌≡◌, ◌≢◌, ◌∙◌, ℕ, ◌+◌, ◌<◌, Bool, true, false, not, cond, List, Option, Some, None, ◌&&◌, ◌||◌, ◌⊎◌, inl, inr, refl, sym, ap, subst, arith}
 use Rattle.std.specs.Option.{option_map_or}
@@ -10,8 +10,8 @@ use Rattle.mpm_ready.proofs.TableLaws.{list_of_known, list_of_removed, list_of_r
 use Rattle.mpm_ready.proofs.Circles.{slot_has}
 use Rattle.mpm_procs.specs.Table.{Table}
 use Rattle.mpm_queues.specs.Queue.{Queue, no_queue, is_drained, is_full, is_exclusive, held_by, shortened, read_by, with_message}
-use Rattle.mpm_queues.specs.Queues.{Queues, IsMade, is_made, is_named, is_holder, holds, queue_in, readers_of, writers_of, waits_at, waits, WaitsNowhere, made, may_end, without, behind_delete, IsSound}
-use Rattle.mpm_queues.specs.Handling.{first_reader, first_writer, written_by, dequeued, let_in, delivered, behind_read, read_outcome, behind_write, write_outcome, woken_by, enlisted, queues_without_waiter, place_for}
+use Rattle.mpm_queues.specs.Queues.{Queues, IsMade, is_made, is_named, is_holder, holds, queue_in, readers_of, writers_of, waits_at, waits, WaitsNowhere, made, may_end, without, without_queue, IsSound}
+use Rattle.mpm_queues.specs.Handling.{first_reader, first_writer, written_by, dequeued, let_in, delivered, message_read, read_outcome, message_written, write_outcome, woken_by, enlisted, queues_without_waiter, place_for}
 use Rattle.mpm_queues.specs.declared.queues.QueueOutcome.TheVariants.{Done, NotNow}
 use Rattle.mpm_queues.proofs.SoundLaws.{made_below, changed, queue_there, queue_else, reader_waits, writer_waits}
 
@@ -104,8 +104,8 @@ waiters_chosen : (b : Bool) (t other : Queues) → other.waiters ≡ t.waiters �
 waiters_chosen true t other same = same
 waiters_chosen false t other same = refl
 
-pub waiters_delete : (t : Queues) (q : ℕ) → (behind_delete t q).waiters ≡ t.waiters
-unfolding behind_delete without
+pub waiters_delete : (t : Queues) (q : ℕ) → (without_queue t q).waiters ≡ t.waiters
+unfolding without_queue without
 waiters_delete t q = waiters_chosen (may_end t q) t (without t q) refl
 
 -- a message is read or written: who was first waits no more, all others as before
@@ -113,12 +113,12 @@ read_at : (b : Bool) (t : Queues) (o : Option ℕ) (queues : List Queue) → (co
 read_at true t o queues = refl
 read_at false t o queues = refl
 
-pub waiters_read : (t : Queues) (p q : ℕ) (procs : Table) → (behind_read t p q procs).waiters ≡ dequeued (woken_by (read_outcome t q)) t.waiters
-unfolding behind_read read_outcome
+pub waiters_read : (t : Queues) (p q : ℕ) (procs : Table) → (message_read t p q procs).waiters ≡ dequeued (woken_by (read_outcome t q)) t.waiters
+unfolding message_read read_outcome
 waiters_read t p q procs = read_at (is_drained (queue_in t q)) t (first_writer t q) _
 
-pub waiters_write : (t : Queues) (p q : ℕ) (procs : Table) → (behind_write t p q procs).waiters ≡ dequeued (woken_by (write_outcome t q)) t.waiters
-unfolding behind_write write_outcome
+pub waiters_write : (t : Queues) (p q : ℕ) (procs : Table) → (message_written t p q procs).waiters ≡ dequeued (woken_by (write_outcome t q)) t.waiters
+unfolding message_written write_outcome
 waiters_write t p q procs = read_at (is_full (queue_in t q)) t (first_reader t q) _
 
 dequeued_nowhere : (o : Option ℕ) (lists : List (List Member)) (w : ℕ) → o ≡ Some w → list_of (dequeued o lists) w ≡ None
@@ -131,33 +131,33 @@ dequeued_other None lists r table apart = refl
 dequeued_other (Some f) lists r table apart =
     list_of_removed_other lists f r table (ne_eqb f r (λ same. apart (ap (λ (x : ℕ). Some x) same)))
 
-pub read_woken : (t : Queues) (p q : ℕ) (procs : Table) (w : ℕ) → woken_by (read_outcome t q) ≡ Some w → WaitsNowhere (behind_read t p q procs) w
+pub read_woken : (t : Queues) (p q : ℕ) (procs : Table) (w : ℕ) → woken_by (read_outcome t q) ≡ Some w → WaitsNowhere (message_read t p q procs) w
 read_woken t p q procs w is =
     ap (λ (ls : List (List Member)). list_of ls w) (waiters_read t p q procs) ∙ dequeued_nowhere (woken_by (read_outcome t q)) t.waiters w is
 
-pub read_other : (t : Queues) (p q : ℕ) (procs : Table) (r : ℕ) → IsSound t → woken_by (read_outcome t q) ≢ Some r → list_of (behind_read t p q procs).waiters r ≡ list_of t.waiters r
+pub read_other : (t : Queues) (p q : ℕ) (procs : Table) (r : ℕ) → IsSound t → woken_by (read_outcome t q) ≢ Some r → list_of (message_read t p q procs).waiters r ≡ list_of t.waiters r
 read_other t p q procs r sound apart =
     ap (λ (ls : List (List Member)). list_of ls r) (waiters_read t p q procs) ∙ dequeued_other (woken_by (read_outcome t q)) t.waiters r sound.table apart
 
-pub write_woken : (t : Queues) (p q : ℕ) (procs : Table) (r : ℕ) → woken_by (write_outcome t q) ≡ Some r → WaitsNowhere (behind_write t p q procs) r
+pub write_woken : (t : Queues) (p q : ℕ) (procs : Table) (r : ℕ) → woken_by (write_outcome t q) ≡ Some r → WaitsNowhere (message_written t p q procs) r
 write_woken t p q procs r is =
     ap (λ (ls : List (List Member)). list_of ls r) (waiters_write t p q procs) ∙ dequeued_nowhere (woken_by (write_outcome t q)) t.waiters r is
 
-pub write_other : (t : Queues) (p q : ℕ) (procs : Table) (r : ℕ) → IsSound t → woken_by (write_outcome t q) ≢ Some r → list_of (behind_write t p q procs).waiters r ≡ list_of t.waiters r
+pub write_other : (t : Queues) (p q : ℕ) (procs : Table) (r : ℕ) → IsSound t → woken_by (write_outcome t q) ≢ Some r → list_of (message_written t p q procs).waiters r ≡ list_of t.waiters r
 write_other t p q procs r sound apart =
     ap (λ (ls : List (List Member)). list_of ls r) (waiters_write t p q procs) ∙ dequeued_other (woken_by (write_outcome t q)) t.waiters r sound.table apart
 
-pub waits_read_woken : (t : Queues) (p q : ℕ) (procs : Table) (w : ℕ) → woken_by (read_outcome t q) ≡ Some w → waits (behind_read t p q procs) w ≡ 0
-waits_read_woken t p q procs w is = waits_nowhere (behind_read t p q procs) w (read_woken t p q procs w is)
+pub waits_read_woken : (t : Queues) (p q : ℕ) (procs : Table) (w : ℕ) → woken_by (read_outcome t q) ≡ Some w → waits (message_read t p q procs) w ≡ 0
+waits_read_woken t p q procs w is = waits_nowhere (message_read t p q procs) w (read_woken t p q procs w is)
 
-pub waits_read_other : (t : Queues) (p q : ℕ) (procs : Table) (r : ℕ) → IsSound t → woken_by (read_outcome t q) ≢ Some r → waits (behind_read t p q procs) r ≡ waits t r
-waits_read_other t p q procs r sound apart = same_place t (behind_read t p q procs) r (read_other t p q procs r sound apart)
+pub waits_read_other : (t : Queues) (p q : ℕ) (procs : Table) (r : ℕ) → IsSound t → woken_by (read_outcome t q) ≢ Some r → waits (message_read t p q procs) r ≡ waits t r
+waits_read_other t p q procs r sound apart = same_place t (message_read t p q procs) r (read_other t p q procs r sound apart)
 
-pub waits_write_woken : (t : Queues) (p q : ℕ) (procs : Table) (r : ℕ) → woken_by (write_outcome t q) ≡ Some r → waits (behind_write t p q procs) r ≡ 0
-waits_write_woken t p q procs r is = waits_nowhere (behind_write t p q procs) r (write_woken t p q procs r is)
+pub waits_write_woken : (t : Queues) (p q : ℕ) (procs : Table) (r : ℕ) → woken_by (write_outcome t q) ≡ Some r → waits (message_written t p q procs) r ≡ 0
+waits_write_woken t p q procs r is = waits_nowhere (message_written t p q procs) r (write_woken t p q procs r is)
 
-pub waits_write_other : (t : Queues) (p q : ℕ) (procs : Table) (r : ℕ) → IsSound t → woken_by (write_outcome t q) ≢ Some r → waits (behind_write t p q procs) r ≡ waits t r
-waits_write_other t p q procs r sound apart = same_place t (behind_write t p q procs) r (write_other t p q procs r sound apart)
+pub waits_write_other : (t : Queues) (p q : ℕ) (procs : Table) (r : ℕ) → IsSound t → woken_by (write_outcome t q) ≢ Some r → waits (message_written t p q procs) r ≡ waits t r
+waits_write_other t p q procs r sound apart = same_place t (message_written t p q procs) r (write_other t p q procs r sound apart)
 
 -- who was ended waited at that queue
 woken_by_first : (b : Bool) (o : Option ℕ) (w : ℕ) → woken_by (cond b NotNow (Done o)) ≡ Some w → o ≡ Some w
@@ -192,12 +192,12 @@ holds_made t p q sound is = elim (cases_Bool (is_made t q)) [
 ]
 
 -- the message of a mutual exclusion queue: who reads it holds it, unless a waiting writer's goes in
-abbrev behind_one : Queues → ℕ → Bool → Queue → List (List Member) → Queues
-behind_one t q b queue waiters = cond b t (changed t q queue waiters)
+abbrev after_one : Queues → ℕ → Bool → Queue → List (List Member) → Queues
+after_one t q b queue waiters = cond b t (changed t q queue waiters)
 
-there_behind : (t : Queues) (q : ℕ) (b : Bool) (queue : Queue) (waiters : List (List Member)) → IsSound t → IsMade t q → b ≡ false → queue_in (behind_one t q b queue waiters) q ≡ queue
-there_behind t q true queue waiters sound is not = absurd (cc)
-there_behind t q false queue waiters sound is not = queue_there t q queue waiters sound is
+there_after : (t : Queues) (q : ℕ) (b : Bool) (queue : Queue) (waiters : List (List Member)) → IsSound t → IsMade t q → b ≡ false → queue_in (after_one t q b queue waiters) q ≡ queue
+there_after t q true queue waiters sound is not = absurd (cc)
+there_after t q false queue waiters sound is not = queue_there t q queue waiters sound is
 
 let_in_holder : (procs : Table) (o : Option ℕ) (queue : Queue) → (let_in procs o queue).holder ≡ option_map_or (λ _. None) o queue.holder
 unfolding with_message
@@ -208,10 +208,10 @@ read_holder : (p : ℕ) (queue : Queue) → (read_by p queue).holder ≡ cond (i
 unfolding held_by shortened is_exclusive
 read_holder p queue = refl
 
-pub holder_read : (t : Queues) (p q : ℕ) (procs : Table) → IsSound t → IsMade t q → is_drained (queue_in t q) ≡ false → (queue_in (behind_read t p q procs) q).holder ≡ option_map_or (λ _. None) (first_writer t q) (cond (is_exclusive (queue_in t q)) (Some p) None)
-unfolding behind_read
+pub holder_read : (t : Queues) (p q : ℕ) (procs : Table) → IsSound t → IsMade t q → is_drained (queue_in t q) ≡ false → (queue_in (message_read t p q procs) q).holder ≡ option_map_or (λ _. None) (first_writer t q) (cond (is_exclusive (queue_in t q)) (Some p) None)
+unfolding message_read
 holder_read t p q procs sound is some =
-    ap (λ (x : Queue). x.holder) (there_behind t q (is_drained (queue_in t q)) _ (dequeued (first_writer t q) t.waiters) sound is some)
+    ap (λ (x : Queue). x.holder) (there_after t q (is_drained (queue_in t q)) _ (dequeued (first_writer t q) t.waiters) sound is some)
     ∙ let_in_holder procs (first_writer t q) (read_by p (queue_in t q))
     ∙ ap (λ (o : Option ℕ). option_map_or (λ _. None) (first_writer t q) o) (read_holder p (queue_in t q))
 
@@ -221,20 +221,20 @@ unfolding with_message held_by
 delivered_holder None message queue = refl
 delivered_holder (Some r) message queue = refl
 
-pub holder_write : (t : Queues) (p q : ℕ) (procs : Table) → IsSound t → IsMade t q → is_full (queue_in t q) ≡ false → (queue_in (behind_write t p q procs) q).holder ≡ option_map_or (λ r. cond (is_exclusive (queue_in t q)) (Some r) None) (first_reader t q) None
-unfolding behind_write
+pub holder_write : (t : Queues) (p q : ℕ) (procs : Table) → IsSound t → IsMade t q → is_full (queue_in t q) ≡ false → (queue_in (message_written t p q procs) q).holder ≡ option_map_or (λ r. cond (is_exclusive (queue_in t q)) (Some r) None) (first_reader t q) None
+unfolding message_written
 holder_write t p q procs sound is room =
-    ap (λ (x : Queue). x.holder) (there_behind t q (is_full (queue_in t q)) _ (dequeued (first_reader t q) t.waiters) sound is room)
+    ap (λ (x : Queue). x.holder) (there_after t q (is_full (queue_in t q)) _ (dequeued (first_reader t q) t.waiters) sound is room)
     ∙ delivered_holder (first_reader t q) (written_by t q procs p) (queue_in t q)
 
 -- other queues stay
-else_behind : (t : Queues) (q k : ℕ) (b : Bool) (queue : Queue) (waiters : List (List Member)) → k ≢ q → queue_in (behind_one t q b queue waiters) k ≡ queue_in t k
-else_behind t q k true queue waiters apart = refl
-else_behind t q k false queue waiters apart = queue_else t q k queue waiters apart
+else_after : (t : Queues) (q k : ℕ) (b : Bool) (queue : Queue) (waiters : List (List Member)) → k ≢ q → queue_in (after_one t q b queue waiters) k ≡ queue_in t k
+else_after t q k true queue waiters apart = refl
+else_after t q k false queue waiters apart = queue_else t q k queue waiters apart
 
-pub write_else : (t : Queues) (p q k : ℕ) (procs : Table) → k ≢ q → queue_in (behind_write t p q procs) k ≡ queue_in t k
-unfolding behind_write
-write_else t p q k procs apart = else_behind t q k (is_full (queue_in t q)) _ (dequeued (first_reader t q) t.waiters) apart
+pub write_else : (t : Queues) (p q k : ℕ) (procs : Table) → k ≢ q → queue_in (message_written t p q procs) k ≡ queue_in t k
+unfolding message_written
+write_else t p q k procs apart = else_after t q k (is_full (queue_in t q)) _ (dequeued (first_reader t q) t.waiters) apart
 
 -- a queue keeps its name, the length of its messages, and how many it has room for
 pub record IsKept (old new : Queue) : Type 0 where
@@ -255,19 +255,19 @@ kept_delivered (Some r) message queue = record { name = refl; width = refl; coun
 kept_same : (queue : Queue) → IsKept queue queue
 kept_same queue = record { name = refl; width = refl; count = refl }
 
-kept_behind : (t : Queues) (q k : ℕ) (b : Bool) (queue : Queue) (waiters : List (List Member)) → IsSound t → IsMade t q → IsKept (queue_in t q) queue → IsKept (queue_in t k) (queue_in (behind_one t q b queue waiters) k)
-kept_behind t q k true queue waiters sound is kept = kept_same (queue_in t k)
-kept_behind t q k false queue waiters sound is kept = elim (cases_eq k q) [
+kept_after : (t : Queues) (q k : ℕ) (b : Bool) (queue : Queue) (waiters : List (List Member)) → IsSound t → IsMade t q → IsKept (queue_in t q) queue → IsKept (queue_in t k) (queue_in (after_one t q b queue waiters) k)
+kept_after t q k true queue waiters sound is kept = kept_same (queue_in t k)
+kept_after t q k false queue waiters sound is kept = elim (cases_eq k q) [
   | inl same ↦ subst (λ (j : ℕ). IsKept (queue_in t j) (queue_in (changed t q queue waiters) j)) (sym same) (subst (IsKept (queue_in t q)) (sym (queue_there t q queue waiters sound is)) kept)
   | inr apart ↦ subst (IsKept (queue_in t k)) (sym (queue_else t q k queue waiters apart)) (kept_same (queue_in t k))
 ]
 
-pub kept_read : (t : Queues) (p q k : ℕ) (procs : Table) → IsSound t → IsMade t q → IsKept (queue_in t k) (queue_in (behind_read t p q procs) k)
-unfolding behind_read
+pub kept_read : (t : Queues) (p q k : ℕ) (procs : Table) → IsSound t → IsMade t q → IsKept (queue_in t k) (queue_in (message_read t p q procs) k)
+unfolding message_read
 kept_read t p q k procs sound is =
-    kept_behind t q k (is_drained (queue_in t q)) _ (dequeued (first_writer t q) t.waiters) sound is (kept_let_in p procs (first_writer t q) (queue_in t q))
+    kept_after t q k (is_drained (queue_in t q)) _ (dequeued (first_writer t q) t.waiters) sound is (kept_let_in p procs (first_writer t q) (queue_in t q))
 
-pub kept_write : (t : Queues) (p q k : ℕ) (procs : Table) → IsSound t → IsMade t q → IsKept (queue_in t k) (queue_in (behind_write t p q procs) k)
-unfolding behind_write
+pub kept_write : (t : Queues) (p q k : ℕ) (procs : Table) → IsSound t → IsMade t q → IsKept (queue_in t k) (queue_in (message_written t p q procs) k)
+unfolding message_written
 kept_write t p q k procs sound is =
-    kept_behind t q k (is_full (queue_in t q)) _ (dequeued (first_reader t q) t.waiters) sound is (kept_delivered (first_reader t q) (written_by t q procs p) (queue_in t q))
+    kept_after t q k (is_full (queue_in t q)) _ (dequeued (first_reader t q) t.waiters) sound is (kept_delivered (first_reader t q) (written_by t q procs p) (queue_in t q))

@@ -4,6 +4,7 @@ use Rattle.std.specs.Prelude.{ℕ, ◌-◌, List, ◌++◌, [], ◌∷◌, Optio
 use Rattle.z80_regs.specs.Words.{low, high, word_of}
 use Rattle.mpm_base.specs.Lists.{zeros}
 use Rattle.mpm_base.specs.Calls.{Taken}
+use Rattle.mpm_base.specs.declared.functions.TheConstants.{WRITE_QUEUE}
 use Rattle.mpm_queues.specs.Queues.{Queues, is_made}
 
 -- the queue that a pointer names
@@ -20,4 +21,4 @@ address_of (l ∷ h ∷ rest) = word_of l h
 -- a call that writes a message of two bytes to a queue
 unfoldable pub writing : ℕ → Taken
 writing message =
-    record { function = 139; word = 0; dma = 0; fcb = zeros 36; bytes = zeros 12 ++ (low message ∷ high message ∷ []) }
+    record { function = WRITE_QUEUE; word = 0; dma = 0; fcb = zeros 36; bytes = zeros 12 ++ (low message ∷ high message ∷ []) }

@@ -33,8 +33,8 @@ let_in procs None queue = queue
 let_in procs (Some w) queue = with_message (message_of queue.width (call_of procs w)) queue
 
 -- a process reads a message, where there is one, and so makes room for that of the writer that waits first
-unfoldable pub behind_read : Queues → ℕ → ℕ → Table → Queues
-behind_read t p q procs =
+unfoldable pub message_read : Queues → ℕ → ℕ → Table → Queues
+message_read t p q procs =
     if is_drained (queue_in t q) then t
     else (record t {
       queues = slice_set t.queues q (let_in procs (first_writer t q) (read_by p (queue_in t q)));
@@ -60,8 +60,8 @@ delivered None message queue = with_message message queue
 delivered (Some r) message queue = held_by r queue
 
 -- a process writes a message, where there is room
-unfoldable pub behind_write : Queues → ℕ → ℕ → Table → Queues
-behind_write t p q procs =
+unfoldable pub message_written : Queues → ℕ → ℕ → Table → Queues
+message_written t p q procs =
     if is_full (queue_in t q) then t
     else (record t {
       queues = slice_set t.queues q (delivered (first_reader t q) (written_by t q procs p) (queue_in t q));
@@ -76,8 +76,8 @@ abbrev pub delivered_to : Option ℕ → List ℕ → Table → Table
 delivered_to None message procs = procs
 delivered_to (Some r) message procs = with_call procs r (with_given message (call_of procs r))
 
-unfoldable pub procs_behind_write : Queues → ℕ → ℕ → Table → Table
-procs_behind_write t p q procs =
+unfoldable pub procs_after_write : Queues → ℕ → ℕ → Table → Table
+procs_after_write t p q procs =
     if is_full (queue_in t q) then procs else (delivered_to (first_reader t q) (written_by t q procs p) procs)
 
 -- a process waits no more

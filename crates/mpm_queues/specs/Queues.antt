@@ -107,8 +107,8 @@ without t q = record t {
   queues = slice_set t.queues q no_queue;
 }
 
-unfoldable pub behind_delete : Queues → ℕ → Queues
-behind_delete t q = if may_end t q then without t q else t
+unfoldable pub without_queue : Queues → ℕ → Queues
+without_queue t q = if may_end t q then without t q else t
 
 -- what is so of the queues at any time: a number that names no queue has nothing; queues are proper, have room, and differ
 -- in their names; a process waits at most at one, a reader only at one without messages, a writer only at a full one

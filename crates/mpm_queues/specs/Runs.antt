@@ -4,7 +4,7 @@ use Rattle.std.specs.Prelude.{◌≡◌, ℕ, ◌<◌, Bool, true, List, [], ◌
 use Rattle.mpm_procs.specs.Table.{Table}
 use Rattle.mpm_queues.specs.Queue.{is_drained, is_full, first_message}
 use Rattle.mpm_queues.specs.Queues.{Queues, WaitsNowhere, queue_in}
-use Rattle.mpm_queues.specs.Handling.{first_reader, first_writer, written_by, behind_read, behind_write, enlisted, queues_without_waiter, may_wait}
+use Rattle.mpm_queues.specs.Handling.{first_reader, first_writer, written_by, message_read, message_written, enlisted, queues_without_waiter, may_wait}
 
 -- the message that a read takes out, and that of a waiting writer, which it lets in
 unfoldable pub out_by_read : Queues → ℕ → List (List ℕ)
@@ -42,11 +42,11 @@ pub data Operation : Type 0 where
   Waits : ℕ → ℕ → Bool → Operation
   Leaves : ℕ → Operation
 
-abbrev pub behind_operation : Queues → ℕ → Operation → Queues
-behind_operation t q (Reads p procs) = behind_read t p q procs
-behind_operation t q (Writes p procs) = behind_write t p q procs
-behind_operation t q (Waits p priority reader) = enlisted t p priority q reader
-behind_operation t q (Leaves p) = queues_without_waiter t p
+abbrev pub operation_made : Queues → ℕ → Operation → Queues
+operation_made t q (Reads p procs) = message_read t p q procs
+operation_made t q (Writes p procs) = message_written t p q procs
+operation_made t q (Waits p priority reader) = enlisted t p priority q reader
+operation_made t q (Leaves p) = queues_without_waiter t p
 
 abbrev pub out_by : Queues → ℕ → Operation → List (List ℕ)
 out_by t q (Reads p procs) = out_by_read t q
@@ -68,18 +68,18 @@ MayBe t q (Waits p priority reader) = (p < 32) × WaitsNowhere t p × (may_wait 
 MayBe t q (Leaves p) = ⊤
 
 -- the same for operations in order
-unfoldable pub behind_all : Queues → ℕ → List Operation → Queues
-behind_all t q [] = t
-behind_all t q (operation ∷ operations) = behind_all (behind_operation t q operation) q operations
+unfoldable pub operations_made : Queues → ℕ → List Operation → Queues
+operations_made t q [] = t
+operations_made t q (operation ∷ operations) = operations_made (operation_made t q operation) q operations
 
 unfoldable pub all_out : Queues → ℕ → List Operation → List (List ℕ)
 all_out t q [] = []
-all_out t q (operation ∷ operations) = out_by t q operation ++ all_out (behind_operation t q operation) q operations
+all_out t q (operation ∷ operations) = out_by t q operation ++ all_out (operation_made t q operation) q operations
 
 unfoldable pub all_in : Queues → ℕ → List Operation → List (List ℕ)
 all_in t q [] = []
-all_in t q (operation ∷ operations) = in_by t q operation ++ all_in (behind_operation t q operation) q operations
+all_in t q (operation ∷ operations) = in_by t q operation ++ all_in (operation_made t q operation) q operations
 
 unfoldable pub AllMayBe : Queues → ℕ → List Operation → Type 0
 AllMayBe t q [] = ⊤
-AllMayBe t q (operation ∷ operations) = MayBe t q operation × AllMayBe (behind_operation t q operation) q operations
+AllMayBe t q (operation ∷ operations) = MayBe t q operation × AllMayBe (operation_made t q operation) q operations

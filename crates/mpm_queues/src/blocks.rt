@@ -2,7 +2,7 @@ ghost use Rattle.std.specs.Prelude.{◌≡◌, Some, None, IfSome};
 ghost use Rattle.mpm_queues.specs.Blocks.{address_of as address_in, writing};
 
 use crate::queues::Queues;
-use mpm_base::Call;
+use mpm_base::{Call, functions};
 
 /// The length of a user queue control block, in bytes; the message of a call that writes to a queue stands behind it.
 pub const BLOCK_SIZE: usize = 12;
@@ -46,7 +46,7 @@ pub fn address_of(message: &[u8]) -> u16
 pub fn write_call(call: &mut Call, message: u16)
     ensures { call.new ≡ writing message }
 {
-    call.begin(139, 0, 0);
+    call.begin(functions::WRITE_QUEUE, 0, 0);
     call.append(&[0; BLOCK_SIZE]);
     call.append(&message.to_le_bytes());
 }

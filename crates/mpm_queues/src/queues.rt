@@ -62,8 +62,8 @@ impl Queues {
     ghost use Rattle.std.specs.Prelude.{is_some, is_none, ◌&&◌};
     ghost use Rattle.mpm_ready.specs.Tables.{list_of};
     ghost use Rattle.mpm_queues.specs.Queue.{is_drained, is_full};
-    ghost use Rattle.mpm_queues.specs.Queues.{no_queues, IsMade, is_made, IsSound, WaitsNowhere, waits_at, queue_in, found, is_named, lowest_free, is_free, holds, width_of, lowest_held, make_error, made, may_end, behind_delete};
-    ghost use Rattle.mpm_queues.specs.Handling.{behind_read, read_outcome, read_reply, behind_write, write_outcome, procs_behind_write, enlisted, queues_without_waiter, may_wait};
+    ghost use Rattle.mpm_queues.specs.Queues.{no_queues, IsMade, is_made, IsSound, WaitsNowhere, waits_at, queue_in, found, is_named, lowest_free, is_free, holds, width_of, lowest_held, make_error, made, may_end, without_queue};
+    ghost use Rattle.mpm_queues.specs.Handling.{message_read, read_outcome, read_reply, message_written, write_outcome, procs_after_write, enlisted, queues_without_waiter, may_wait};
     ghost use Rattle.mpm_queues.specs.Runs.{Conserves, out_by_read, in_by_read, out_by_write, in_by_write};
 
     /// No queues. All memory that they will need is taken here.
@@ -159,11 +159,11 @@ impl Queues {
 
     /// Deletes a queue; false exactly where a process waits at it or holds its message, and then nothing changes. (MP/M II
     /// Programmer's Guide, "Function 136: Delete Queue".)
-    #[tactic(auto, using(crate::proofs::SoundLaws::sound_without), unfolding(crate::specs::Queues::behind_delete, crate::specs::Queues::without))]
+    #[tactic(auto, using(crate::proofs::SoundLaws::sound_without), unfolding(crate::specs::Queues::without_queue, crate::specs::Queues::without))]
     pub fn delete(&mut self, q: u8) -> bool
         requires { IsMade self.old q }
         ensures answer { result ≡ may_end self.old q }
-        ensures queues { self.new ≡ behind_delete self.old q }
+        ensures queues { self.new ≡ without_queue self.old q }
     {
         if !self.may_end(q) {
             return false;
@@ -194,7 +194,7 @@ impl Queues {
         requires queue { IsMade self.old q }
         requires waiting { (w : ℕ) → waits_at self.old q w ≡ true → LivesProcess procs.old w }
         ensures outcome { result ≡ read_outcome self.old q }
-        ensures queues { self.new ≡ behind_read self.old p q procs.old }
+        ensures queues { self.new ≡ message_read self.old p q procs.old }
         ensures reply { reply.new ≡ read_reply self.old q reply.old }
         ensures procs { procs.new ≡ procs.old }
         ensures messages { Conserves self.old self.new q (out_by_read self.old q) (in_by_read self.old q procs.old) }
@@ -203,12 +203,12 @@ impl Queues {
     }
 
     /// A process reads the first message of a queue, and the writer that waits first is let in.
-    #[tactic(auto, unfolding(crate::specs::Handling::behind_read, crate::specs::Handling::read_outcome, crate::specs::Handling::read_reply))]
+    #[tactic(auto, unfolding(crate::specs::Handling::message_read, crate::specs::Handling::read_outcome, crate::specs::Handling::read_reply))]
     fn take_message(&mut self, p: Pid, q: u8, procs: &Procs, reply: &mut Reply) -> QueueOutcome
         requires queue { IsMade self.old q }
         requires waiting { (w : ℕ) → waits_at self.old q w ≡ true → LivesProcess procs.now w }
         ensures outcome { result ≡ read_outcome self.old q }
-        ensures queues { self.new ≡ behind_read self.old p q procs.now }
+        ensures queues { self.new ≡ message_read self.old p q procs.now }
         ensures reply { reply.new ≡ read_reply self.old q reply.old }
         ensures sound { IsSound self.old }
     {
@@ -231,22 +231,22 @@ impl Queues {
         requires lives { LivesProcess procs.old p }
         requires waiting { (w : ℕ) → waits_at self.old q w ≡ true → LivesProcess procs.old w }
         ensures outcome { result ≡ write_outcome self.old q }
-        ensures queues { self.new ≡ behind_write self.old p q procs.old }
-        ensures procs { procs.new ≡ procs_behind_write self.old p q procs.old }
+        ensures queues { self.new ≡ message_written self.old p q procs.old }
+        ensures procs { procs.new ≡ procs_after_write self.old p q procs.old }
         ensures messages { Conserves self.old self.new q (out_by_write self.old p q procs.old) (in_by_write self.old p q procs.old) }
     {
         self.put_message(p, q, procs)
     }
 
     /// A process writes a message to a queue, or to the reader that waits first.
-    #[tactic(auto, unfolding(crate::specs::Handling::behind_write, crate::specs::Handling::write_outcome, crate::specs::Handling::procs_behind_write))]
+    #[tactic(auto, unfolding(crate::specs::Handling::message_written, crate::specs::Handling::write_outcome, crate::specs::Handling::procs_after_write))]
     fn put_message(&mut self, p: Pid, q: u8, procs: &mut Procs) -> QueueOutcome
         requires queue { IsMade self.old q }
         requires lives { LivesProcess procs.old p }
         requires waiting { (w : ℕ) → waits_at self.old q w ≡ true → LivesProcess procs.old w }
         ensures outcome { result ≡ write_outcome self.old q }
-        ensures queues { self.new ≡ behind_write self.old p q procs.old }
-        ensures procs { procs.new ≡ procs_behind_write self.old p q procs.old }
+        ensures queues { self.new ≡ message_written self.old p q procs.old }
+        ensures procs { procs.new ≡ procs_after_write self.old p q procs.old }
         ensures sound { IsSound self.old }
     {
         let store = &mut self.queues[usize::from(q)];

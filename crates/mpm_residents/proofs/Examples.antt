@@ -2,6 +2,7 @@
 use Rattle.std.proofs.Common.{◌≡◌, [], ◌∷◌, refl}
 use Rattle.std.specs.Prelude.{codes}
 use Rattle.std.specs.Fmt.{digits}
+use Rattle.mpm_base.specs.declared.functions.TheConstants.{SEND_CLI_COMMAND}
 use Rattle.mpm_residents.specs.Lines.{stripped, user_number, user_of, text_form, form_of, command_text}
 use Rattle.mpm_residents.specs.Terminals.{prompt, next_call, asking}
 use Rattle.mpm_residents.specs.declared.line.LineForm.TheVariants.{Empty, Drive, User, Command}
@@ -33,6 +34,6 @@ unfolding digits
 prompt_of_fifteen = refl
 
 -- a command of user 5 on drive C at console 1
-pub sent : next_call (record { console = 1; user = 5; drive = 2; row = SendCommand; line = codes " dir " }) ≡ asking 150 0 (82 ∷ 1 ∷ codes "dir")
+pub sent : next_call (record { console = 1; user = 5; drive = 2; row = SendCommand; line = codes " dir " }) ≡ asking SEND_CLI_COMMAND 0 (82 ∷ 1 ∷ codes "dir")
 unfolding stripped command_text next_call
 sent = refl

@@ -9,7 +9,7 @@ use Rattle.mpm_residents.specs.declared.native.Native.TheVariants.{Tmp}
 abbrev pub native_call : Native → Taken
 native_call (Tmp tmp) = next_call tmp
 
--- it behind the answer to that call
+-- it after the answer to that call
 abbrev pub native_took : Native → Answer → Native
 native_took (Tmp tmp) reply = Tmp (took tmp reply)
 

@@ -5,6 +5,7 @@
 use Rattle.std.specs.Prelude.{ℕ, ◌+◌, ◌*◌, ◌%◌, ◌<◌, ◌==◌, if◌then◌else◌, List, [], ◌∷◌, ◌++◌, take, drop, slice_index_or, codes, decimal}
 use Rattle.mpm_base.specs.Lists.{zeros}
 use Rattle.mpm_base.specs.Calls.{Taken, Answer}
+use Rattle.mpm_base.specs.declared.functions.TheConstants.{CONSOLE_OUTPUT, PRINT_STRING, READ_CONSOLE_BUFFER, SELECT_DISK, SET_GET_USER_CODE, ATTACH_CONSOLE, SEND_CLI_COMMAND}
 use Rattle.mpm_residents.specs.Lines.{form_of, command_text}
 use Rattle.mpm_residents.specs.declared.line.LineForm.{LineForm}
 use Rattle.mpm_residents.specs.declared.line.LineForm.TheVariants.{Empty, Drive, User, Command}
@@ -37,14 +38,14 @@ command_of tmp = (16 * tmp.user + tmp.drive % 16) ∷ tmp.console ∷ command_te
 
 -- the call of each row
 abbrev pub call_at : Row → Terminal → Taken
-call_at Attach tmp = asking 146 0 []
-call_at Prompt tmp = asking 9 0 (prompt tmp)
-call_at ReadLine tmp = asking 10 0 (127 ∷ [])
-call_at NewLine tmp = asking 2 10 []
-call_at (SelectDrive drive) tmp = asking 14 drive []
-call_at (SetUser user) tmp = asking 32 user []
-call_at SendCommand tmp = asking 150 0 (command_of tmp)
-call_at NoDrive tmp = asking 9 0 (codes "No drive" ++ 13 ∷ 10 ∷ [])
+call_at Attach tmp = asking ATTACH_CONSOLE 0 []
+call_at Prompt tmp = asking PRINT_STRING 0 (prompt tmp)
+call_at ReadLine tmp = asking READ_CONSOLE_BUFFER 0 (127 ∷ [])
+call_at NewLine tmp = asking CONSOLE_OUTPUT 10 []
+call_at (SelectDrive drive) tmp = asking SELECT_DISK drive []
+call_at (SetUser user) tmp = asking SET_GET_USER_CODE user []
+call_at SendCommand tmp = asking SEND_CLI_COMMAND 0 (command_of tmp)
+call_at NoDrive tmp = asking PRINT_STRING 0 (codes "No drive" ++ 13 ∷ 10 ∷ [])
 
 unfoldable pub next_call : Terminal → Taken
 next_call tmp = call_at tmp.row tmp
@@ -56,19 +57,19 @@ line_length reply = slice_index_or reply.bytes 0 0
 abbrev pub line_in : Answer → List ℕ
 line_in reply = take (line_length reply) (drop 1 reply.bytes)
 
--- the row behind a line
-abbrev pub row_behind : LineForm → Row
-row_behind Empty = Attach
-row_behind (Drive drive) = SelectDrive drive
-row_behind (User user) = SetUser user
-row_behind Command = SendCommand
+-- the row after a line
+abbrev pub row_after : LineForm → Row
+row_after Empty = Attach
+row_after (Drive drive) = SelectDrive drive
+row_after (User user) = SetUser user
+row_after Command = SendCommand
 
--- the processor behind the answer to a row's call
+-- the processor after the answer to a row's call
 abbrev pub took_at : Row → Terminal → Answer → Terminal
 took_at Attach tmp reply = record tmp { row = Prompt }
 took_at Prompt tmp reply = record tmp { row = ReadLine }
 took_at ReadLine tmp reply = record tmp { row = NewLine; line = line_in reply }
-took_at NewLine tmp reply = record tmp { row = row_behind (form_of tmp.line) }
+took_at NewLine tmp reply = record tmp { row = row_after (form_of tmp.line) }
 took_at (SelectDrive drive) tmp reply =
     if reply.hl == 0 then record tmp { row = Attach; drive = drive } else record tmp { row = NoDrive }
 took_at (SetUser user) tmp reply = record tmp { row = Attach; user = user }

@@ -1,5 +1,5 @@
 use super::*;
-use mpm_base::{Call, Pid, Reply};
+use mpm_base::{Call, Pid, Reply, functions};
 use std::test::Fail;
 
 /// A processor, and the call and the reply with which it is driven.
@@ -33,7 +33,8 @@ fn calls(terminal: &mut Terminal, function: u8, word: u16, bytes: &[u8], value: 
 /// Whether it reads a line next, which is then answered; at most 127 bytes.
 fn reads(terminal: &mut Terminal, line: &[u8]) -> bool {
     terminal.tmp.next(&mut terminal.call);
-    let expected = terminal.call.function == 10 && terminal.call.taken() == b"\x7f".as_slice();
+    let expected = terminal.call.function == functions::READ_CONSOLE_BUFFER
+        && terminal.call.taken() == b"\x7f".as_slice();
     let size = line.len().min(127);
     let mut bytes = [0; 128];
     bytes[0] = size as u8;
@@ -45,10 +46,10 @@ fn reads(terminal: &mut Terminal, line: &[u8]) -> bool {
 
 /// Whether it attaches its console, writes a prompt, reads a line, and goes to a new line.
 fn takes(terminal: &mut Terminal, prompt: &[u8], line: &[u8]) -> bool {
-    calls(terminal, 146, 0, b"", 0)
-        && calls(terminal, 9, 0, prompt, 0)
+    calls(terminal, functions::ATTACH_CONSOLE, 0, b"", 0)
+        && calls(terminal, functions::PRINT_STRING, 0, prompt, 0)
         && reads(terminal, line)
-        && calls(terminal, 2, 0x0A, b"", 0)
+        && calls(terminal, functions::CONSOLE_OUTPUT, 0x0A, b"", 0)
 }
 
 #[test]
@@ -56,58 +57,122 @@ fn an_empty_line_gives_the_prompt_again(rt: HostRuntime) {
     let mut terminal = begin(0);
     assert!(rt; takes(&mut terminal, b"0A>", b""));
     assert!(rt; takes(&mut terminal, b"0A>", b"   "));
-    assert!(rt; calls(&mut terminal, 146, 0, b"", 0));
+    assert!(rt; calls(&mut terminal, functions::ATTACH_CONSOLE, 0, b"", 0));
 }
 
 #[test]
 fn a_line_is_sent_without_the_spaces_around_it(rt: HostRuntime) {
     let mut terminal = begin(2);
     assert!(rt; takes(&mut terminal, b"0A>", b" dir *.com  "));
-    assert!(rt; calls(&mut terminal, 150, 0, b"\x00\x02dir *.com", 0));
+    assert!(rt;
+        calls(
+            &mut terminal,
+            functions::SEND_CLI_COMMAND,
+            0,
+            b"\x00\x02dir *.com",
+            0
+        )
+    );
     assert!(rt; takes(&mut terminal, b"0A>", b"a\x00b"));
-    assert!(rt; calls(&mut terminal, 150, 0, b"\x00\x02a", 0x00FF));
+    assert!(rt;
+        calls(
+            &mut terminal,
+            functions::SEND_CLI_COMMAND,
+            0,
+            b"\x00\x02a",
+            0x00FF
+        )
+    );
     assert!(rt; takes(&mut terminal, b"0A>", b"\tdir"));
-    assert!(rt; calls(&mut terminal, 150, 0, b"\x00\x02\tdir", 0));
-    assert!(rt; calls(&mut terminal, 146, 0, b"", 0));
+    assert!(rt;
+        calls(
+            &mut terminal,
+            functions::SEND_CLI_COMMAND,
+            0,
+            b"\x00\x02\tdir",
+            0
+        )
+    );
+    assert!(rt; calls(&mut terminal, functions::ATTACH_CONSOLE, 0, b"", 0));
 }
 
 #[test]
 fn a_drive_is_selected_by_its_letter(rt: HostRuntime) {
     let mut terminal = begin(0);
     assert!(rt; takes(&mut terminal, b"0A>", b" b: "));
-    assert!(rt; calls(&mut terminal, 14, 1, b"", 0));
+    assert!(rt; calls(&mut terminal, functions::SELECT_DISK, 1, b"", 0));
     assert!(rt; takes(&mut terminal, b"0B>", b"P:"));
-    assert!(rt; calls(&mut terminal, 14, 15, b"", 0));
+    assert!(rt; calls(&mut terminal, functions::SELECT_DISK, 15, b"", 0));
     assert!(rt; takes(&mut terminal, b"0P>", b"dir"));
-    assert!(rt; calls(&mut terminal, 150, 0, b"\x0f\x00dir", 0));
-    assert!(rt; calls(&mut terminal, 146, 0, b"", 0));
+    assert!(rt;
+        calls(
+            &mut terminal,
+            functions::SEND_CLI_COMMAND,
+            0,
+            b"\x0f\x00dir",
+            0
+        )
+    );
+    assert!(rt; calls(&mut terminal, functions::ATTACH_CONSOLE, 0, b"", 0));
 }
 
 #[test]
 fn a_refused_drive_is_told(rt: HostRuntime) {
     let mut terminal = begin(0);
     assert!(rt; takes(&mut terminal, b"0A>", b"q:"));
-    assert!(rt; calls(&mut terminal, 14, 16, b"", 0x04FF));
-    assert!(rt; calls(&mut terminal, 9, 0, b"No drive\r\n", 0));
+    assert!(rt; calls(&mut terminal, functions::SELECT_DISK, 16, b"", 0x04FF));
+    assert!(rt;
+        calls(
+            &mut terminal,
+            functions::PRINT_STRING,
+            0,
+            b"No drive\r\n",
+            0
+        )
+    );
     assert!(rt; takes(&mut terminal, b"0A>", b"b:c"));
-    assert!(rt; calls(&mut terminal, 150, 0, b"\x00\x00b:c", 0));
+    assert!(rt;
+        calls(
+            &mut terminal,
+            functions::SEND_CLI_COMMAND,
+            0,
+            b"\x00\x00b:c",
+            0
+        )
+    );
     assert!(rt; takes(&mut terminal, b"0A>", b"1:"));
-    assert!(rt; calls(&mut terminal, 150, 0, b"\x00\x001:", 0));
+    assert!(rt;
+        calls(
+            &mut terminal,
+            functions::SEND_CLI_COMMAND,
+            0,
+            b"\x00\x001:",
+            0
+        )
+    );
 }
 
 #[test]
 fn a_user_is_named_by_number(rt: HostRuntime) {
     let mut terminal = begin(1);
     assert!(rt; takes(&mut terminal, b"0A>", b"user 3"));
-    assert!(rt; calls(&mut terminal, 32, 3, b"", 0));
+    assert!(rt; calls(&mut terminal, functions::SET_GET_USER_CODE, 3, b"", 0));
     assert!(rt; takes(&mut terminal, b"3A>", b" UsEr   15 "));
-    assert!(rt; calls(&mut terminal, 32, 15, b"", 0));
+    assert!(rt; calls(&mut terminal, functions::SET_GET_USER_CODE, 15, b"", 0));
     assert!(rt; takes(&mut terminal, b"15A>", b"p:"));
-    assert!(rt; calls(&mut terminal, 14, 15, b"", 0));
+    assert!(rt; calls(&mut terminal, functions::SELECT_DISK, 15, b"", 0));
     assert!(rt; takes(&mut terminal, b"15P>", b"stat"));
-    assert!(rt; calls(&mut terminal, 150, 0, b"\xff\x01stat", 0));
+    assert!(rt;
+        calls(
+            &mut terminal,
+            functions::SEND_CLI_COMMAND,
+            0,
+            b"\xff\x01stat",
+            0
+        )
+    );
     assert!(rt; takes(&mut terminal, b"15P>", b"USER 0"));
-    assert!(rt; calls(&mut terminal, 32, 0, b"", 0));
+    assert!(rt; calls(&mut terminal, functions::SET_GET_USER_CODE, 0, b"", 0));
     assert!(rt; takes(&mut terminal, b"0P>", b""));
 }
 
@@ -115,17 +180,65 @@ fn a_user_is_named_by_number(rt: HostRuntime) {
 fn what_names_no_user_is_a_command(rt: HostRuntime) {
     let mut terminal = begin(0);
     assert!(rt; takes(&mut terminal, b"0A>", b"USER 16"));
-    assert!(rt; calls(&mut terminal, 150, 0, b"\x00\x00USER 16", 0));
+    assert!(rt;
+        calls(
+            &mut terminal,
+            functions::SEND_CLI_COMMAND,
+            0,
+            b"\x00\x00USER 16",
+            0
+        )
+    );
     assert!(rt; takes(&mut terminal, b"0A>", b"user 03"));
-    assert!(rt; calls(&mut terminal, 150, 0, b"\x00\x00user 03", 0));
+    assert!(rt;
+        calls(
+            &mut terminal,
+            functions::SEND_CLI_COMMAND,
+            0,
+            b"\x00\x00user 03",
+            0
+        )
+    );
     assert!(rt; takes(&mut terminal, b"0A>", b"user3"));
-    assert!(rt; calls(&mut terminal, 150, 0, b"\x00\x00user3", 0));
+    assert!(rt;
+        calls(
+            &mut terminal,
+            functions::SEND_CLI_COMMAND,
+            0,
+            b"\x00\x00user3",
+            0
+        )
+    );
     assert!(rt; takes(&mut terminal, b"0A>", b"user "));
-    assert!(rt; calls(&mut terminal, 150, 0, b"\x00\x00user", 0));
+    assert!(rt;
+        calls(
+            &mut terminal,
+            functions::SEND_CLI_COMMAND,
+            0,
+            b"\x00\x00user",
+            0
+        )
+    );
     assert!(rt; takes(&mut terminal, b"0A>", b"users 3"));
-    assert!(rt; calls(&mut terminal, 150, 0, b"\x00\x00users 3", 0));
+    assert!(rt;
+        calls(
+            &mut terminal,
+            functions::SEND_CLI_COMMAND,
+            0,
+            b"\x00\x00users 3",
+            0
+        )
+    );
     assert!(rt; takes(&mut terminal, b"0A>", b"user 3 4"));
-    assert!(rt; calls(&mut terminal, 150, 0, b"\x00\x00user 3 4", 0));
+    assert!(rt;
+        calls(
+            &mut terminal,
+            functions::SEND_CLI_COMMAND,
+            0,
+            b"\x00\x00user 3 4",
+            0
+        )
+    );
 }
 
 #[test]
@@ -144,13 +257,13 @@ fn a_call_that_is_held_is_made_again(rt: HostRuntime) {
     let mut call = Call::new();
     let mut reply = Reply::new();
     assert_eq!(rt; native.next(&mut call), Act::Ask);
-    assert_eq!(rt; call.function, 146);
+    assert_eq!(rt; call.function, functions::ATTACH_CONSOLE);
     assert_eq!(rt; native.next(&mut call), Act::Ask);
-    assert_eq!(rt; call.function, 146);
+    assert_eq!(rt; call.function, functions::ATTACH_CONSOLE);
     reply.answer(0);
     native.took(&reply);
     assert_eq!(rt; native.next(&mut call), Act::Ask);
-    assert_eq!(rt; call.function, 9);
+    assert_eq!(rt; call.function, functions::PRINT_STRING);
 }
 
 /// The function that the resident of a slot calls next, 0 where none acts there.
@@ -176,8 +289,14 @@ fn each_resident_goes_on_by_its_own_answers(rt: HostRuntime) -> Result<(), Fail>
     residents.add_terminal(1)?;
     answer(&mut residents, Pid(2));
     assert_eq!(rt; next_function(&mut residents, Pid(0)), 0);
-    assert_eq!(rt; next_function(&mut residents, Pid(1)), 146);
-    assert_eq!(rt; next_function(&mut residents, Pid(2)), 9);
+    assert_eq!(rt;
+        next_function(&mut residents, Pid(1)),
+        functions::ATTACH_CONSOLE
+    );
+    assert_eq!(rt;
+        next_function(&mut residents, Pid(2)),
+        functions::PRINT_STRING
+    );
     assert_eq!(rt; next_function(&mut residents, Pid(3)), 0);
     Ok(())
 }

@@ -2,23 +2,8 @@ ghost use Rattle.std.specs.Prelude.{◌≡◌};
 
 use crate::line::{LineForm, command_text, form_of};
 use itoa::Buffer;
-use mpm_base::{Call, Reply};
+use mpm_base::{Call, Reply, functions};
 use std::marker::Model;
-
-/// The functions of the kernel that it calls.
-const CONSOLE_OUTPUT: u8 = 2;
-
-const PRINT_STRING: u8 = 9;
-
-const READ_CONSOLE_BUFFER: u8 = 10;
-
-const SELECT_DISK: u8 = 14;
-
-const SET_USER: u8 = 32;
-
-const ATTACH_CONSOLE: u8 = 146;
-
-const SEND_COMMAND: u8 = 150;
 
 /// The most bytes that a line of a terminal may have.
 const MOST: u8 = 127;
@@ -32,7 +17,7 @@ pub(crate) enum Row {
     Prompt,
     /// It reads a line.
     ReadLine,
-    /// It goes to a new line behind it.
+    /// It goes to a new line after it.
     NewLine,
     /// It makes a drive its current one.
     SelectDrive { drive: u8 },
@@ -74,8 +59,9 @@ impl Model for Tmp {
 
 impl Tmp {
     ghost use Rattle.std.specs.Prelude.{◌≡◌, ◌≤◌};
+    ghost use Rattle.mpm_base.specs.declared.functions.TheConstants.{PRINT_STRING, SEND_CLI_COMMAND};
     ghost use Rattle.mpm_residents.specs.Lines.{form_of};
-    ghost use Rattle.mpm_residents.specs.Terminals.{opening, asking, prompt, command_of, next_call, took as behind, line_in, row_behind as row_of, IsRow};
+    ghost use Rattle.mpm_residents.specs.Terminals.{opening, asking, prompt, command_of, next_call, took as behind, line_in, row_after as row_of, IsRow};
 
     /// The processor of a console: user 0 on drive A, and no console attached yet.
     #[tactic(auto, unfolding(crate::specs::Terminals::opening))]
@@ -99,18 +85,18 @@ impl Tmp {
         ensures call { call.new ≡ next_call self.old }
     {
         match self.row {
-            Row::Attach => call.begin(ATTACH_CONSOLE, 0, 0),
+            Row::Attach => call.begin(functions::ATTACH_CONSOLE, 0, 0),
             Row::Prompt => self.fill_prompt(call),
             Row::ReadLine => {
-                call.begin(READ_CONSOLE_BUFFER, 0, 0);
+                call.begin(functions::READ_CONSOLE_BUFFER, 0, 0);
                 call.push(MOST);
             }
-            Row::NewLine => call.begin(CONSOLE_OUTPUT, u16::from(b'\n'), 0),
-            Row::SelectDrive { drive } => call.begin(SELECT_DISK, u16::from(drive), 0),
-            Row::SetUser { user } => call.begin(SET_USER, u16::from(user), 0),
+            Row::NewLine => call.begin(functions::CONSOLE_OUTPUT, u16::from(b'\n'), 0),
+            Row::SelectDrive { drive } => call.begin(functions::SELECT_DISK, u16::from(drive), 0),
+            Row::SetUser { user } => call.begin(functions::SET_GET_USER_CODE, u16::from(user), 0),
             Row::SendCommand => self.fill_command(call),
             Row::NoDrive => {
-                call.begin(PRINT_STRING, 0, 0);
+                call.begin(functions::PRINT_STRING, 0, 0);
                 call.append(b"No drive\r\n");
             }
         }
@@ -128,7 +114,7 @@ impl Tmp {
                 self.keep(reply);
                 Row::NewLine
             }
-            Row::NewLine => self.row_behind_line(),
+            Row::NewLine => self.row_after_line(),
             Row::SelectDrive { drive } if reply.hl == 0 => {
                 self.drive = drive;
                 Row::Attach
@@ -144,9 +130,9 @@ impl Tmp {
 
     /// The call that writes its prompt: the user's number, the drive's letter and `>`.
     fn fill_prompt(&self, call: &mut Call)
-        ensures { call.new ≡ asking 9 0 (prompt self.now) }
+        ensures { call.new ≡ asking PRINT_STRING 0 (prompt self.now) }
     {
-        call.begin(PRINT_STRING, 0, 0);
+        call.begin(functions::PRINT_STRING, 0, 0);
         let mut user = Buffer::new();
         call.append(user.format(self.user).as_bytes());
         call.push(b'A' + self.drive);
@@ -155,9 +141,9 @@ impl Tmp {
 
     /// The call that sends its line: the user and the drive in one byte, the console, and the command.
     fn fill_command(&self, call: &mut Call)
-        ensures { call.new ≡ asking 150 0 (command_of self.now) }
+        ensures { call.new ≡ asking SEND_CLI_COMMAND 0 (command_of self.now) }
     {
-        call.begin(SEND_COMMAND, 0, 0);
+        call.begin(functions::SEND_CLI_COMMAND, 0, 0);
         call.push(16 * self.user + self.drive % 16);
         call.push(self.console);
         call.append(command_text(&self.line[..usize::from(self.length)]));
@@ -178,7 +164,7 @@ impl Tmp {
     }
 
     /// Where it goes by its line.
-    fn row_behind_line(&self) -> Row
+    fn row_after_line(&self) -> Row
         ensures row { result ≡ row_of (form_of self.now.line) }
         ensures bound { IsRow result }
     {

@@ -8,6 +8,7 @@ use Rattle.std.specs.Str.Lines.{lines}
 use Rattle.std.proofs.lemmas.Bool.Decides.{nat_tests}
 use Rattle.std.proofs.lemmas.Option.{same_Some, none-some, cond_some}
 use Rattle.std.proofs.lemmas.List.Elements.{All-from_recursion}
+use Rattle.mpm_script.specs.declared.line.TheConstants.{GREATEST_STEP}
 use Rattle.mpm_script.specs.declared.event.Event.{Event}
 use Rattle.mpm_script.specs.declared.event.Event.TheVariants.{Tick, Key, Ready, Int}
 use Rattle.mpm_script.specs.declared.event.Timed.{Timed}
@@ -18,25 +19,16 @@ use Rattle.mpm_script.specs.Scripts.{last_step, unless_bad, lines_from, script_o
 use Rattle.mpm_script.proofs.Finds.{bind_some, map_some, either_some}
 use Rattle.mpm_script.proofs.DecimalLaws.{number_limit}
 
--- the step behind some events, of which there may be none
-abbrev pub step_behind : ℕ → List Timed → ℕ
-step_behind before events = fold (λ _ timed. timed.step) before events
-
--- the last event's step, at its place
-last_from : (before : ℕ) (timed : Timed) (rest : List Timed) → step_behind before (timed ∷ rest) ≡ option_map_or (λ t. t.step) (slice_get (timed ∷ rest) (length rest)) 0
-last_from before timed [] = refl
-last_from before timed (next ∷ rest) = last_from timed.step next rest
-
-pub last_step_last : (events : List Timed) → last_step events ≡ option_map_or (λ t. t.step) (slice_get events (length events - 1)) 0
-last_step_last [] = refl
-last_step_last (timed ∷ rest) = let place : suc (length rest) - 1 ≡ length rest = omega arith in rw place (last_from 0 timed rest)
+-- the step after some events, of which there may be none
+abbrev pub step_after : ℕ → List Timed → ℕ
+step_after before events = fold (λ _ timed. timed.step) before events
 
 -- no event before the one in front of it
 abbrev pub DoFollow : ℕ → List Timed → Type 0
 DoFollow before [] = Unit {0}
 DoFollow before (timed ∷ rest) = (before ≤ timed.step) × DoFollow timed.step rest
 
-follow_append : (before : ℕ) (first second : List Timed) → DoFollow before first → DoFollow (step_behind before first) second → DoFollow before (first ++ second)
+follow_append : (before : ℕ) (first second : List Timed) → DoFollow before first → DoFollow (step_after before first) second → DoFollow before (first ++ second)
 follow_append before [] second one other = other
 follow_append before (timed ∷ rest) second one other = (one.0, follow_append timed.step rest second one.1 other)
 
@@ -48,7 +40,7 @@ follow_at_step : (before step : ℕ) (events : List Event) → before ≤ step �
 follow_at_step before step [] h = tt
 follow_at_step before step (event ∷ rest) h = (h, follow_at_step step step rest (omega arith))
 
-each_at_step : (step : ℕ) (events : List Event) → step ≤ 4000000000 → AllByRecursion IsEvent events → AllByRecursion IsTimed (at_step step events)
+each_at_step : (step : ℕ) (events : List Event) → step ≤ GREATEST_STEP → AllByRecursion IsEvent events → AllByRecursion IsTimed (at_step step events)
 each_at_step step [] h each = tt
 each_at_step step (event ∷ rest) h each = (record { step = h; event = each.0 }, each_at_step step rest h each.1)
 
@@ -101,7 +93,7 @@ events_may_be text events e =
     one_event : (event : Event) × (event_of text ≡ Some event) × (Some (event ∷ []) ≡ Some events) → AllByRecursion IsEvent events
     one_event found = subst (AllByRecursion IsEvent) (same_Some _ events found.2) (event_may_be text found.0 found.1, tt)
 
--- what a line adds behind a step
+-- what a line adds after a step
 pub record Continues (before : ℕ) (events : List Timed) : Type 0 where
   pub each : AllByRecursion IsTimed events
   pub order : DoFollow before events
@@ -110,14 +102,14 @@ line_made : (before : ℕ) (line : List ℕ) (events : List Timed) → (step_of 
 line_made before line events e =
     let step = bind_some (step_of before (word line)) _ events e in
     let found = bind_some (events_of (behind line)) _ events step.2 in
-    let number = bind_some (number_of 4000000000 (word line)) _ step.0 step.1 in
+    let number = bind_some (number_of GREATEST_STEP (word line)) _ step.0 step.1 in
     let made = cond_some (nat_le before number.0) number.0 step.0 number.2 in
-    let limit = number_limit 4000000000 (word line) number.0 number.1 in
+    let limit = number_limit GREATEST_STEP (word line) number.0 number.1 in
     at_made number.0 step.0 found.0 made.0 made.1 limit (events_may_be (behind line) found.0 found.1) (same_Some _ events found.2)
   where
-    at_made : (number step : ℕ) (found : List Event) → nat_le before number ≡ true → number ≡ step → number ≤ 4000000000 → AllByRecursion IsEvent found → at_step step found ≡ events → Continues before events
+    at_made : (number step : ℕ) (found : List Event) → nat_le before number ≡ true → number ≡ step → number ≤ GREATEST_STEP → AllByRecursion IsEvent found → at_step step found ≡ events → Continues before events
     at_made number step found least same limit may_be e =
-        let high : step ≤ 4000000000 = omega arith in
+        let high : step ≤ GREATEST_STEP = omega arith in
         let low : before ≤ step = grind (arith, nat_tests) in
         subst (Continues before) e (record { each = each_at_step step found high may_be; order = follow_at_step before step found low })
 

@@ -1,6 +1,7 @@
 -- The events of a line of a script.
 use Rattle.std.specs.Prelude.{ℕ, ◌<◌, ◌≤◌, Bool, ◌==◌, ◌||◌, nat_le, if◌then◌else◌, List, [], ◌∷◌, length, map, slice_index, bytes_eq, codes, Option, Some, None, option_map}
 use Rattle.std.specs.List.{before_first, after_first}
+use Rattle.mpm_script.specs.declared.line.TheConstants.{GREATEST_STEP}
 use Rattle.mpm_script.specs.declared.event.Event.{Event}
 use Rattle.mpm_script.specs.declared.event.Event.TheVariants.{Tick, Key, Ready, Int}
 use Rattle.mpm_script.specs.declared.event.Timed.{Timed}
@@ -62,7 +63,7 @@ keys_at step console keys = at_step step (map (λ byte. Key console byte) keys)
 -- the step of a line, which doesn't go back
 abbrev pub step_of : ℕ → List ℕ → Option ℕ
 step_of least text = do
-  step ← number_of 4000000000 text
+  step ← number_of GREATEST_STEP text
   if nat_le least step then Some step else None
 
 -- an empty line and one that begins with `#` say nothing
@@ -86,5 +87,5 @@ IsEvent (Int flag) = (4 ≤ flag) × (flag ≤ 31)
 
 -- at a step that a run may have
 pub record IsTimed (timed : Timed) : Type 0 where
-  pub step : timed.step ≤ 4000000000
+  pub step : timed.step ≤ GREATEST_STEP
   pub event : IsEvent timed.event

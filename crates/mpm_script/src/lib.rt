@@ -12,6 +12,7 @@ mod word;
 
 pub use error::ScriptError;
 pub use event::{Event, Timed};
+pub use line::GREATEST_STEP;
 pub use numbers::number;
 pub use reading::read_script;
 pub use script::Script;

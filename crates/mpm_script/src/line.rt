@@ -10,8 +10,8 @@ use crate::key::key;
 use crate::numbers::{hex_byte, number};
 use crate::word::{behind, byte_at, word};
 
-/// The greatest number of a step.
-const GREATEST_STEP: u32 = 4_000_000_000;
+/// The greatest number of a step, and so of the steps of a run.
+pub const GREATEST_STEP: u32 = 4_000_000_000;
 
 /// The most keys of a line.
 const MOST_KEYS: usize = 128;

@@ -1,4 +1,5 @@
 ghost use Rattle.std.specs.Prelude.{◌≡◌, ◌<◌, ◌≤◌, ℕ, List, [], length, Some, slice_get};
+ghost use Rattle.mpm_script.specs.declared.line.TheConstants.{GREATEST_STEP};
 
 use crate::event::Timed;
 use std::alloc::Global;
@@ -53,7 +54,7 @@ impl Script {
     pub fn at(&self, i: usize) -> Timed
         requires { i < length self.now }
         ensures timed { slice_get self.now i ≡ Some result }
-        ensures step { result.step ≤ 4000000000 }
+        ensures step { result.step ≤ GREATEST_STEP }
         ensures event { IsEvent result.event }
     {
         self.events[i]

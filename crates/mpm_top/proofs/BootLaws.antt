@@ -9,7 +9,7 @@ use Rattle.mpm_top.specs.declared.words.Form.{Form}
 use Rattle.mpm_top.specs.declared.words.Form.TheVariants.{Program, Run}
 use Rattle.mpm_top.specs.declared.status.Status.{Status}
 use Rattle.mpm_top.specs.declared.status.Status.TheVariants.{Ran, Usage, MachineFault, ScriptFault, TooLong, ReadFault, WriteFault, OutOfMemory}
-use Rattle.mpm_top.specs.Runs.{Contents, system_of, script_name, input_of, Holds, Scripted, Begins, BeginsOf, Unread, EndsBehind, IsNoMachine}
+use Rattle.mpm_top.specs.Runs.{Contents, system_of, script_name, input_of, Holds, Scripted, Begins, BeginsOf, Unread, EndsAfter, IsNoMachine}
 
 pub no_system : (bytes : List ℕ) (events : List Timed) → machine_of_text bytes ≡ None → system_of Run bytes events ≡ None
 unfolding system_of
@@ -48,7 +48,7 @@ begins_of_file contents bytes file events system is scripted was = record {
 -- the script that a machine file names wasn't read
 
 by_status : (contents : Contents) (bytes name : List ℕ) (old new : List (List ℕ)) (status : Status) → script_name Run bytes ≡ Some name
-    → Unread contents name old new status → EndsBehind contents Run (λ content. content ≡ bytes) old new status
+    → Unread contents name old new status → EndsAfter contents Run (λ content. content ≡ bytes) old new status
 by_status contents bytes name old new Ran is unread = absurd unread
 by_status contents bytes name old new Usage is unread = absurd unread
 by_status contents bytes name old new MachineFault is unread = absurd unread
@@ -58,15 +58,15 @@ by_status contents bytes name old new ReadFault is unread = record { bytes = byt
 by_status contents bytes name old new (WriteFault step) is unread = absurd unread
 by_status contents bytes name old new OutOfMemory is unread = unread
 
-unread_behind : (contents : Contents) (bytes : List ℕ) (script : Option (List ℕ)) (old new : List (List ℕ)) (status : Status) → script_name Run bytes ≡ script
-    → IsSome script → IfSome script (λ name. Unread contents name old new status) → EndsBehind contents Run (λ content. content ≡ bytes) old new status
-unread_behind contents bytes None old new status is some unread = absurd (cc)
-unread_behind contents bytes (Some name) old new status is some unread = by_status contents bytes name old new status is unread
+unread_after : (contents : Contents) (bytes : List ℕ) (script : Option (List ℕ)) (old new : List (List ℕ)) (status : Status) → script_name Run bytes ≡ script
+    → IsSome script → IfSome script (λ name. Unread contents name old new status) → EndsAfter contents Run (λ content. content ≡ bytes) old new status
+unread_after contents bytes None old new status is some unread = absurd (cc)
+unread_after contents bytes (Some name) old new status is some unread = by_status contents bytes name old new status is unread
 
 pub ends_unread : (contents : Contents) (bytes : List ℕ) (file : MachineFile) (old new : List (List ℕ)) (status : Status) → machine_of_text bytes ≡ Some file
-    → IsSome file.script → IfSome file.script (λ name. Unread contents name old new status) → EndsBehind contents Run (λ content. content ≡ bytes) old new status
+    → IsSome file.script → IfSome file.script (λ name. Unread contents name old new status) → EndsAfter contents Run (λ content. content ≡ bytes) old new status
 ends_unread contents bytes file old new status is some unread =
-    unread_behind contents bytes file.script old new status (script_of_file bytes file is) some unread
+    unread_after contents bytes file.script old new status (script_of_file bytes file is) some unread
 
 -- a program's bytes name no script, and its machine is that of the file that holds them
 

@@ -1,11 +1,12 @@
 -- Laws of the command line's words.
 use Rattle.std.proofs.Common.{◌≡◌, ◌≢◌, ℕ, ◌≤◌, List, [], ◌∷◌, Bool, Option, Some, None, length, refl, arith}
+use Rattle.mpm_script.specs.declared.line.TheConstants.{GREATEST_STEP}
 use Rattle.mpm_top.specs.Words.{steps_of, command_with, IsAsked}
 use Rattle.mpm_top.specs.declared.words.Form.{Form}
 
 -- a form, a name and a word of steps ask what they say
 pub asked_is : (form : Form) (file : List ℕ) (text : List ℕ) (steps : ℕ) (trace : Bool) (said : Option Form) → length file ≢ 0 → said ≡ Some form
-    → steps_of text ≡ Some steps → steps ≤ 4000000000 → IsAsked (command_with said file (steps_of text) trace) file (record { form = form; steps = steps; trace = trace })
+    → steps_of text ≡ Some steps → steps ≤ GREATEST_STEP → IsAsked (command_with said file (steps_of text) trace) file (record { form = form; steps = steps; trace = trace })
 unfolding command_with
 asked_is form [] text steps trace said named is e limit = absurd (named refl)
 asked_is form (byte ∷ file) text steps trace said named is e limit = record { is = rw (is, e) refl; limit = limit }

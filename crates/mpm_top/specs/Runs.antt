@@ -87,7 +87,7 @@ pub record WritesAll (contents : Contents) (command : Command) (first written : 
   pub begins : Begins contents command.form command.name system
   pub text : written ≡ appended first (closed command.trace (after command.steps (begun system)).outputs)
 
--- writing stopped at a step of so many behind a state, in the text of that step, or as the unfinished lines were closed
+-- writing stopped at a step of so many after a state, in the text of that step, or as the unfinished lines were closed
 abbrev pub StopsAt : Bool → State → ℕ → Option (List ℕ) → Option (List ℕ) → ℕ → Type 0
 StopsAt trace s steps first written step =
     EndsInStep trace written first s steps step
@@ -143,21 +143,21 @@ pub record LacksScript (contents : Contents) (form : Form) (Of : List ℕ → Ty
   pub unread : Unread contents script old new status
 
 -- how such a command ends
-abbrev pub EndsBehind : Contents → Form → (List ℕ → Type 0) → List (List ℕ) → List (List ℕ) → Status → Type 0
-EndsBehind contents form Of old new Ran = (system : System) × BeginsOf contents form Of system
-EndsBehind contents form Of old new Usage = ⊥
-EndsBehind contents form Of old new MachineFault = IsNoMachine form Of
-EndsBehind contents form Of old new (ScriptFault line) = LacksScript contents form Of old new (ScriptFault line)
-EndsBehind contents form Of old new (TooLong what) = LacksScript contents form Of old new (TooLong what)
-EndsBehind contents form Of old new ReadFault = LacksScript contents form Of old new ReadFault
-EndsBehind contents form Of old new (WriteFault step) = (system : System) × BeginsOf contents form Of system
-EndsBehind contents form Of old new OutOfMemory = Unit {0}
+abbrev pub EndsAfter : Contents → Form → (List ℕ → Type 0) → List (List ℕ) → List (List ℕ) → Status → Type 0
+EndsAfter contents form Of old new Ran = (system : System) × BeginsOf contents form Of system
+EndsAfter contents form Of old new Usage = ⊥
+EndsAfter contents form Of old new MachineFault = IsNoMachine form Of
+EndsAfter contents form Of old new (ScriptFault line) = LacksScript contents form Of old new (ScriptFault line)
+EndsAfter contents form Of old new (TooLong what) = LacksScript contents form Of old new (TooLong what)
+EndsAfter contents form Of old new ReadFault = LacksScript contents form Of old new ReadFault
+EndsAfter contents form Of old new (WriteFault step) = (system : System) × BeginsOf contents form Of system
+EndsAfter contents form Of old new OutOfMemory = Unit {0}
 
 -- how a command of a form and a file ends: the file wasn't fetched, or it was, and then by its bytes
 abbrev pub Ends : Contents → Form → List ℕ → List (List ℕ) → List (List ℕ) → Status → Type 0
 Ends contents form name old new status =
     Unfetched contents (input_of form) name old new status
-    ⊎ EndsBehind contents form (Holds contents (input_of form) name) old new status
+    ⊎ EndsAfter contents form (Holds contents (input_of form) name) old new status
 
 -- how a command ends whose files are told, if nothing fails and there is memory. The order is that of the refusals
 

@@ -2,6 +2,7 @@
 use Rattle.std.specs.Prelude.{◌≡◌, ◌≤◌, slice_index_or, ℕ, Bool, true, false, List, [], ◌∷◌, map, length, String, string_bytes, bytes_eq, codes, Option, Some, None, if◌then◌else◌}
 use Rattle.std.specs.declared.alloc.Global.{Global}
 use Rattle.mpm_script.specs.Numbers.{number_of}
+use Rattle.mpm_script.specs.declared.line.TheConstants.{GREATEST_STEP}
 use Rattle.mpm_top.specs.declared.words.Form.{Form}
 use Rattle.mpm_top.specs.declared.words.Form.TheVariants.{Program, Run}
 use Rattle.mpm_top.specs.declared.words.Asked.{Asked}
@@ -19,7 +20,7 @@ texts words = map string_bytes words
 
 -- a number of steps: decimal digits without a leading zero, at most 4,000,000,000
 unfoldable pub steps_of : List ℕ → Option ℕ
-steps_of text = number_of 4000000000 text
+steps_of text = number_of GREATEST_STEP text
 
 -- the form of a command by its first word
 unfoldable pub form_of : List ℕ → Option Form
@@ -49,7 +50,7 @@ command_of (word ∷ file ∷ steps ∷ last ∷ more ∷ rest) = None
 -- a command asks that of a file of that name
 pub record IsAsked (command : Option Command) (name : List ℕ) (asked : Asked) : Type 0 where
   pub is : command ≡ Some (record { form = asked.form; name = name; steps = asked.steps; trace = asked.trace })
-  pub limit : asked.steps ≤ 4000000000
+  pub limit : asked.steps ≤ GREATEST_STEP
 
 -- the words ask that of the file of the second of them
 pub record AreAsking (words : List (List ℕ)) (asked : Asked) : Type 0 where

@@ -1,6 +1,6 @@
 ghost use Rattle.std.specs.Prelude.{[], ◌≡◌, ◌≤◌, ◌↔◌, ℕ, List, Some, IsSome, IfSome, IfOk, IfErr, MatchResult, length};
 ghost use Rattle.mpm_machine.specs.State.{IsWhole};
-ghost use Rattle.mpm_top.specs.Runs.{input_of as input_said, room_for, script_name, Contents, Holds, HoldsEvents, Begins, BeginsOf, Scripted, Unfetched, Unread, Ends, EndsBehind, IsRefusal, UnlessReadFault, EndsAs};
+ghost use Rattle.mpm_top.specs.Runs.{input_of as input_said, room_for, script_name, Contents, Holds, HoldsEvents, Begins, BeginsOf, Scripted, Unfetched, Unread, Ends, EndsAfter, IsRefusal, UnlessReadFault, EndsAs};
 
 use crate::status::{Input, Status};
 use crate::words::Form;
@@ -31,7 +31,7 @@ pub(crate) fn boot<F: Files>(
 ) -> Result<Machine, Status>
     ensures begins { IfOk result (λ machine. Begins (F.contents files.old) form name.now machine) }
     ensures whole { IfOk result (λ machine. IsWhole machine) }
-    ensures no_completions { IfOk result (λ machine. machine.kernel.completed ≡ []) }
+    ensures no_completions { IfOk result (λ machine. machine.kernel.dispatcher.completed ≡ []) }
     ensures start { IfOk result (λ machine. machine.steps ≡ 0) }
     ensures refusal { IfErr result (λ status. IsRefusal status) }
     ensures reason { IfErr result (λ status. Ends (F.contents files.old) form name.now (F.failed_names files.old) (F.failed_names files.new) status) }
@@ -83,7 +83,7 @@ fn boot_program(alloc: Global, bytes: &[u8]) -> Result<Machine, Status>
     requires { length bytes.now ≤ 48512 }
     ensures begins { (contents : Contents) → IfOk result (λ machine. BeginsOf contents Form.Program (λ content. content ≡ bytes.now) machine) }
     ensures whole { IfOk result (λ machine. IsWhole machine) }
-    ensures no_completions { IfOk result (λ machine. machine.kernel.completed ≡ []) }
+    ensures no_completions { IfOk result (λ machine. machine.kernel.dispatcher.completed ≡ []) }
     ensures start { IfOk result (λ machine. machine.steps ≡ 0) }
     ensures memory { IfErr result (λ status. status ≡ Status.OutOfMemory) }
 {
@@ -97,10 +97,10 @@ fn boot_program(alloc: Global, bytes: &[u8]) -> Result<Machine, Status>
 fn boot_machine<F: Files>(alloc: Global, bytes: &[u8], files: &mut F) -> Result<Machine, Status>
     ensures begins { IfOk result (λ machine. BeginsOf (F.contents files.old) Form.Run (λ content. content ≡ bytes.now) machine) }
     ensures whole { IfOk result (λ machine. IsWhole machine) }
-    ensures no_completions { IfOk result (λ machine. machine.kernel.completed ≡ []) }
+    ensures no_completions { IfOk result (λ machine. machine.kernel.dispatcher.completed ≡ []) }
     ensures start { IfOk result (λ machine. machine.steps ≡ 0) }
     ensures refusal { IfErr result (λ status. IsRefusal status) }
-    ensures reason { IfErr result (λ status. EndsBehind (F.contents files.old) Form.Run (λ content. content ≡ bytes.now) (F.failed_names files.old) (F.failed_names files.new) status) }
+    ensures reason { IfErr result (λ status. EndsAfter (F.contents files.old) Form.Run (λ content. content ≡ bytes.now) (F.failed_names files.old) (F.failed_names files.new) status) }
     ensures names { MatchResult result (λ _. F.failed_names files.new ≡ F.failed_names files.old)
         (λ status. UnlessReadFault status (F.failed_names files.new ≡ F.failed_names files.old)) }
     ensures missing { (script : List ℕ) → script_name Form.Run bytes.now ≡ Some script → F.missing files.old script

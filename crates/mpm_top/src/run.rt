@@ -1,4 +1,5 @@
 ghost use Rattle.std.specs.Prelude.{◌≡◌, ◌≢◌, ◌≤◌, ◌<◌, ◌⊎◌, ◌↔◌, ◌∷◌, ◌++◌, [], ℕ, List, Option, Some, None, IfOk, OnOk, OnErr, IfErr, MatchOption, IsSome, length, slice_index_or, ⊤};
+ghost use Rattle.mpm_script.specs.declared.line.TheConstants.{GREATEST_STEP};
 ghost use Rattle.mpm_port.specs.Causes.{Rose, HasCause};
 ghost use Rattle.mpm_port.specs.Texts.{appended};
 ghost use Rattle.mpm_render.specs.Outputs.{closed};
@@ -85,7 +86,7 @@ fn run_command<F: Files, S: Sink>(
     files: &mut F,
     sink: &mut S,
 ) -> Status
-    requires { asked.steps ≤ 4000000000 }
+    requires { asked.steps ≤ GREATEST_STEP }
     ensures usage { result ≢ Status.Usage }
     ensures ran { result ≡ Status.Ran
         → WritesAll (F.contents files.old) (command_on name.now asked) (S.written sink.old) (S.written sink.new) }
@@ -113,9 +114,9 @@ fn run_command<F: Files, S: Sink>(
 /// Runs a machine that begins for so many steps, and closes the unfinished lines.
 fn run_to_end<S: Sink>(machine: &mut Machine, asked: Asked, sink: &mut S) -> Result<(), RunFault>
     requires whole { IsWhole machine.old }
-    requires no_completions { machine.old.kernel.completed ≡ [] }
+    requires no_completions { machine.old.kernel.dispatcher.completed ≡ [] }
     requires start { machine.old.steps ≡ 0 }
-    requires limit { asked.steps ≤ 4000000000 }
+    requires limit { asked.steps ≤ GREATEST_STEP }
     ensures ok { OnOk result (S.written sink.new ≡ appended (S.written sink.old) (closed asked.trace (after asked.steps (begun machine.old)).outputs)) }
     ensures err { IfErr result (λ fault. StopsAt asked.trace (begun machine.old) asked.steps (S.written sink.old) (S.written sink.new) fault.step) }
     ensures cause { HasCause (S.faults sink.old) (S.faults sink.new) result }

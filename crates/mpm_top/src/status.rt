@@ -24,7 +24,7 @@ pub enum Status {
     TooLong { what: Input },
     /// A file that the words or the machine file name could not be read.
     ReadFault,
-    /// The output failed in this step, or behind the last one as the unfinished lines were closed.
+    /// The output failed in this step, or after the last one as the unfinished lines were closed.
     WriteFault { step: u64 },
     /// There was no memory to read and boot.
     OutOfMemory,

@@ -2,8 +2,7 @@ ghost use Rattle.std.specs.Prelude.{◌≡◌, ◌∷◌, [], ◌<◌, ◌≤◌
 ghost use Rattle.std.specs.List.{list_all};
 ghost use Rattle.mpm_top.specs.Words.{texts, steps_of as number_of, form_of as form_said, command_with, command_of, IsAsked, AreAsking};
 
-/// The greatest number of steps.
-const GREATEST_STEPS: u32 = 4_000_000_000;
+use mpm_script::GREATEST_STEP;
 
 /// The forms of commands, by their first word.
 #[derive(Clone, Copy)]
@@ -28,9 +27,9 @@ pub(crate) struct Asked {
 #[tactic(auto, unfolding(crate::specs::Words::steps_of))]
 fn steps_of(word: &str) -> Option<u64>
     ensures number { result ≡ number_of word.now }
-    ensures limit { IfSome result (λ n. n ≤ 4000000000) }
+    ensures limit { IfSome result (λ n. n ≤ GREATEST_STEP) }
 {
-    let steps = mpm_script::number(word.as_bytes(), GREATEST_STEPS)?;
+    let steps = mpm_script::number(word.as_bytes(), GREATEST_STEP)?;
     Some(u64::from(steps))
 }
 

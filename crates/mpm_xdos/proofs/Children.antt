@@ -1,4 +1,4 @@
--- Laws of the processes that descriptors ask for, one behind the other.
+-- Laws of the processes that descriptors ask for, one after the other.
 use Rattle.std.proofs.lemmas.Bool.Decides.{nat_tests}
 use Rattle.std.specs.Prelude.{nat_le}
 use Rattle.std.proofs.Common.{◌≡◌, ◌∙◌, ℕ, ◌+◌, ◌<◌, ◌≤◌, Bool, true, false, ◌&&◌, List, [], ◌∷◌, ◌++◌, length, take, get_or, refl, sym, ap, subst, arith}
@@ -9,19 +9,19 @@ use Rattle.std.proofs.lemmas.List.Folds.{list_all_more, list_all_at}
 use Rattle.mpm_procs.specs.declared.process.Process.{Process}
 use Rattle.mpm_procs.specs.declared.process.NewProcess.{NewProcess}
 use Rattle.mpm_procs.specs.Table.{lowest_free, free_slots}
-use Rattle.mpm_kernel.specs.Kernel.{Kernel}
+use Rattle.mpm_kernel.specs.Kernel.{Kernel, dispatched}
 use Rattle.mpm_xdos.specs.Creating.{descriptor_count, child_at, children_of, has_console, may_create, all_admitted}
-use Rattle.mpm_kernel.specs.Dispatch.{in_slot}
+use Rattle.mpm_dispatcher.specs.Dispatch.{in_slot}
 
 pub all_none : (kernel : Kernel) → all_admitted [] kernel ≡ kernel
 unfolding all_admitted
 all_none kernel = refl
 
 pub all_append : (a : List NewProcess) (new : NewProcess) (kernel : Kernel)
-    → all_admitted (a ++ new ∷ []) kernel ≡ in_slot (all_admitted a kernel) new (lowest_free (all_admitted a kernel).procs)
+    → all_admitted (a ++ new ∷ []) kernel ≡ dispatched (in_slot new (lowest_free (all_admitted a kernel).dispatcher.procs)) (all_admitted a kernel)
 unfolding all_admitted
 all_append [] new kernel = refl
-all_append (first ∷ a) new kernel = all_append a new (in_slot kernel first (lowest_free kernel.procs))
+all_append (first ∷ a) new kernel = all_append a new (dispatched (in_slot first (lowest_free kernel.dispatcher.procs)) kernel)
 
 pub child_count : (parent : Process) (base : ℕ) (bytes : List ℕ) → length (children_of parent base bytes) ≡ descriptor_count bytes
 unfolding children_of
@@ -40,8 +40,7 @@ all_children parent base bytes count e =
 -- one more process begins
 pub all_more : (parent : Process) (base : ℕ) (bytes : List ℕ) (number : ℕ) (kernel : Kernel) → number < descriptor_count bytes
     → all_admitted (take (number + 1) (children_of parent base bytes)) kernel
-    ≡ in_slot (all_admitted (take number (children_of parent base bytes)) kernel) (child_at parent base bytes number)
-    (lowest_free (all_admitted (take number (children_of parent base bytes)) kernel).procs)
+    ≡ dispatched (in_slot (child_at parent base bytes number) (lowest_free (all_admitted (take number (children_of parent base bytes)) kernel).dispatcher.procs)) (all_admitted (take number (children_of parent base bytes)) kernel)
 all_more parent base bytes number kernel h =
     let children = children_of parent base bytes in
     let child = child_at parent base bytes number in
@@ -51,19 +50,19 @@ all_more parent base bytes number kernel h =
     ap (λ all. all_admitted all kernel) more ∙ all_append (take number children) child kernel
 
 -- whether processes may be created, by their number and their consoles
-pub may_create_none : (kernel : Kernel) (parent : Process) (base : ℕ) (bytes : List ℕ) → free_slots kernel.procs < descriptor_count bytes
+pub may_create_none : (kernel : Kernel) (parent : Process) (base : ℕ) (bytes : List ℕ) → free_slots kernel.dispatcher.procs < descriptor_count bytes
     → may_create kernel (children_of parent base bytes) ≡ false
 unfolding may_create
 may_create_none kernel parent base bytes h =
-    let e : nat_le (length (children_of parent base bytes)) (free_slots kernel.procs) ≡ false = grind (arith, nat_tests, child_count parent base bytes) in
-    ap (λ b. b && list_all (has_console kernel.consoles) (children_of parent base bytes)) e
+    let e : nat_le (length (children_of parent base bytes)) (free_slots kernel.dispatcher.procs) ≡ false = grind (arith, nat_tests, child_count parent base bytes) in
+    ap (λ b. b && list_all (has_console (length kernel.units.consoles)) (children_of parent base bytes)) e
 
-pub may_create_some : (kernel : Kernel) (parent : Process) (base : ℕ) (bytes : List ℕ) → descriptor_count bytes ≤ free_slots kernel.procs
-    → may_create kernel (children_of parent base bytes) ≡ list_all (has_console kernel.consoles) (children_of parent base bytes)
+pub may_create_some : (kernel : Kernel) (parent : Process) (base : ℕ) (bytes : List ℕ) → descriptor_count bytes ≤ free_slots kernel.dispatcher.procs
+    → may_create kernel (children_of parent base bytes) ≡ list_all (has_console (length kernel.units.consoles)) (children_of parent base bytes)
 unfolding may_create
 may_create_some kernel parent base bytes h =
-    let e : nat_le (length (children_of parent base bytes)) (free_slots kernel.procs) ≡ true = grind (arith, nat_tests, child_count parent base bytes) in
-    ap (λ b. b && list_all (has_console kernel.consoles) (children_of parent base bytes)) e
+    let e : nat_le (length (children_of parent base bytes)) (free_slots kernel.dispatcher.procs) ≡ true = grind (arith, nat_tests, child_count parent base bytes) in
+    ap (λ b. b && list_all (has_console (length kernel.units.consoles)) (children_of parent base bytes)) e
 
 passes_if : (b all : Bool) → (b ≡ false → all ≡ false) → all ≡ true → b ≡ true
 passes_if true all h e = refl

@@ -1,6 +1,6 @@
 -- What creating processes leaves: the kernel is sound, who lives has a segment in which somebody lived, and who lived lives
 -- on and keeps its call.
-use Rattle.std.proofs.Common.{◌≡◌, ◌∙◌, ℕ, suc, ◌<◌, true, List, [], ◌∷◌, map, refl, sym, ap, subst, arith}
+use Rattle.std.proofs.Common.{◌≡◌, ◌∙◌, ℕ, suc, ◌<◌, true, List, [], ◌∷◌, length, map, refl, sym, ap, subst, arith}
 use Rattle.std.proofs.lemmas.Bool.{and_parts}
 use Rattle.std.proofs.lemmas.Bool.Decides.{nat_tests}
 use Rattle.std.specs.List.{AllPass, range_with_len}
@@ -8,21 +8,21 @@ use Rattle.std.proofs.lemmas.List.Sums.{AllPass-from_list_all}
 use Rattle.mpm_base.proofs.Choices.{either}
 use Rattle.mpm_procs.specs.Table.{Lives, process_in, call_of, lowest_free}
 use Rattle.mpm_procs.specs.declared.process.NewProcess.{NewProcess}
-use Rattle.mpm_kernel.specs.Kernel.{Kernel, IsSound}
-use Rattle.mpm_kernel.specs.Dispatch.{in_slot}
-use Rattle.mpm_kernel.proofs.SoundLaws.{sound_in_slot, consoles_in_slot, completed_in_slot}
+use Rattle.mpm_kernel.specs.Kernel.{Kernel, IsSound, dispatched}
+use Rattle.mpm_dispatcher.specs.Dispatch.{in_slot}
+use Rattle.mpm_kernel.proofs.SoundLaws.{sound_in_slot, completed_in_slot}
 use Rattle.mpm_kernel.proofs.HomeLaws.{SameHomes, homes_stay, homes_both, homes_in_slot, lives_on, keeps_call, keeps_process}
 use Rattle.mpm_xdos.specs.Creating.{descriptor_count, child_of, child_at, children_of, has_console, may_create, all_admitted, created}
 
 -- what one process more, or several, leave of the kernel before
 pub record Made (old new : Kernel) : Type 0 where
   pub sound : IsSound new
-  pub consoles : new.consoles ≡ old.consoles
-  pub completed : new.completed ≡ old.completed
+  pub consoles : length new.units.consoles ≡ length old.units.consoles
+  pub completed : new.dispatcher.completed ≡ old.dispatcher.completed
   pub homes : SameHomes old new
-  pub lives : (q : ℕ) → Lives old.procs q → Lives new.procs q
-  pub call : (q : ℕ) → Lives old.procs q → call_of new.procs q ≡ call_of old.procs q
-  pub process : (q : ℕ) → Lives old.procs q → process_in new.procs q ≡ process_in old.procs q
+  pub lives : (q : ℕ) → Lives old.dispatcher.procs q → Lives new.dispatcher.procs q
+  pub call : (q : ℕ) → Lives old.dispatcher.procs q → call_of new.dispatcher.procs q ≡ call_of old.dispatcher.procs q
+  pub process : (q : ℕ) → Lives old.dispatcher.procs q → process_in new.dispatcher.procs q ≡ process_in old.dispatcher.procs q
 
 made_none : (kernel : Kernel) → IsSound kernel → Made kernel kernel
 made_none kernel s = record {
@@ -47,13 +47,13 @@ made_both old middle new a b = record {
 }
 
 -- one more, in the segment of a process that lives
-made_one : (kernel : Kernel) (p : ℕ) (new : NewProcess) → IsSound kernel → Lives kernel.procs p → new.seg ≡ (process_in kernel.procs p).seg
-    → new.console < kernel.consoles → Made kernel (in_slot kernel new (lowest_free kernel.procs))
+made_one : (kernel : Kernel) (p : ℕ) (new : NewProcess) → IsSound kernel → Lives kernel.dispatcher.procs p → new.seg ≡ (process_in kernel.dispatcher.procs p).seg
+    → new.console < length kernel.units.consoles → Made kernel (dispatched (in_slot new (lowest_free kernel.dispatcher.procs)) kernel)
 made_one kernel p new s h same console =
-    let slot = lowest_free kernel.procs in
+    let slot = lowest_free kernel.dispatcher.procs in
     record {
       sound = sound_in_slot kernel new slot s refl console;
-      consoles = consoles_in_slot kernel new slot;
+      consoles = refl;
       completed = completed_in_slot kernel new slot;
       homes = homes_in_slot kernel new slot s.slots refl (λ seg e. record { who = p; lives = h; home = sym same ∙ e });
       lives = λ q living. lives_on kernel new slot q refl living;
@@ -62,27 +62,27 @@ made_one kernel p new s h same console =
     }
 
 -- several, each in that segment
-made_all : (f : ℕ → NewProcess) (numbers : List ℕ) (kernel : Kernel) (p : ℕ) → IsSound kernel → Lives kernel.procs p
-    → ((n : ℕ) → (f n).seg ≡ (process_in kernel.procs p).seg) → AllPass (has_console kernel.consoles) (map f numbers)
+made_all : (f : ℕ → NewProcess) (numbers : List ℕ) (kernel : Kernel) (p : ℕ) → IsSound kernel → Lives kernel.dispatcher.procs p
+    → ((n : ℕ) → (f n).seg ≡ (process_in kernel.dispatcher.procs p).seg) → AllPass (has_console (length kernel.units.consoles)) (map f numbers)
     → Made kernel (all_admitted (map f numbers) kernel)
 unfolding all_admitted
 made_all f [] kernel p s h same consoles = made_none kernel s
 made_all f (n ∷ numbers) kernel p s h same consoles =
-    let next = in_slot kernel (f n) (lowest_free kernel.procs) in
-    let here : has_console kernel.consoles (f n) ≡ true = consoles 0 (f n) (omega arith) in
+    let next = dispatched (in_slot (f n) (lowest_free kernel.dispatcher.procs)) kernel in
+    let here : has_console (length kernel.units.consoles) (f n) ≡ true = consoles 0 (f n) (omega arith) in
     let first : Made kernel next = made_one kernel p (f n) s h (same n) (grind (arith, nat_tests, here)) in
     let P : ℕ → Type 0 = λ count. AllPass (has_console count) (map f numbers) in
     made_both kernel next _ first
     (made_all f numbers next p first.sound (first.lives p h) (λ k. same k ∙ ap (λ x. x.seg) (sym (first.process p h))) (subst P (sym first.consoles) (λ k d below. consoles (suc k) d (omega arith))))
 
-pub made_created : (kernel : Kernel) (p base : ℕ) → IsSound kernel → Lives kernel.procs p → Made kernel (created kernel p base)
+pub made_created : (kernel : Kernel) (p base : ℕ) → IsSound kernel → Lives kernel.dispatcher.procs p → Made kernel (created kernel p base)
 unfolding created may_create children_of child_of
 made_created kernel p base s h =
-    let parent = process_in kernel.procs p in
-    let bytes = (call_of kernel.procs p).bytes in
+    let parent = process_in kernel.dispatcher.procs p in
+    let bytes = (call_of kernel.dispatcher.procs p).bytes in
     let children = children_of parent base bytes in
     either (Made kernel) (may_create kernel children) _ _
     (λ may.
     made_all (child_at parent base bytes) (range_with_len 0 (descriptor_count bytes)) kernel p s h (λ n. refl)
-    (AllPass-from_list_all (has_console kernel.consoles) children (and_parts _ _ may).1))
+    (AllPass-from_list_all (has_console (length kernel.units.consoles)) children (and_parts _ _ may).1))
     (λ _. made_none kernel s)

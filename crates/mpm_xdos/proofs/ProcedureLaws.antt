@@ -1,5 +1,5 @@
 -- The kernel stays sound where a process enters a resident procedure, and where it leaves one.
-use Rattle.std.proofs.Common.{◌≡◌, ℕ, refl}
+use Rattle.std.proofs.Common.{ℕ, refl}
 use Rattle.mpm_procs.specs.Table.{Lives, process_in, call_of}
 use Rattle.mpm_kernel.specs.Kernel.{Kernel, IsSound}
 use Rattle.mpm_kernel.specs.Procedures.{given_back}
@@ -7,13 +7,13 @@ use Rattle.mpm_kernel.proofs.SoundLaws.{sound_process}
 use Rattle.mpm_kernel.proofs.ProcedureLaws.{stays_given_back}
 use Rattle.mpm_xdos.specs.Procedures.{entering, entered, leaving, returned_from_procedure}
 
-pub sound_entered : (p : ℕ) (kernel : Kernel) → IsSound kernel → Lives kernel.procs p → IsSound (entered p kernel)
+pub sound_entered : (p : ℕ) (kernel : Kernel) → IsSound kernel → Lives kernel.dispatcher.procs p → IsSound (entered p kernel)
 unfolding entered entering
-sound_entered p kernel s h = sound_process kernel p (entering (call_of kernel.procs p) (process_in kernel.procs p)) s h refl refl refl refl
+sound_entered p kernel s h = sound_process kernel p (entering (call_of kernel.dispatcher.procs p) (process_in kernel.dispatcher.procs p)) s h refl refl refl refl
 
-pub sound_left : (p : ℕ) (kernel : Kernel) → IsSound kernel → Lives kernel.procs p → IsSound (returned_from_procedure p kernel)
+pub sound_left : (p : ℕ) (kernel : Kernel) → IsSound kernel → Lives kernel.dispatcher.procs p → IsSound (returned_from_procedure p kernel)
 unfolding returned_from_procedure leaving
 sound_left p kernel s h =
     let stays = stays_given_back p kernel s h in
-    let behind = given_back p kernel in
-    sound_process behind p (leaving (process_in behind.procs p)) stays.sound stays.lives refl refl refl refl
+    let afterwards = given_back p kernel in
+    sound_process afterwards p (leaving (process_in afterwards.dispatcher.procs p)) stays.sound stays.lives refl refl refl refl

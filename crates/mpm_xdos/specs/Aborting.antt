@@ -1,11 +1,11 @@
 -- Aborts: which process a call names, and its end, at once or later. (MP/M II Programmer's Guide, "Function 157: Abort
 -- Specified Process".)
-use Rattle.std.specs.Prelude.{ℕ, ◌+◌, ◌*◌, Bool, true, List, Option, Some, None, is_some, is_none, ◌&&◌, ◌||◌, ◌==◌, bytes_eq, if◌then◌else◌}
+use Rattle.std.specs.Prelude.{ℕ, ◌+◌, ◌*◌, Bool, true, List, Option, Some, None, is_some, ◌&&◌, ◌||◌, ◌==◌, bytes_eq, if◌then◌else◌}
 use Rattle.mpm_base.specs.Calls.{Taken, byte_in, word_at, eight_at}
 use Rattle.mpm_procs.specs.Table.{Table, lives, process_in, call_of}
 use Rattle.mpm_procs.specs.declared.process.Process.{Process}
 use Rattle.mpm_queues.specs.Queues.{lowest, lowest_held}
-use Rattle.mpm_kernel.specs.Kernel.{Kernel, with_changed}
+use Rattle.mpm_kernel.specs.Kernel.{Kernel, is_resident, with_changed}
 use Rattle.mpm_kernel.specs.Ending.{discharged}
 use Rattle.mpm_banks.specs.Memory.{Memory}
 use Rattle.mpm_xdos.specs.Ending.{memory_without}
@@ -54,18 +54,14 @@ waits_to_end kernel p in_service = in_service || is_some (lowest_held kernel.que
 
 -- the end of a process is put off
 abbrev pub with_abort_due : Kernel → ℕ → Kernel
-with_abort_due kernel p = with_changed kernel p (record (process_in kernel.procs p) { abort_due = true })
+with_abort_due kernel p = with_changed kernel p (record (process_in kernel.dispatcher.procs p) { abort_due = true })
 
--- a resident, which has no segment
-abbrev pub is_resident : Kernel → ℕ → Bool
-is_resident kernel p = is_none (process_in kernel.procs p).seg
-
--- the kernel and memory behind an abort: a resident stays, another process ends, or its end is put off
-unfoldable pub behind_abort : Kernel → ℕ → Bool → Kernel
-behind_abort kernel p in_service =
-    if is_resident kernel p then kernel
+-- the kernel and memory after an abort: a resident stays, another process ends, or its end is put off
+unfoldable pub abort_done : Kernel → ℕ → Bool → Kernel
+abort_done kernel p in_service =
+    if is_resident kernel.dispatcher.procs p then kernel
     else (if waits_to_end kernel p in_service then with_abort_due kernel p else (discharged kernel p))
 
-unfoldable pub memory_behind_abort : Memory → Kernel → ℕ → Bool → Memory
-memory_behind_abort memory kernel p in_service =
-    if is_resident kernel p || waits_to_end kernel p in_service then memory else (memory_without memory kernel p)
+unfoldable pub memory_after_abort : Memory → Kernel → ℕ → Bool → Memory
+memory_after_abort memory kernel p in_service =
+    if is_resident kernel.dispatcher.procs p || waits_to_end kernel p in_service then memory else (memory_without memory kernel p)

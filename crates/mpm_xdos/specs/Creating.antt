@@ -2,12 +2,13 @@
 use Rattle.std.specs.Prelude.{Option, Some, None, ℕ, ◌+◌, ◌*◌, ◌/◌, Bool, List, [], ◌∷◌, ◌&&◌, nat_le, nat_lt, length, slice_range, map, slice_index, if◌then◌else◌}
 use Rattle.std.specs.List.{list_all, range_with_len}
 use Rattle.z80_regs.specs.Words.{onward, word_of}
+use Rattle.mpm_base.specs.declared.call.TheConstants.{FAILURE_CODE}
 use Rattle.mpm_banks.specs.Memory.{Memory, segment_of}
 use Rattle.mpm_procs.specs.Table.{lowest_free, free_slots, process_in, call_of}
 use Rattle.mpm_procs.specs.declared.process.Process.{Process}
 use Rattle.mpm_procs.specs.declared.process.NewProcess.{NewProcess}
-use Rattle.mpm_kernel.specs.Kernel.{Kernel}
-use Rattle.mpm_kernel.specs.Dispatch.{in_slot}
+use Rattle.mpm_kernel.specs.Kernel.{Kernel, dispatched}
+use Rattle.mpm_dispatcher.specs.Dispatch.{in_slot}
 
 -- the base page of the segment that a process has
 abbrev pub home_base : Memory → Option ℕ → ℕ
@@ -57,20 +58,20 @@ has_console consoles child = nat_lt child.console consoles
 -- there is a slot for each of them, and a console
 unfoldable pub may_create : Kernel → List NewProcess → Bool
 may_create kernel children =
-    nat_le (length children) (free_slots kernel.procs) && list_all (has_console kernel.consoles) children
+    nat_le (length children) (free_slots kernel.dispatcher.procs) && list_all (has_console (length kernel.units.consoles)) children
 
--- some processes begin, one behind the other, each in the lowest free slot
+-- some processes begin, one after the other, each in the lowest free slot
 unfoldable pub all_admitted : List NewProcess → Kernel → Kernel
 all_admitted [] kernel = kernel
-all_admitted (new ∷ more) kernel = all_admitted more (in_slot kernel new (lowest_free kernel.procs))
+all_admitted (new ∷ more) kernel = all_admitted more (dispatched (in_slot new (lowest_free kernel.dispatcher.procs)) kernel)
 
 -- what function 144 makes of the kernel
 unfoldable pub created : Kernel → ℕ → ℕ → Kernel
 created kernel p base =
-    let children = children_of (process_in kernel.procs p) base (call_of kernel.procs p).bytes in
+    let children = children_of (process_in kernel.dispatcher.procs p) base (call_of kernel.dispatcher.procs p).bytes in
     if may_create kernel children then all_admitted children kernel else kernel
 
 -- what it answers
 unfoldable pub create_answer : Kernel → ℕ → ℕ → ℕ
 create_answer kernel p base =
-    if may_create kernel (children_of (process_in kernel.procs p) base (call_of kernel.procs p).bytes) then 0 else 255
+    if may_create kernel (children_of (process_in kernel.dispatcher.procs p) base (call_of kernel.dispatcher.procs p).bytes) then 0 else FAILURE_CODE

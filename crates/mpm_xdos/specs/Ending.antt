@@ -26,7 +26,7 @@ unfoldable pub vacated_if_empty : Memory → Table → Option ℕ → Memory
 vacated_if_empty memory procs None = memory
 vacated_if_empty memory procs (Some seg) = if is_home procs seg then memory else (vacated memory seg)
 
--- memory behind the end of a process
+-- memory after the end of a process
 unfoldable pub memory_without : Memory → Kernel → ℕ → Memory
 memory_without memory kernel p =
-    vacated_if_empty (all_released memory p) (discharged kernel p).procs (process_in kernel.procs p).seg
+    vacated_if_empty (all_released memory p) (discharged kernel p).dispatcher.procs (process_in kernel.dispatcher.procs p).seg

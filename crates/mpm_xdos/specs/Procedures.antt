@@ -1,9 +1,10 @@
 -- Resident procedures: how a process enters one, and how it leaves it. (MP/M II Programmer's Guide, "Function 151: Call
 -- Resident System Procedure".)
-use Rattle.std.specs.Prelude.{ℕ, ◌+◌, ◌-◌, false, Option, Some, None, [], ◌∷◌}
+use Rattle.std.specs.Prelude.{ℕ, false, Option, Some, None, [], ◌∷◌}
 use Rattle.z80_regs.specs.Words.{back}
 use Rattle.mpm_base.specs.Calls.{Taken, Answer, answering, byte_in}
-use Rattle.mpm_banks.specs.Memory.{Memory, segment_of}
+use Rattle.mpm_banks.specs.Memory.{Memory}
+use Rattle.mpm_banks.specs.Gates.{last_page, return_gate}
 use Rattle.mpm_procs.specs.Table.{process_in, call_of}
 use Rattle.mpm_procs.specs.declared.process.Process.{Process}
 use Rattle.mpm_kernel.specs.Kernel.{Kernel, with_changed}
@@ -18,17 +19,17 @@ entering call process = record process {
 }
 
 unfoldable pub entered : ℕ → Kernel → Kernel
-entered p kernel = with_changed kernel p (entering (call_of kernel.procs p) (process_in kernel.procs p))
+entered p kernel = with_changed kernel p (entering (call_of kernel.dispatcher.procs p) (process_in kernel.dispatcher.procs p))
 
 -- the last page of the segment that a process has
-abbrev pub last_page : Memory → Option ℕ → ℕ
-last_page memory None = 0
-last_page memory (Some seg) = (segment_of memory seg).base + (segment_of memory seg).pages - 1
+abbrev pub page_of_home : Memory → Option ℕ → ℕ
+page_of_home memory None = 0
+page_of_home memory (Some seg) = last_page memory seg
 
--- a procedure returns to the gate that ends it, at 09h in that page: this word is pushed
+-- a procedure returns to the gate that ends it, in that page: this word is pushed
 unfoldable pub entry_reply : Memory → Process → Answer
 entry_reply memory process =
-    record (answering 0) { at = back process.regs.sp 2; bytes = 9 ∷ last_page memory process.seg ∷ [] }
+    record (answering 0) { at = back process.regs.sp 2; bytes = return_gate ∷ page_of_home memory process.seg ∷ [] }
 
 -- a process goes on where it called the procedure, with HL as it is and the same in A and B; an EI takes effect
 unfoldable pub leaving : Process → Process
@@ -39,5 +40,5 @@ leaving process = record process {
 -- it leaves the procedure: the message is written back first
 unfoldable pub returned_from_procedure : ℕ → Kernel → Kernel
 returned_from_procedure p kernel =
-    let behind = given_back p kernel in
-    with_changed behind p (leaving (process_in behind.procs p))
+    let afterwards = given_back p kernel in
+    with_changed afterwards p (leaving (process_in afterwards.dispatcher.procs p))

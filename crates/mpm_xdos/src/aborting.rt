@@ -2,7 +2,7 @@ ghost use Rattle.std.specs.Prelude.{◌≡◌, ◌&&◌, ℕ, Some, IfSome};
 ghost use Rattle.mpm_banks.specs.Memory.{HasSegment};
 ghost use Rattle.mpm_procs.specs.Table.{Lives, lives, process_in};
 ghost use Rattle.mpm_kernel.specs.Kernel.{IsSound};
-ghost use Rattle.mpm_xdos.specs.Aborting.{copy_address as address_of_copy, has_name as has_name_of, is_described as is_described_by, described as described_by, target as target_of, behind_abort, memory_behind_abort};
+ghost use Rattle.mpm_xdos.specs.Aborting.{copy_address as address_of_copy, has_name as has_name_of, is_described as is_described_by, described as described_by, target as target_of, abort_done, memory_after_abort};
 
 use crate::ending::end;
 use mpm_banks::Banks;
@@ -15,9 +15,9 @@ use mpm_procs::Process;
 /// (MP/M II Programmer's Guide, "Function 157: Abort Specified Process".)
 #[tactic(auto, unfolding(crate::specs::Aborting::target))]
 pub fn target(kernel: &Kernel, p: Pid) -> Option<Pid>
-    requires { Lives kernel.now.procs p }
-    ensures target { result ≡ target_of kernel.now.procs p }
-    ensures lives { IfSome result (λ q. Lives kernel.now.procs q) }
+    requires { Lives kernel.now.dispatcher.procs p }
+    ensures target { result ≡ target_of kernel.now.dispatcher.procs p }
+    ensures lives { IfSome result (λ q. Lives kernel.now.dispatcher.procs q) }
 {
     let Some(q) = described(kernel, kernel.kept_call(p)) else {
         return None;
@@ -29,16 +29,28 @@ pub fn target(kernel: &Kernel, p: Pid) -> Option<Pid>
     }
 }
 
-/// Aborts a living process: it ends, as by `end`; a resident, which has no segment, isn't aborted. While it holds the message of a mutual exclusion queue, and while a call of
-/// it is in service, its end is put off: only `abort_due` becomes true. (MP/M II Programmer's Guide, "Function 157: Abort
-/// Specified Process".)
-#[tactic(auto, unfolding(crate::specs::Aborting::behind_abort, crate::specs::Aborting::memory_behind_abort))]
+/// Aborts a living process: it ends, as by `end`; a resident, which has no segment, isn't aborted. While it holds the message
+/// of a mutual exclusion queue, and while a call of it is in service, its end is put off: only `abort_due` becomes true. (MP/M
+/// II Programmer's Guide, "Function 157: Abort Specified Process".)
 pub fn abort(kernel: &mut Kernel, banks: &mut Banks, p: Pid, in_service: bool)
     requires sound { IsSound kernel.old }
-    requires lives { Lives kernel.old.procs p }
-    requires segment { (seg : ℕ) → (process_in kernel.old.procs p).seg ≡ Some seg → HasSegment banks.old seg }
-    ensures kernel { kernel.new ≡ behind_abort kernel.old p in_service }
-    ensures memory { banks.new ≡ memory_behind_abort banks.old kernel.old p in_service }
+    requires lives { Lives kernel.old.dispatcher.procs p }
+    requires segment { (seg : ℕ) → (process_in kernel.old.dispatcher.procs p).seg ≡ Some seg → HasSegment banks.old seg }
+    ensures kernel { kernel.new ≡ abort_done kernel.old p in_service }
+    ensures memory { banks.new ≡ memory_after_abort banks.old kernel.old p in_service }
+    ensures sound { IsSound kernel.new }
+{
+    end_or_put_off(kernel, banks, p, in_service);
+}
+
+/// A process that isn't a resident ends, or its end is put off.
+#[tactic(auto, unfolding(crate::specs::Aborting::abort_done, crate::specs::Aborting::memory_after_abort))]
+fn end_or_put_off(kernel: &mut Kernel, banks: &mut Banks, p: Pid, in_service: bool)
+    requires sound { IsSound kernel.old }
+    requires lives { Lives kernel.old.dispatcher.procs p }
+    requires segment { (seg : ℕ) → (process_in kernel.old.dispatcher.procs p).seg ≡ Some seg → HasSegment banks.old seg }
+    ensures kernel { kernel.new ≡ abort_done kernel.old p in_service }
+    ensures memory { banks.new ≡ memory_after_abort banks.old kernel.old p in_service }
 {
     if kernel.segment(p).is_none() {
         return;
@@ -53,8 +65,8 @@ pub fn abort(kernel: &mut Kernel, banks: &mut Banks, p: Pid, in_service: bool)
 /// The living process that a call describes, the lowest of them.
 #[tactic(auto, using(mpm_queues::proofs::Finding::failed_none, mpm_queues::proofs::Finding::failed_more, mpm_queues::proofs::Finding::found_lowest, mpm_queues::proofs::Finding::found_none))]
 fn described(kernel: &Kernel, call: &Call) -> Option<Pid>
-    ensures described { result ≡ described_by call.now kernel.now.procs }
-    ensures lives { IfSome result (λ q. Lives kernel.now.procs q) }
+    ensures described { result ≡ described_by call.now kernel.now.dispatcher.procs }
+    ensures lives { IfSome result (λ q. Lives kernel.now.dispatcher.procs q) }
 {
     for number in 0..32 {
         if lives_described(kernel, call, Pid(number)) {
@@ -66,7 +78,7 @@ fn described(kernel: &Kernel, call: &Call) -> Option<Pid>
 
 /// Whether the process of that number lives, and is the one that a call describes.
 fn lives_described(kernel: &Kernel, call: &Call, q: Pid) -> bool
-    ensures { result ≡ (lives kernel.now.procs q && is_described_by call.now kernel.now.procs q) }
+    ensures { result ≡ (lives kernel.now.dispatcher.procs q && is_described_by call.now kernel.now.dispatcher.procs q) }
 {
     kernel.lives(q) && is_described(kernel, call, q)
 }
@@ -74,8 +86,8 @@ fn lives_described(kernel: &Kernel, call: &Call, q: Pid) -> bool
 /// Whether a living process is the one that a call describes.
 #[tactic(auto, unfolding(crate::specs::Aborting::is_described))]
 fn is_described(kernel: &Kernel, call: &Call, q: Pid) -> bool
-    requires { Lives kernel.now.procs q }
-    ensures { result ≡ is_described_by call.now kernel.now.procs q }
+    requires { Lives kernel.now.dispatcher.procs q }
+    ensures { result ≡ is_described_by call.now kernel.now.dispatcher.procs q }
 {
     let address = u16::from_le_bytes([call.byte(0), call.byte(1)]);
     if address == 0 {

@@ -8,7 +8,7 @@ ghost use Rattle.mpm_xdos.specs.Creating.{child_of as child_asked_for, child_at 
 
 use arrayvec::ArrayVec;
 use mpm_banks::Banks;
-use mpm_base::{Name8, Pid, Reply, Seg};
+use mpm_base::{FAILURE_CODE, Name8, Pid, Reply, Seg};
 use mpm_kernel::Kernel;
 use mpm_procs::{NewProcess, Process};
 
@@ -20,11 +20,12 @@ const DESCRIPTOR: usize = 18;
 #[tactic(auto, unfolding(crate::specs::Creating::created, crate::specs::Creating::create_answer))]
 pub fn create(kernel: &mut Kernel, banks: &Banks, p: Pid, reply: &mut Reply)
     requires sound { IsSound kernel.old }
-    requires lives { Lives kernel.old.procs p }
-    requires segment { (seg : ℕ) → (process_in kernel.old.procs p).seg ≡ Some seg → HasSegment banks.now seg }
-    requires few { length (call_of kernel.old.procs p).bytes ≤ 576 }
-    ensures kernel { kernel.new ≡ created kernel.old p (home_base banks.now (process_in kernel.old.procs p).seg) }
-    ensures reply { reply.new ≡ answering (create_answer kernel.old p (home_base banks.now (process_in kernel.old.procs p).seg)) }
+    requires lives { Lives kernel.old.dispatcher.procs p }
+    requires segment { (seg : ℕ) → (process_in kernel.old.dispatcher.procs p).seg ≡ Some seg → HasSegment banks.now seg }
+    requires few { length (call_of kernel.old.dispatcher.procs p).bytes ≤ 576 }
+    ensures kernel { kernel.new ≡ created kernel.old p (home_base banks.now (process_in kernel.old.dispatcher.procs p).seg) }
+    ensures reply { reply.new ≡ answering (create_answer kernel.old p (home_base banks.now (process_in kernel.old.dispatcher.procs p).seg)) }
+    ensures sound { IsSound kernel.new }
 {
     let base = base_of(banks, kernel.segment(p));
     let parent = *kernel.living(p);
@@ -33,7 +34,7 @@ pub fn create(kernel: &mut Kernel, banks: &Banks, p: Pid, reply: &mut Reply)
         admit_all(kernel, &parent, base, descriptors.as_slice());
         reply.answer(0);
     } else {
-        reply.answer(0x00FF);
+        reply.answer(FAILURE_CODE);
     }
 }
 
@@ -64,7 +65,7 @@ fn copied(bytes: &[u8]) -> ArrayVec<u8, 576>
 #[tactic(auto, using(crate::proofs::Children::may_create_none, crate::proofs::Children::may_create_some))]
 fn may_create(kernel: &Kernel, parent: &Process, base: u8, descriptors: &[u8]) -> bool
     ensures may { result ≡ may_be_created kernel.now (children_of parent.now base descriptors.now) }
-    ensures consoles { result ≡ true → list_all (has_console kernel.now.consoles) (children_of parent.now base descriptors.now) ≡ true }
+    ensures consoles { result ≡ true → list_all (has_console (length kernel.now.units.consoles)) (children_of parent.now base descriptors.now) ≡ true }
 {
     if kernel.free_slots() < descriptors.len() / DESCRIPTOR {
         return false;
@@ -84,11 +85,12 @@ fn have_consoles(consoles: u8, parent: &Process, base: u8, descriptors: &[u8]) -
     true
 }
 
-/// Adds the processes that descriptors ask for, for which there are slots and consoles, one behind the other.
+/// Adds the processes that descriptors ask for, for which there are slots and consoles, one after the other.
 fn admit_all(kernel: &mut Kernel, parent: &Process, base: u8, descriptors: &[u8])
     requires sound { IsSound kernel.old }
-    requires consoles { list_all (has_console kernel.old.consoles) (children_of parent.now base descriptors.now) ≡ true }
-    ensures { kernel.new ≡ all_admitted (children_of parent.now base descriptors.now) kernel.old }
+    requires consoles { list_all (has_console (length kernel.old.units.consoles)) (children_of parent.now base descriptors.now) ≡ true }
+    ensures kernel { kernel.new ≡ all_admitted (children_of parent.now base descriptors.now) kernel.old }
+    ensures sound { IsSound kernel.new }
 {
     for number in 0..descriptors.len() / DESCRIPTOR {
         let _admitted = kernel.admit(child_at(parent, base, descriptors, number));

@@ -1,7 +1,7 @@
 ghost use Rattle.std.specs.Prelude.{◌≡◌, ◌&&◌, ℕ, Some};
 ghost use Rattle.mpm_banks.specs.Memory.{HasSegment};
 ghost use Rattle.mpm_procs.specs.Table.{Lives, lives, process_in};
-ghost use Rattle.mpm_kernel.specs.Kernel.{IsSound};
+ghost use Rattle.mpm_kernel.specs.Kernel.{IsSound, CompletedLive};
 ghost use Rattle.mpm_kernel.specs.Ending.{discharged};
 ghost use Rattle.mpm_xdos.specs.Ending.{memory_without, vacated_if_empty, is_home as is_home_in, lives_in as lives_in_segment};
 
@@ -14,10 +14,12 @@ use mpm_kernel::Kernel;
 #[tactic(auto, using(mpm_banks::proofs::SegmentLaws::count_all_released, crate::proofs::Homes::vacated_if_empty_none), unfolding(crate::specs::Ending::memory_without))]
 pub fn end(kernel: &mut Kernel, banks: &mut Banks, p: Pid)
     requires sound { IsSound kernel.old }
-    requires lives { Lives kernel.old.procs p }
-    requires segment { (seg : ℕ) → (process_in kernel.old.procs p).seg ≡ Some seg → HasSegment banks.old seg }
+    requires lives { Lives kernel.old.dispatcher.procs p }
+    requires segment { (seg : ℕ) → (process_in kernel.old.dispatcher.procs p).seg ≡ Some seg → HasSegment banks.old seg }
     ensures kernel { kernel.new ≡ discharged kernel.old p }
     ensures memory { banks.new ≡ memory_without banks.old kernel.old p }
+    ensures sound { IsSound kernel.new }
+    ensures live { CompletedLive kernel.new }
 {
     let home = kernel.segment(p);
     kernel.discharge(p);
@@ -31,7 +33,7 @@ pub fn end(kernel: &mut Kernel, banks: &mut Banks, p: Pid)
 #[tactic(auto, unfolding(crate::specs::Ending::vacated_if_empty))]
 fn leave(kernel: &Kernel, banks: &mut Banks, seg: Seg)
     requires { HasSegment banks.old seg }
-    ensures { banks.new ≡ vacated_if_empty banks.old kernel.now.procs (Some seg) }
+    ensures { banks.new ≡ vacated_if_empty banks.old kernel.now.dispatcher.procs (Some seg) }
 {
     if !is_home(kernel, seg) {
         banks.vacate(seg);
@@ -41,7 +43,7 @@ fn leave(kernel: &Kernel, banks: &mut Banks, seg: Seg)
 /// Whether a process lives in that segment.
 #[tactic(auto, unfolding(crate::specs::Ending::is_home))]
 fn is_home(kernel: &Kernel, seg: Seg) -> bool
-    ensures { result ≡ is_home_in kernel.now.procs seg }
+    ensures { result ≡ is_home_in kernel.now.dispatcher.procs seg }
 {
     for number in 0..32 {
         if lives_in(kernel, Pid(number), seg) {
@@ -53,7 +55,7 @@ fn is_home(kernel: &Kernel, seg: Seg) -> bool
 
 /// Whether the process of that number lives, in that segment.
 fn lives_in(kernel: &Kernel, p: Pid, seg: Seg) -> bool
-    ensures { result ≡ lives_in_segment kernel.now.procs seg p }
+    ensures { result ≡ lives_in_segment kernel.now.dispatcher.procs seg p }
 {
     kernel.lives(p) && kernel.segment(p) == Some(seg)
 }

@@ -2,26 +2,34 @@ ghost use Rattle.std.specs.Prelude.{◌≡◌, ℕ, Some, IsSome};
 ghost use Rattle.mpm_banks.specs.Memory.{HasSegment};
 ghost use Rattle.mpm_procs.specs.Table.{Lives, process_in};
 ghost use Rattle.mpm_kernel.specs.Kernel.{IsSound};
-ghost use Rattle.mpm_xdos.specs.Procedures.{entered, entry_reply, returned_from_procedure, last_page as page_of};
+ghost use Rattle.mpm_xdos.specs.Procedures.{entered, entry_reply, returned_from_procedure, page_of_home as page_of};
 
-use mpm_banks::Banks;
+use mpm_banks::{Banks, RETURN_GATE, last_page};
 use mpm_base::{Pid, Reply, Seg};
 use mpm_kernel::Kernel;
-
-/// The place in a segment's last page of the gate that ends a resident procedure.
-const RETURN: u8 = 0x09;
 
 /// A process enters the resident procedure whose message its call 151 has just got: it goes on at the address that is the
 /// message, with the call's parameter in DE. Its return address is kept; in its place the gate is pushed that ends the
 /// procedure, which the reply places. (MP/M II Programmer's Guide, "Function 151: Call Resident System Procedure".)
-#[tactic(auto, unfolding(crate::specs::Procedures::entered, crate::specs::Procedures::entering, crate::specs::Procedures::entry_reply))]
 pub fn enter_procedure(kernel: &mut Kernel, banks: &Banks, p: Pid, reply: &mut Reply)
-    requires lives { Lives kernel.old.procs p }
-    requires segment { (seg : ℕ) → (process_in kernel.old.procs p).seg ≡ Some seg → HasSegment banks.now seg }
+    requires lives { Lives kernel.old.dispatcher.procs p }
+    requires segment { (seg : ℕ) → (process_in kernel.old.dispatcher.procs p).seg ≡ Some seg → HasSegment banks.now seg }
     ensures kernel { kernel.new ≡ entered p kernel.old }
-    ensures reply { reply.new ≡ entry_reply banks.now (process_in kernel.old.procs p) }
+    ensures reply { reply.new ≡ entry_reply banks.now (process_in kernel.old.dispatcher.procs p) }
+    ensures sound { IsSound kernel.old → IsSound kernel.new }
 {
-    let page = last_page(banks, kernel.segment(p));
+    enter(kernel, banks, p, reply);
+}
+
+/// A process goes on in its procedure.
+#[tactic(auto, unfolding(crate::specs::Procedures::entered, crate::specs::Procedures::entering, crate::specs::Procedures::entry_reply))]
+fn enter(kernel: &mut Kernel, banks: &Banks, p: Pid, reply: &mut Reply)
+    requires lives { Lives kernel.old.dispatcher.procs p }
+    requires segment { (seg : ℕ) → (process_in kernel.old.dispatcher.procs p).seg ≡ Some seg → HasSegment banks.now seg }
+    ensures kernel { kernel.new ≡ entered p kernel.old }
+    ensures reply { reply.new ≡ entry_reply banks.now (process_in kernel.old.dispatcher.procs p) }
+{
+    let page = page_of_home(banks, kernel.segment(p));
     let call = kernel.kept_call(p);
     let low = call.byte(2);
     let high = call.byte(3);
@@ -32,28 +40,38 @@ pub fn enter_procedure(kernel: &mut Kernel, banks: &Banks, p: Pid, reply: &mut R
     process.regs.e = low;
     process.regs.pc = process.kept;
     process.regs.sp = at;
-    reply.answer_with(0, at, &[RETURN, page]);
+    reply.answer_with(0, at, &[RETURN_GATE, page]);
 }
 
-/// The last page of a segment.
-fn last_page(banks: &Banks, home: Option<Seg>) -> u8
+/// The last page of the segment that a process has.
+fn page_of_home(banks: &Banks, home: Option<Seg>) -> u8
     requires { (seg : ℕ) → home ≡ Some seg → HasSegment banks.now seg }
     ensures { result ≡ page_of banks.now home }
 {
     let Some(seg) = home else {
         return 0;
     };
-    let spec = banks.spec(seg);
-    spec.base + spec.pages - 1
+    last_page(banks.spec(seg))
 }
 
 /// A process leaves the resident procedure that it is in: its message is written back, and the process goes on where it
 /// called the procedure, with HL as it is and the same in A and B.
-#[tactic(auto, using(mpm_kernel::proofs::ProcedureLaws::lives_given_back), unfolding(crate::specs::Procedures::returned_from_procedure, crate::specs::Procedures::leaving))]
 pub fn leave_procedure(kernel: &mut Kernel, p: Pid)
     requires sound { IsSound kernel.old }
-    requires lives { Lives kernel.old.procs p }
-    requires inside { IsSome (process_in kernel.old.procs p).procedure }
+    requires lives { Lives kernel.old.dispatcher.procs p }
+    requires inside { IsSome (process_in kernel.old.dispatcher.procs p).procedure }
+    ensures kernel { kernel.new ≡ returned_from_procedure p kernel.old }
+    ensures sound { IsSound kernel.new }
+{
+    leave(kernel, p);
+}
+
+/// A process goes on after its procedure.
+#[tactic(auto, using(mpm_kernel::proofs::ProcedureLaws::lives_given_back), unfolding(crate::specs::Procedures::returned_from_procedure, crate::specs::Procedures::leaving))]
+fn leave(kernel: &mut Kernel, p: Pid)
+    requires sound { IsSound kernel.old }
+    requires lives { Lives kernel.old.dispatcher.procs p }
+    requires inside { IsSome (process_in kernel.old.dispatcher.procs p).procedure }
     ensures { kernel.new ≡ returned_from_procedure p kernel.old }
 {
     kernel.put_back(p);

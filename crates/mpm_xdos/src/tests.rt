@@ -2,8 +2,12 @@ ghost use Rattle.std.specs.Prelude.{◌≡◌, ◌≤◌, ◌*◌, length, IfOk}
 ghost use Rattle.mpm_kernel.specs.Kernel.{IsSound};
 
 use super::*;
+use crate::tests::Line::{
+    Abort, Begin, BeginResident, Create, End, FreeSlots, IsChild, IsDue, Lives, Next, Occupy,
+    Reserve, Targets,
+};
 use mpm_banks::Banks;
-use mpm_base::{Call, Name8, Pid, Reply, Seg, SegmentSpec};
+use mpm_base::{Call, Name8, Pid, Reply, Seg, SegmentSpec, functions};
 use mpm_clock::Moment;
 use mpm_kernel::Kernel;
 use mpm_procs::{NewProcess, Process};
@@ -63,7 +67,7 @@ fn describe(call: &mut Call, count: usize, console: u8)
     requires { count ≤ 32 }
     ensures { length call.new.bytes ≡ 18 * count }
 {
-    call.begin(144, 0x4130, 0x4080);
+    call.begin(functions::CREATE_PROCESS, 0x4130, 0x4080);
     for _number in 0..count {
         call.append(&[0, 0, 0, 199, 0x50, 0x41]);
         call.append(b"CHILD   ");
@@ -88,91 +92,22 @@ fn answer(kernel: &mut Kernel, banks: &Banks, count: usize, console: u8) -> Opti
     None
 }
 
-/// The process of a number.
-fn process(kernel: &Kernel, p: Pid) -> Result<&Process, Fail> {
-    match kernel.process(p) {
-        Some(process) => Ok(process),
-        None => Err(Fail::from("it doesn't live")),
-    }
-}
-
 /// Ends the process of a number, which lives in the first segment.
 #[tactic(auto, using(mpm_kernel::proofs::EndingLaws::sound_discharged))]
-fn finish(kernel: &mut Kernel, banks: &mut Banks, p: Pid)
+fn finish(kernel: &mut Kernel, banks: &mut Banks, p: Pid) -> bool
     requires { IsSound kernel.old }
     ensures { IsSound kernel.new }
 {
     if 1 <= banks.segments() && kernel.lives(p) && kernel.segment(p) == Some(Seg(0)) {
         end(kernel, banks, p);
+        return true;
     }
-}
-
-#[test]
-fn children_begin_in_their_parents_segment(rt: HostRuntime) -> Result<(), Fail> {
-    let banks = memory(rt.alloc())?;
-    let mut kernel = kernel(rt.alloc())?;
-    assert_eq!(rt; answer(&mut kernel, &banks, 2, 1), Some(0));
-    assert!(rt; kernel.lives(Pid(2)) && !kernel.lives(Pid(3)));
-    let child = process(&kernel, Pid(2))?;
-    assert_eq!(rt; child.name, Name8(*b"CHILD   "));
-    assert_eq!(rt; (child.priority, child.console), (199, 1));
-    assert_eq!(rt; (child.user, child.drive), (3, 1));
-    assert_eq!(rt; (child.regs.pc, child.regs.sp), (0x4120, 0x4152));
-    assert_eq!(rt; child.dma, 0x4080);
-    assert_eq!(rt; child.seg, Some(Seg(0)));
-    kernel.pick(false);
-    assert_eq!(rt; kernel.running(), Some(Pid(1)));
-    Ok(())
-}
-
-#[test]
-fn a_chain_for_which_slots_lack_makes_none(rt: HostRuntime) -> Result<(), Fail> {
-    let banks = memory(rt.alloc())?;
-    let mut kernel = kernel(rt.alloc())?;
-    assert_eq!(rt; answer(&mut kernel, &banks, 32, 0), Some(0x00FF));
-    assert_eq!(rt; kernel.free_slots(), 31);
-    assert_eq!(rt; answer(&mut kernel, &banks, 31, 0), Some(0));
-    assert_eq!(rt; kernel.free_slots(), 0);
-    Ok(())
-}
-
-#[test]
-fn a_console_out_of_range_makes_none(rt: HostRuntime) -> Result<(), Fail> {
-    let banks = memory(rt.alloc())?;
-    let mut kernel = kernel(rt.alloc())?;
-    assert_eq!(rt; answer(&mut kernel, &banks, 1, 2), Some(0x00FF));
-    assert!(rt; !kernel.lives(Pid(1)));
-    Ok(())
-}
-
-#[test]
-fn an_end_gives_back_what_was_reserved(rt: HostRuntime) -> Result<(), Fail> {
-    let mut banks = memory(rt.alloc())?;
-    let mut kernel = kernel(rt.alloc())?;
-    assert_eq!(rt; banks.reserve(Pid(0), Some(0x60), 16), Some(Seg(1)));
-    assert_eq!(rt; banks.reserve(Pid(1), Some(0x60), 16), None);
-    finish(&mut kernel, &mut banks, Pid(0));
-    assert!(rt; !kernel.lives(Pid(0)));
-    assert_eq!(rt; banks.reserve(Pid(1), Some(0x60), 16), Some(Seg(1)));
-    Ok(())
-}
-
-#[test]
-fn a_segment_is_free_once_nobody_lives_there(rt: HostRuntime) -> Result<(), Fail> {
-    let mut banks = memory(rt.alloc())?;
-    let mut kernel = kernel(rt.alloc())?;
-    banks.occupy(Seg(0));
-    assert_eq!(rt; answer(&mut kernel, &banks, 1, 0), Some(0));
-    finish(&mut kernel, &mut banks, Pid(0));
-    assert_eq!(rt; banks.reserve(Pid(1), Some(0x40), 16), None);
-    finish(&mut kernel, &mut banks, Pid(1));
-    assert_eq!(rt; banks.reserve(Pid(2), Some(0x40), 16), Some(Seg(0)));
-    Ok(())
+    false
 }
 
 /// A call 157 that gives the address of a process descriptor, a name, and a console.
 fn name_to_abort(call: &mut Call, address: u16, name: &[u8; 8], console: u8) {
-    call.begin(157, 0x4130, 0x4080);
+    call.begin(functions::ABORT_SPECIFIED_PROCESS, 0x4130, 0x4080);
     call.append(&address.to_le_bytes());
     call.append(&[0, 0]);
     call.append(name);
@@ -180,8 +115,11 @@ fn name_to_abort(call: &mut Call, address: u16, name: &[u8; 8], console: u8) {
 }
 
 /// The process that the first process is to abort, where it gives the address of a process descriptor, a name, and a console.
-#[tactic(auto, using(mpm_procs::proofs::MapLaws::lives_behind))]
-fn aborted_by_first(kernel: &mut Kernel, address: u16, name: &[u8; 8], console: u8) -> Option<Pid> {
+#[tactic(auto, using(mpm_procs::proofs::MapLaws::lives_after))]
+fn aborted_by_first(kernel: &mut Kernel, address: u16, name: &[u8; 8], console: u8) -> Option<Pid>
+    requires { IsSound kernel.old }
+    ensures { IsSound kernel.new }
+{
     if kernel.lives(Pid(0)) {
         name_to_abort(kernel.call_mut(Pid(0)), address, name, console);
         return target(kernel, Pid(0));
@@ -199,77 +137,21 @@ fn named(name: &[u8; 8], console: u8, seg: Option<Seg>) -> NewProcess {
     }
 }
 
-/// One more process begins, where its console is there.
+/// One more process begins, where its console is there and a slot is free.
 #[tactic(auto, using(mpm_kernel::proofs::SoundLaws::sound_in_slot))]
-fn begin(kernel: &mut Kernel, new: NewProcess)
+fn begin(kernel: &mut Kernel, new: NewProcess) -> bool
     requires { IsSound kernel.old }
     ensures { IsSound kernel.new }
 {
     if new.console < kernel.consoles() {
-        let _p = kernel.admit(new);
+        return kernel.admit(new).is_ok();
     }
-}
-
-/// A kernel of two consoles in which there are, from slot 0 on, the parent, a program on each console, a resident and a program
-/// of its name and console.
-fn five_processes(alloc: Global) -> Result<Kernel, AllocError>
-    ensures { IfOk result (λ kernel. IsSound kernel) }
-{
-    let mut kernel = kernel(alloc)?;
-    begin(&mut kernel, named(b"PROGRAM ", 0, Some(Seg(0))));
-    begin(&mut kernel, named(b"PROGRAM ", 1, Some(Seg(0))));
-    begin(&mut kernel, named(b"Tmp0    ", 0, None));
-    begin(&mut kernel, named(b"Tmp0    ", 0, Some(Seg(0))));
-    Ok(kernel)
-}
-
-#[test]
-fn the_lowest_process_of_a_name_and_console_is_aborted(rt: HostRuntime) -> Result<(), Fail> {
-    let mut kernel = five_processes(rt.alloc())?;
-    assert_eq!(rt;
-        aborted_by_first(&mut kernel, 0, b"PROGRAM ", 0),
-        Some(Pid(1))
-    );
-    assert_eq!(rt;
-        aborted_by_first(&mut kernel, 0, b"PROGRAM ", 1),
-        Some(Pid(2))
-    );
-    assert_eq!(rt; aborted_by_first(&mut kernel, 0, b"PROGRAM ", 2), None);
-    assert_eq!(rt; aborted_by_first(&mut kernel, 0, b"PROGRAMS", 0), None);
-    assert_eq!(rt;
-        aborted_by_first(&mut kernel, 0, b"PARENT  ", 0),
-        Some(Pid(0))
-    );
-    Ok(())
-}
-
-#[test]
-fn a_descriptor_is_found_by_its_address(rt: HostRuntime) -> Result<(), Fail> {
-    let mut kernel = five_processes(rt.alloc())?;
-    assert_eq!(rt;
-        aborted_by_first(&mut kernel, 0xF834, b"Tmp0    ", 7),
-        Some(Pid(1))
-    );
-    assert_eq!(rt;
-        aborted_by_first(&mut kernel, 0xF8D0, b"        ", 0),
-        Some(Pid(4))
-    );
-    assert_eq!(rt; aborted_by_first(&mut kernel, 0xF835, b"PROGRAM ", 0), None);
-    assert_eq!(rt; aborted_by_first(&mut kernel, 0xF904, b"PROGRAM ", 0), None);
-    Ok(())
-}
-
-#[test]
-fn a_resident_is_not_aborted(rt: HostRuntime) -> Result<(), Fail> {
-    let mut kernel = five_processes(rt.alloc())?;
-    assert_eq!(rt; aborted_by_first(&mut kernel, 0xF89C, b"PROGRAM ", 0), None);
-    assert_eq!(rt; aborted_by_first(&mut kernel, 0, b"Tmp0    ", 0), None);
-    Ok(())
+    false
 }
 
 /// Aborts the process of a number, which lives in the first segment; answers whether it lives on.
 #[tactic(auto, using(crate::proofs::AbortLaws::sound_aborted))]
-fn lives_behind_abort(kernel: &mut Kernel, banks: &mut Banks, p: Pid, in_service: bool) -> bool
+fn lives_after_abort(kernel: &mut Kernel, banks: &mut Banks, p: Pid, in_service: bool) -> bool
     requires { IsSound kernel.old }
     ensures { IsSound kernel.new }
 {
@@ -279,13 +161,249 @@ fn lives_behind_abort(kernel: &mut Kernel, banks: &mut Banks, p: Pid, in_service
     kernel.lives(p)
 }
 
+/// A line of a scene: what is done, with its answer, or what is seen. A process is named by its slot.
+#[derive(Clone, Copy)]
+enum Line<'a> {
+    /// The first process asks for so many processes of a console, and is answered so.
+    Create(usize, u8, u16),
+    /// A program of that name and console begins.
+    Begin(&'a [u8; 8], u8),
+    /// A resident of that name and console begins.
+    BeginResident(&'a [u8; 8], u8),
+    /// A process that lives in the first segment ends.
+    End(u8),
+    /// A process reserves a segment of a base page and so many pages, and gets that one, if any.
+    Reserve(u8, u8, u8, Option<u8>),
+    /// The first segment is lived in.
+    Occupy,
+    /// Whom the first process is to abort, by the address of a descriptor, a name and a console.
+    Targets(u16, &'a [u8; 8], u8, Option<u8>),
+    /// A process that lives in the first segment is aborted, while a call of it is in service or not; it lives on or not.
+    Abort(u8, bool, bool),
+    /// Whether the end of a process is put off.
+    IsDue(u8, bool),
+    /// Whether a process lives.
+    Lives(u8, bool),
+    /// So many more processes may live.
+    FreeSlots(usize),
+    /// Who runs next.
+    Next(u8),
+    /// A process is the child that the first one asked for, of that console.
+    IsChild(u8, u8),
+}
+
+/// The slot of a process, if there is one.
+fn slot(p: Option<Pid>) -> Option<u8> {
+    match p {
+        Some(p) => Some(p.0),
+        None => None,
+    }
+}
+
+/// A process reserves a segment: the number of that which it gets, if any.
+fn reserve(banks: &mut Banks, p: Pid, base: u8, pages: u8) -> Option<u8> {
+    match banks.reserve(p, Some(base), pages) {
+        Some(seg) => Some(seg.0),
+        None => None,
+    }
+}
+
+/// The first segment, if it is there, is lived in.
+fn occupy(banks: &mut Banks) -> bool {
+    if banks.segments() < 1 {
+        return false;
+    }
+    banks.occupy(Seg(0));
+    true
+}
+
+/// Who runs next.
+fn next(kernel: &mut Kernel) -> Option<u8>
+    requires { IsSound kernel.old }
+    ensures { IsSound kernel.new }
+{
+    kernel.pick(false);
+    slot(kernel.running())
+}
+
+/// A line comes to pass, and all is so that it says.
+fn passes(kernel: &mut Kernel, banks: &mut Banks, line: Line) -> bool
+    requires { IsSound kernel.old }
+    ensures { IsSound kernel.new }
+{
+    match line {
+        Line::Create(count, console, value) => {
+            count <= 32 && answer(kernel, banks, count, console) == Some(value)
+        }
+        Line::Begin(name, console) => begin(kernel, named(name, console, Some(Seg(0)))),
+        Line::BeginResident(name, console) => begin(kernel, named(name, console, None)),
+        Line::End(p) => finish(kernel, banks, Pid(p % 32)),
+        Line::Reserve(p, base, pages, seg) => reserve(banks, Pid(p % 32), base, pages) == seg,
+        Line::Occupy => occupy(banks),
+        Line::Abort(p, in_service, lives) => {
+            lives_after_abort(kernel, banks, Pid(p % 32), in_service) == lives
+        }
+        Line::Next(p) => next(kernel) == Some(p),
+        Line::Targets(address, name, console, p) => {
+            slot(aborted_by_first(kernel, address, name, console)) == p
+        }
+        _ => shows(kernel, line),
+    }
+}
+
+/// What a line says of the kernel as it is is so.
+fn shows(kernel: &Kernel, line: Line) -> bool {
+    match line {
+        Line::Lives(p, lives) => kernel.lives(Pid(p % 32)) == lives,
+        Line::FreeSlots(count) => kernel.free_slots() == count,
+        Line::IsDue(p, is_due) => match kernel.process(Pid(p % 32)) {
+            Some(process) => process.abort_due == is_due,
+            None => false,
+        },
+        Line::IsChild(p, console) => match kernel.process(Pid(p % 32)) {
+            Some(process) => is_child(process, console),
+            None => false,
+        },
+        _ => false,
+    }
+}
+
+/// Whether a process is what the first one asked for: of its segment, user and drive, with the entry and the stack that the
+/// descriptor names, and the DMA address of the base page.
+fn is_child(child: &Process, console: u8) -> bool {
+    child.name == Name8(*b"CHILD   ")
+        && (child.priority, child.console) == (199, console)
+        && (child.user, child.drive) == (3, 1)
+        && (child.regs.pc, child.regs.sp) == (0x4120, 0x4152)
+        && child.dma == 0x4080
+        && child.seg == Some(Seg(0))
+}
+
+/// A scene of the first process alone, in the first of two segments.
+fn play(alloc: Global, lines: &[Line]) -> Result<(), Fail> {
+    let mut banks = memory(alloc)?;
+    let mut kernel = kernel(alloc)?;
+    play_on(&mut kernel, &mut banks, lines)
+}
+
+/// The lines of a scene, in order.
+fn play_on(kernel: &mut Kernel, banks: &mut Banks, lines: &[Line]) -> Result<(), Fail>
+    requires { IsSound kernel.old }
+{
+    for (number, line) in lines.iter().enumerate() {
+        if !passes(kernel, banks, *line) {
+            return Err(Fail::new(format_args!("line {number} of the scene, from 0")));
+        }
+    }
+    Ok(())
+}
+
+#[test]
+fn children_begin_in_their_parents_segment(rt: HostRuntime) -> Result<(), Fail> {
+    play(
+        rt.alloc(),
+        &[
+            Create(2, 1, 0),
+            Lives(2, true),
+            Lives(3, false),
+            IsChild(1, 1),
+            IsChild(2, 1),
+            Next(1),
+        ],
+    )
+}
+
+#[test]
+fn a_chain_for_which_slots_or_a_console_lack_makes_none(rt: HostRuntime) -> Result<(), Fail> {
+    play(
+        rt.alloc(),
+        &[
+            Create(1, 2, 0x00FF),
+            Create(32, 0, 0x00FF),
+            FreeSlots(31),
+            Create(31, 0, 0),
+            FreeSlots(0),
+        ],
+    )
+}
+
+#[test]
+fn an_end_gives_back_what_was_reserved(rt: HostRuntime) -> Result<(), Fail> {
+    play(
+        rt.alloc(),
+        &[
+            Reserve(0, 0x60, 16, Some(1)),
+            Reserve(1, 0x60, 16, None),
+            End(0),
+            Lives(0, false),
+            Reserve(1, 0x60, 16, Some(1)),
+        ],
+    )
+}
+
+#[test]
+fn a_segment_is_free_once_nobody_lives_there(rt: HostRuntime) -> Result<(), Fail> {
+    play(
+        rt.alloc(),
+        &[
+            Occupy,
+            Create(1, 0, 0),
+            End(0),
+            Reserve(1, 0x40, 16, None),
+            End(1),
+            Reserve(2, 0x40, 16, Some(0)),
+        ],
+    )
+}
+
+#[test]
+fn the_lowest_process_of_a_name_and_console_is_aborted(rt: HostRuntime) -> Result<(), Fail> {
+    play(
+        rt.alloc(),
+        &[
+            Begin(b"PROGRAM ", 0),
+            Begin(b"PROGRAM ", 1),
+            BeginResident(b"Tmp0    ", 0),
+            Begin(b"Tmp0    ", 0),
+            Targets(0, b"PROGRAM ", 0, Some(1)),
+            Targets(0, b"PROGRAM ", 1, Some(2)),
+            Targets(0, b"PROGRAM ", 2, None),
+            Targets(0, b"PROGRAMS", 0, None),
+            Targets(0, b"PARENT  ", 0, Some(0)),
+            Targets(0, b"Tmp0    ", 0, None),
+        ],
+    )
+}
+
+#[test]
+fn a_descriptor_is_found_by_its_address(rt: HostRuntime) -> Result<(), Fail> {
+    play(
+        rt.alloc(),
+        &[
+            Begin(b"PROGRAM ", 0),
+            Begin(b"PROGRAM ", 1),
+            BeginResident(b"Tmp0    ", 0),
+            Begin(b"Tmp0    ", 0),
+            Targets(0xF834, b"Tmp0    ", 7, Some(1)),
+            Targets(0xF8D0, b"        ", 0, Some(4)),
+            Targets(0xF89C, b"PROGRAM ", 0, None),
+            Targets(0xF835, b"PROGRAM ", 0, None),
+            Targets(0xF904, b"PROGRAM ", 0, None),
+        ],
+    )
+}
+
 #[test]
 fn an_abort_waits_for_a_call_in_service(rt: HostRuntime) -> Result<(), Fail> {
-    let mut banks = memory(rt.alloc())?;
-    let mut kernel = five_processes(rt.alloc())?;
-    assert!(rt; lives_behind_abort(&mut kernel, &mut banks, Pid(1), true));
-    assert!(rt; process(&kernel, Pid(1))?.abort_due);
-    assert!(rt; !lives_behind_abort(&mut kernel, &mut banks, Pid(2), false));
-    assert!(rt; !lives_behind_abort(&mut kernel, &mut banks, Pid(1), false));
-    Ok(())
+    play(
+        rt.alloc(),
+        &[
+            Begin(b"PROGRAM ", 0),
+            Begin(b"PROGRAM ", 1),
+            Abort(1, true, true),
+            IsDue(1, true),
+            Abort(2, false, false),
+            Abort(1, false, false),
+        ],
+    )
 }

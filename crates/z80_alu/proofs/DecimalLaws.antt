@@ -1,4 +1,4 @@
--- DAA behind ADD and ADC, or behind SUB and SBC, of two decimal bytes gives the decimal sum or difference.
+-- DAA after ADD and ADC, or after SUB and SBC, of two decimal bytes gives the decimal sum or difference.
 use Rattle.std.proofs.Common.{◌≡◌, ℕ, ap, Bool, true, false, arith}
 use Rattle.std.proofs.lemmas.Bool.Decides.{nat_tests}
 use Rattle.z80_alu.specs.declared.flags.Flags.{Flags}
@@ -7,7 +7,7 @@ use Rattle.z80_alu.specs.Bytes.{sum_of, sum_carries, sum_half_carries, sum_flags
 use Rattle.z80_alu.specs.Decimal.{IsDecimal, IsDecimalSum, IsDecimalDifference, corrects_high, adjusted, decimal_of, decimal_flags}
 use Rattle.z80_alu.proofs.FlagLaws.{flags_of_byte_of}
 
--- behind a sum, whose H, N and C alone matter
+-- after a sum, whose H, N and C alone matter
 adjusted_sum : (a b : ℕ) (carry : Bool) (flags : Flags) → IsDecimal a → IsDecimal b →
     flags.half_carry ≡ sum_half_carries a b carry → flags.subtract ≡ false → flags.carry ≡ sum_carries a b carry →
     IsDecimalSum a b carry (adjusted (sum_of a b carry) flags) (corrects_high (sum_of a b carry) flags)
@@ -16,7 +16,7 @@ adjusted_sum a b carry flags first second half subtract over = record {
   sum = grind (arith, nat_tests);
 }
 
--- behind a difference
+-- after a difference
 adjusted_difference : (a b : ℕ) (carry : Bool) (flags : Flags) → IsDecimal a → IsDecimal b →
     flags.half_carry ≡ difference_half_borrows a b carry → flags.subtract ≡ true →
     flags.carry ≡ difference_borrows a b carry →

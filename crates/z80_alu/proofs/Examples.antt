@@ -40,16 +40,16 @@ pub decrement_of_minus_128 : decrement_flags 0x80 1 ≡ 0x17
 unfolding decrement_flags byte_of
 decrement_of_minus_128 = refl
 
--- 06h behind a subtraction that borrowed into bit 3
-pub adjust_behind_subtraction : decimal_of 6 0x12 ≡ 0
+-- 06h after a subtraction that borrowed into bit 3
+pub adjust_after_subtraction : decimal_of 6 0x12 ≡ 0
 unfolding decimal_of
-adjust_behind_subtraction = refl
+adjust_after_subtraction = refl
 
-pub adjust_behind_subtraction_flags : decimal_flags 6 0x12 ≡ 0x46
+pub adjust_after_subtraction_flags : decimal_flags 6 0x12 ≡ 0x46
 unfolding decimal_flags byte_of ones
-adjust_behind_subtraction_flags = refl
+adjust_after_subtraction_flags = refl
 
--- 9Ah behind an addition is 100 in decimal
+-- 9Ah after an addition is 100 in decimal
 pub adjust_to_100 : decimal_of 0x9a 0 ≡ 0
 unfolding decimal_of
 adjust_to_100 = refl

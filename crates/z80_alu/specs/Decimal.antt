@@ -1,4 +1,4 @@
--- DAA: A made decimal behind a sum or a difference of two decimal bytes. (UM0080, "DAA".)
+-- DAA: A made decimal after a sum or a difference of two decimal bytes. (UM0080, "DAA".)
 use Rattle.std.specs.Prelude.{◌≡◌, ℕ, ◌+◌, ◌-◌, ◌*◌, ◌/◌, ◌%◌, ◌<◌, Bool, ◌||◌, ◌&&◌, nat_lt, if◌then◌else◌}
 use Rattle.z80_alu.specs.declared.flags.Flags.{Flags}
 use Rattle.z80_alu.specs.Flags.{bit, flags_of, byte_of, with_byte}

@@ -50,7 +50,7 @@ fn adjust(a: u8, flags: Flags) -> u8
     }
 }
 
-/// The H behind DAA.
+/// The H after DAA.
 #[inline]
 fn is_adjusted_half_carry(a: u8, flags: Flags) -> bool
     ensures { result ≡ adjusted_half_carry a flags }
@@ -62,7 +62,7 @@ fn is_adjusted_half_carry(a: u8, flags: Flags) -> bool
     }
 }
 
-/// DAA: A made decimal behind a sum or a difference of two decimal bytes, and the new F (UM0080, "DAA").
+/// DAA: A made decimal after a sum or a difference of two decimal bytes, and the new F (UM0080, "DAA").
 #[inline]
 #[tactic(auto, unfolding(crate::specs::Decimal::decimal_of, crate::specs::Decimal::decimal_flags))]
 pub fn daa(a: u8, f: u8) -> (u8, u8)

@@ -16,7 +16,7 @@ abbrev pub jumped_if : Bool → ℕ → Regs → Regs
 jumped_if true target regs = record regs { pc = target }
 jumped_if false target regs = regs
 
--- B is 1 less; behind 0 comes 255
+-- B is 1 less; after 0 comes 255
 abbrev pub counted_down : Regs → Regs
 counted_down regs = record regs { b = (regs.b + 255) % 256 }
 

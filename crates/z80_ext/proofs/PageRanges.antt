@@ -36,7 +36,7 @@ use Rattle.z80_exec.proofs.Ranges.{hl_fits, byte_fits, set_fits, word_fits, top_
 use Rattle.z80_ext.specs.declared.index.IndexRegister.{IndexRegister}
 use Rattle.z80_ext.specs.declared.index.IndexRegister.TheVariants.{Ix, Iy}
 use Rattle.z80_ext.specs.Bits.{kind_of, changed_byte, bits_changed, operand_bits, memory_bits, bits_by, bits_outcome}
-use Rattle.z80_ext.specs.Block.{behind_input, port_repeated, block_performed}
+use Rattle.z80_ext.specs.Block.{after_input, port_repeated, block_performed}
 use Rattle.z80_ext.specs.Extended.{extended_performed, extended_by, extended_outcome}
 use Rattle.z80_ext.specs.Index.{index_word, indexed_address, index_performed, index_by, index_outcome, index_bits_by, index_bits_outcome}
 
@@ -117,9 +117,9 @@ unfolding bits_outcome
 bits_fit instr regs memory fit reads =
     bits_by_fits (bit_form_of instr.opcode) instr regs memory fit (bit_form_fits instr.opcode) reads
 
--- what is done behind the reading of a port
+-- what is done after the reading of a port
 input_fits : (port : ℕ) (outcome : Outcome) → port < 256 → All ActionFits outcome.actions →
-    All ActionFits (behind_input port outcome).actions
+    All ActionFits (after_input port outcome).actions
 input_fits port outcome small fits = All-cons ActionFits (Input port) outcome.actions small fits
 
 -- one step of a block instruction

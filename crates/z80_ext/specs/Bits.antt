@@ -37,7 +37,7 @@ changed_byte (change.Rotate shift) byte f = rotated (kind_of shift) byte (has f 
 changed_byte (change.Reset weight) byte f = bit_and byte (255 - weight)
 changed_byte (change.Set weight) byte f = bit_or byte weight
 
--- F behind it: RES and SET leave it
+-- F after it: RES and SET leave it
 abbrev pub changed_flags : BitChange → ℕ → ℕ → ℕ
 changed_flags (change.Rotate shift) byte f = rotated_flags (kind_of shift) byte f
 changed_flags (change.Reset weight) byte f = f

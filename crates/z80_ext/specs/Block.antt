@@ -35,11 +35,11 @@ has_more regs = not (left_over regs == 0)
 abbrev pub hl_walked : Direction → Regs → Regs
 hl_walked direction regs = with_pair HL (walked direction (hl_of regs)) regs
 
--- HL and BC behind a step of LD or CP
+-- HL and BC after a step of LD or CP
 abbrev pub counted : Direction → Regs → Regs
 counted direction regs = with_pair BC (left_over regs) (hl_walked direction regs)
 
--- the registers behind a step of LD
+-- the registers after a step of LD
 abbrev pub load_stepped : Direction → Regs → Regs
 load_stepped direction regs = record (with_pair DE (walked direction (pair_word DE regs)) (counted direction regs)) {
   f = block_load_flags_of (has_more regs) regs.f;
@@ -50,7 +50,7 @@ abbrev pub block_loaded : Direction → Bool → Regs → (ℕ → ℕ) → Outc
 block_loaded direction repeats regs memory =
     stored (pair_word DE regs) (memory (hl_of regs)) (again_if (repeats && has_more regs) (load_stepped direction regs))
 
--- the registers behind a step of CP with a byte
+-- the registers after a step of CP with a byte
 abbrev pub compare_stepped : Direction → ℕ → Regs → Regs
 compare_stepped direction byte regs = record (counted direction regs) {
   f = block_compare_flags_of regs.a byte (has_more regs) regs.f;
@@ -61,7 +61,7 @@ abbrev pub block_compared : Direction → Bool → ℕ → Regs → Regs
 block_compared direction repeats byte regs =
     again_if (repeats && (has_more regs && not (regs.a == byte))) (compare_stepped direction byte regs)
 
--- the registers behind a step of IN or OUT: B is one less
+-- the registers after a step of IN or OUT: B is one less
 abbrev pub port_stepped : Direction → Regs → Regs
 port_stepped direction regs = record (counted_down (hl_walked direction regs)) {
   f = block_port_flags_of ((counted_down regs).b == 0) regs.f;
@@ -73,13 +73,13 @@ port_repeated direction repeats regs =
     again_if (repeats && not ((counted_down regs).b == 0)) (port_stepped direction regs)
 
 -- a port is read before what else an instruction does
-abbrev pub behind_input : ℕ → Outcome → Outcome
-behind_input port outcome = record { registers = outcome.registers; actions = Input port ∷ outcome.actions }
+abbrev pub after_input : ℕ → Outcome → Outcome
+after_input port outcome = record { registers = outcome.registers; actions = Input port ∷ outcome.actions }
 
 -- INI, IND, INIR, INDR: the byte of the port C goes to HL
 abbrev pub block_input : Direction → Bool → Regs → (ℕ → ℕ) → Outcome
 block_input direction repeats regs ports =
-    behind_input regs.c (stored (hl_of regs) (ports regs.c) (port_repeated direction repeats regs))
+    after_input regs.c (stored (hl_of regs) (ports regs.c) (port_repeated direction repeats regs))
 
 -- the block instructions; OUTI, OUTD, OTIR, OTDR change registers alone
 abbrev pub block_performed : Transfer → Direction → Bool → Regs → (ℕ → ℕ) → (ℕ → ℕ) → Outcome

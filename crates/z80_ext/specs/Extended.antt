@@ -18,11 +18,11 @@ use Rattle.z80_exec.specs.Operands.{quiet, stored, word_from, hl_of, pair_word, 
 use Rattle.z80_exec.specs.Loads.{word_stored}
 use Rattle.z80_exec.specs.Flow.{returned}
 use Rattle.z80_exec.specs.Performing.{behind}
-use Rattle.z80_ext.specs.Block.{behind_input, block_performed}
+use Rattle.z80_ext.specs.Block.{after_input, block_performed}
 
 -- IN r,(C): the port C, the low byte alone
 abbrev pub operand_input : Operand → Regs → (ℕ → ℕ) → Outcome
-operand_input operand regs ports = behind_input regs.c
+operand_input operand regs ports = after_input regs.c
     (with_operand operand (ports regs.c) (record regs { f = byte_flags (ports regs.c) regs.f }))
 
 -- ADC HL,ss

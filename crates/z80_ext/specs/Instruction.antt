@@ -45,7 +45,7 @@ outcome_of None regs memory ports = None
 outcome_of (Some instr) regs memory ports = Some (page_outcome instr.page instr (begun regs) memory ports)
 
 -- the outcome of a step, from the registers, what each address reads and what each port reads as the step begins:
--- no byte is read behind a write of the same step; None where no listed instruction is at PC
+-- no byte is read after a write of the same step; None where no listed instruction is at PC
 unfoldable pub instruction : Regs → (ℕ → ℕ) → (ℕ → ℕ) → Option Outcome
 instruction regs memory ports =
     if regs.halted then Some (quiet (risen regs))

@@ -70,7 +70,7 @@ fn is_more(regs: &Regs) -> bool
     count_left(regs) != 0
 }
 
-/// The registers behind a step of LD.
+/// The registers after a step of LD.
 fn step_load(direction: Direction, regs: &mut Regs)
     ensures { regs.new ≡ load_stepped direction regs.old }
 {
@@ -95,7 +95,7 @@ fn load_block<B: Bus>(direction: Direction, repeats: bool, regs: &mut Regs, bus:
     repeat_if(is_repeated, regs);
 }
 
-/// The registers behind a step of CP with a byte.
+/// The registers after a step of CP with a byte.
 fn step_compare(direction: Direction, byte: u8, regs: &mut Regs)
     ensures { regs.new ≡ compare_stepped direction byte regs.old }
 {
@@ -113,7 +113,7 @@ fn compare_block(direction: Direction, repeats: bool, byte: u8, regs: &mut Regs)
     repeat_if(is_repeated, regs);
 }
 
-/// The registers behind a step of IN or OUT.
+/// The registers after a step of IN or OUT.
 fn step_port(direction: Direction, regs: &mut Regs)
     ensures { regs.new ≡ port_stepped direction regs.old }
 {

@@ -294,94 +294,132 @@ fn page_comes_out(line: &str, memory: &mut Memory) -> bool {
     stepped == Stepped::Ran && regs == want && memory.writes == [first, one, second, other]
 }
 
-/// The first case of the other pages that doesn't come out.
-fn first_page_failed(lines: &[&str], alloc: Global) -> Result<Option<usize>, AllocError> {
-    let mut memory = Memory::new(alloc, 65536)?;
-    for (place, line) in lines.iter().enumerate() {
-        if !page_comes_out(line, &mut memory) {
-            return Ok(Some(place));
+/// Whether no case of a table of the main page fails.
+fn all_come_out(lines: &[&str], memory: &mut Memory) -> bool {
+    for line in lines {
+        if !comes_out(line, memory) {
+            return false;
         }
     }
-    Ok(None)
+    true
 }
 
-/// The first case that doesn't come out.
-fn first_failed(lines: &[&str], alloc: Global) -> Result<Option<usize>, AllocError> {
-    let mut memory = Memory::new(alloc, 65536)?;
-    for (place, line) in lines.iter().enumerate() {
-        if !comes_out(line, &mut memory) {
-            return Ok(Some(place));
+/// Whether no case of a table of the other pages fails.
+fn all_of_page_come_out(lines: &[&str], memory: &mut Memory) -> bool {
+    for line in lines {
+        if !page_comes_out(line, memory) {
+            return false;
         }
     }
-    Ok(None)
+    true
 }
 
 #[test]
-fn low_quarter(rt: HostRuntime) -> Result<(), Fail> {
-    assert_eq!(rt; first_failed(&LOW_QUARTER, rt.alloc())?, None);
-    Ok(())
-}
-
-#[test]
-fn moves(rt: HostRuntime) -> Result<(), Fail> {
-    assert_eq!(rt; first_failed(&MOVES, rt.alloc())?, None);
+fn loads_jumps_and_calls(rt: HostRuntime) -> Result<(), Fail> {
+    let mut memory = Memory::new(rt.alloc(), 65536)?;
+    let low = all_come_out(&LOW_QUARTER, &mut memory);
+    let moves = all_come_out(&MOVES, &mut memory);
+    let high = all_come_out(&HIGH_QUARTER, &mut memory);
+    assert!(rt; low && moves && high);
     Ok(())
 }
 
 #[test]
 fn calculations(rt: HostRuntime) -> Result<(), Fail> {
-    assert_eq!(rt; first_failed(&CALCULATIONS, rt.alloc())?, None);
+    let mut memory = Memory::new(rt.alloc(), 65536)?;
+    let calculations = all_come_out(&CALCULATIONS, &mut memory);
+    let otherwise = all_come_out(&OTHERWISE, &mut memory);
+    let edges = all_come_out(&EDGES, &mut memory);
+    assert!(rt; calculations && otherwise && edges);
     Ok(())
 }
 
-#[test]
-fn high_quarter(rt: HostRuntime) -> Result<(), Fail> {
-    assert_eq!(rt; first_failed(&HIGH_QUARTER, rt.alloc())?, None);
-    Ok(())
+/// Whether some steps make of `fixture` what is wanted, the code being at 0100h.
+fn comes_to(memory: &mut Memory, code: &[u8], steps: usize, want: Regs) -> bool {
+    after(memory, code, steps) == want
 }
 
-#[test]
-fn otherwise(rt: HostRuntime) -> Result<(), Fail> {
-    assert_eq!(rt; first_failed(&OTHERWISE, rt.alloc())?, None);
-    Ok(())
+/// What EX AF,AF' and EXX exchange.
+fn are_sets_exchanged(memory: &mut Memory) -> bool {
+    let accumulators = Regs {
+        a: 9,
+        f: 10,
+        a2: 1,
+        f2: 2,
+        ..behind(0x0101)
+    };
+    let pairs = Regs {
+        b: 11,
+        c: 12,
+        b2: 3,
+        c2: 4,
+        d: 13,
+        e: 14,
+        d2: 5,
+        e2: 6,
+        h: 15,
+        l: 16,
+        h2: 7,
+        l2: 8,
+        ..behind(0x0101)
+    };
+    comes_to(memory, &[0x08], 1, accumulators) && comes_to(memory, &[0xd9], 1, pairs)
 }
 
-#[test]
-fn edges(rt: HostRuntime) -> Result<(), Fail> {
-    assert_eq!(rt; first_failed(&EDGES, rt.alloc())?, None);
-    Ok(())
+/// What DI, EI and HALT switch.
+fn are_switched(memory: &mut Memory) -> bool {
+    let off = Regs {
+        iff1: false,
+        iff2: false,
+        ..behind(0x0101)
+    };
+    let on = Regs {
+        iff1: true,
+        iff2: true,
+        shadow: true,
+        ..behind(0x0101)
+    };
+    let next = Regs {
+        iff1: true,
+        iff2: true,
+        r: 0x81,
+        ..behind(0x0102)
+    };
+    let halted = Regs {
+        halted: true,
+        ..behind(0x0101)
+    };
+    comes_to(memory, &[0xf3], 1, off)
+        && comes_to(memory, &[0xfb], 1, on)
+        && comes_to(memory, &[0xfb, 0x00], 2, next)
+        && comes_to(memory, &[0x76], 1, halted)
 }
 
 /// The registers that no case shows: the alternate set, the flip-flops, the shadow of EI, and HALT.
 #[test]
 fn switches(rt: HostRuntime) -> Result<(), Fail> {
     let mut memory = Memory::new(rt.alloc(), 65536)?;
-    let mut want = behind(0x0101);
-    (want.a, want.f, want.a2, want.f2) = (9, 10, 1, 2);
-    assert_eq!(rt; after(&mut memory, &[0x08], 1), want);
-
-    let mut want = behind(0x0101);
-    (want.b, want.c, want.b2, want.c2) = (11, 12, 3, 4);
-    (want.d, want.e, want.d2, want.e2) = (13, 14, 5, 6);
-    (want.h, want.l, want.h2, want.l2) = (15, 16, 7, 8);
-    assert_eq!(rt; after(&mut memory, &[0xd9], 1), want);
-
-    let mut want = behind(0x0101);
-    (want.iff1, want.iff2) = (false, false);
-    assert_eq!(rt; after(&mut memory, &[0xf3], 1), want);
-
-    let mut want = behind(0x0101);
-    (want.iff1, want.iff2, want.shadow) = (true, true, true);
-    assert_eq!(rt; after(&mut memory, &[0xfb], 1), want);
-
-    let mut want = behind(0x0102);
-    (want.iff1, want.iff2, want.r) = (true, true, 0x81);
-    assert_eq!(rt; after(&mut memory, &[0xfb, 0x00], 2), want);
-
-    let mut want = behind(0x0101);
-    want.halted = true;
-    assert_eq!(rt; after(&mut memory, &[0x76], 1), want);
+    let exchanged = are_sets_exchanged(&mut memory);
+    let switched = are_switched(&mut memory);
+    assert!(rt; exchanged && switched);
     Ok(())
+}
+
+/// Whether an opcode behind EDh, with IFF2 alone on, leaves A, F, SP, PC and IFF1 so.
+fn shows_second(memory: &mut Memory, row: (u8, u8, u8, u16, u16, bool)) -> bool {
+    let (opcode, a, f, sp, pc, iff1) = row;
+    memory.place(0x0100, &[0xed, opcode]);
+    let mut regs = fixture();
+    (regs.iff1, regs.iff2) = (false, true);
+    step(&mut regs, memory);
+    regs == Regs {
+        a,
+        f,
+        sp,
+        iff1,
+        iff2: true,
+        ..behind(pc)
+    }
 }
 
 /// IFF2 is the P/V of LD A,I and LD A,R. RETN copies it to IFF1, and RETI copies nothing.
@@ -389,140 +427,116 @@ fn switches(rt: HostRuntime) -> Result<(), Fail> {
 fn second_flip_flop(rt: HostRuntime) -> Result<(), Fail> {
     let mut memory = Memory::new(rt.alloc(), 65536)?;
     memory.place(0xbefe, &[0x2b, 0xc9]);
-    let rows = [
-        (0x57, 0x1b, 0x04, 0xbefe, 0x0102, false),
-        (0x5f, 0x80, 0x84, 0xbefe, 0x0102, false),
-        (0x45, 0x01, 0x02, 0xbf00, 0xc92b, true),
-        (0x4d, 0x01, 0x02, 0xbf00, 0xc92b, false),
-    ];
-    for (opcode, a, f, sp, pc, iff1) in rows {
-        memory.place(0x0100, &[0xed, opcode]);
-        let mut regs = fixture();
-        (regs.iff1, regs.iff2) = (false, true);
-        step(&mut regs, &mut memory);
-        let mut want = behind(pc);
-        (want.a, want.f, want.sp) = (a, f, sp);
-        (want.iff1, want.iff2) = (iff1, true);
-        assert_eq!(rt; regs, want);
-    }
+    let loads = shows_second(&mut memory, (0x57, 0x1b, 0x04, 0xbefe, 0x0102, false))
+        && shows_second(&mut memory, (0x5f, 0x80, 0x84, 0xbefe, 0x0102, false));
+    let returns = shows_second(&mut memory, (0x45, 0x01, 0x02, 0xbf00, 0xc92b, true))
+        && shows_second(&mut memory, (0x4d, 0x01, 0x02, 0xbf00, 0xc92b, false));
+    assert!(rt; loads && returns);
     Ok(())
+}
+
+/// Whether a call goes to 0005h, with its return address below SP, and a return comes back behind it.
+fn calls_and_comes_back(memory: &mut Memory) -> bool {
+    memory.place(0x0005, &[0xc9]);
+    let mut regs = after(memory, &[0xcd, 0x05, 0x00], 1);
+    let called = regs
+        == Regs {
+            sp: 0xbefc,
+            ..behind(0x0005)
+        };
+    step(&mut regs, memory);
+    let returned = regs
+        == Regs {
+            r: 0x81,
+            ..behind(0x0103)
+        };
+    called && returned && memory.read(0xbefd) == 0x01 && memory.read(0xbefc) == 0x03
 }
 
 #[test]
 fn calls_and_returns(rt: HostRuntime) -> Result<(), Fail> {
     let mut memory = Memory::new(rt.alloc(), 65536)?;
-    memory.place(0x0005, &[0xc9]);
-    let mut want = behind(0x0005);
-    want.sp = 0xbefc;
-    let mut regs = after(&mut memory, &[0xcd, 0x05, 0x00], 1);
-    assert_eq!(rt; regs, want);
-    assert_eq!(rt; memory.read(0xbefd), 0x01);
-    assert_eq!(rt; memory.read(0xbefc), 0x03);
-
-    let mut want = behind(0x0103);
-    want.r = 0x81;
-    step(&mut regs, &mut memory);
-    assert_eq!(rt; regs, want);
+    let comes_back = calls_and_comes_back(&mut memory);
+    assert!(rt; comes_back);
     Ok(())
 }
 
-/// SP goes from 0001h to FFFFh, where nothing is kept: the high byte alone is written, at 0000h.
-#[test]
-fn calls_around_the_end_of_memory(rt: HostRuntime) -> Result<(), Fail> {
-    let mut memory = Memory::new(rt.alloc(), 32768)?;
+/// Whether a call with SP at 0001h goes on with SP at FFFFh, where nothing is kept: the high byte alone is written, at 0000h.
+fn calls_around_the_end(memory: &mut Memory) -> bool {
     memory.place(0xfffe, &[0xcd, 0x34, 0x12]);
     let mut regs = fixture();
     (regs.sp, regs.pc) = (0x0001, 0xfffe);
-    let mut want = behind(0x1234);
-    want.sp = 0xffff;
-    step(&mut regs, &mut memory);
-    assert_eq!(rt; regs, want);
-    assert_eq!(rt; memory.read(0x0000), 0x00);
-    assert_eq!(rt; memory.read(0xffff), 0x34);
-    Ok(())
+    step(&mut regs, memory);
+    let called = regs
+        == Regs {
+            sp: 0xffff,
+            ..behind(0x1234)
+        };
+    called && memory.read(0x0000) == 0x00 && memory.read(0xffff) == 0x34
 }
 
-/// Nothing is kept from 8000h on: L alone is stored, and an increment there shows in the flags alone.
-#[test]
-fn stores_around_a_limit(rt: HostRuntime) -> Result<(), Fail> {
-    let mut memory = Memory::new(rt.alloc(), 32768)?;
-    assert_eq!(rt; after(&mut memory, &[0x22, 0xff, 0x7f], 1), behind(0x0103));
-    assert_eq!(rt; memory.read(0x7fff), 0x08);
-    assert_eq!(rt; memory.read(0x8000), 0x00);
-
+/// Whether, where nothing is kept from 8000h on, L alone is stored, and an increment there shows in the flags alone.
+fn stores_up_to_a_limit(memory: &mut Memory) -> bool {
+    let stored = comes_to(memory, &[0x22, 0xff, 0x7f], 1, behind(0x0103));
+    let kept = memory.read(0x7fff) == 0x08 && memory.read(0x8000) == 0x00;
     memory.place(0x8000, &[0x7f]);
-    let mut want = behind(0x0104);
-    (want.h, want.l, want.f, want.r) = (0x80, 0x00, 0x94, 0x81);
-    assert_eq!(rt; after(&mut memory, &[0x21, 0x00, 0x80, 0x34], 2), want);
-    assert_eq!(rt; memory.read(0x8000), 0x7f);
+    let incremented = Regs {
+        h: 0x80,
+        l: 0x00,
+        f: 0x94,
+        r: 0x81,
+        ..behind(0x0104)
+    };
+    let flags = comes_to(memory, &[0x21, 0x00, 0x80, 0x34], 2, incremented);
+    stored && kept && flags && memory.read(0x8000) == 0x7f
+}
+
+#[test]
+fn writes_around_a_limit(rt: HostRuntime) -> Result<(), Fail> {
+    let mut memory = Memory::new(rt.alloc(), 32768)?;
+    let called = calls_around_the_end(&mut memory);
+    let stored = stores_up_to_a_limit(&mut memory);
+    assert!(rt; called && stored);
     Ok(())
 }
 
 #[test]
 fn bits(rt: HostRuntime) -> Result<(), Fail> {
-    assert_eq!(rt; first_page_failed(&SHIFTS, rt.alloc())?, None);
-    assert_eq!(rt; first_page_failed(&LOW_TESTS, rt.alloc())?, None);
-    assert_eq!(rt; first_page_failed(&HIGH_TESTS, rt.alloc())?, None);
-    assert_eq!(rt; first_page_failed(&LOW_RESETS, rt.alloc())?, None);
-    assert_eq!(rt; first_page_failed(&HIGH_RESETS, rt.alloc())?, None);
-    assert_eq!(rt; first_page_failed(&LOW_SETS, rt.alloc())?, None);
-    assert_eq!(rt; first_page_failed(&HIGH_SETS, rt.alloc())?, None);
+    let mut memory = Memory::new(rt.alloc(), 65536)?;
+    let shifts = all_of_page_come_out(&SHIFTS, &mut memory);
+    let tests = all_of_page_come_out(&LOW_TESTS, &mut memory)
+        && all_of_page_come_out(&HIGH_TESTS, &mut memory);
+    let resets = all_of_page_come_out(&LOW_RESETS, &mut memory)
+        && all_of_page_come_out(&HIGH_RESETS, &mut memory);
+    let sets = all_of_page_come_out(&LOW_SETS, &mut memory)
+        && all_of_page_come_out(&HIGH_SETS, &mut memory);
+    assert!(rt; shifts && tests && resets && sets);
     Ok(())
 }
 
 #[test]
-fn extended(rt: HostRuntime) -> Result<(), Fail> {
-    assert_eq!(rt; first_page_failed(&EXTENDED, rt.alloc())?, None);
-    assert_eq!(rt; first_page_failed(&PAGE_EDGES, rt.alloc())?, None);
-    Ok(())
-}
-
-#[test]
-fn indexed(rt: HostRuntime) -> Result<(), Fail> {
-    assert_eq!(rt; first_page_failed(&INDEX_IX, rt.alloc())?, None);
-    assert_eq!(rt; first_page_failed(&INDEX_IY, rt.alloc())?, None);
-    assert_eq!(rt; first_page_failed(&BITS_IX, rt.alloc())?, None);
-    assert_eq!(rt; first_page_failed(&BITS_IY, rt.alloc())?, None);
+fn extended_and_indexed(rt: HostRuntime) -> Result<(), Fail> {
+    let mut memory = Memory::new(rt.alloc(), 65536)?;
+    let extended = all_of_page_come_out(&EXTENDED, &mut memory)
+        && all_of_page_come_out(&PAGE_EDGES, &mut memory);
+    let by_ix = all_of_page_come_out(&INDEX_IX, &mut memory)
+        && all_of_page_come_out(&BITS_IX, &mut memory);
+    let by_iy = all_of_page_come_out(&INDEX_IY, &mut memory)
+        && all_of_page_come_out(&BITS_IY, &mut memory);
+    assert!(rt; extended && by_ix && by_iy);
     Ok(())
 }
 
 /// Registers that are all 0 but PC.
 fn zeros(pc: u16) -> Regs {
     Regs {
-        a: 0,
-        f: 0,
-        b: 0,
-        c: 0,
-        d: 0,
-        e: 0,
-        h: 0,
-        l: 0,
-        a2: 0,
-        f2: 0,
-        b2: 0,
-        c2: 0,
-        d2: 0,
-        e2: 0,
-        h2: 0,
-        l2: 0,
-        ix: 0,
-        iy: 0,
-        sp: 0,
         pc,
-        i: 0,
-        r: 0,
-        iff1: false,
-        iff2: false,
-        mode: 0,
-        halted: false,
-        shadow: false,
+        ..Regs::default()
     }
 }
 
-/// LDIR of three bytes, one a step; a negative displacement around the end of memory; EI, then HALT.
-#[test]
-fn worked_programs(rt: HostRuntime) -> Result<(), Fail> {
-    let mut memory = Memory::new(rt.alloc(), 65536)?;
+/// LDIR of three bytes at 0300h to 0200h: two transfers behind three loads, and then the last.
+fn copies_a_byte_a_step(memory: &mut Memory) -> bool {
     memory.place(0x0300, &[0x11, 0x22, 0x33]);
     memory.place(
         0x0100,
@@ -532,34 +546,79 @@ fn worked_programs(rt: HostRuntime) -> Result<(), Fail> {
     );
     let mut regs = zeros(0x0100);
     for _ in 0..5 {
-        step(&mut regs, &mut memory);
+        step(&mut regs, memory);
     }
-    let mut want = zeros(0x0109);
-    (want.c, want.d, want.e, want.h, want.l) = (1, 2, 2, 3, 2);
-    (want.f, want.r) = (0x04, 5);
-    assert_eq!(rt; regs, want);
-    step(&mut regs, &mut memory);
-    (want.c, want.e, want.l, want.f, want.r, want.pc) = (0, 3, 3, 0, 6, 0x010b);
-    assert_eq!(rt; regs, want);
-    assert_eq!(rt; memory.read(0x0202), 0x33);
+    let two = regs
+        == Regs {
+            c: 1,
+            d: 2,
+            e: 2,
+            h: 3,
+            l: 2,
+            f: 0x04,
+            r: 5,
+            ..zeros(0x0109)
+        };
+    step(&mut regs, memory);
+    let three = regs
+        == Regs {
+            c: 0,
+            d: 2,
+            e: 3,
+            h: 3,
+            l: 3,
+            r: 6,
+            ..zeros(0x010b)
+        };
+    two && three && memory.read(0x0202) == 0x33
+}
 
+/// LD A,(IX-2) with IX at 0000h.
+fn loads_below_0000(memory: &mut Memory) -> bool {
     memory.place(0x0100, &[0xdd, 0x7e, 0xfe]);
     memory.place(0xfffe, &[0x5a]);
     let mut regs = zeros(0x0100);
-    step(&mut regs, &mut memory);
-    let mut want = zeros(0x0103);
-    (want.a, want.r) = (0x5a, 1);
-    assert_eq!(rt; regs, want);
+    step(&mut regs, memory);
+    regs == Regs {
+        a: 0x5a,
+        r: 1,
+        ..zeros(0x0103)
+    }
+}
 
+/// EI, then HALT.
+fn halts_with_interrupts_on(memory: &mut Memory) -> bool {
     memory.place(0x0200, &[0xfb, 0x76]);
     let mut regs = zeros(0x0200);
-    step(&mut regs, &mut memory);
-    let mut want = zeros(0x0201);
-    (want.iff1, want.iff2, want.shadow, want.r) = (true, true, true, 1);
-    assert_eq!(rt; regs, want);
-    step(&mut regs, &mut memory);
-    (want.pc, want.shadow, want.halted, want.r) = (0x0202, false, true, 2);
-    assert_eq!(rt; regs, want);
+    step(&mut regs, memory);
+    let on = regs
+        == Regs {
+            iff1: true,
+            iff2: true,
+            shadow: true,
+            r: 1,
+            ..zeros(0x0201)
+        };
+    step(&mut regs, memory);
+    let halted = regs
+        == Regs {
+            iff1: true,
+            iff2: true,
+            halted: true,
+            r: 2,
+            ..zeros(0x0202)
+        };
+    on && halted
+}
+
+/// LDIR of three bytes, one a step; a negative displacement around the end of memory; EI, then HALT.
+#[test]
+fn worked_programs(rt: HostRuntime) -> Result<(), Fail> {
+    let mut memory = Memory::new(rt.alloc(), 65536)?;
+    let copied = copies_a_byte_a_step(&mut memory);
+    let loaded = loads_below_0000(&mut memory);
+    let halted = halts_with_interrupts_on(&mut memory);
+    assert!(rt; copied && loaded && halted);
     Ok(())
 }
 
@@ -588,81 +647,114 @@ fn is_refused(code: &[u8; 4], memory: &mut Memory) -> bool {
     step(&mut regs, memory) == Stepped::Illegal && regs == fixture() && memory.writes == [0; 4]
 }
 
+/// Whether the instructions behind prefixes that begin with a byte are refused exactly where they aren't listed.
+fn are_refused_as_listed(byte: u8, memory: &mut Memory) -> bool {
+    for prefix in [0xcb, 0xdd, 0xed, 0xfd] {
+        if is_refused(&[prefix, byte, 0x00, 0x00], memory) == is_listed(prefix, byte) {
+            return false;
+        }
+    }
+    let bit_is_listed = byte % 8 == 6 && byte != 0x36;
+    is_refused(&[0xdd, 0xcb, 0x05, byte], memory) != bit_is_listed
+        && is_refused(&[0xfd, 0xcb, 0x05, byte], memory) != bit_is_listed
+}
+
 /// Behind the prefixes all bytes that aren't listed are refused, and no others.
 #[test]
 fn unlisted_bytes(rt: HostRuntime) -> Result<(), Fail> {
     let mut memory = Memory::new(rt.alloc(), 65536)?;
+    let mut first_wrong = None;
     for byte in 0..=255 {
-        for prefix in [0xcb, 0xdd, 0xed, 0xfd] {
-            let is_refused = is_refused(&[prefix, byte, 0x00, 0x00], &mut memory);
-            assert_eq!(rt; is_refused, !is_listed(prefix, byte));
-        }
-        for prefix in [0xdd, 0xfd] {
-            let is_refused = is_refused(&[prefix, 0xcb, 0x05, byte], &mut memory);
-            assert_eq!(rt; is_refused, byte % 8 != 6 || byte == 0x36);
+        if !are_refused_as_listed(byte, &mut memory) && first_wrong.is_none() {
+            first_wrong = Some(byte);
         }
     }
+    assert_eq!(rt; first_wrong, None);
     Ok(())
 }
 
-/// JR -2, CALL 9234h and LD (HL),34h as they were decoded: neither R nor the shadow changes.
+/// What was decoded of an instruction of the main page, and where it leaves PC and SP.
+#[derive(Clone, Copy)]
+struct Decoded {
+    length: u8,
+    opcode: u8,
+    displacement: u8,
+    operand: u16,
+    pc: u16,
+    sp: u16,
+}
+
+/// Whether an instruction of the main page leaves PC, SP and the writes so, and all else as it was.
+fn leaves(memory: &mut Memory, row: Decoded, writes: [u32; 4]) -> bool {
+    let instr = Instr {
+        length: row.length,
+        page: Page::Main,
+        opcode: row.opcode,
+        displacement: row.displacement,
+        operand: row.operand,
+    };
+    memory.writes = [0; 4];
+    let mut regs = fixture();
+    main_page(&instr, &mut regs, memory);
+    let want = Regs {
+        pc: row.pc,
+        sp: row.sp,
+        ..fixture()
+    };
+    regs == want && memory.writes == writes
+}
+
+/// A row for an opcode of so many bytes.
+fn row(length: u8, opcode: u8, displacement: u8, operand: u16, pc: u16, sp: u16) -> Decoded {
+    Decoded {
+        length,
+        opcode,
+        displacement,
+        operand,
+        pc,
+        sp,
+    }
+}
+
+/// JR -2, CALL 9234h and LD (HL),34h as they were decoded: neither R nor the shadow changes. A prefix alone is no instruction
+/// of the main page.
 #[test]
 fn decoded_instructions(rt: HostRuntime) -> Result<(), Fail> {
     let mut memory = Memory::new(rt.alloc(), 65536)?;
-    let rows = [
-        (2, 0x18, 0xfe, 0x0000, 0x0100, 0xbefe, [0, 0, 0, 0]),
-        (
-            3,
-            0xcd,
-            0x00,
-            0x9234,
-            0x9234,
-            0xbefc,
-            [0xbefd, 0x01, 0xbefc, 0x03],
-        ),
-        (2, 0x36, 0x00, 0x0034, 0x0102, 0xbefe, [0, 0, 0x0708, 0x34]),
-    ];
-    for (length, opcode, displacement, operand, pc, sp, writes) in rows {
-        let instr = Instr {
-            length,
-            page: Page::Main,
-            opcode,
-            displacement,
-            operand,
-        };
-        memory.writes = [0; 4];
-        let mut regs = fixture();
-        main_page(&instr, &mut regs, &mut memory);
-        let mut want = fixture();
-        (want.pc, want.sp) = (pc, sp);
-        assert_eq!(rt; regs, want);
-        assert_eq!(rt; memory.writes, writes);
+    let jump = row(2, 0x18, 0xfe, 0, 0x0100, 0xbefe);
+    let call = row(3, 0xcd, 0x00, 0x9234, 0x9234, 0xbefc);
+    let load = row(2, 0x36, 0x00, 0x0034, 0x0102, 0xbefe);
+    let jumps = leaves(&mut memory, jump, [0; 4]);
+    let calls = leaves(&mut memory, call, [0xbefd, 0x01, 0xbefc, 0x03]);
+    let loads = leaves(&mut memory, load, [0, 0, 0x0708, 0x34]);
+    let mut prefixes = true;
+    for prefix in [0xcb, 0xdd, 0xed, 0xfd] {
+        let prefixed = row(1, prefix, 0, 0, 0x0100, 0xbefe);
+        prefixes = prefixes && leaves(&mut memory, prefixed, [0; 4]);
     }
+    assert!(rt; jumps && calls && loads && prefixes);
     Ok(())
 }
 
-/// A prefix alone is no instruction of the main page, and a halted processor stays.
-#[test]
-fn stands_still(rt: HostRuntime) -> Result<(), Fail> {
-    let mut memory = Memory::new(rt.alloc(), 65536)?;
-    for prefix in [0xcb, 0xdd, 0xed, 0xfd] {
-        let mut regs = fixture();
-        let instr = Instr {
-            length: 1,
-            page: Page::Main,
-            opcode: prefix,
-            displacement: 0,
-            operand: 0,
-        };
-        main_page(&instr, &mut regs, &mut memory);
-        assert_eq!(rt; regs, fixture());
-    }
+/// Whether a halted processor stays: R alone rises, and the shadow stays.
+fn stays_halted(memory: &mut Memory) -> bool {
+    let mut regs = Regs {
+        halted: true,
+        ..fixture()
+    };
+    step(&mut regs, memory) == Stepped::Ran
+        && regs
+            == Regs {
+                r: 0x80,
+                halted: true,
+                ..fixture()
+            }
+}
 
-    let mut regs = fixture();
-    regs.halted = true;
-    assert_eq!(rt; step(&mut regs, &mut memory), Stepped::Ran);
-    let mut want = fixture();
-    (want.r, want.halted) = (0x80, true);
-    assert_eq!(rt; regs, want);
+#[test]
+fn a_halted_processor_stays(rt: HostRuntime) -> Result<(), Fail> {
+    let mut memory = Memory::new(rt.alloc(), 65536)?;
+    let stays = stays_halted(&mut memory);
+    assert!(rt; stays);
     Ok(())
 }

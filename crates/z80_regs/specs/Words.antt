@@ -1,7 +1,7 @@
 -- Addresses and words of 16 bits, low byte first, as whole numbers; the refresh register. (UM0080, "CPU Registers".)
 use Rattle.std.specs.Prelude.{ℕ, ◌+◌, ◌-◌, ◌*◌, ◌/◌, ◌%◌}
 
--- the address n further on; behind FFFFh comes 0000h
+-- the address n further on; after FFFFh comes 0000h
 abbrev pub onward : ℕ → ℕ → ℕ
 onward address n = (address + n) % 65536
 

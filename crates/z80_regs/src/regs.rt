@@ -1,6 +1,6 @@
 /// The registers of the Z80 (UM0080, "CPU Registers"). `f` holds the flags S Z 5 H 3 P/V N C from bit 7 down;
 /// the names that end in 2 are the alternate set.
-#[derive(Clone, Copy, Debug, PartialEq, Eq)]
+#[derive(Clone, Copy, Debug, Default, PartialEq, Eq)]
 pub struct Regs {
     pub a: u8,
     pub f: u8,
@@ -34,6 +34,6 @@ pub struct Regs {
     pub mode: u8,
     /// Whether the processor stands in a HALT.
     pub halted: bool,
-    /// Whether the instruction before was EI, behind which no interrupt is taken yet.
+    /// Whether the instruction before was EI, after which no interrupt is taken yet.
     pub shadow: bool,
 }

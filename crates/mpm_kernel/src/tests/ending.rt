@@ -4,6 +4,7 @@ use super::scene::Line::{
     Ask, Begin, Completes, Delete, Delivers, End, Holds, Inside, Make, Name, Next, Pass,
 };
 use super::scene::play;
+use mpm_base::functions;
 use std::test::Fail;
 
 #[test]
@@ -13,11 +14,11 @@ fn the_message_of_who_ends_goes_to_who_waits_for_it(rt: HostRuntime) -> Result<(
         &[
             Begin(200),
             Make(b"MXtest  ", 0, 1, Done(0)),
-            Pass(139, 1, 0, Done(0)),
-            Pass(137, 1, 0, Done(0)),
-            Ask(142, 0, Done(0)),
+            Pass(functions::WRITE_QUEUE, 1, 0, Done(0)),
+            Pass(functions::READ_QUEUE, 1, 0, Done(0)),
+            Ask(functions::DISPATCH, 0, Done(0)),
             Next(Some(1)),
-            Pass(137, 1, 0, Held),
+            Pass(functions::READ_QUEUE, 1, 0, Held),
             Holds(0, true),
             Holds(1, false),
             End(0),
@@ -36,11 +37,27 @@ fn calls_of_procedures_that_are_refused(rt: HostRuntime) -> Result<(), Fail> {
         &[
             Make(b"PROC    ", 2, 1, Done(0)),
             Make(b"BYTE    ", 1, 1, Done(0)),
-            Pass(139, 1, 0x41, Done(0)),
-            Name(151, b"NONE    ", Done(0xFFFF)),
-            Name(151, b"BYTE    ", Done(0xFFFF)),
-            Name(151, b"PROC    ", Done(0)),
-            Name(151, b"PROC    ", Done(0xFFFF)),
+            Pass(functions::WRITE_QUEUE, 1, 0x41, Done(0)),
+            Name(
+                functions::CALL_RESIDENT_SYSTEM_PROCEDURE,
+                b"NONE    ",
+                Done(0xFFFF),
+            ),
+            Name(
+                functions::CALL_RESIDENT_SYSTEM_PROCEDURE,
+                b"BYTE    ",
+                Done(0xFFFF),
+            ),
+            Name(
+                functions::CALL_RESIDENT_SYSTEM_PROCEDURE,
+                b"PROC    ",
+                Done(0),
+            ),
+            Name(
+                functions::CALL_RESIDENT_SYSTEM_PROCEDURE,
+                b"PROC    ",
+                Done(0xFFFF),
+            ),
             Delete(b"PROC    ", Done(0x00FF)),
             Inside(0, 0, 0x0041),
         ],
@@ -48,17 +65,21 @@ fn calls_of_procedures_that_are_refused(rt: HostRuntime) -> Result<(), Fail> {
 }
 
 #[test]
-fn who_waits_for_a_procedure_is_in_it_behind_an_end(rt: HostRuntime) -> Result<(), Fail> {
+fn who_waits_for_a_procedure_is_in_it_after_an_end(rt: HostRuntime) -> Result<(), Fail> {
     play(
         rt.alloc(),
         &[
             Begin(200),
             Make(b"PROC    ", 2, 1, Done(0)),
-            Pass(139, 1, 0x41, Done(0)),
-            Name(151, b"PROC    ", Done(0)),
-            Ask(142, 0, Done(0)),
+            Pass(functions::WRITE_QUEUE, 1, 0x41, Done(0)),
+            Name(
+                functions::CALL_RESIDENT_SYSTEM_PROCEDURE,
+                b"PROC    ",
+                Done(0),
+            ),
+            Ask(functions::DISPATCH, 0, Done(0)),
             Next(Some(1)),
-            Name(151, b"PROC    ", Held),
+            Name(functions::CALL_RESIDENT_SYSTEM_PROCEDURE, b"PROC    ", Held),
             End(0),
             Completes(1),
             Inside(1, 0, 0x0041),

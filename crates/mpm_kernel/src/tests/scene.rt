@@ -5,7 +5,7 @@ ghost use Rattle.mpm_kernel.specs.Kernel.{IsSound, CompletedLive};
 ghost use Rattle.mpm_kernel.specs.Events.{MayCome};
 
 use crate::{Kernel, OutOfMemory};
-use mpm_base::{Name8, Outcome, Pid, Reply, Seg};
+use mpm_base::{Name8, Outcome, Pid, Reply, Seg, functions};
 use mpm_clock::Moment;
 use mpm_consoles::Unit;
 use mpm_procs::NewProcess;
@@ -39,10 +39,10 @@ pub(super) enum Line<'a> {
     BeginOther(u8),
     /// A resident of that priority begins.
     BeginResident(u8),
-    /// Who runs behind what was no instruction.
+    /// Who runs after what was no instruction.
     Next(Option<u8>),
-    /// Who runs behind an instruction.
-    NextBehindInstruction(Option<u8>),
+    /// Who runs after an instruction.
+    NextAfterInstruction(Option<u8>),
     /// Who runs has interrupts on or off, and an EI that has not taken effect or not.
     Interrupts(bool, bool),
     /// A process ends.
@@ -188,7 +188,7 @@ fn slot(p: Option<Pid>) -> Option<u8> {
     }
 }
 
-/// Who runs behind a step, which was an instruction or not.
+/// Who runs after a step, which was an instruction or not.
 fn next(kernel: &mut Kernel, instruction: bool) -> Option<u8>
     requires { IsSound kernel.old }
     ensures { IsSound kernel.new }
@@ -407,7 +407,7 @@ fn ask_by_pointer(
 }
 
 /// A byte is written to a console: the number of spaces that stand for it, None where the console isn't there.
-#[tactic(auto, using(crate::proofs::UnitLaws::has_console, crate::proofs::SoundLaws::sound_wrote))]
+#[tactic(auto, using(crate::proofs::SoundLaws::sound_wrote))]
 fn write(kernel: &mut Kernel, console: u8, byte: u8, tabs: bool) -> Option<u8>
     requires { IsSound kernel.old }
     ensures { IsSound kernel.new }
@@ -457,15 +457,31 @@ fn answers(kernel: &mut Kernel, seen: &mut Seen, line: Line) -> bool
 {
     match line {
         Line::Next(p) => next(kernel, false) == p,
-        Line::NextBehindInstruction(p) => next(kernel, true) == p,
+        Line::NextAfterInstruction(p) => next(kernel, true) == p,
         Line::Ask(function, word, answer) => ask(kernel, seen, function, word, &[], answer),
         Line::AskWith(function, word, bytes, answer) => {
             ask(kernel, seen, function, word, bytes, answer)
         }
         Line::Make(name, length, count, answer) => {
-            ask_by_name(kernel, seen, 134, name, length, count, answer)
+            ask_by_name(
+                kernel,
+                seen,
+                functions::MAKE_QUEUE,
+                name,
+                length,
+                count,
+                answer,
+            )
         }
-        Line::Delete(name, answer) => ask_by_name(kernel, seen, 136, name, 0, 0, answer),
+        Line::Delete(name, answer) => ask_by_name(
+            kernel,
+            seen,
+            functions::DELETE_QUEUE,
+            name,
+            0,
+            0,
+            answer,
+        ),
         Line::Name(function, name, answer) => {
             ask_by_pointer(kernel, seen, function, 0, name, 0, answer)
         }

@@ -40,7 +40,7 @@ fn a_tick_comes_between_two_transfers_of_an_ldir(rt: HostRuntime) -> Result<(), 
 }
 
 #[test]
-fn an_event_comes_behind_the_instruction_that_follows_ei(rt: HostRuntime) -> Result<(), Fail> {
+fn an_event_comes_after_the_instruction_that_follows_ei(rt: HostRuntime) -> Result<(), Fail> {
     let scene = Scene {
         machine: TWO_SEGMENTS,
         script: b"2 int 5\n",

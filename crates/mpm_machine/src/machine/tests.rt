@@ -1,4 +1,4 @@
-//! What no whole run shows: the registers behind a call, who lives, and the bytes that addresses name.
+//! What no whole run shows: the registers after a call, who lives, and the bytes that addresses name.
 use crate::scenes::Register::{A, B, Hl, Pc, Sp};
 use crate::scenes::Sight::{Byte, Has, Lives};
 use crate::scenes::{Behind, Scene};

@@ -18,33 +18,12 @@ fn registers_at(pc: u16) -> Regs
     ensures { result.pc ≡ pc }
 {
     Regs {
-        a: 0,
-        f: 0,
-        b: 0,
-        c: 0,
-        d: 0,
-        e: 0,
-        h: 0,
-        l: 0,
-        a2: 0,
-        f2: 0,
-        b2: 0,
-        c2: 0,
-        d2: 0,
-        e2: 0,
-        h2: 0,
-        l2: 0,
-        ix: 0,
-        iy: 0,
         sp: 0x4300,
         pc,
-        i: 0,
-        r: 0,
         iff1: true,
         iff2: true,
         mode: 1,
-        halted: false,
-        shadow: false,
+        ..Regs::default()
     }
 }
 
@@ -134,7 +113,7 @@ fn a_burst_stops_at_an_unlisted_opcode(rt: HostRuntime) -> Result<(), OutOfMemor
 }
 
 #[test]
-fn a_burst_stops_behind_as_many_as_it_may(rt: HostRuntime) -> Result<(), OutOfMemory> {
+fn a_burst_stops_after_as_many_as_it_may(rt: HostRuntime) -> Result<(), OutOfMemory> {
     // LD IX,1234h; PUSH IX; NOP.
     let program = [0xDD, 0x21, 0x34, 0x12, 0xDD, 0xE5, 0, 0];
     let none = run(rt.alloc(), false, 0, &program)?;

@@ -1,4 +1,4 @@
-//! One instruction a line, in hexadecimal: its three bytes, AF and BC before; AF, BC, DE, HL, SP and PC behind it; the
+//! One instruction a line, in hexadecimal: its three bytes, AF and BC before; AF, BC, DE, HL, SP and PC after it; the
 //! address and the byte of its last two writes.
 
 /// Opcodes 00h to 3Fh.

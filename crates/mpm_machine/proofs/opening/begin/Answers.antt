@@ -12,4 +12,4 @@ give-requires-clause-to c =
 pub pick-requires : goal.pick-requires
 pick-requires c =
     sound_begun c.admit.new.self c.give.new.self c.args.new.console c.in-Ok.p
-    (admitted_here c.args.kernel.now c.admit.new.self c.in-Ok.p c.args.new c.requires.sound c.requires.console c.in-Ok.ensures.slot c.admit.ensures.kernel) c.give.ensures
+    (admitted_here c.args.kernel.now c.admit.new.self c.in-Ok.p c.args.new c.requires.sound c.requires.console c.in-Ok.ensures.slot c.admit.ensures.kernel) c.give.ensures.kernel

@@ -29,7 +29,7 @@ returns-in-Err-settle-clause-err g c =
     let first = g.S.Sink.written c.args.sink.now in
     let s = begun c.args.machine.now in
     let stands = stands_begun c.args.machine.now c.new-render.result first (c.new-render.ensures.fresh first) in
-    let behind = after c.args.asked.steps s in
-    let ended = c.in-Err-settle.ensures.err behind first (c.in_default.ensures.ok s first stands) in
-    let P : Bool → Type 0 = λ trace. EndsBetween (g.S.Sink.written c.settle.new.sink) first (rendered trace behind.outputs) (closed trace behind.outputs) in
+    let afterwards = after c.args.asked.steps s in
+    let ended = c.in-Err-settle.ensures.err afterwards first (c.in_default.ensures.ok s first stands) in
+    let P : Bool → Type 0 = λ trace. EndsBetween (g.S.Sink.written c.settle.new.sink) first (rendered trace afterwards.outputs) (closed trace afterwards.outputs) in
     stops_closing c.args.asked.trace s _ _ _ (subst P (c.in_default.ensures.trace ∙ c.new-render.ensures.trace) ended)

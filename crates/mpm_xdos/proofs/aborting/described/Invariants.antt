@@ -5,4 +5,4 @@ use Rattle.mpm_xdos.specs.Aborting.{is_described}
 use Rattle.mpm_xdos.proofs.aborting.described.Given as goal
 
 abbrev pub invariant-loop-number : goal.invariant-loop-number
-invariant-loop-number l = FailedTo (λ slot. lives l.kernel.procs slot && is_described l.call l.kernel.procs slot) l.number
+invariant-loop-number l = FailedTo (λ slot. lives l.kernel.dispatcher.procs slot && is_described l.call l.kernel.dispatcher.procs slot) l.number

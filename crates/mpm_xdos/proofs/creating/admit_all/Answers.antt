@@ -1,8 +1,8 @@
-use Rattle.std.proofs.Common.{◌≡◌, ◌∙◌, ◌<◌, sym, ap, refl, subst, arith}
+use Rattle.std.proofs.Common.{◌≡◌, ◌∙◌, ◌<◌, length, sym, ap, refl, subst, arith}
 use Rattle.std.specs.List.{list_all}
-use Rattle.mpm_kernel.specs.Kernel.{Kernel, IsSound}
-use Rattle.mpm_kernel.specs.Dispatch.{in_slot}
-use Rattle.mpm_kernel.proofs.SoundLaws.{sound_in_slot, consoles_in_slot}
+use Rattle.mpm_kernel.specs.Kernel.{Kernel, IsSound, dispatched}
+use Rattle.mpm_dispatcher.specs.Dispatch.{in_slot}
+use Rattle.mpm_kernel.proofs.SoundLaws.{sound_in_slot}
 use Rattle.mpm_procs.specs.Table.{lowest_free}
 use Rattle.mpm_xdos.specs.Creating.{children_of, child_at, all_admitted, has_console}
 use Rattle.mpm_xdos.proofs.Children.{all_none, all_more, all_children, child_has_console}
@@ -15,22 +15,25 @@ pub loop-number-preserved : goal.loop-number-preserved
 loop-number-preserved c =
     let before = c.loop-number.kernel in
     let child = child_at c.args.parent.now c.args.base c.args.descriptors.now c.loop-number.number in
-    let is : c.admit-admitted.new.self ≡ in_slot before child (lowest_free before.procs) =
-    c.admit-admitted.ensures.kernel ∙ ap (λ new. in_slot before new (lowest_free before.procs)) c.child_at.ensures in
-    let fits : child.console < before.consoles =
-    child_has_console before.consoles c.args.parent.now c.args.base c.args.descriptors.now c.loop-number.number (omega arith)
+    let is : c.admit-admitted.new.self ≡ dispatched (in_slot child (lowest_free before.dispatcher.procs)) before =
+    c.admit-admitted.ensures.kernel ∙ ap (λ new. dispatched (in_slot new (lowest_free before.dispatcher.procs)) before) c.child_at.ensures in
+    let fits : child.console < length before.units.consoles =
+    child_has_console (length before.units.consoles) c.args.parent.now c.args.base c.args.descriptors.now c.loop-number.number (omega arith)
     (ap (λ n. list_all (has_console n) (children_of c.args.parent.now c.args.base c.args.descriptors.now)) c.loop-number.invariant.consoles ∙ c.requires.consoles) in
     let P : Kernel → Type 0 = λ k. IsSound k in
     record {
       kernel = is
-          ∙ ap (λ k. in_slot k child (lowest_free k.procs)) c.loop-number.invariant.kernel
+          ∙ ap (λ k. dispatched (in_slot child (lowest_free k.dispatcher.procs)) k) c.loop-number.invariant.kernel
           ∙ sym (all_more c.args.parent.now c.args.base c.args.descriptors.now c.loop-number.number c.args.kernel.now (omega arith));
-      sound = subst P (sym is) (sound_in_slot before child (lowest_free before.procs) c.loop-number.invariant.sound refl fits);
-      consoles = ap (λ k. k.consoles) is ∙ consoles_in_slot before child (lowest_free before.procs) ∙ c.loop-number.invariant.consoles;
+      sound = subst P (sym is) (sound_in_slot before child (lowest_free before.dispatcher.procs) c.loop-number.invariant.sound refl fits);
+      consoles = ap (λ k. length k.units.consoles) is ∙ c.loop-number.invariant.consoles;
     }
 
-pub returns : goal.returns
-returns c =
+pub returns-clause-sound : goal.returns-clause-sound
+returns-clause-sound c = c.loop-number.invariant.sound
+
+pub returns-clause-kernel : goal.returns-clause-kernel
+returns-clause-kernel c =
     c.loop-number.invariant.kernel
     ∙ ap (λ all. all_admitted all c.args.kernel.now)
     (all_children c.args.parent.now c.args.base c.args.descriptors.now c.loop-number.number (omega arith))

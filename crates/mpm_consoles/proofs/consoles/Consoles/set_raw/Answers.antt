@@ -1,12 +1,12 @@
 use Rattle.std.proofs.Common.{sym, subst}
 use Rattle.mpm_consoles.specs.Console.{with_raw}
 use Rattle.mpm_consoles.specs.Consoles.{Consoles, HasConsole}
-use Rattle.mpm_consoles.specs.Handling.{behind_raw}
+use Rattle.mpm_consoles.specs.Handling.{raw_set}
 use Rattle.mpm_consoles.proofs.SoundLaws.{sound_set, sound_raw}
 use Rattle.mpm_consoles.proofs.consoles.Consoles.set_raw.Goals as goal
 
 pub invariant_of-self : goal.invariant_of-self
-unfolding behind_raw
+unfolding raw_set
 invariant_of-self c =
     let t : Consoles = record { consoles = c.self.inside.consoles.items; printers = c.self.inside.printers.items; waiters = c.self.inside.waiters } in
     let has = subst (λ (t : Consoles). HasConsole t c.args.console) (sym c.self.view_is) c.requires in

@@ -1,14 +1,14 @@
 use Rattle.std.proofs.Common.{sym, subst}
 use Rattle.mpm_consoles.specs.Console.{written}
 use Rattle.mpm_consoles.specs.Consoles.{Consoles, HasUnit}
-use Rattle.mpm_consoles.specs.Handling.{behind_output}
+use Rattle.mpm_consoles.specs.Handling.{put_out}
 use Rattle.mpm_consoles.specs.declared.unit.Unit.{Unit}
 use Rattle.mpm_consoles.specs.declared.unit.Unit.TheVariants.{Console as ConsoleUnit}
 use Rattle.mpm_consoles.proofs.SoundLaws.{sound_set, sound_output}
 use Rattle.mpm_consoles.proofs.consoles.Consoles.write.Goals as goal
 
 pub invariant_of-self : goal.invariant_of-self
-unfolding behind_output
+unfolding put_out
 invariant_of-self c =
     let t : Consoles = record { consoles = c.self.inside.consoles.items; printers = c.self.inside.printers.items; waiters = c.self.inside.waiters } in
     let has = subst (λ (u : Unit). HasUnit t u) c.in-Console.is (subst (λ (t : Consoles). HasUnit t c.args.unit) (sym c.self.view_is) c.requires) in

@@ -24,7 +24,7 @@ push-requires c =
     let before = c.loop-p.self in
     let p = c.in-Some.p in
     let step = walks c.args.list p before c.loop-p.invariant.table c.loop-p.invariant.live c.requires.other (sym c.first.ensures.first ∙ c.in-Some.is) in
-    let rest = slots_in (moved before ready p).lists c.args.list in
+    let rest = slots_in (moved ready p before).lists c.args.list in
     let whole : c.loop-p.woken ++ p ∷ rest ≡ slots_in c.args.self.now.lists c.args.list =
     ap (λ ps. c.loop-p.woken ++ ps) (sym step.rest) ∙ c.loop-p.invariant.rest in
     omega (arith, ap length whole, length-append c.loop-p.woken (p ∷ rest), few_in c.args.self.now.lists c.args.list c.requires.table)
@@ -46,12 +46,12 @@ loop-p-preserved c =
       table = subst P (sym c.move_to.ensures) step.table;
       live = subst Q (sym c.move_to.ensures) step.live;
       dispatcher = c.move_to.ensures
-          ∙ ap (λ d. moved d ready p) c.loop-p.invariant.dispatcher
+          ∙ ap (λ d. moved ready p d) c.loop-p.invariant.dispatcher
           ∙ sym (all_ready_more c.loop-p.woken p c.args.self.now)
           ∙ ap (λ ps. all_ready ps c.args.self.now) (sym c.push.ensures);
       rest = ap (λ ps. ps ++ slots_in c.move_to.new.self.lists list) c.push.ensures
           ∙ ap (λ d. (c.loop-p.woken ++ p ∷ []) ++ slots_in d.lists list) c.move_to.ensures
-          ∙ append_assoc c.loop-p.woken (p ∷ []) (slots_in (moved before ready p).lists list)
+          ∙ append_assoc c.loop-p.woken (p ∷ []) (slots_in (moved ready p before).lists list)
           ∙ ap (λ ps. c.loop-p.woken ++ ps) (sym step.rest)
           ∙ c.loop-p.invariant.rest;
     }

@@ -21,7 +21,7 @@ loop-p-preserved c =
     let i = c.loop-p.p-index in
     let p = c.p-item.result in
     c.move_to.ensures
-    ∙ ap (λ d. moved d ready p) c.loop-p.invariant
+    ∙ ap (λ d. moved ready p d) c.loop-p.invariant
     ∙ sym (all_ready_more (take i ps) p c.args.self.now)
     ∙ ap (λ more. all_ready (take i ps ++ more ∷ []) c.args.self.now) c.p-item.is
     ∙ ap (λ all. all_ready all c.args.self.now) (sym (take_more ps i p c.loop-p-test.true))

@@ -1,7 +1,7 @@
-use Rattle.std.proofs.Common.{◌≡◌, ◌∙◌, sym, ap, subst, arith}
+use Rattle.std.proofs.Common.{◌∙◌, sym, ap, subst, arith}
 use Rattle.mpm_consoles.specs.declared.unit.Unit.TheVariants.{Printer as PrinterUnit}
 use Rattle.mpm_kernel.specs.Kernel.{Kernel, IsSound}
-use Rattle.mpm_kernel.specs.Dispatch.{unit_left}
+use Rattle.mpm_kernel.specs.Consoling.{unit_left}
 use Rattle.mpm_kernel.proofs.LeavingLaws.{printers_none, printers_more, has_next_printer, sound_printers_left}
 use Rattle.mpm_kernel.proofs.kernel.Kernel.leave_printers.Goals as goal
 
@@ -10,14 +10,12 @@ loop-n-init c = sym (printers_none c.args.p c.args.self.now)
 
 pub leave_unit-requires-clause-sound : goal.leave_unit-requires-clause-sound
 leave_unit-requires-clause-sound c =
-    let all : c.self.inside.printers ≡ c.args.self.now.printers = ap (λ (k : Kernel). k.printers) c.self.view_is in
     let P : Kernel → Type 0 = λ k. IsSound k in
-    subst P (sym c.loop-n.invariant) (sound_printers_left c.args.p c.loop-n.n c.args.self.now c.requires (omega (arith, all, c.loop-n-test.true)))
+    subst P (sym c.loop-n.invariant) (sound_printers_left c.args.p c.loop-n.n c.args.self.now c.requires (omega (arith, c.printers-n-end.ensures, c.loop-n-test.true)))
 
 pub leave_unit-requires-clause-unit : goal.leave_unit-requires-clause-unit
 leave_unit-requires-clause-unit c =
-    let all : c.self.inside.printers ≡ c.args.self.now.printers = ap (λ (k : Kernel). k.printers) c.self.view_is in
-    has_next_printer c.args.p c.loop-n.n c.args.self.now c.loop-n.self c.requires c.loop-n.invariant (omega (arith, all, c.loop-n-test.true))
+    has_next_printer c.args.p c.loop-n.n c.args.self.now c.loop-n.self c.requires c.loop-n.invariant (omega (arith, c.printers-n-end.ensures, c.loop-n-test.true))
 
 pub loop-n-preserved : goal.loop-n-preserved
 loop-n-preserved c =

@@ -2,7 +2,7 @@ use Rattle.std.proofs.Common.{◌∙◌, ◌-◌, sym, subst, refl, arith, Bool}
 use Rattle.mpm_machine.specs.State.{State, StandsFor}
 use Rattle.mpm_machine.specs.Step.{after, EndsInStep}
 use Rattle.mpm_machine.proofs.StepLaws.{after_nothing, after_both, system_after_nothing, system_after_both, ends_later}
-use Rattle.mpm_machine.proofs.AfterLaws.{nobody_due_run}
+use Rattle.mpm_machine.proofs.AfterLaws.{nobody_due_run, contained_in_run, instructed_in_run, served_in_run}
 use Rattle.mpm_machine.proofs.machine.Machine.run.Goals as goal
 
 pub loop-done-init : goal.loop-done-init
@@ -47,3 +47,21 @@ pub returns-clause-due : goal.returns-clause-due
 returns-clause-due g c some =
     nobody_due_run c.loop-done.done c.args.self.now c.loop-done.self c.requires.whole c.loop-done.invariant.system
     (omega (arith, some, c.loop-done-test.false))
+
+pub returns-in-Err-clause-contained : goal.returns-in-Err-clause-contained
+returns-in-Err-clause-contained g c k below = contained_in_run k c.args.self.now c.requires.whole
+
+pub returns-in-Err-clause-instruction : goal.returns-in-Err-clause-instruction
+returns-in-Err-clause-instruction g c k p seg below stands = instructed_in_run k p seg c.args.self.now c.requires.no_completions stands
+
+pub returns-in-Err-clause-calls : goal.returns-in-Err-clause-calls
+returns-in-Err-clause-calls g c k p seg below calls = served_in_run k p seg c.args.self.now calls
+
+pub returns-clause-contained : goal.returns-clause-contained
+returns-clause-contained g c k below = contained_in_run k c.args.self.now c.requires.whole
+
+pub returns-clause-instruction : goal.returns-clause-instruction
+returns-clause-instruction g c k p seg below stands = instructed_in_run k p seg c.args.self.now c.requires.no_completions stands
+
+pub returns-clause-calls : goal.returns-clause-calls
+returns-clause-calls g c k p seg below calls = served_in_run k p seg c.args.self.now calls

@@ -10,7 +10,7 @@ invariant-loop-done g l = record {
   system : l.self ≡ system_after l.done l.initial.self;
   few : l.done ≤ l.n;
   whole : IsWhole l.self;
-  no_completions : l.self.kernel.completed ≡ [];
+  no_completions : l.self.kernel.dispatcher.completed ≡ [];
   steps : l.self.steps ≡ l.initial.self.steps + l.done;
   faults : g.S.Sink.faults l.sink ≡ g.S.Sink.faults l.initial.sink;
   trace : l.render.trace ≡ l.initial.render.trace;

@@ -17,14 +17,14 @@ pick-requires c = c.in_ok-begin_terminals.ensures.whole.sound
 pub returns-clause-system : goal.returns-clause-system
 returns-clause-system c =
     residents_here c.args.self.now c.begin_interpreter.new.self c.begin_terminals.new.self c.pick.new.self c.args.consoles c.begin_interpreter.ensures
-    c.in_ok-begin_terminals.ensures.system c.pick.ensures
+    c.in_ok-begin_terminals.ensures.system c.pick.ensures.kernel
 
 pub returns-clause-whole : goal.returns-clause-whole
-returns-clause-whole c = whole_picked c.begin_terminals.new.self c.pick.new.self c.in_ok-begin_terminals.ensures.whole c.pick.ensures
+returns-clause-whole c = whole_picked c.begin_terminals.new.self c.pick.new.self c.in_ok-begin_terminals.ensures.whole c.pick.ensures.kernel
 
 pub returns-clause-no_completions : goal.returns-clause-no_completions
 returns-clause-no_completions c =
-    no_completions_picked c.begin_terminals.new.self.kernel c.pick.new.self c.pick.ensures
+    no_completions_picked c.begin_terminals.new.self.kernel c.pick.new.self c.pick.ensures.kernel
     (c.in_ok-begin_terminals.ensures.completed
     ∙ (first_here c.args.self.now c.begin_interpreter.new.self c.requires.whole c.requires.queues c.requires.room c.begin_interpreter.ensures).completed
     ∙ c.requires.no_completions)

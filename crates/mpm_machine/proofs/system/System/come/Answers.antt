@@ -7,8 +7,8 @@ event-requires-clause-sound g c = sound_unhalted c.args.self.now c.unhalt.new.se
 
 pub abort_by_key-requires-clause-whole : goal.abort_by_key-requires-clause-whole
 abort_by_key-requires-clause-whole g c =
-    whole_happened c.args.event c.args.self.now c.unhalt.new.self c.event.new.self (may_be c.args.event c.requires.is) c.requires.whole c.unhalt.ensures c.event.ensures
+    whole_happened c.args.event c.args.self.now c.unhalt.new.self c.event.new.self (may_be c.args.event c.requires.is) c.requires.whole c.unhalt.ensures c.event.ensures.kernel
 
 pub abort_by_key-requires-clause-lives : goal.abort_by_key-requires-clause-lives
 abort_by_key-requires-clause-lives g c =
-    aborted_lives c.args.event c.args.self.now c.unhalt.new.self c.event.new.self c.requires.whole c.unhalt.ensures c.event.ensures
+    aborted_lives c.args.event c.args.self.now c.unhalt.new.self c.event.new.self c.requires.whole c.unhalt.ensures c.event.ensures.kernel

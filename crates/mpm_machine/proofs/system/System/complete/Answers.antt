@@ -1,13 +1,13 @@
-use Rattle.std.proofs.Common.{rules}
-use Rattle.std.proofs.lemmas.Result.{on_ok_weaker, on_err_weaker}
-use Rattle.mpm_machine.proofs.CallLaws.{lives_said, popped_behind, completed_system, showed_call, stopped_text, stopped_record}
+use Rattle.std.proofs.lemmas.Result.{on_ok_weaker}
+use Rattle.mpm_output.specs.Outside.{TheSink, by_sink}
+use Rattle.mpm_output.proofs.WritingLaws.{passes_on}
+use Rattle.mpm_machine.proofs.CallLaws.{lives_said, popped_after, completed_system, emits_call, text_fails}
 use Rattle.mpm_machine.proofs.system.System.complete.Goals as goal
 
-pub returns-in_err-speak-clause-err : goal.returns-in_err-speak-clause-err
-returns-in_err-speak-clause-err g c =
-    let stopped = stopped_text c.args.render.now (g.S.Sink.written c.args.sink.now) (g.S.Sink.written c.speak.new.sink)
-    c.args.reply.now c.args.p c.args.seg c.args.self.now c.in_err-speak.ensures.err in
-    search rules
+pub returns-in_err-speak-clause-wrote : goal.returns-in_err-speak-clause-wrote
+returns-in_err-speak-clause-wrote g c =
+    passes_on _ _ _ _ c.from_residual.ensures.0
+    (text_fails TheSink _ _ c.args.reply.now c.args.p c.args.seg c.args.self.now c.in_err-speak.ensures.wrote.err)
 
 pub pop-requires : goal.pop-requires
 pop-requires g c =
@@ -15,25 +15,15 @@ pop-requires g c =
 
 pub fulfil-requires : goal.fulfil-requires
 fulfil-requires g c =
-    let so = popped_behind c.args.p c.args.seg c.args.self.now c.speak.new.self c.pop.new.self c.requires.whole c.requires.lives c.in_ok-speak.ensures.system c.pop.ensures in
+    let so = popped_after c.args.p c.args.seg c.args.self.now c.speak.new.self c.pop.new.self c.requires.whole c.requires.lives c.in_ok-speak.ensures.system c.pop.ensures in
     record { whole = so.whole; lives = so.lives }
 
-pub returns-clause-system : goal.returns-clause-system
-returns-clause-system g c =
-    let so = popped_behind c.args.p c.args.seg c.args.self.now c.speak.new.self c.pop.new.self c.requires.whole c.requires.lives c.in_ok-speak.ensures.system c.pop.ensures in
-    on_ok_weaker c.fulfil.result (λ is. completed_system c.args.reply.now c.args.p c.args.seg c.args.self.now c.pop.new.self c.fulfil.new.self so is) c.fulfil.ensures.system
-
-pub returns-clause-ok : goal.returns-clause-ok
-returns-clause-ok g c =
-    let so = popped_behind c.args.p c.args.seg c.args.self.now c.speak.new.self c.pop.new.self c.requires.whole c.requires.lives c.in_ok-speak.ensures.system c.pop.ensures in
-    on_ok_weaker c.fulfil.result
-    (λ shown. showed_call _ _ _ _ _ _ c.args.reply.now c.args.p c.args.seg c.args.self.now c.pop.new.self so c.in_ok-speak.ensures.ok shown)
-    c.fulfil.ensures.ok
-
-pub returns-clause-err : goal.returns-clause-err
-returns-clause-err g c =
-    let so = popped_behind c.args.p c.args.seg c.args.self.now c.speak.new.self c.pop.new.self c.requires.whole c.requires.lives c.in_ok-speak.ensures.system c.pop.ensures in
-    on_err_weaker c.fulfil.result
-    (λ stopped. stopped_record _ _ _ _ _ c.args.reply.now c.args.p c.args.seg c.args.self.now c.pop.new.self c.in_ok-speak.ensures.trace so
-    c.in_ok-speak.ensures.ok stopped)
-    c.fulfil.ensures.err
+pub returns : goal.returns
+returns g c =
+    let so = popped_after c.args.p c.args.seg c.args.self.now c.speak.new.self c.pop.new.self c.requires.whole c.requires.lives c.in_ok-speak.ensures.system c.pop.ensures in
+    record {
+      system = on_ok_weaker c.fulfil.result (λ is. completed_system c.args.reply.now c.args.p c.args.seg c.args.self.now c.pop.new.self c.fulfil.new.self so is)
+          c.fulfil.ensures.system;
+      wrote = emits_call by_sink _ _ _ _ c.args.reply.now c.args.p c.args.seg c.args.self.now c.pop.new.self so
+          c.in_ok-speak.ensures.wrote.ok c.fulfil.ensures.wrote;
+    }

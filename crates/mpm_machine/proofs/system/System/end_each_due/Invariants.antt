@@ -1,11 +1,11 @@
-use Rattle.std.proofs.Common.{◌≡◌}
+use Rattle.mpm_output.specs.Outside.{seen}
 use Rattle.mpm_machine.specs.State.{IsWhole}
 use Rattle.mpm_machine.proofs.DueLaws.{DueSo}
 use Rattle.mpm_machine.proofs.system.System.end_each_due.Given as goal
 
 abbrev pub invariant-loop-number : goal.invariant-loop-number
 invariant-loop-number g l = record {
-  so : DueSo l.initial.self l.self l.number l.initial.render (g.S.Sink.written l.initial.sink) l.render (g.S.Sink.written l.sink);
+  so : DueSo l.initial.self l.self l.number (seen g.S.Sink.written g.S.Sink.faults l.initial.render l.initial.sink)
+      (seen g.S.Sink.written g.S.Sink.faults l.render l.sink);
   whole : IsWhole l.self;
-  faults : g.S.Sink.faults l.sink ≡ g.S.Sink.faults l.initial.sink;
 }

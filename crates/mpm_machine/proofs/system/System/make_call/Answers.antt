@@ -1,10 +1,8 @@
-use Rattle.std.proofs.Common.{◌≡◌, OnOk, rules, subst}
-use Rattle.std.proofs.lemmas.Result.{on_ok_weaker, on_err_weaker}
+use Rattle.std.proofs.Common.{◌≡◌, OnOk, subst}
 use Rattle.mpm_machine.specs.State.{Change}
-use Rattle.mpm_machine.specs.Residing.{native_outcome}
-use Rattle.mpm_output.specs.Writing.{Showed, Stopped}
-use Rattle.mpm_procs.specs.Table.{call_of}
-use Rattle.mpm_machine.proofs.CallLaws.{echo_shown, echo_stopped, stopped_later}
+use Rattle.mpm_output.specs.Outside.{TheSink, by_sink}
+use Rattle.mpm_output.proofs.WritingLaws.{fails_before, emits_after, passes_on}
+use Rattle.mpm_machine.proofs.ChangeLaws.{fails_as, emits_as}
 use Rattle.mpm_machine.proofs.ResidingLaws.{asked_whole, call_concludes}
 use Rattle.mpm_machine.proofs.system.System.make_call.Goals as goal
 
@@ -55,41 +53,22 @@ conclude_residing-requires-clause-has g c =
     c.call-outcome.ensures.kernel c.call-outcome.ensures.outcome c.call-outcome.ensures.reply in
     done.has
 
-pub returns-in_err-put_echo-clause-err : goal.returns-in_err-put_echo-clause-err
-returns-in_err-put_echo-clause-err g c =
+pub returns-in_err-put_echo-clause-wrote : goal.returns-in_err-put_echo-clause-wrote
+returns-in_err-put_echo-clause-wrote g c =
     let done = call_concludes c.args.p c.args.self.now c.ask_call.new.self c.call-outcome.new.self c.call-outcome.result c.call-outcome.new.reply
     c.requires.whole c.requires.lives c.requires.has c.ask_call.ensures c.requires.ready
     c.call-outcome.ensures.kernel c.call-outcome.ensures.outcome c.call-outcome.ensures.reply in
-    let P : Change → Type 0 = λ change. Stopped c.args.render.now (g.S.Sink.written c.args.sink.now) (g.S.Sink.written c.put_echo.new.sink) change.emitted in
-    let stopped = subst P done.change (echo_stopped _ _ _ (call_of c.call-outcome.new.self.procs c.args.p) c.args.p (record c.ask_call.new.self { kernel = c.call-outcome.new.self })
-    (native_outcome c.call-outcome.result c.call-outcome.new.reply (call_of c.call-outcome.new.self.procs c.args.p) c.args.p (record c.ask_call.new.self { kernel = c.call-outcome.new.self })) c.in_err-put_echo.ensures.err) in
-    search rules
+    passes_on _ _ _ _ c.from_residual.ensures.0
+    (fails_as TheSink _ _ _ _ done.change (fails_before TheSink _ _ _ _ c.in_err-put_echo.ensures.wrote.err))
 
-pub returns-clause-system : goal.returns-clause-system
-returns-clause-system g c =
+pub returns : goal.returns
+returns g c =
     let done = call_concludes c.args.p c.args.self.now c.ask_call.new.self c.call-outcome.new.self c.call-outcome.result c.call-outcome.new.reply
     c.requires.whole c.requires.lives c.requires.has c.ask_call.ensures c.requires.ready
     c.call-outcome.ensures.kernel c.call-outcome.ensures.outcome c.call-outcome.ensures.reply in
     let P : Change → Type 0 = λ change. OnOk c.conclude_residing.result (c.conclude_residing.new.self ≡ change.system) in
-    subst P done.change c.conclude_residing.ensures.system
-
-pub returns-clause-ok : goal.returns-clause-ok
-returns-clause-ok g c =
-    let done = call_concludes c.args.p c.args.self.now c.ask_call.new.self c.call-outcome.new.self c.call-outcome.result c.call-outcome.new.reply
-    c.requires.whole c.requires.lives c.requires.has c.ask_call.ensures c.requires.ready
-    c.call-outcome.ensures.kernel c.call-outcome.ensures.outcome c.call-outcome.ensures.reply in
-    let P : Change → Type 0 = λ change. Showed c.args.render.now (g.S.Sink.written c.args.sink.now) c.conclude_residing.new.render (g.S.Sink.written c.conclude_residing.new.sink) change.emitted in
-    on_ok_weaker c.conclude_residing.result
-    (λ shown. subst P done.change (echo_shown _ _ _ _ _ _ (call_of c.call-outcome.new.self.procs c.args.p) c.args.p (record c.ask_call.new.self { kernel = c.call-outcome.new.self })
-    (native_outcome c.call-outcome.result c.call-outcome.new.reply (call_of c.call-outcome.new.self.procs c.args.p) c.args.p (record c.ask_call.new.self { kernel = c.call-outcome.new.self })) c.in_ok-put_echo.ensures.ok shown)) c.conclude_residing.ensures.ok
-
-pub returns-clause-err : goal.returns-clause-err
-returns-clause-err g c =
-    let done = call_concludes c.args.p c.args.self.now c.ask_call.new.self c.call-outcome.new.self c.call-outcome.result c.call-outcome.new.reply
-    c.requires.whole c.requires.lives c.requires.has c.ask_call.ensures c.requires.ready
-    c.call-outcome.ensures.kernel c.call-outcome.ensures.outcome c.call-outcome.ensures.reply in
-    let P : Change → Type 0 = λ change. Stopped c.args.render.now (g.S.Sink.written c.args.sink.now) (g.S.Sink.written c.conclude_residing.new.sink) change.emitted in
-    on_err_weaker c.conclude_residing.result
-    (λ stopped. subst P done.change (stopped_later _ _ _ _ _ (call_of c.call-outcome.new.self.procs c.args.p) c.args.p (record c.ask_call.new.self { kernel = c.call-outcome.new.self })
-    (native_outcome c.call-outcome.result c.call-outcome.new.reply (call_of c.call-outcome.new.self.procs c.args.p) c.args.p (record c.ask_call.new.self { kernel = c.call-outcome.new.self })) c.in_ok-put_echo.ensures.trace c.in_ok-put_echo.ensures.ok stopped))
-    c.conclude_residing.ensures.err
+    record {
+      system = subst P done.change c.conclude_residing.ensures.system;
+      wrote = emits_as by_sink _ _ _ _ _ done.change
+          (emits_after by_sink _ _ _ _ _ _ c.in_ok-put_echo.ensures.wrote.ok c.conclude_residing.ensures.wrote);
+    }

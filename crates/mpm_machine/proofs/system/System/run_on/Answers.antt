@@ -1,7 +1,7 @@
 use Rattle.std.proofs.Common.{◌∙◌, sym, arith}
 use Rattle.mpm_kernel.proofs.SoundLaws.{runner_lives}
 use Rattle.mpm_machine.proofs.WholeLaws.{segment_is_home}
-use Rattle.mpm_machine.proofs.MovingLaws.{runs_on, quiet_steps, moved_stands, moved_system, whole_behind, no_completions_behind, steps_behind, stands_still}
+use Rattle.mpm_machine.proofs.MovingLaws.{runs_on, quiet_steps, moved_stands, moved_system, whole_moved, no_completions_moved, steps_moved, stands_still}
 use Rattle.mpm_machine.proofs.IdleLaws.{idle_stands, idle_system, idle_whole}
 use Rattle.mpm_machine.proofs.StepLaws.{system_after_nothing}
 use Rattle.mpm_machine.proofs.system.System.run_on.Goals as goal
@@ -30,11 +30,11 @@ pub returns-clause-whole : goal.returns-clause-whole
 returns-clause-whole c =
     let on = runs_on c.args.self.now c.in-Some.p c.in-Some-segment.seg c.requires.whole c.in-Some.ensures.running c.in-Some.ensures.first (sym c.segment.ensures ∙ c.in-Some-segment.is) c.requires.no_completions c.if-self.false in
     let lives = runner_lives c.args.self.now.kernel c.in-Some.p c.requires.whole.sound on.running in
-    whole_behind c.run_process.result c.in-Some.p c.in-Some-segment.seg c.args.self.now c.run_process.new.self c.requires.whole lives c.run_process.ensures.moved
+    whole_moved c.run_process.result c.in-Some.p c.in-Some-segment.seg c.args.self.now c.run_process.new.self c.requires.whole lives c.run_process.ensures.moved
 
 pub returns-clause-steps : goal.returns-clause-steps
 returns-clause-steps c =
-    steps_behind c.run_process.result c.in-Some.p c.in-Some-segment.seg c.args.self.now c.run_process.new.self c.run_process.ensures.moved
+    steps_moved c.run_process.result c.in-Some.p c.in-Some-segment.seg c.args.self.now c.run_process.new.self c.run_process.ensures.moved
 
 pub idle-requires : goal.idle-requires
 idle-requires c = omega (arith, c.requires.room, c.min-most.ensures)
@@ -57,7 +57,7 @@ returns-in_default-segment-clause-stands c s kept written first stands = stands_
 
 pub returns-clause-no_completions : goal.returns-clause-no_completions
 returns-clause-no_completions c =
-    no_completions_behind c.run_process.result c.in-Some.p c.in-Some-segment.seg c.args.self.now c.run_process.new.self c.run_process.ensures.moved c.requires.no_completions
+    no_completions_moved c.run_process.result c.in-Some.p c.in-Some-segment.seg c.args.self.now c.run_process.new.self c.run_process.ensures.moved c.requires.no_completions
 
 pub returns-then-self-clause-stands : goal.returns-then-self-clause-stands
 returns-then-self-clause-stands c s kept written first stands = stands_still c.args.self.now kept written s first stands

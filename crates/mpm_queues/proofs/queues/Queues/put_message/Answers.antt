@@ -3,7 +3,7 @@ use Rattle.mpm_base.specs.Calls.{Taken}
 use Rattle.mpm_procs.specs.Table.{Lives}
 use Rattle.mpm_queues.specs.Queue.{is_drained, with_message, message_of}
 use Rattle.mpm_queues.specs.Queues.{Queues, IsMade, waits_at}
-use Rattle.mpm_queues.specs.Handling.{behind_write, procs_behind_write}
+use Rattle.mpm_queues.specs.Handling.{message_written, procs_after_write}
 use Rattle.mpm_queues.proofs.QueueLaws.{some_written}
 use Rattle.mpm_queues.proofs.SoundLaws.{IsWritten, reader_waits, sound_write_parts, write_parts}
 use Rattle.mpm_queues.proofs.queues.Queues.put_message.Goals as goal
@@ -37,10 +37,10 @@ pub returns-clause-queues : goal.returns-clause-queues
 returns-clause-queues c =
     let is = subst (λ (t : Queues). IsMade t c.args.q) (sym c.self.view_is) c.requires.queue in
     (write_parts _ c.args.p c.args.q _ c.args.procs.now _ _ _ _ _ _ c.self.invariant is (parts c)).0
-    ∙ ap (λ (t : Queues). behind_write t c.args.p c.args.q c.args.procs.now) c.self.view_is
+    ∙ ap (λ (t : Queues). message_written t c.args.p c.args.q c.args.procs.now) c.self.view_is
 
 pub returns-clause-procs : goal.returns-clause-procs
 returns-clause-procs c =
     let is = subst (λ (t : Queues). IsMade t c.args.q) (sym c.self.view_is) c.requires.queue in
     (write_parts _ c.args.p c.args.q _ c.args.procs.now _ _ _ _ _ _ c.self.invariant is (parts c)).1
-    ∙ ap (λ (t : Queues). procs_behind_write t c.args.p c.args.q c.args.procs.now) c.self.view_is
+    ∙ ap (λ (t : Queues). procs_after_write t c.args.p c.args.q c.args.procs.now) c.self.view_is

@@ -2,7 +2,7 @@ use Rattle.std.proofs.Common.{◌≡◌, ap, ◌∙◌, sym, subst, true, ℕ}
 use Rattle.mpm_procs.specs.Table.{Lives}
 use Rattle.mpm_queues.specs.Queue.{is_full, IsProper}
 use Rattle.mpm_queues.specs.Queues.{Queues, IsMade, waits_at}
-use Rattle.mpm_queues.proofs.QueueLaws.{room_behind}
+use Rattle.mpm_queues.proofs.QueueLaws.{room_after}
 use Rattle.mpm_queues.proofs.SoundLaws.{picked, writer_waits, sound_read_parts}
 use Rattle.mpm_queues.proofs.queues.Queues.take_message.Goals as goal
 
@@ -12,7 +12,7 @@ let_in-other-requires-clause-room c =
     let it = picked _ c.args.q _ c.index_mut-store.result.now c.self.invariant is c.from.ensures c.index_mut-store.ensures.value in
     let some = sym c.is_drained.ensures ∙ c.if-is_drained.false in
     let proper = subst IsProper (sym it) (c.self.invariant.proper c.args.q) in
-    ap is_full c.answer.ensures.queue ∙ room_behind _ c.args.p proper some
+    ap is_full c.answer.ensures.queue ∙ room_after _ c.args.p proper some
 
 pub let_in-other-requires-clause-lives : goal.let_in-other-requires-clause-lives
 let_in-other-requires-clause-lives c =

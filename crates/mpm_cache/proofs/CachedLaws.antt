@@ -1,0 +1,198 @@
+-- What the changes of a list of cached sectors are to look-ups.
+use Rattle.std.proofs.Common.{◌≡◌, ◌≢◌, ℕ, zero, suc, ◌-◌, ◌==◌, ◌&&◌, Bool, true, false, cond, List, [], ◌∷◌, take, Option, Some, None, IfSome, IfNone, IsSome, Result, Ok, Err, OnOk, OnErr, IsOk, refl, sym, ap, subst, ◌∙◌, arith}
+use Rattle.std.specs.Cmp.{IsEquivalence}
+use Rattle.std.specs.List.{IsDistinct}
+use Rattle.std.specs.Map.{keys_of, lookup, lookup_entry, remove_entry}
+use Rattle.std.specs.Option.{option_map_or}
+use Rattle.std.proofs.lemmas.Bool.{cases_Bool, false≢true, eqb-true, eqb-false, eq-eqb, ne_eqb}
+use Rattle.std.proofs.lemmas.Bool.Decides.{nat_tests}
+use Rattle.std.proofs.lemmas.Map.{lookup-remove_entry}
+use Rattle.lru.specs.LruCache.{LruCache, lru_cache, promoted, put_entries}
+use Rattle.lru.proofs.CallerLemmas.{lookup-put_entries, Contains-lookup_entry}
+use Rattle.mpm_cache.specs.declared.cache.Place.{Place}
+use Rattle.mpm_cache.specs.Cached.{is_at, cached_at, SameCached, is_same_place, Keeps, Forgets}
+
+abbrev pub same_place : Place → Place → Bool
+same_place x y = is_at x.drive x.sector y
+
+abbrev at : ℕ → ℕ → Place
+at drive sector = record { drive = drive; sector = sector }
+
+-- two numbers each are the same
+both_true : (a b : Bool) → (a && b) ≡ true → (a ≡ true) × (b ≡ true)
+both_true true b h = (refl, h)
+both_true false b h = absurd (false≢true h)
+
+two_true : (a b : Bool) → a ≡ true → b ≡ true → (a && b) ≡ true
+two_true true b h k = k
+two_true false b h k = absurd (false≢true h)
+
+pub known_same : (d s o p : ℕ) → is_same_place d s o p ≡ true → (d ≡ o) × (s ≡ p)
+known_same d s o p h = let two = both_true (d == o) (s == p) h in (eqb-true d o two.0, eqb-true s p two.1)
+
+pub same_known : (d s o p : ℕ) → d ≡ o → s ≡ p → is_same_place d s o p ≡ true
+same_known d s o p h k = two_true (d == o) (s == p) (eq-eqb d o h) (eq-eqb s p k)
+
+not_true : (b : Bool) → (b ≡ true → ⊥) → b ≡ false
+not_true true h = absurd (h refl)
+not_true false h = refl
+
+alike : (a b : Bool) → (a ≡ true → b ≡ true) → (b ≡ true → a ≡ true) → a ≡ b
+alike true true f g = refl
+alike true false f g = absurd (false≢true (f refl))
+alike false true f g = absurd (false≢true (g refl))
+alike false false f g = refl
+
+swapped : (x y : Place) → same_place x y ≡ true → same_place y x ≡ true
+swapped x y h = let two = known_same x.drive x.sector y.drive y.sector h in same_known y.drive y.sector x.drive x.sector (sym two.0) (sym two.1)
+
+through : (x y z : Place) → same_place x y ≡ true → same_place y z ≡ true → same_place x z ≡ true
+through x y z h k =
+    let one = known_same x.drive x.sector y.drive y.sector h in
+    let two = known_same y.drive y.sector z.drive z.sector k in
+    same_known x.drive x.sector z.drive z.sector (one.0 ∙ two.0) (one.1 ∙ two.1)
+
+pub same_place_laws : IsEquivalence same_place
+same_place_laws = record {
+  refl = λ x. same_known x.drive x.sector x.drive x.sector refl refl;
+  symm = λ x y. alike (same_place x y) (same_place y x) (swapped x y) (swapped y x);
+  congr = λ x y z h. alike (same_place x z) (same_place y z) (λ k. through y x z (swapped x y h) k) (λ k. through x y z h k);
+}
+
+-- a place that is one sector is no other
+apart_at : (d s o p : ℕ) (x : Place) → is_same_place d s o p ≡ false → is_at d s x ≡ true → is_at o p x ≡ false
+apart_at d s o p x apart is = not_true (is_at o p x) (λ other. false≢true (sym apart ∙ through (at d s) x (at o p) is (swapped (at o p) x other)))
+
+-- without the entry of one sector the others are found as before
+found_without : (d s o p : ℕ) (es : List (Place × List ℕ)) → is_same_place d s o p ≡ false → lookup (is_at o p) (remove_entry (is_at d s) es) ≡ lookup (is_at o p) es
+found_without d s o p [] apart = refl
+found_without d s o p (e ∷ es) apart = by_test (is_at d s e.0) refl (found_without d s o p es apart)
+  where
+    by_test : (b : Bool) → is_at d s e.0 ≡ b → lookup (is_at o p) (remove_entry (is_at d s) es) ≡ lookup (is_at o p) es
+        → lookup (is_at o p) (cond b es (e ∷ remove_entry (is_at d s) es)) ≡ cond (is_at o p e.0) (Some e.1) (lookup (is_at o p) es)
+    by_test true is rest = sym (ap (λ (c : Bool). cond c (Some e.1) (lookup (is_at o p) es)) (apart_at d s o p e.0 apart is))
+    by_test false is rest = ap (λ (found : Option (List ℕ)). cond (is_at o p e.0) (Some e.1) found) rest
+
+-- what is found among the first is found among all
+found_first : (o p n : ℕ) (es : List (Place × List ℕ)) (kept : List ℕ) → lookup (is_at o p) (take n es) ≡ Some kept → lookup (is_at o p) es ≡ Some kept
+found_first o p zero es kept h = absurd (cc)
+found_first o p (suc n) [] kept h = h
+found_first o p (suc n) (e ∷ es) kept h = by_test (is_at o p e.0) (λ rest. found_first o p n es kept rest) h
+  where
+    by_test : (b : Bool) → (lookup (is_at o p) (take n es) ≡ Some kept → lookup (is_at o p) es ≡ Some kept) → cond b (Some e.1) (lookup (is_at o p) (take n es)) ≡ Some kept → cond b (Some e.1) (lookup (is_at o p) es) ≡ Some kept
+    by_test true on h = h
+    by_test false on h = on h
+
+-- what holds of what is found
+pub if_found : (o : Option (List ℕ)) (P : List ℕ → Type 0) → ((kept : List ℕ) → o ≡ Some kept → P kept) → IfSome o P
+if_found None P each = tt
+if_found (Some kept) P each = each kept refl
+
+pub found_so : (o : Option (List ℕ)) (P : List ℕ → Type 0) (kept : List ℕ) → IfSome o P → o ≡ Some kept → P kept
+found_so o P kept all is = subst (λ (x : Option (List ℕ)). IfSome x P) is all
+
+-- a sector is cached no more
+pub forgets : (d s : ℕ) (es new : List (Place × List ℕ)) → IsDistinct same_place (keys_of es) → new ≡ remove_entry (is_at d s) es → Forgets d s es new
+unfolding cached_at
+forgets d s es new distinct is =
+    let removed : Forgets d s es (remove_entry (is_at d s) es) = record {
+      here = lookup-remove_entry same_place_laws (is_at d s) (λ x y h. same_place_laws.congr (at d s) x y h) (at d s) es distinct
+          ∙ ap (λ (b : Bool). cond b None (lookup (is_at d s) es)) (same_place_laws.refl (at d s));
+      others = λ o p apart. found_without d s o p es apart;
+    } in
+    subst (λ (l : List (Place × List ℕ)). Forgets d s es l) (sym is) removed
+
+-- a sector is cached with these bytes
+after_put : (d s n : ℕ) (bytes : List ℕ) (es : List (Place × List ℕ)) → Option (Place × List ℕ) → List (Place × List ℕ)
+after_put d s n bytes es o = option_map_or (λ e. (e.0, bytes) ∷ remove_entry (is_at d s) es) o ((at d s, bytes) ∷ take n es)
+
+head_here : (d s : ℕ) (x : Place) (bytes : List ℕ) (rest : List (Place × List ℕ)) → is_at d s x ≡ true → lookup (is_at d s) ((x, bytes) ∷ rest) ≡ Some bytes
+head_here d s x bytes rest is = ap (λ (b : Bool). cond b (Some bytes) (lookup (is_at d s) rest)) is
+
+head_other : (d s o p : ℕ) (x : Place) (bytes : List ℕ) (rest : List (Place × List ℕ)) → is_same_place d s o p ≡ false → is_at d s x ≡ true
+    → lookup (is_at o p) ((x, bytes) ∷ rest) ≡ lookup (is_at o p) rest
+head_other d s o p x bytes rest apart is = ap (λ (b : Bool). cond b (Some bytes) (lookup (is_at o p) rest)) (apart_at d s o p x apart is)
+
+some_same : (x : Option (List ℕ)) (a b : List ℕ) → x ≡ Some a → x ≡ Some b → a ≡ b
+some_same None a b h k = absurd (cc)
+some_same (Some c) a b h k = cc
+
+keeps_by : (d s n : ℕ) (bytes : List ℕ) (es : List (Place × List ℕ)) (o : Option (Place × List ℕ)) → lookup_entry (is_at d s) es ≡ o → Keeps d s bytes es (after_put d s n bytes es o)
+unfolding after_put cached_at
+keeps_by d s n bytes es None none = record {
+  here = if_found _ (λ kept. kept ≡ bytes) (λ kept h. some_same _ kept bytes h (head_here d s (at d s) bytes (take n es) (same_place_laws.refl (at d s))));
+  others = λ o p apart. if_found _ (λ kept. lookup (is_at o p) es ≡ Some kept)
+      (λ kept h. found_first o p n es kept (sym (head_other d s o p (at d s) bytes (take n es) apart (same_place_laws.refl (at d s))) ∙ h));
+}
+keeps_by d s n bytes es (Some e) there =
+    let is : is_at d s e.0 ≡ true = (Contains-lookup_entry (is_at d s) es e there).1 in record {
+      here = if_found _ (λ kept. kept ≡ bytes) (λ kept h. some_same _ kept bytes h (head_here d s e.0 bytes (remove_entry (is_at d s) es) is));
+      others = λ o p apart. if_found _ (λ kept. lookup (is_at o p) es ≡ Some kept)
+          (λ kept h. sym (found_without d s o p es apart) ∙ sym (head_other d s o p e.0 bytes (remove_entry (is_at d s) es) apart is) ∙ h);
+    }
+
+pub keeps : (d s : ℕ) (bytes : List ℕ) (old : LruCache Place (List ℕ)) (new : List (Place × List ℕ)) → new ≡ put_entries same_place old (at d s) bytes → Keeps d s bytes old.entries new
+unfolding after_put
+keeps d s bytes old new is =
+    subst (λ (l : List (Place × List ℕ)). Keeps d s bytes old.entries l) (sym is) (keeps_by d s (old.cap - 1) bytes old.entries (lookup_entry (is_at d s) old.entries) refl)
+
+-- where there was no memory for a new sector it isn't cached
+pub keeps_nothing : (d s : ℕ) (bytes : List ℕ) (es new : List (Place × List ℕ)) → (IsSome (lookup (is_at d s) es) → ⊥) → new ≡ es → Keeps d s bytes es new
+unfolding cached_at
+keeps_nothing d s bytes es new none is =
+    let same : Keeps d s bytes es es = record {
+      here = if_found _ (λ kept. kept ≡ bytes) (λ kept h. absurd (none (subst (λ (o : Option (List ℕ)). IsSome o) (sym h) refl)));
+      others = λ o p apart. if_found _ (λ kept. lookup (is_at o p) es ≡ Some kept) (λ kept h. h);
+    } in
+    subst (λ (l : List (Place × List ℕ)). Keeps d s bytes es l) (sym is) same
+
+-- the entry of a sector at the front
+entry_found : (d s : ℕ) (es : List (Place × List ℕ)) (e : Place × List ℕ) → lookup_entry (is_at d s) es ≡ Some e → lookup (is_at d s) es ≡ Some e.1
+entry_found d s [] e h = absurd (cc)
+entry_found d s (f ∷ es) e h = by_test (is_at d s f.0) (λ rest. entry_found d s es e rest) h
+  where
+    by_test : (b : Bool) → (lookup_entry (is_at d s) es ≡ Some e → lookup (is_at d s) es ≡ Some e.1) → cond b (Some f) (lookup_entry (is_at d s) es) ≡ Some e → cond b (Some f.1) (lookup (is_at d s) es) ≡ Some e.1
+    by_test true on h = ap (λ (o : Option (Place × List ℕ)). option_map_or (λ x. Some x.1) o None) h
+    by_test false on h = on h
+
+no_entry : (d s : ℕ) (es : List (Place × List ℕ)) → lookup (is_at d s) es ≡ None → lookup_entry (is_at d s) es ≡ None
+no_entry d s [] h = refl
+no_entry d s (f ∷ es) h = by_test (is_at d s f.0) (λ rest. no_entry d s es rest) h
+  where
+    by_test : (b : Bool) → (lookup (is_at d s) es ≡ None → lookup_entry (is_at d s) es ≡ None) → cond b (Some f.1) (lookup (is_at d s) es) ≡ None → cond b (Some f) (lookup_entry (is_at d s) es) ≡ None
+    by_test true on h = absurd (cc)
+    by_test false on h = on h
+
+same_by : (d s : ℕ) (es : List (Place × List ℕ)) (o : Option (Place × List ℕ)) → lookup_entry (is_at d s) es ≡ o
+    → SameCached es (option_map_or (λ e. e ∷ remove_entry (is_at d s) es) o es)
+unfolding cached_at
+same_by d s es None none o p = refl
+same_by d s es (Some e) there o p =
+    let is : is_at d s e.0 ≡ true = (Contains-lookup_entry (is_at d s) es e there).1 in
+    by_place (is_same_place d s o p) refl is
+  where
+    by_place : (b : Bool) → is_same_place d s o p ≡ b → is_at d s e.0 ≡ true → lookup (is_at o p) (e ∷ remove_entry (is_at d s) es) ≡ lookup (is_at o p) es
+    by_place true same is =
+        let two = known_same d s o p same in
+        subst (λ (x : ℕ). lookup (is_at x p) (e ∷ remove_entry (is_at d s) es) ≡ lookup (is_at x p) es) two.0
+        (subst (λ (y : ℕ). lookup (is_at d y) (e ∷ remove_entry (is_at d s) es) ≡ lookup (is_at d y) es) two.1
+        (head_here d s e.0 e.1 (remove_entry (is_at d s) es) is ∙ sym (entry_found d s es e there)))
+    by_place false apart is = head_other d s o p e.0 e.1 (remove_entry (is_at d s) es) apart is ∙ found_without d s o p es apart
+
+pub same_promoted : (d s : ℕ) (es new : List (Place × List ℕ)) → new ≡ promoted (is_at d s) es → SameCached es new
+same_promoted d s es new is = subst (λ (l : List (Place × List ℕ)). SameCached es l) (sym is) (same_by d s es (lookup_entry (is_at d s) es) refl)
+
+pub none_promoted : (d s : ℕ) (es new : List (Place × List ℕ)) → new ≡ promoted (is_at d s) es → lookup (is_at d s) es ≡ None → new ≡ es
+none_promoted d s es new is none = is ∙ ap (λ (o : Option (Place × List ℕ)). option_map_or (λ e. e ∷ remove_entry (is_at d s) es) o es) (no_entry d s es none)
+
+pub if_none : (o : Option (List ℕ)) (P : Type 0) → (o ≡ None → P) → IfNone o P
+if_none None P h = h refl
+if_none (Some kept) P h = tt
+
+-- behind a put, which wants memory for a new sector alone
+pub keeps_put : {A B : Type 0} (d s : ℕ) (bytes : List ℕ) (old new : LruCache Place (List ℕ)) (result : Result A B)
+    → OnOk result (new ≡ lru_cache (put_entries same_place old (at d s) bytes) old.cap) → OnErr result (new ≡ old)
+    → (IsSome (lookup (is_at d s) old.entries) → IsOk result) → Keeps d s bytes old.entries new.entries
+keeps_put d s bytes old new (Ok x) ok err succeeds = keeps d s bytes old new.entries (ap (λ (l : LruCache Place (List ℕ)). l.entries) ok)
+keeps_put d s bytes old new (Err x) ok err succeeds =
+    keeps_nothing d s bytes old.entries new.entries (λ some. false≢true (succeeds some)) (ap (λ (l : LruCache Place (List ℕ)). l.entries) err)

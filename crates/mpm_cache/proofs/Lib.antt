@@ -1,0 +1,4 @@
+pub mod CachedLaws
+pub mod SectorLaws
+pub mod HonestLaws
+pub mod DriveLaws

@@ -1,0 +1,204 @@
+ghost use Rattle.std.specs.Prelude.{◌≡◌, ◌⊎◌, ℕ, ◌+◌, ◌≤◌, [], length, Option, IfOk, IfSome, IfNone, IsSome, IsOk, OnOk, OnErr, is_some, if◌then◌else◌};
+ghost use Rattle.mpm_port.specs.Causes.{HasCause};
+ghost use Rattle.mpm_port.specs.Disks.{IsInside, SameDisks, Writes, Told, image_of, sector_of, Disks};
+
+use crate::OutOfMemory;
+use lru::LruCache;
+use mpm_base::Steps;
+use mpm_port::{Drives, Failed};
+use std::alloc::Global;
+use std::marker::Model;
+use std::num::NonZeroUsize;
+use std::sync::ledger::Ledger;
+
+/// How many sectors are cached at most.
+const ROOM: usize = 256;
+
+/// A sector of a drive.
+#[derive(Clone, Copy, PartialEq, Eq, Hash)]
+pub(crate) struct Place {
+    drive: u8,
+    sector: u32,
+}
+
+/// The sectors of all drives that were used last, at most 256 of them. Writes go through to the drives.
+///
+/// Contracts see a list of places and their bytes.
+#[derive(Drop)]
+pub struct Cache {
+    sectors: LruCache<Place, [u8; 128]>,
+}
+
+impl Model for Cache {
+    ghost use Rattle.std.specs.Prelude.{◌≡◌, ℕ, List};
+    ghost use Rattle.mpm_cache.specs.declared.cache.Place.{Place};
+
+    ghost Value = { List (Place × List ℕ) };
+
+    ghost view = { λ c. c.sectors.entries };
+
+    ghost invariant = { λ c. c.sectors.cap ≡ 256 };
+}
+
+impl Cache {
+    ghost use Rattle.mpm_cache.specs.Cached.{cached_at, SameCached, Keeps, Forgets};
+    ghost use Rattle.mpm_cache.specs.Honest.{HaveOneDrive, IsHonest};
+
+    /// No sector is cached. Room for 256 is taken here but for their bytes.
+    #[tactic(auto, using(crate::proofs::HonestLaws::honest_none))]
+    pub fn new(alloc: Global) -> Result<Cache, OutOfMemory>
+        ensures empty { IfOk result (λ cache. cache ≡ []) }
+        ensures honest { IfOk result (λ cache. (disks : Option Disks) → IfSome disks HaveOneDrive → IsHonest cache disks) }
+    {
+        let room = NonZeroUsize::new(ROOM).unwrap();
+        let sectors = LruCache::new(alloc, room)?;
+        Ok(Cache { sectors })
+    }
+
+    /// How many sectors are cached.
+    pub fn cached(&self) -> usize
+        ensures count { result ≡ length self.now }
+        ensures few { result ≤ 256 }
+    {
+        self.sectors.len()
+    }
+
+    /// The cached bytes of a sector, which is used last now.
+    fn find(&mut self, drive: u8, sector: u32) -> Option<[u8; 128]>
+        ensures found { result ≡ cached_at self.old drive sector }
+        ensures same { SameCached self.old self.new }
+        ensures nothing { IfNone result (self.new ≡ self.old) }
+    {
+        self.sectors.get(&Place { drive, sector }).copied()
+    }
+
+    /// Caches a sector, in place of what is cached of it. A new one takes memory, and isn't cached where there is none; the
+    /// sector that wasn't used longest goes where there is no room.
+    fn keep(&mut self, drive: u8, sector: u32, bytes: &[u8; 128])
+        ensures { Keeps drive sector bytes.now self.old self.new }
+    {
+        let _ = self.sectors.put(Place { drive, sector }, *bytes);
+    }
+
+    /// Caches a sector no more.
+    fn forget(&mut self, drive: u8, sector: u32)
+        ensures { Forgets drive sector self.old self.new }
+    {
+        let _cached = self.sectors.len();
+        let _ = self.sectors.pop(&Place { drive, sector });
+    }
+
+    /// Reads a sector of a drive, which costs no call of the drives where it is cached, and one where it isn't. `steps` counts
+    /// that call. What `out` holds where the drive failed isn't said.
+    ///
+    /// What is cached is to be what the attached images have, and each image is to have one drive; that is kept.
+    pub fn read<D: Drives, L: Ledger>(
+        &mut self,
+        drives: &mut D,
+        drive: u8,
+        sector: u32,
+        out: &mut [u8; 128],
+        steps: &mut Steps<L>,
+    ) -> Result<(), Failed>
+        requires inside { IsInside (D.attached drives.old drive) sector }
+        requires honest { IsHonest self.old (D.disks drives.old) }
+        ensures bytes { OnOk result (IfSome (D.disks drives.old) (λ told.
+            IfSome (image_of told drive) (λ image. out.new ≡ sector_of image sector))) }
+        ensures honest { IsHonest self.new (D.disks drives.new) }
+        ensures calls { steps.new ≡ (if is_some (cached_at self.old drive sector) then steps.old else steps.old + 1) }
+
+        // A cached sector comes from the cache, and the drives aren't called.
+        ensures hit { IfSome (cached_at self.old drive sector) (λ cached. out.new ≡ cached) }
+        ensures succeeds { IsSome (cached_at self.old drive sector) → IsOk result }
+        ensures uncalled { IsSome (cached_at self.old drive sector) → drives.new ≡ drives.old }
+
+        // What is cached afterwards.
+        ensures kept { OnOk result (Keeps drive sector out.new self.old self.new) }
+        ensures err { OnErr result (self.new ≡ self.old) }
+
+        // What is so of the drives.
+        ensures cause { HasCause (D.faults drives.old) (D.faults drives.new) result }
+        ensures names { D.failed_names drives.new ≡ D.failed_names drives.old }
+        ensures drives { (other : ℕ) → D.attached drives.new other ≡ D.attached drives.old other }
+        ensures disks { Told SameDisks (D.disks drives.old) (D.disks drives.new) }
+    {
+        if let Some(bytes) = self.find(drive, sector) {
+            *out = bytes;
+            return Ok(());
+        }
+        self.read_through(drives, drive, sector, out, steps)
+    }
+
+    /// Reads a sector that isn't cached.
+    fn read_through<D: Drives, L: Ledger>(
+        &mut self,
+        drives: &mut D,
+        drive: u8,
+        sector: u32,
+        out: &mut [u8; 128],
+        steps: &mut Steps<L>,
+    ) -> Result<(), Failed>
+        requires inside { IsInside (D.attached drives.old drive) sector }
+        requires honest { IsHonest self.old (D.disks drives.old) }
+        ensures bytes { OnOk result (IfSome (D.disks drives.old) (λ told.
+            IfSome (image_of told drive) (λ image. out.new ≡ sector_of image sector))) }
+        ensures honest { IsHonest self.new (D.disks drives.new) }
+        ensures calls { steps.new ≡ steps.old + 1 }
+        ensures kept { OnOk result (Keeps drive sector out.new self.old self.new) }
+        ensures err { OnErr result (self.new ≡ self.old) }
+        ensures cause { HasCause (D.faults drives.old) (D.faults drives.new) result }
+        ensures names { D.failed_names drives.new ≡ D.failed_names drives.old }
+        ensures drives { (other : ℕ) → D.attached drives.new other ≡ D.attached drives.old other }
+        ensures disks { Told SameDisks (D.disks drives.old) (D.disks drives.new) }
+    {
+        steps.tick();
+        match drives.read(drive, sector, out) {
+            Ok(()) => {
+                self.keep(drive, sector, out);
+                Ok(())
+            }
+            Err(failed) => Err(failed),
+        }
+    }
+
+    /// Writes a sector through to its drive, by one call, which `steps` counts. Where that failed the sector isn't cached.
+    ///
+    /// What is cached is to be what the attached images have, and each image is to have one drive; that is kept.
+    pub fn write<D: Drives, L: Ledger>(
+        &mut self,
+        drives: &mut D,
+        drive: u8,
+        sector: u32,
+        bytes: &[u8; 128],
+        steps: &mut Steps<L>,
+    ) -> Result<(), Failed>
+        requires inside { IsInside (D.attached drives.old drive) sector }
+        requires honest { IsHonest self.old (D.disks drives.old) }
+        ensures ok { OnOk result (Told (Writes drive sector bytes.now) (D.disks drives.old) (D.disks drives.new)) }
+        ensures err { OnErr result (Told SameDisks (D.disks drives.old) (D.disks drives.new)
+            ⊎ Told (Writes drive sector bytes.now) (D.disks drives.old) (D.disks drives.new)) }
+        ensures honest { IsHonest self.new (D.disks drives.new) }
+        ensures calls { steps.new ≡ steps.old + 1 }
+
+        // What is cached afterwards.
+        ensures kept { OnOk result (Keeps drive sector bytes.now self.old self.new) }
+        ensures forgotten { OnErr result (Forgets drive sector self.old self.new) }
+
+        // What is so of the drives.
+        ensures cause { HasCause (D.faults drives.old) (D.faults drives.new) result }
+        ensures names { D.failed_names drives.new ≡ D.failed_names drives.old }
+        ensures drives { (other : ℕ) → D.attached drives.new other ≡ D.attached drives.old other }
+    {
+        steps.tick();
+        match drives.write(drive, sector, bytes) {
+            Ok(()) => {
+                self.keep(drive, sector, bytes);
+                Ok(())
+            }
+            Err(failed) => {
+                self.forget(drive, sector);
+                Err(failed)
+            }
+        }
+    }
+}

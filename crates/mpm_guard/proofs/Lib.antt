@@ -1,0 +1,2 @@
+pub mod PasswordLaws
+pub mod Examples

@@ -1,0 +1,73 @@
+-- What the calls of a device leave of what it tells.
+use Rattle.std.proofs.Common.{◌≡◌, ℕ, ◌+◌, ◌*◌, ◌/◌, ◌-◌, ◌<◌, ◌≤◌, List, length, refl, sym, ap, subst, ◌∙◌, arith}
+use Rattle.std.specs.Prelude.{Option, Some, None, IfSome, IsSomeAnd, is_some, option_and_then}
+use Rattle.std.proofs.lemmas.Bool.{true≢false}
+use Rattle.mpm_base.specs.declared.kind.Kind.{Kind}
+use Rattle.mpm_base.specs.declared.kind.Kind.TheVariants.{Ibm3740, Hd4, Hd8}
+use Rattle.mpm_blocks.specs.Geometries.{geometry_of, image_sectors, logical_sectors, place_of}
+use Rattle.mpm_port.specs.Disks.{Disks, SameDisks, Told, IsInside, image_of, sector_of}
+use Rattle.mpm_mount.specs.Images.{sectors_of}
+use Rattle.mpm_mount.specs.Mounting.{told_image, SameDrives, IsSectorOf}
+
+image_through : (name : Option (List ℕ)) (f g : List ℕ → Option (List ℕ)) → ((n : List ℕ) → f n ≡ g n) → option_and_then f name ≡ option_and_then g name
+image_through None f g same = refl
+image_through (Some name) f g same = same name
+
+same_image : (old new : Disks) (drive : ℕ) → SameDisks old new → image_of new drive ≡ image_of old drive
+same_image old new drive same =
+    ap (option_and_then new.image) (same.names drive) ∙ image_through (old.name_of drive) new.image old.image same.images
+
+pub told_image_same : (old new : Option Disks) (drive : ℕ) → Told SameDisks old new → told_image new drive ≡ told_image old drive
+unfolding told_image
+told_image_same None new drive same = ap (λ (d : Option Disks). told_image d drive) same
+told_image_same (Some old) None drive same = absurd same
+told_image_same (Some old) (Some new) drive same = same_image old new drive same
+
+pub same_told : (told : Option Disks) → Told SameDisks told told
+same_told None = refl
+same_told (Some disks) = record { images = λ name. refl; names = λ drive. refl }
+
+over : (a b c : Disks) → SameDisks a b → SameDisks b c → SameDisks a c
+over a b c one two = record { images = λ name. two.images name ∙ one.images name; names = λ drive. two.names drive ∙ one.names drive }
+
+untold : (b c : Option Disks) → b ≡ None → Told SameDisks b c → c ≡ None
+untold None c none two = two
+untold (Some b) c none two = absurd (true≢false (ap is_some none))
+
+pub told_over : (a b c : Option Disks) → Told SameDisks a b → Told SameDisks b c → Told SameDisks a c
+told_over None b c one two = untold b c one two
+told_over (Some a) None c one two = absurd one
+told_over (Some a) (Some b) None one two = absurd two
+told_over (Some a) (Some b) (Some c) one two = over a b c one two
+
+-- the device is as it was
+pub same_itself : {D : Type 0} (attached : D → ℕ → Option ℕ) (disks : D → Option Disks) (names : D → List (List ℕ)) (d : D) → SameDrives attached disks names d d
+same_itself attached disks names d = record { drives = λ drive. refl; images = same_told (disks d); failed = refl }
+
+pub same_over : {D : Type 0} (attached : D → ℕ → Option ℕ) (disks : D → Option Disks) (names : D → List (List ℕ)) (a b c : D)
+    → SameDrives attached disks names a b → SameDrives attached disks names b c → SameDrives attached disks names a c
+same_over attached disks names a b c one two = record {
+  drives = λ drive. two.drives drive ∙ one.drives drive;
+  images = told_over (disks a) (disks b) (disks c) one.images two.images;
+  failed = two.failed ∙ one.failed;
+}
+
+-- a fact on the image of a drive, where it is told
+pub told_read : (disks : Option Disks) (drive : ℕ) (P : List ℕ → Type 0) → IfSome disks (λ told. IfSome (image_of told drive) P) → IfSome (told_image disks drive) P
+unfolding told_image
+told_read None drive P h = tt
+told_read (Some disks) drive P h = h
+
+-- the sectors of a directory are inside its drive
+pub directory_sector : (kind : Kind) (sector : ℕ) → 4 * sector < (geometry_of kind).drm + 1 → sector < logical_sectors kind
+directory_sector Ibm3740 sector h = omega arith
+directory_sector Hd4 sector h = omega arith
+directory_sector Hd8 sector h = omega arith
+
+sector_inside : (kind : Kind) (place : ℕ) → place < image_sectors kind → 128 * place + 128 ≤ (geometry_of kind).bytes
+sector_inside Ibm3740 place h = omega arith
+sector_inside Hd4 place h = omega arith
+sector_inside Hd8 place h = omega arith
+
+pub is_inside : (kind : Kind) (size : Option ℕ) (place : ℕ) → size ≡ Some (geometry_of kind).bytes → place < image_sectors kind → IsInside size place
+is_inside kind size place is h = subst (λ (s : Option ℕ). IsInside s place) (sym is) (sector_inside kind place h)

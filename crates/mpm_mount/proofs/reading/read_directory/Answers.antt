@@ -1,0 +1,37 @@
+use Rattle.std.proofs.Common.{◌≡◌, ◌*◌, List, [], length, refl, sym, ap, subst, ◌∙◌, arith}
+use Rattle.std.specs.Prelude.{IfSome}
+use Rattle.std.proofs.lemmas.List.Elements.{All-nil, All-same}
+use Rattle.mpm_blocks.specs.Geometries.{geometry_of}
+use Rattle.mpm_dirent.specs.declared.kinds.Entry.{Entry}
+use Rattle.mpm_dirent.specs.Proper.{IsProper}
+use Rattle.mpm_mount.specs.Images.{sectors_of, entries_to}
+use Rattle.mpm_mount.specs.Mounting.{told_image}
+use Rattle.mpm_mount.proofs.EntriesRead.{told_none, told_more}
+use Rattle.mpm_mount.proofs.Telling.{told_image_same, same_itself, same_over}
+use Rattle.mpm_mount.proofs.reading.read_directory.Goals as goal
+
+pub loop-sector-init : goal.loop-sector-init
+loop-sector-init g c =
+    let told = told_image (g.D.Drives.disks c.args.drives.now) c.args.drive in
+    record {
+      entries = subst (λ (xs : List Entry). IfSome told (λ image. xs ≡ entries_to (sectors_of image c.args.kind) (geometry_of c.args.kind).wide (4 * 0)))
+          (sym c.new-entries.ensures.items) (told_none told c.args.kind);
+      size = ap length c.new-entries.ensures.items;
+      proper = All-same (IsProper (geometry_of c.args.kind).wide) c.new-entries.result.items [] c.new-entries.ensures.items (All-nil (IsProper (geometry_of c.args.kind).wide));
+      count = refl;
+      same = same_itself g.D.Drives.attached g.D.Drives.disks g.D.Drives.failed_names c.args.drives.now;
+    }
+
+pub loop-sector-preserved : goal.loop-sector-preserved
+loop-sector-preserved g c =
+    record {
+      entries = told_more (told_image (g.D.Drives.disks c.args.drives.now) c.args.drive) (told_image (g.D.Drives.disks c.loop-sector.drives) c.args.drive) c.args.kind
+          c.loop-sector.sector c.loop-sector.entries.items c.read_sector.new.entries.items
+          (told_image_same (g.D.Drives.disks c.args.drives.now) (g.D.Drives.disks c.loop-sector.drives) c.args.drive c.loop-sector.invariant.same.images)
+          c.loop-sector.invariant.entries c.in-Ok.ensures.entries;
+      size = omega (arith, c.in-Ok.ensures.size, c.loop-sector.invariant.size);
+      proper = c.in-Ok.ensures.proper c.loop-sector.invariant.proper;
+      count = c.in-Ok.ensures.count ∙ c.loop-sector.invariant.count;
+      same = same_over g.D.Drives.attached g.D.Drives.disks g.D.Drives.failed_names c.args.drives.now c.loop-sector.drives c.read_sector.new.drives
+          c.loop-sector.invariant.same c.in-Ok.ensures.same;
+    }

@@ -1,0 +1,7 @@
+pub mod Drives
+pub mod Faults
+pub mod Images
+pub mod Directories
+pub mod Using
+pub mod Changes
+pub mod Mounting

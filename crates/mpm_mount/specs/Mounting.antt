@@ -1,0 +1,63 @@
+-- What mounting leaves of the device, and what each of its answers says.
+use Rattle.std.specs.Prelude.{◌≡◌, ℕ, ◌+◌, ◌*◌, ◌<◌, List, Option, Some, None, Result, Ok, Err, ⊤}
+use Rattle.mpm_base.specs.declared.kind.Kind.{Kind}
+use Rattle.mpm_blocks.specs.Geometries.{geometry_of}
+use Rattle.mpm_dirent.specs.declared.kinds.Entry.{Entry}
+use Rattle.mpm_port.specs.Causes.{Rose}
+use Rattle.mpm_port.specs.Disks.{Disks, SameDisks, Told, image_of}
+use Rattle.mpm_mount.specs.declared.errors.MountError.{MountError}
+use Rattle.mpm_mount.specs.declared.errors.MountError.TheVariants.{Image, DiskFault, OutOfMemory}
+use Rattle.mpm_mount.specs.Drives.{Drive}
+use Rattle.mpm_mount.specs.Faults.{first_fault}
+use Rattle.mpm_mount.specs.Images.{sectors_of, drive_of, files_of}
+use Rattle.mpm_mount.specs.Directories.{Directory, Stands}
+
+-- the image of a drive, where it is told
+unfoldable pub told_image : Option Disks → ℕ → Option (List ℕ)
+told_image None drive = None
+told_image (Some disks) drive = image_of disks drive
+
+-- the device is as it was, but for its count
+pub record SameDrives {D : Type 0} (attached : D → ℕ → Option ℕ) (disks : D → Option Disks) (names : D → List (List ℕ)) (old new : D) : Type 0 where
+  pub drives : (drive : ℕ) → attached new drive ≡ attached old drive
+  pub images : Told SameDisks (disks old) (disks new)
+  pub failed : names new ≡ names old
+
+-- the count of faults rises where the device failed, and stays else
+abbrev pub Counts : {A : Type 0} → ℕ → ℕ → Result A MountError → Type 0
+Counts before now (Ok answer) = now ≡ before
+Counts before now (Err DiskFault) = Rose before now
+Counts before now (Err OutOfMemory) = now ≡ before
+Counts before now (Err (Image cause place)) = now ≡ before
+
+-- a directory has this fault
+abbrev pub IsFault : Kind → List Entry → MountError → Type 0
+IsFault kind entries (Image cause place) = first_fault kind entries ≡ Some (record { cause = cause; place = place })
+IsFault kind entries DiskFault = ⊥
+IsFault kind entries OutOfMemory = ⊤
+
+-- an image has this fault
+abbrev pub IsImageFault : List ℕ → Kind → MountError → Type 0
+IsImageFault image kind (Image cause place) = files_of image kind ≡ Err (record { cause = cause; place = place })
+IsImageFault image kind DiskFault = ⊤
+IsImageFault image kind OutOfMemory = ⊤
+
+-- the drive that a directory in memory and an image stand for
+abbrev pub drive_in : List ℕ → Directory → Drive
+drive_in image d = drive_of (sectors_of image d.kind) d.kind d.entries
+
+-- the image is mounted: the directory in memory is its own, and both stand for the drive that the image stands for
+pub record IsMounted (image : List ℕ) (kind : Kind) (d : Directory) : Type 0 where
+  pub stands : Stands image d (drive_in image d)
+  pub files : files_of image kind ≡ Ok (drive_in image d)
+
+-- no fault of an image
+abbrev pub IsDevice : MountError → Type 0
+IsDevice (Image cause place) = ⊥
+IsDevice DiskFault = ⊤
+IsDevice OutOfMemory = ⊤
+
+-- a sector of the directory of an attached drive of this kind
+pub record IsSectorOf (kind : Kind) (size : Option ℕ) (sector : ℕ) : Type 0 where
+  pub whole : size ≡ Some (geometry_of kind).bytes
+  pub within : 4 * sector < (geometry_of kind).drm + 1

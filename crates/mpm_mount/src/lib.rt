@@ -1,0 +1,21 @@
+//! Disk drives: their images are mounted, and their directories are kept in memory. (MP/M II Programmer's Guide, "File
+//! Control Blocks" and "Directory Entries".)
+#![tactic(auto)]
+
+mod blocks;
+mod directory;
+mod errors;
+mod faults;
+mod mounting;
+mod reading;
+mod slots;
+
+pub use directory::Mounted;
+pub use errors::{ImageFault, MountError};
+pub use mounting::mount;
+
+/// No memory was found: the allocator's own error.
+pub use std::alloc::AllocError as OutOfMemory;
+
+#[cfg(test)]
+mod tests;

@@ -1,0 +1,89 @@
+ghost use Rattle.std.specs.Prelude.{◌≡◌, ℕ, ◌+◌, ◌*◌, ◌≤◌, ◌++◌, Some, IfOk, IfErr, IfSome, OnOk, length};
+ghost use Rattle.std.specs.List.{All};
+ghost use Rattle.mpm_blocks.specs.Geometries.{geometry_of};
+ghost use Rattle.mpm_dirent.specs.Entries.{part};
+ghost use Rattle.mpm_dirent.specs.Proper.{IsProper};
+ghost use Rattle.mpm_mount.specs.Images.{sectors_of, entries_of, entries_in};
+ghost use Rattle.mpm_mount.specs.Mounting.{told_image, SameDrives, Counts, IsDevice, IsSectorOf};
+
+use crate::OutOfMemory;
+use crate::errors::MountError;
+use mpm_base::Kind;
+use mpm_blocks::{geometry, place};
+use mpm_dirent::{Entry, read_entry};
+use mpm_port::Drives;
+use std::alloc::Global;
+
+/// Reads the directory of an attached drive of this kind.
+pub(crate) fn read_directory<D: Drives>(
+    alloc: Global,
+    drives: &mut D,
+    drive: u8,
+    kind: Kind,
+) -> Result<Vec<Entry>, MountError>
+    requires { D.attached drives.old drive ≡ Some (geometry_of kind).bytes }
+    ensures entries { IfOk result (λ entries. IfSome (told_image (D.disks drives.old) drive) (λ image. entries.items ≡ entries_of (sectors_of image kind) kind)) }
+    ensures full { IfOk result (λ entries. length entries.items ≡ (geometry_of kind).drm + 1) }
+    ensures proper { IfOk result (λ entries. All (IsProper (geometry_of kind).wide) entries.items) }
+    ensures device { IfErr result IsDevice }
+    ensures count { Counts (D.faults drives.old) (D.faults drives.new) result }
+    ensures same { SameDrives D.attached D.disks D.failed_names drives.old drives.new }
+{
+    let mut entries = Vec::new(alloc);
+    for sector in 0..(u32::from(geometry(kind).drm) + 1) / 4 {
+        match read_sector(drives, drive, kind, sector, &mut entries) {
+            Ok(()) => {}
+            Err(error) => return Err(error),
+        }
+    }
+    Ok(entries)
+}
+
+/// Reads the four entries of a sector of the directory, behind those that were read.
+fn read_sector<D: Drives>(
+    drives: &mut D,
+    drive: u8,
+    kind: Kind,
+    sector: u32,
+    entries: &mut Vec<Entry>,
+) -> Result<(), MountError>
+    requires { IsSectorOf kind (D.attached drives.old drive) sector }
+    ensures entries { OnOk result (IfSome (told_image (D.disks drives.old) drive) (λ image.
+        entries.new.items ≡ entries.old.items ++ entries_in (sectors_of image kind sector) (geometry_of kind).wide 4)) }
+    ensures size { OnOk result (length entries.new.items ≡ length entries.old.items + 4) }
+    ensures proper { All (IsProper (geometry_of kind).wide) entries.old.items → OnOk result (All (IsProper (geometry_of kind).wide) entries.new.items) }
+    ensures device { IfErr result IsDevice }
+    ensures count { Counts (D.faults drives.old) (D.faults drives.new) result }
+    ensures same { SameDrives D.attached D.disks D.failed_names drives.old drives.new }
+{
+    let mut bytes = [0; 128];
+    match drives.read(drive, place(kind, sector), &mut bytes) {
+        Ok(()) => {}
+        Err(_) => return Err(MountError::DiskFault),
+    }
+    match push_entries(&bytes, geometry(kind).wide, entries) {
+        Ok(()) => Ok(()),
+        Err(_) => Err(MountError::OutOfMemory),
+    }
+}
+
+/// Puts the four entries of a sector behind those that are there.
+fn push_entries(bytes: &[u8; 128], wide: bool, entries: &mut Vec<Entry>) -> Result<(), OutOfMemory>
+    ensures entries { OnOk result (entries.new.items ≡ entries.old.items ++ entries_in bytes.now wide 4) }
+    ensures proper { All (IsProper wide) entries.old.items → OnOk result (All (IsProper wide) entries.new.items) }
+{
+    for place in 0..4 {
+        entries.push(read_entry(&entry_bytes(bytes, place), wide))?;
+    }
+    Ok(())
+}
+
+/// The bytes of one of the four entries of a sector.
+fn entry_bytes(bytes: &[u8; 128], place: usize) -> [u8; 32]
+    requires { place ≤ 3 }
+    ensures { result ≡ part (32 * place) 32 bytes.now }
+{
+    let mut entry = [0; 32];
+    entry.copy_from_slice(&bytes[32 * place..32 * place + 32]);
+    entry
+}

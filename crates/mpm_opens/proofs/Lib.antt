@@ -1,0 +1,9 @@
+pub mod Walks
+pub mod Listing
+pub mod Keys
+pub mod ItemLaws
+pub mod OpeningLaws
+pub mod LockLaws
+pub mod OpenLaws
+pub mod LeavingLaws
+pub mod FindingLaws

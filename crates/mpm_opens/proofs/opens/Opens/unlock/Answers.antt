@@ -1,0 +1,7 @@
+use Rattle.mpm_opens.proofs.OpenLaws.{locks_freed}
+use Rattle.mpm_opens.proofs.opens.Opens.unlock.Goals as goal
+
+pub invariant_of-self : goal.invariant_of-self
+invariant_of-self c =
+    let found = c.get-found.result in
+    rw c.free.ensures (locks_freed c.self.inside.items c.self.inside.locks found.process found.file c.args.number c.self.invariant)

@@ -1,0 +1,4 @@
+pub mod Kinds
+pub mod Items
+pub mod Locks
+pub mod Opens

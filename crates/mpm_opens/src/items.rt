@@ -1,0 +1,413 @@
+ghost use Rattle.std.specs.Prelude.{◌≡◌, ◌≢◌, ◌<◌, ◌==◌, false, Some, None, IsSome, IfSome, map, position, length, slice_set, is_none};
+ghost use Rattle.mpm_opens.specs.Items.{has_item, has_item_of, is_named, file_where, is_anothers_of, is_anothers_on, excludes, is_of, is_counted_out, is_given_back, left_in};
+
+use crate::kinds::{FileKey, Files, Item, Mode, OpenRefused, is_process};
+use mpm_base::Pid;
+use std::marker::Model;
+
+/// The 64 places of items.
+#[derive(Drop)]
+pub(crate) struct Items {
+    places: [Option<Item>; 64],
+}
+
+impl Model for Items {
+    ghost use Rattle.std.specs.Prelude.{◌≡◌, List, Option, length};
+    ghost use Rattle.mpm_opens.specs.declared.kinds.Item.{Item};
+
+    ghost Value = { List (Option Item) };
+
+    ghost view = { λ i. i.places };
+
+    ghost invariant = { λ i. length i.places ≡ 64 };
+}
+
+impl Items {
+    ghost use Rattle.mpm_opens.specs.Items.{no_items, place_at, item_at, number_of, file_named, have_others, have_others_on, is_excluded, items_of, has_counted_out, are_full, first_free, with_changed, opened_again, closed_once, that_wrote, refusal_of, opened, opened_number, items_added, add_answer, items_without};
+
+    /// No items.
+    #[tactic(auto, unfolding(crate::specs::Items::no_items))]
+    pub(crate) fn new() -> Items
+        ensures { result ≡ no_items }
+    {
+        Items { places: [None; 64] }
+    }
+
+    /// The item of a number.
+    pub(crate) fn get(&self, number: u8) -> Item
+        requires { IsSome (place_at self.now number) }
+        ensures item { result ≡ item_at self.now number }
+        ensures within { number < 64 }
+    {
+        match self.places[usize::from(number)] {
+            Some(item) => item,
+            None => unreachable!(),
+        }
+    }
+
+    /// Puts an item at a place.
+    fn set(&mut self, number: u8, item: Item)
+        requires { number < 64 }
+        ensures { self.new ≡ slice_set self.old number (Some item) }
+    {
+        self.places[usize::from(number)] = Some(item);
+    }
+
+    /// An item was opened once more.
+    fn open_again(&mut self, number: u8)
+        requires live { IsSome (place_at self.old number) }
+        requires few { (item_at self.old number).count ≢ 255 }
+        ensures { self.new ≡ with_changed opened_again self.old number }
+    {
+        let item = self.get(number);
+        self.set(
+            number,
+            Item {
+                count: item.count + 1,
+                ..item
+            },
+        );
+    }
+
+    /// An item was closed once.
+    pub(crate) fn close_once(&mut self, number: u8)
+        requires live { IsSome (place_at self.old number) }
+        requires again { 1 < (item_at self.old number).count }
+        ensures { self.new ≡ with_changed closed_once self.old number }
+    {
+        let item = self.get(number);
+        self.set(
+            number,
+            Item {
+                count: item.count - 1,
+                ..item
+            },
+        );
+    }
+
+    /// A record was written by way of an item.
+    pub(crate) fn note_written(&mut self, number: u8)
+        requires { IsSome (place_at self.old number) }
+        ensures { self.new ≡ with_changed that_wrote self.old number }
+    {
+        let item = self.get(number);
+        self.set(
+            number,
+            Item {
+                has_written: true,
+                ..item
+            },
+        );
+    }
+
+    /// Opens a file for a process, unless that is refused, once more or by a new item, and answers the item's number.
+    #[tactic(auto, unfolding(crate::specs::Items::items_added, crate::specs::Items::add_answer))]
+    pub(crate) fn add(&mut self, p: Pid, file: FileKey, mode: Mode) -> Result<u8, OpenRefused>
+        ensures items { self.new ≡ items_added self.old p file mode }
+        ensures answer { result ≡ add_answer self.old p file mode }
+    {
+        match self.refusal(p, &file, mode) {
+            Some(refusal) => Err(refusal),
+            None => Ok(self.open(p, file, mode)),
+        }
+    }
+
+    /// Why a file isn't opened.
+    #[tactic(auto, unfolding(crate::specs::Items::refusal_of))]
+    pub(crate) fn refusal(&self, p: Pid, file: &FileKey, mode: Mode) -> Option<OpenRefused>
+        ensures { result ≡ refusal_of self.now p file.now mode }
+    {
+        if self.exclude(p, file, mode) {
+            return Some(OpenRefused::Incompatible);
+        }
+        if 16 <= self.count_of(p) || self.is_counted_out(p, file) {
+            return Some(OpenRefused::ProcessLimit);
+        }
+        if self.is_full() {
+            return Some(OpenRefused::NoRoom);
+        }
+        None
+    }
+
+    /// Opens a file that may be.
+    #[tactic(auto, unfolding(crate::specs::Items::opened, crate::specs::Items::opened_number))]
+    fn open(&mut self, p: Pid, file: FileKey, mode: Mode) -> u8
+        requires { refusal_of self.old p file mode ≡ None }
+        ensures items { self.new ≡ opened self.old p file mode }
+        ensures number { result ≡ opened_number self.old p file }
+    {
+        match self.number_of(p, &file) {
+            Some(number) => {
+                self.open_again(number);
+                number
+            }
+            None => {
+                let number = self.first_free();
+                self.set(
+                    number,
+                    Item {
+                        process: p,
+                        file,
+                        mode,
+                        count: 1,
+                        has_written: false,
+                    },
+                );
+                number
+            }
+        }
+    }
+
+    /// The number of a process's item of a file.
+    #[tactic(auto, unfolding(crate::specs::Items::number_of))]
+    pub(crate) fn number_of(&self, p: Pid, file: &FileKey) -> Option<u8>
+        ensures { result ≡ number_of self.now p file.now }
+    {
+        match first_at(&self.places, p, file) {
+            Some(place) => Some(place as u8),
+            None => None,
+        }
+    }
+
+    /// The file of a process's item, by number, drive and name.
+    #[tactic(auto, unfolding(crate::specs::Items::file_named))]
+    pub(crate) fn named(&self, p: Pid, number: u8, drive: u8, name: &[u8; 11]) -> Option<FileKey>
+        ensures { result ≡ file_named self.now p number drive name.now }
+    {
+        let places = &self.places;
+        if 64 <= number {
+            return None;
+        }
+        named_at(&places[usize::from(number)], p, drive, name)
+    }
+
+    /// The number of the first free place.
+    #[tactic(auto, unfolding(crate::specs::Items::first_free, crate::specs::Items::are_full))]
+    fn first_free(&self) -> u8
+        requires { are_full self.now ≡ false }
+        ensures number { result ≡ first_free self.now }
+        ensures within { result < 64 }
+    {
+        match first_free(&self.places) {
+            Some(place) => place as u8,
+            None => unreachable!(),
+        }
+    }
+
+    /// Whether no place is free.
+    #[tactic(auto, unfolding(crate::specs::Items::are_full))]
+    fn is_full(&self) -> bool
+        ensures { result ≡ are_full self.now }
+    {
+        first_free(&self.places).is_none()
+    }
+
+    /// Whether another process has an item of a file.
+    #[tactic(auto, unfolding(crate::specs::Items::have_others))]
+    pub(crate) fn have_others(&self, p: Pid, file: &FileKey) -> bool
+        ensures { result ≡ have_others self.now p file.now }
+    {
+        self.places
+            .iter()
+            .any(|place| is_anothers_at(place, p, file))
+    }
+
+    /// Whether another process has an item on a drive.
+    #[tactic(auto, unfolding(crate::specs::Items::have_others_on))]
+    pub(crate) fn have_others_on(&self, p: Pid, drive: u8) -> bool
+        ensures { result ≡ have_others_on self.now p drive }
+    {
+        self.places
+            .iter()
+            .any(|place| is_anothers_on_drive(place, p, drive))
+    }
+
+    /// Whether an item excludes a new one.
+    #[tactic(auto, unfolding(crate::specs::Items::is_excluded))]
+    fn exclude(&self, p: Pid, file: &FileKey, mode: Mode) -> bool
+        ensures { result ≡ is_excluded self.now p file.now mode }
+    {
+        self.places
+            .iter()
+            .any(|place| is_excluding(place, p, file, mode))
+    }
+
+    /// How many items a process has.
+    #[tactic(auto, unfolding(crate::specs::Items::items_of))]
+    fn count_of(&self, p: Pid) -> usize
+        ensures { result ≡ items_of self.now p }
+    {
+        self.places
+            .iter()
+            .filter(|place| is_of_process(place, p))
+            .count()
+    }
+
+    /// Whether a process opened a file 255 times.
+    #[tactic(auto, unfolding(crate::specs::Items::has_counted_out))]
+    fn is_counted_out(&self, p: Pid, file: &FileKey) -> bool
+        ensures { result ≡ has_counted_out self.now p file.now }
+    {
+        self.places
+            .iter()
+            .any(|place| is_last_count(place, p, file))
+    }
+
+    /// A process's items of some files are given back.
+    #[tactic(auto, unfolding(crate::specs::Items::items_without))]
+    pub(crate) fn give_back(&mut self, p: Pid, files: &Files)
+        ensures { self.new ≡ items_without self.old p files.now }
+    {
+        give_back_each(&mut self.places, p, files);
+    }
+}
+
+/// The first place at which a process's item of a file stands.
+fn first_at(places: &[Option<Item>], p: Pid, file: &FileKey) -> Option<usize>
+    ensures value { result ≡ position (has_item_of p file.now) places.now }
+    ensures within { IfSome result (λ place. place < length places.now) }
+{
+    places.iter().position(|place| is_at(place, p, file))
+}
+
+/// The file of the item at a place, where it is a process's, and of that drive and name.
+fn named_at(place: &Option<Item>, p: Pid, drive: u8, name: &[u8; 11]) -> Option<FileKey>
+    ensures { result ≡ file_where (is_named p drive name.now) place.now }
+{
+    match place {
+        Some(item) if item.is_named(p, drive, name) => Some(item.file),
+        _ => None,
+    }
+}
+
+/// The first place that is free.
+fn first_free(places: &[Option<Item>]) -> Option<usize>
+    ensures value { result ≡ position is_none places.now }
+    ensures within { IfSome result (λ place. place < length places.now) }
+{
+    places.iter().position(|place| is_free(place))
+}
+
+/// Whether a place is free.
+fn is_free(place: &Option<Item>) -> bool
+    ensures { result ≡ is_none place.now }
+{
+    match place {
+        Some(_) => false,
+        None => true,
+    }
+}
+
+/// Whether a process's item of a file stands at a place.
+fn is_at(place: &Option<Item>, p: Pid, file: &FileKey) -> bool
+    ensures { result ≡ has_item_of p file.now place.now }
+{
+    match place {
+        Some(item) => is_process(item.process, p) && item.file.is_same(file),
+        None => false,
+    }
+}
+
+/// Whether another process's item of a file stands at a place.
+fn is_anothers_at(place: &Option<Item>, p: Pid, file: &FileKey) -> bool
+    ensures { result ≡ has_item (is_anothers_of p file.now) place.now }
+{
+    match place {
+        Some(item) => !is_process(item.process, p) && item.file.is_same(file),
+        None => false,
+    }
+}
+
+/// Whether another process's item on a drive stands at a place.
+fn is_anothers_on_drive(place: &Option<Item>, p: Pid, drive: u8) -> bool
+    ensures { result ≡ has_item (is_anothers_on p drive) place.now }
+{
+    match place {
+        Some(item) => !is_process(item.process, p) && item.file.drive == drive,
+        None => false,
+    }
+}
+
+/// Whether the item at a place excludes a new one.
+fn is_excluding(place: &Option<Item>, p: Pid, file: &FileKey, mode: Mode) -> bool
+    ensures { result ≡ has_item (excludes p file.now mode) place.now }
+{
+    match place {
+        Some(item) => item.file.is_same(file) && !item.admits(p, mode),
+        None => false,
+    }
+}
+
+/// Whether a process's item stands at a place.
+fn is_of_process(place: &Option<Item>, p: Pid) -> bool
+    ensures { result ≡ has_item (is_of p) place.now }
+{
+    match place {
+        Some(item) => is_process(item.process, p),
+        None => false,
+    }
+}
+
+/// Whether an item that was opened 255 times stands at a place.
+fn is_last_count(place: &Option<Item>, p: Pid, file: &FileKey) -> bool
+    ensures { result ≡ has_item (is_counted_out p file.now) place.now }
+{
+    match place {
+        Some(item) => {
+            is_process(item.process, p) && item.file.is_same(file) && item.count == 255
+        }
+        None => false,
+    }
+}
+
+/// Whether the item at a place is a process's of some files.
+fn is_given_back(place: &Option<Item>, p: Pid, files: &Files) -> bool
+    ensures { result ≡ has_item (is_given_back p files.now) place.now }
+{
+    match place {
+        Some(item) => is_process(item.process, p) && files.has(&item.file),
+        None => false,
+    }
+}
+
+/// Gives back each of a process's items of some files.
+fn give_back_each(places: &mut [Option<Item>], p: Pid, files: &Files)
+    ensures { places.new ≡ map (left_in p files.now) places.old }
+{
+    for place in places.iter_mut() {
+        give_back_at(place, p, files);
+    }
+}
+
+/// Gives back the item at a place, if it is a process's of some files.
+fn give_back_at(place: &mut Option<Item>, p: Pid, files: &Files)
+    ensures { place.new ≡ left_in p files.now place.old }
+{
+    if is_given_back(place, p, files) {
+        *place = None;
+    }
+}
+
+impl Item {
+    ghost use Rattle.mpm_opens.specs.Kinds.{is_same_mode, do_modes_go_together};
+    ghost use Rattle.mpm_opens.specs.Items.{is_named};
+    ghost use Rattle.std.specs.Prelude.{◌≡◌, ◌==◌, if◌then◌else◌};
+
+    /// Whether it is a process's, and of a drive and a name.
+    fn is_named(&self, p: Pid, drive: u8, name: &[u8; 11]) -> bool
+        ensures { result ≡ is_named p drive name.now self.now }
+    {
+        is_process(self.process, p) && self.file.drive == drive && self.file.name == *name
+    }
+
+    /// Whether a process may open the item's file in a mode, beside it.
+    fn admits(&self, p: Pid, mode: Mode) -> bool
+        ensures { result ≡ (if self.now.process == p then is_same_mode self.now.mode mode else (do_modes_go_together self.now.mode mode)) }
+    {
+        if is_process(self.process, p) {
+            self.mode.is_same(mode)
+        } else {
+            self.mode.goes_with(mode)
+        }
+    }
+}

@@ -1,0 +1,132 @@
+ghost use Rattle.std.specs.Prelude.{◌≡◌, ◌==◌};
+ghost use Rattle.mpm_opens.specs.Kinds.{is_same_file, is_same_mode, do_modes_go_together, is_among};
+
+use mpm_base::Pid;
+
+/// A file, by where it stands.
+#[derive(Clone, Copy, Debug, PartialEq, Eq)]
+pub struct FileKey {
+    /// 0 to 15 for A to P.
+    pub drive: u8,
+    /// 0 to 15.
+    pub user: u8,
+    /// The name, eight bytes, and the type, three, without the attributes in bit 7.
+    pub name: [u8; 11],
+}
+
+/// How a file is opened. (MP/M II Programmer's Guide, "Function 15: Open File".)
+#[derive(Clone, Copy, Debug, PartialEq, Eq)]
+pub enum Mode {
+    /// By one process alone.
+    Locked,
+    /// By several processes, which may lock records.
+    Unlocked,
+    /// By several processes, which only read.
+    ReadOnly,
+}
+
+/// Why a file isn't opened.
+#[derive(Clone, Copy, Debug, PartialEq, Eq)]
+pub enum OpenRefused {
+    /// It is open in a mode beside which this one can't be.
+    Incompatible,
+    /// The process has 16 open files, or opened this one 255 times.
+    ProcessLimit,
+    /// 64 files are open in all.
+    NoRoom,
+}
+
+/// What became of a lock that was asked for.
+#[derive(Clone, Copy, Debug, PartialEq, Eq)]
+pub enum LockDone {
+    /// The process has it, from now on or since before.
+    Locked,
+    /// Another process has it.
+    Other { owner: Pid },
+    /// The process has 32 locks.
+    ProcessLimit,
+    /// 128 records are locked in all.
+    NoRoom,
+}
+
+/// A file that a process has open.
+#[derive(Clone, Copy)]
+pub(crate) struct Item {
+    pub(crate) process: Pid,
+    pub(crate) file: FileKey,
+    pub(crate) mode: Mode,
+    /// How often it was opened and not closed since, 1 to 255.
+    pub(crate) count: u8,
+    /// Whether a record of the file was written by way of it.
+    pub(crate) has_written: bool,
+}
+
+/// A lock on a record of a file.
+#[derive(Clone, Copy)]
+pub(crate) struct RecordLock {
+    pub(crate) owner: Pid,
+    pub(crate) file: FileKey,
+    pub(crate) number: u32,
+}
+
+/// Some of the files.
+#[derive(Clone, Copy)]
+pub(crate) enum Files {
+    All,
+    OnDrive(u8),
+    One(FileKey),
+}
+
+impl FileKey {
+    /// Whether two are one.
+    pub(crate) fn is_same(&self, other: &FileKey) -> bool
+        ensures { result ≡ is_same_file self.now other.now }
+    {
+        self.drive == other.drive && self.user == other.user && self.name == other.name
+    }
+}
+
+impl Mode {
+    /// Whether two are one.
+    pub(crate) fn is_same(self, other: Mode) -> bool
+        ensures { result ≡ is_same_mode self other }
+    {
+        match (self, other) {
+            (Mode::Locked, Mode::Locked) => true,
+            (Mode::Unlocked, Mode::Unlocked) => true,
+            (Mode::ReadOnly, Mode::ReadOnly) => true,
+            _ => false,
+        }
+    }
+
+    /// Whether two processes can have a file open in them.
+    pub(crate) fn goes_with(self, other: Mode) -> bool
+        ensures { result ≡ do_modes_go_together self other }
+    {
+        match (self, other) {
+            (Mode::Unlocked, Mode::Unlocked) => true,
+            (Mode::ReadOnly, Mode::ReadOnly) => true,
+            _ => false,
+        }
+    }
+}
+
+impl Files {
+    /// Whether a file is one of them.
+    pub(crate) fn has(&self, file: &FileKey) -> bool
+        ensures { result ≡ is_among self.now file.now }
+    {
+        match self {
+            Files::All => true,
+            Files::OnDrive(drive) => file.drive == *drive,
+            Files::One(one) => file.is_same(one),
+        }
+    }
+}
+
+/// Whether two numbers are one process's.
+pub(crate) fn is_process(a: Pid, b: Pid) -> bool
+    ensures { result ≡ (a == b) }
+{
+    a.0 == b.0
+}

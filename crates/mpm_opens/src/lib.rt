@@ -1,0 +1,14 @@
+//! Open files and record locks: which process has which file open, in which mode, and which records it has locked. (MP/M II
+//! Programmer's Guide, "Open File", "Record Locking".)
+#![tactic(auto)]
+
+mod items;
+mod kinds;
+mod locks;
+mod opens;
+
+pub use kinds::{FileKey, LockDone, Mode, OpenRefused};
+pub use opens::Opens;
+
+#[cfg(test)]
+mod tests;

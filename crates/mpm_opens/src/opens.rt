@@ -1,0 +1,223 @@
+ghost use Rattle.std.specs.Prelude.{◌≡◌, not, Some, IfSome, IfOk, OnErr};
+ghost use Rattle.mpm_opens.specs.declared.kinds.Files.TheVariants.{All, OnDrive, One};
+
+use crate::items::Items;
+use crate::kinds::{FileKey, Files, LockDone, Mode, OpenRefused};
+use crate::locks::Locks;
+use mpm_base::Pid;
+use std::marker::Model;
+
+/// The files that processes have open, and the records that they have locked. An open file is an item, known by its number, 0
+/// to 63, to the process that has it.
+#[derive(Drop)]
+pub struct Opens {
+    items: Items,
+    locks: Locks,
+}
+
+impl Model for Opens {
+    ghost use Rattle.mpm_opens.specs.Opens.{OpenFiles, AreOpen};
+
+    ghost Value = { OpenFiles };
+
+    ghost view = { λ o. record { items = o.items; locks = o.locks } };
+
+    ghost invariant = { λ o. AreOpen (record { items = o.items; locks = o.locks }) };
+}
+
+impl Opens {
+    ghost use Rattle.mpm_opens.specs.Items.{number_of, file_named, have_others, have_others_on, refusal_of, add_answer};
+    ghost use Rattle.mpm_opens.specs.Locks.{owner_of, lock_answer};
+    ghost use Rattle.mpm_opens.specs.Opens.{AreOpen, IsLive, item_of, none_open, added, given_back, closed, written, locked, unlocked, HasLeft, IsClosed};
+
+    /// Nothing is open, nothing is locked.
+    #[tactic(auto, unfolding(crate::specs::Opens::none_open))]
+    pub fn new() -> Opens
+        ensures { result ≡ none_open }
+    {
+        Opens {
+            items: Items::new(),
+            locks: Locks::new(),
+        }
+    }
+
+    /// Opens a file for a process, once more or by a new item, and answers the item's number; a refused call changes nothing.
+    /// (MP/M II Programmer's Guide, "Function 15: Open File".)
+    #[tactic(auto, unfolding(crate::specs::Opens::added))]
+    pub fn add(&mut self, p: Pid, file: FileKey, mode: Mode) -> Result<u8, OpenRefused>
+        ensures opens { self.new ≡ added self.old p file mode }
+        ensures answer { result ≡ add_answer self.old.items p file mode }
+        ensures named { IfOk result (λ item. number_of self.new.items p file ≡ Some item) }
+        ensures live { IfOk result (λ item. IsLive self.new item) }
+        ensures refused { OnErr result (self.new ≡ self.old) }
+    {
+        self.items.add(p, file, mode)
+    }
+
+    /// The number of a process's item of a file.
+    #[tactic(auto, using(crate::proofs::OpeningLaws::number_is_live))]
+    pub fn item(&self, p: Pid, file: FileKey) -> Option<u8>
+        ensures number { result ≡ number_of self.now.items p file }
+        ensures live { IfSome result (λ item. IsLive self.now item) }
+    {
+        self.items.number_of(p, &file)
+    }
+
+    /// The file of an item that a process names by number, drive and name, as a file control block does; none where the number is
+    /// none of its items, or of another file. The user isn't looked at. (MP/M II Programmer's Guide, "File Control Block".)
+    #[tactic(auto, using(crate::proofs::OpeningLaws::named_is_live))]
+    pub fn named(&self, p: Pid, item: u8, drive: u8, name: &[u8; 11]) -> Option<FileKey>
+        ensures file { result ≡ file_named self.now.items p item drive name.now }
+        ensures live { IfSome result (λ _. IsLive self.now item) }
+    {
+        self.items.named(p, item, drive, name)
+    }
+
+    /// Why `add` would refuse a file, if it would.
+    pub fn refusal(&self, p: Pid, file: FileKey, mode: Mode) -> Option<OpenRefused>
+        ensures { result ≡ refusal_of self.now.items p file mode }
+    {
+        self.items.refusal(p, &file, mode)
+    }
+
+    /// The mode of an item.
+    pub fn mode(&self, item: u8) -> Mode
+        requires { IsLive self.now item }
+        ensures { result ≡ (item_of self.now item).mode }
+    {
+        self.items.get(item).mode
+    }
+
+    /// Whether another process has an item of a file.
+    pub fn others(&self, p: Pid, file: FileKey) -> bool
+        ensures { result ≡ have_others self.now.items p file }
+    {
+        self.items.have_others(p, &file)
+    }
+
+    /// Whether another process has an item on a drive.
+    pub fn on_drive(&self, p: Pid, drive: u8) -> bool
+        ensures { result ≡ have_others_on self.now.items p drive }
+    {
+        self.items.have_others_on(p, drive)
+    }
+
+    /// Closes an item once; the last time gives it back, with its process's locks of the file. (MP/M II Programmer's Guide,
+    /// "Function 16: Close File".)
+    pub fn close(&mut self, item: u8)
+        requires { IsLive self.old item }
+        ensures opens { self.new ≡ closed self.old item }
+        ensures closed { IsClosed item self.old self.new }
+    {
+        let _ = &self.items;
+        self.close_once(item);
+    }
+
+    /// Closes an item once.
+    #[tactic(auto, unfolding(crate::specs::Opens::closed))]
+    fn close_once(&mut self, item: u8)
+        requires { IsLive self.old item }
+        ensures { self.new ≡ closed self.old item }
+    {
+        let found = self.items.get(item);
+        if 1 < found.count {
+            self.items.close_once(item);
+        } else {
+            self.let_go(found.process, &Files::One(found.file));
+        }
+    }
+
+    /// Notes that a record was written by way of an item, and answers whether that is the first.
+    #[tactic(auto, unfolding(crate::specs::Opens::written))]
+    pub fn wrote(&mut self, item: u8) -> bool
+        requires { IsLive self.old item }
+        ensures opens { self.new ≡ written self.old item }
+        ensures first { result ≡ not (item_of self.old item).has_written }
+    {
+        let first = !self.has_written(item);
+        self.items.note_written(item);
+        first
+    }
+
+    /// Whether a record was written by way of an item.
+    pub fn has_written(&self, item: u8) -> bool
+        requires { IsLive self.now item }
+        ensures { result ≡ (item_of self.now item).has_written }
+    {
+        self.items.get(item).has_written
+    }
+
+    /// Locks a record of an item's file for its process, if nobody else has it. (MP/M II Programmer's Guide, "Function 42: Lock
+    /// Record".)
+    #[tactic(auto, unfolding(crate::specs::Opens::locked))]
+    pub fn lock(&mut self, item: u8, number: u32) -> LockDone
+        requires { IsLive self.old item }
+        ensures opens { self.new ≡ locked self.old item number }
+        ensures answer { result ≡ lock_answer self.old.locks (item_of self.old item).process (item_of self.old item).file number }
+    {
+        let found = self.items.get(item);
+        self.locks.lock(found.process, found.file, number)
+    }
+
+    /// Frees a record of an item's file, if its process has the lock. (MP/M II Programmer's Guide, "Function 43: Unlock
+    /// Record".)
+    #[tactic(auto, unfolding(crate::specs::Opens::unlocked))]
+    pub fn unlock(&mut self, item: u8, number: u32)
+        requires { IsLive self.old item }
+        ensures { self.new ≡ unlocked self.old item number }
+    {
+        let found = self.items.get(item);
+        self.locks.free(found.process, &found.file, number);
+    }
+
+    /// Who has the lock of a record.
+    pub fn owner(&self, file: FileKey, number: u32) -> Option<Pid>
+        ensures owner { result ≡ owner_of self.now.locks file number }
+        ensures sound { AreOpen self.now }
+    {
+        self.locks.owner(&file, number)
+    }
+
+    /// A process's items on a drive are given back, however often they were opened, with its locks there. (MP/M II Programmer's
+    /// Guide, "Function 39: Free Drive".)
+    pub fn leave_drive(&mut self, p: Pid, drive: u8)
+        ensures opens { self.new ≡ given_back self.old p (OnDrive drive) }
+        ensures left { HasLeft p (OnDrive drive) self.old self.new }
+    {
+        self.give_back_files(p, &Files::OnDrive(drive));
+    }
+
+    /// A process's item of a file is given back, if it has one, however often it was opened, with its locks there.
+    pub fn leave_file(&mut self, p: Pid, file: FileKey)
+        ensures opens { self.new ≡ given_back self.old p (One file) }
+        ensures left { HasLeft p (One file) self.old self.new }
+    {
+        self.give_back_files(p, &Files::One(file));
+    }
+
+    /// All items and locks of a process are given back.
+    pub fn give_back(&mut self, p: Pid)
+        ensures opens { self.new ≡ given_back self.old p All }
+        ensures left { HasLeft p All self.old self.new }
+    {
+        self.give_back_files(p, &Files::All);
+    }
+
+    /// A process's items of some files are given back, with its locks there: nothing of these is left, and all else is as it was.
+    fn give_back_files(&mut self, p: Pid, files: &Files)
+        ensures opens { self.new ≡ given_back self.old p files.now }
+        ensures left { HasLeft p files.now self.old self.new }
+    {
+        let _ = &self.items;
+        self.let_go(p, files);
+    }
+
+    /// Gives back a process's items of some files and its locks there.
+    #[tactic(auto, unfolding(crate::specs::Opens::given_back))]
+    fn let_go(&mut self, p: Pid, files: &Files)
+        ensures { self.new ≡ given_back self.old p files.now }
+    {
+        self.items.give_back(p, files);
+        self.locks.give_back(p, files);
+    }
+}

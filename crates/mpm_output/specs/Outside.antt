@@ -1,0 +1,26 @@
+-- The outside as it is seen while something is written to it, and its devices, each of which may fail.
+use Rattle.std.specs.Prelude.{ℕ, List, Option}
+use Rattle.mpm_port.specs.declared.Failed.{Failed}
+use Rattle.mpm_render.specs.Shown.{Kept}
+
+-- the count of faults of each device
+pub record Faults : Type 0 where
+  pub sink : ℕ
+
+-- what the renderer keeps, what the sink was told, and the counts of faults
+pub record Outside : Type 0 where
+  pub kept : Kept
+  pub written : Option (List ℕ)
+  pub faults : Faults
+
+-- the device that failed
+pub data Device : Type 0 where
+  TheSink : Device
+
+-- an error of a call that writes to the sink alone
+abbrev pub by_sink : Failed → Device
+by_sink failed = TheSink
+
+-- what is seen of a renderer and a sink, by what the sink tells of itself
+abbrev pub seen : {S : Type 0} → (S → Option (List ℕ)) → (S → ℕ) → Kept → S → Outside
+seen written faults kept sink = record { kept = kept; written = written sink; faults = record { sink = faults sink } }
