@@ -17,8 +17,8 @@ pub record Shows (kept : Kept) (written : Option (List ℕ)) (outputs : List Out
   pub lines : (place : ℕ) → place < 12 → line_of kept place ≡ pending place outputs
   pub written_is : written ≡ appended first (rendered kept.trace outputs)
 
--- writing stopped: the sink was told the first text, then all of one text and a part of what another adds to it,
--- which isn't empty
+-- writing stopped: the sink was told the first text, then all of one text and a part, perhaps none, of what another
+-- adds to it; the other adds something
 pub record EndsBetween (written first : Option (List ℕ)) (from to : List ℕ) : Type 0 where
   pub text : List ℕ
   pub written_is : written ≡ appended first text
