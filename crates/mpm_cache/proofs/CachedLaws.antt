@@ -1,21 +1,20 @@
 -- What the changes of a list of cached sectors are to look-ups.
-use Rattle.std.proofs.Common.{◌≡◌, ◌≢◌, ℕ, zero, suc, ◌-◌, ◌==◌, ◌&&◌, Bool, true, false, cond, List, [], ◌∷◌, take, Option, Some, None, IfSome, IfNone, IsSome, Result, Ok, Err, OnOk, OnErr, IsOk, refl, sym, ap, subst, ◌∙◌, arith}
+use Rattle.std.proofs.Common.{◌≡◌, ◌⊎◌, ℕ, zero, suc, ◌-◌, ◌==◌, ◌&&◌, Bool, true, false, cond, List, [], ◌∷◌, take, Option, Some, None, IfSome, IfNone, IsSome, is_some, if◌then◌else◌, Result, Ok, Err, OnOk, OnErr, IsOk, refl, sym, ap, subst, ◌∙◌, inl, inr}
 use Rattle.std.specs.Cmp.{IsEquivalence}
 use Rattle.std.specs.List.{IsDistinct}
 use Rattle.std.specs.Map.{keys_of, lookup, lookup_entry, remove_entry}
 use Rattle.std.specs.Option.{option_map_or}
-use Rattle.std.proofs.lemmas.Bool.{cases_Bool, false≢true, eqb-true, eqb-false, eq-eqb, ne_eqb}
-use Rattle.std.proofs.lemmas.Bool.Decides.{nat_tests}
+use Rattle.std.proofs.lemmas.Bool.{false≢true, eqb-true, eq-eqb}
 use Rattle.std.proofs.lemmas.Map.{lookup-remove_entry}
 use Rattle.lru.specs.LruCache.{LruCache, lru_cache, promoted, put_entries}
-use Rattle.lru.proofs.CallerLemmas.{lookup-put_entries, Contains-lookup_entry}
+use Rattle.lru.proofs.CallerLemmas.{Contains-lookup_entry}
 use Rattle.mpm_cache.specs.declared.cache.Place.{Place}
-use Rattle.mpm_cache.specs.Cached.{is_at, cached_at, SameCached, is_same_place, Keeps, Forgets}
+use Rattle.mpm_cache.specs.Cached.{is_at, cached_at, used, put_first, IsPut, taken_out, SameCached, HasRoom, Keeps, Forgets}
 
 abbrev pub same_place : Place → Place → Bool
 same_place x y = is_at x.drive x.sector y
 
-abbrev at : ℕ → ℕ → Place
+abbrev pub at : ℕ → ℕ → Place
 at drive sector = record { drive = drive; sector = sector }
 
 -- two numbers each are the same
@@ -27,10 +26,10 @@ two_true : (a b : Bool) → a ≡ true → b ≡ true → (a && b) ≡ true
 two_true true b h k = k
 two_true false b h k = absurd (false≢true h)
 
-pub known_same : (d s o p : ℕ) → is_same_place d s o p ≡ true → (d ≡ o) × (s ≡ p)
+pub known_same : (d s o p : ℕ) → is_at d s (at o p) ≡ true → (d ≡ o) × (s ≡ p)
 known_same d s o p h = let two = both_true (d == o) (s == p) h in (eqb-true d o two.0, eqb-true s p two.1)
 
-pub same_known : (d s o p : ℕ) → d ≡ o → s ≡ p → is_same_place d s o p ≡ true
+pub same_known : (d s o p : ℕ) → d ≡ o → s ≡ p → is_at d s (at o p) ≡ true
 same_known d s o p h k = two_true (d == o) (s == p) (eq-eqb d o h) (eq-eqb s p k)
 
 not_true : (b : Bool) → (b ≡ true → ⊥) → b ≡ false
@@ -60,11 +59,11 @@ same_place_laws = record {
 }
 
 -- a place that is one sector is no other
-apart_at : (d s o p : ℕ) (x : Place) → is_same_place d s o p ≡ false → is_at d s x ≡ true → is_at o p x ≡ false
+apart_at : (d s o p : ℕ) (x : Place) → is_at d s (at o p) ≡ false → is_at d s x ≡ true → is_at o p x ≡ false
 apart_at d s o p x apart is = not_true (is_at o p x) (λ other. false≢true (sym apart ∙ through (at d s) x (at o p) is (swapped (at o p) x other)))
 
 -- without the entry of one sector the others are found as before
-found_without : (d s o p : ℕ) (es : List (Place × List ℕ)) → is_same_place d s o p ≡ false → lookup (is_at o p) (remove_entry (is_at d s) es) ≡ lookup (is_at o p) es
+found_without : (d s o p : ℕ) (es : List (Place × List ℕ)) → is_at d s (at o p) ≡ false → lookup (is_at o p) (remove_entry (is_at d s) es) ≡ lookup (is_at o p) es
 found_without d s o p [] apart = refl
 found_without d s o p (e ∷ es) apart = by_test (is_at d s e.0) refl (found_without d s o p es apart)
   where
@@ -98,7 +97,7 @@ forgets d s es new distinct is =
     let removed : Forgets d s es (remove_entry (is_at d s) es) = record {
       here = lookup-remove_entry same_place_laws (is_at d s) (λ x y h. same_place_laws.congr (at d s) x y h) (at d s) es distinct
           ∙ ap (λ (b : Bool). cond b None (lookup (is_at d s) es)) (same_place_laws.refl (at d s));
-      others = λ o p apart. found_without d s o p es apart;
+      others = λ other apart. found_without d s other.drive other.sector es apart;
     } in
     subst (λ (l : List (Place × List ℕ)). Forgets d s es l) (sym is) removed
 
@@ -109,7 +108,7 @@ after_put d s n bytes es o = option_map_or (λ e. (e.0, bytes) ∷ remove_entry 
 head_here : (d s : ℕ) (x : Place) (bytes : List ℕ) (rest : List (Place × List ℕ)) → is_at d s x ≡ true → lookup (is_at d s) ((x, bytes) ∷ rest) ≡ Some bytes
 head_here d s x bytes rest is = ap (λ (b : Bool). cond b (Some bytes) (lookup (is_at d s) rest)) is
 
-head_other : (d s o p : ℕ) (x : Place) (bytes : List ℕ) (rest : List (Place × List ℕ)) → is_same_place d s o p ≡ false → is_at d s x ≡ true
+head_other : (d s o p : ℕ) (x : Place) (bytes : List ℕ) (rest : List (Place × List ℕ)) → is_at d s (at o p) ≡ false → is_at d s x ≡ true
     → lookup (is_at o p) ((x, bytes) ∷ rest) ≡ lookup (is_at o p) rest
 head_other d s o p x bytes rest apart is = ap (λ (b : Bool). cond b (Some bytes) (lookup (is_at o p) rest)) (apart_at d s o p x apart is)
 
@@ -117,24 +116,57 @@ some_same : (x : Option (List ℕ)) (a b : List ℕ) → x ≡ Some a → x ≡ 
 some_same None a b h k = absurd (cc)
 some_same (Some c) a b h k = cc
 
-keeps_by : (d s n : ℕ) (bytes : List ℕ) (es : List (Place × List ℕ)) (o : Option (Place × List ℕ)) → lookup_entry (is_at d s) es ≡ o → Keeps d s bytes es (after_put d s n bytes es o)
-unfolding after_put cached_at
-keeps_by d s n bytes es None none = record {
+-- of a sector whose entry isn't there nothing is cached
+no_value : (d s : ℕ) (es : List (Place × List ℕ)) → lookup_entry (is_at d s) es ≡ None → lookup (is_at d s) es ≡ None
+no_value d s [] h = refl
+no_value d s (f ∷ es) h = by_test (is_at d s f.0) (λ rest. no_value d s es rest) h
+  where
+    by_test : (b : Bool) → (lookup_entry (is_at d s) es ≡ None → lookup (is_at d s) es ≡ None) → cond b (Some f) (lookup_entry (is_at d s) es) ≡ None → cond b (Some f.1) (lookup (is_at d s) es) ≡ None
+    by_test true on h = absurd (cc)
+    by_test false on h = on h
+
+-- what is found among the first is found so among all
+first_same : (o p n : ℕ) (es : List (Place × List ℕ)) (found : Option (List ℕ)) → lookup (is_at o p) (take n es) ≡ found → IsSome found → lookup (is_at o p) (take n es) ≡ lookup (is_at o p) es
+first_same o p n es None h some = absurd (false≢true some)
+first_same o p n es (Some kept) h some = h ∙ sym (found_first o p n es kept h)
+
+-- nothing is cached of a sector that is taken for one of which something is
+none_there : (o : Option (List ℕ)) → o ≡ None → IsSome o → ⊥
+none_there None h some = false≢true some
+none_there (Some kept) h some = absurd (cc)
+
+keeps_by : (d s n : ℕ) (bytes : List ℕ) (es : List (Place × List ℕ)) (o : Option (Place × List ℕ)) → n ≡ 255 → lookup_entry (is_at d s) es ≡ o → Keeps d s bytes es (after_put d s n bytes es o)
+unfolding after_put cached_at HasRoom
+keeps_by d s n bytes es None few none = record {
   here = if_found _ (λ kept. kept ≡ bytes) (λ kept h. some_same _ kept bytes h (head_here d s (at d s) bytes (take n es) (same_place_laws.refl (at d s))));
-  others = λ o p apart. if_found _ (λ kept. lookup (is_at o p) es ≡ Some kept)
-      (λ kept h. found_first o p n es kept (sym (head_other d s o p (at d s) bytes (take n es) apart (same_place_laws.refl (at d s))) ∙ h));
+  others = λ other apart. if_found _ (λ kept. lookup (is_at other.drive other.sector) es ≡ Some kept)
+      (λ kept h. found_first other.drive other.sector n es kept
+      (sym (head_other d s other.drive other.sector (at d s) bytes (take n es) apart (same_place_laws.refl (at d s))) ∙ h));
+  stays = λ other apart room. head_other d s other.drive other.sector (at d s) bytes (take n es) apart (same_place_laws.refl (at d s)) ∙ by_room other room;
 }
-keeps_by d s n bytes es (Some e) there =
+  where
+    by_room : (other : Place) → IsSome (lookup (is_at d s) es) ⊎ IsSome (lookup (is_at other.drive other.sector) (take 255 es))
+        → lookup (is_at other.drive other.sector) (take n es) ≡ lookup (is_at other.drive other.sector) es
+    by_room other (inl some) = absurd (none_there _ (no_value d s es none) some)
+    by_room other (inr some) =
+        subst (λ (m : ℕ). lookup (is_at other.drive other.sector) (take m es) ≡ lookup (is_at other.drive other.sector) es) (sym few)
+        (first_same other.drive other.sector 255 es (lookup (is_at other.drive other.sector) (take 255 es)) refl some)
+keeps_by d s n bytes es (Some e) few there =
     let is : is_at d s e.0 ≡ true = (Contains-lookup_entry (is_at d s) es e there).1 in record {
       here = if_found _ (λ kept. kept ≡ bytes) (λ kept h. some_same _ kept bytes h (head_here d s e.0 bytes (remove_entry (is_at d s) es) is));
-      others = λ o p apart. if_found _ (λ kept. lookup (is_at o p) es ≡ Some kept)
-          (λ kept h. sym (found_without d s o p es apart) ∙ sym (head_other d s o p e.0 bytes (remove_entry (is_at d s) es) apart is) ∙ h);
+      others = λ other apart. if_found _ (λ kept. lookup (is_at other.drive other.sector) es ≡ Some kept)
+          (λ kept h. sym (found_without d s other.drive other.sector es apart)
+          ∙ sym (head_other d s other.drive other.sector e.0 bytes (remove_entry (is_at d s) es) apart is) ∙ h);
+      stays = λ other apart room.
+          head_other d s other.drive other.sector e.0 bytes (remove_entry (is_at d s) es) apart is ∙ found_without d s other.drive other.sector es apart;
     }
 
-pub keeps : (d s : ℕ) (bytes : List ℕ) (old : LruCache Place (List ℕ)) (new : List (Place × List ℕ)) → new ≡ put_entries same_place old (at d s) bytes → Keeps d s bytes old.entries new
+pub keeps : (d s : ℕ) (bytes : List ℕ) (old : LruCache Place (List ℕ)) (new : List (Place × List ℕ)) → old.cap ≡ 256 → new ≡ put_entries same_place old (at d s) bytes
+    → Keeps d s bytes old.entries new
 unfolding after_put
-keeps d s bytes old new is =
-    subst (λ (l : List (Place × List ℕ)). Keeps d s bytes old.entries l) (sym is) (keeps_by d s (old.cap - 1) bytes old.entries (lookup_entry (is_at d s) old.entries) refl)
+keeps d s bytes old new room is =
+    subst (λ (l : List (Place × List ℕ)). Keeps d s bytes old.entries l) (sym is)
+    (keeps_by d s (old.cap - 1) bytes old.entries (lookup_entry (is_at d s) old.entries) (ap (λ (n : ℕ). n - 1) room) refl)
 
 -- where there was no memory for a new sector it isn't cached
 pub keeps_nothing : (d s : ℕ) (bytes : List ℕ) (es new : List (Place × List ℕ)) → (IsSome (lookup (is_at d s) es) → ⊥) → new ≡ es → Keeps d s bytes es new
@@ -142,7 +174,8 @@ unfolding cached_at
 keeps_nothing d s bytes es new none is =
     let same : Keeps d s bytes es es = record {
       here = if_found _ (λ kept. kept ≡ bytes) (λ kept h. absurd (none (subst (λ (o : Option (List ℕ)). IsSome o) (sym h) refl)));
-      others = λ o p apart. if_found _ (λ kept. lookup (is_at o p) es ≡ Some kept) (λ kept h. h);
+      others = λ other apart. if_found _ (λ kept. lookup (is_at other.drive other.sector) es ≡ Some kept) (λ kept h. h);
+      stays = λ other apart room. refl;
     } in
     subst (λ (l : List (Place × List ℕ)). Keeps d s bytes es l) (sym is) same
 
@@ -169,9 +202,9 @@ unfolding cached_at
 same_by d s es None none o p = refl
 same_by d s es (Some e) there o p =
     let is : is_at d s e.0 ≡ true = (Contains-lookup_entry (is_at d s) es e there).1 in
-    by_place (is_same_place d s o p) refl is
+    by_place (is_at d s (at o p)) refl is
   where
-    by_place : (b : Bool) → is_same_place d s o p ≡ b → is_at d s e.0 ≡ true → lookup (is_at o p) (e ∷ remove_entry (is_at d s) es) ≡ lookup (is_at o p) es
+    by_place : (b : Bool) → is_at d s (at o p) ≡ b → is_at d s e.0 ≡ true → lookup (is_at o p) (e ∷ remove_entry (is_at d s) es) ≡ lookup (is_at o p) es
     by_place true same is =
         let two = known_same d s o p same in
         subst (λ (x : ℕ). lookup (is_at x p) (e ∷ remove_entry (is_at d s) es) ≡ lookup (is_at x p) es) two.0
@@ -189,10 +222,50 @@ pub if_none : (o : Option (List ℕ)) (P : Type 0) → (o ≡ None → P) → If
 if_none None P h = h refl
 if_none (Some kept) P h = tt
 
--- behind a put, which wants memory for a new sector alone
-pub keeps_put : {A B : Type 0} (d s : ℕ) (bytes : List ℕ) (old new : LruCache Place (List ℕ)) (result : Result A B)
+-- after a put, which wants memory for a new sector alone
+pub keeps_put : {A B : Type 0} (d s : ℕ) (bytes : List ℕ) (old new : LruCache Place (List ℕ)) (result : Result A B) → old.cap ≡ 256
     → OnOk result (new ≡ lru_cache (put_entries same_place old (at d s) bytes) old.cap) → OnErr result (new ≡ old)
     → (IsSome (lookup (is_at d s) old.entries) → IsOk result) → Keeps d s bytes old.entries new.entries
-keeps_put d s bytes old new (Ok x) ok err succeeds = keeps d s bytes old new.entries (ap (λ (l : LruCache Place (List ℕ)). l.entries) ok)
-keeps_put d s bytes old new (Err x) ok err succeeds =
+keeps_put d s bytes old new (Ok x) room ok err succeeds = keeps d s bytes old new.entries room (ap (λ (l : LruCache Place (List ℕ)). l.entries) ok)
+keeps_put d s bytes old new (Err x) room ok err succeeds =
     keeps_nothing d s bytes old.entries new.entries (λ some. false≢true (succeeds some)) (ap (λ (l : LruCache Place (List ℕ)). l.entries) err)
+
+-- ---- what the list is afterwards
+
+-- a sector that is looked up is used
+pub used_promoted : (d s : ℕ) (es new : List (Place × List ℕ)) → new ≡ promoted (is_at d s) es → new ≡ used d s es
+unfolding used
+used_promoted d s es new is = is
+
+-- one that is taken out
+pub taken : (d s : ℕ) (es new : List (Place × List ℕ)) → new ≡ remove_entry (is_at d s) es → new ≡ taken_out d s es
+unfolding taken_out
+taken d s es new is = is
+
+-- one that is put goes first
+first_by : (d s n : ℕ) (bytes : List ℕ) (es : List (Place × List ℕ)) (o : Option (Place × List ℕ)) → n ≡ 255 → lookup_entry (is_at d s) es ≡ o
+    → after_put d s n bytes es o ≡ put_first d s bytes es
+unfolding after_put put_first cached_at
+first_by d s n bytes es None few none =
+    ap (λ (m : ℕ). (at d s, bytes) ∷ take m es) few
+    ∙ sym (ap (λ (o : Option (List ℕ)). (at d s, bytes) ∷ (if is_some o then (remove_entry (is_at d s) es) else (take 255 es))) (no_value d s es none))
+first_by d s n bytes es (Some e) few there =
+    let place = known_same d s e.0.drive e.0.sector (Contains-lookup_entry (is_at d s) es e there).1 in
+    ap (λ (x : ℕ). (at x e.0.sector, bytes) ∷ remove_entry (is_at d s) es) (sym place.0)
+    ∙ ap (λ (y : ℕ). (at d y, bytes) ∷ remove_entry (is_at d s) es) (sym place.1)
+    ∙ sym (ap (λ (o : Option (List ℕ)). (at d s, bytes) ∷ (if is_some o then (remove_entry (is_at d s) es) else (take 255 es))) (entry_found d s es e there))
+
+is_none : (o : Option (List ℕ)) → (IsSome o → ⊥) → o ≡ None
+is_none None not_some = refl
+is_none (Some kept) not_some = absurd (not_some refl)
+
+-- or there was no memory for it
+pub is_put : {A B : Type 0} (d s : ℕ) (bytes : List ℕ) (old new : LruCache Place (List ℕ)) (result : Result A B) → old.cap ≡ 256
+    → OnOk result (new ≡ lru_cache (put_entries same_place old (at d s) bytes) old.cap) → OnErr result (new ≡ old)
+    → (IsSome (lookup (is_at d s) old.entries) → IsOk result) → IsPut d s bytes old.entries new.entries
+unfolding cached_at after_put
+is_put d s bytes old new (Ok x) room ok err succeeds =
+    inl (ap (λ (l : LruCache Place (List ℕ)). l.entries) ok
+    ∙ first_by d s (old.cap - 1) bytes old.entries (lookup_entry (is_at d s) old.entries) (ap (λ (n : ℕ). n - 1) room) refl)
+is_put d s bytes old new (Err x) room ok err succeeds =
+    inr (is_none _ (λ some. false≢true (succeeds some)), ap (λ (l : LruCache Place (List ℕ)). l.entries) err)

@@ -1,4 +1,4 @@
 pub mod CachedLaws
 pub mod SectorLaws
-pub mod HonestLaws
-pub mod DriveLaws
+pub mod CoherentLaws
+pub mod AliasLaws

@@ -1,6 +1,7 @@
--- The cached sectors: of some sectors of some drives the bytes. Which of them go for others isn't said.
-use Rattle.std.specs.Prelude.{◌≡◌, ℕ, ◌==◌, ◌&&◌, Bool, false, List, Option, Some, None, IfSome}
-use Rattle.std.specs.Map.{lookup}
+-- The cached sectors: of some sectors of some drives the bytes, at most 256 of them, the one that was used last first.
+use Rattle.std.specs.Prelude.{◌≡◌, ◌⊎◌, ℕ, ◌==◌, ◌&&◌, Bool, false, List, ◌∷◌, take, Option, Some, None, IfSome, IsSome, is_some, if◌then◌else◌}
+use Rattle.std.specs.Option.{option_map_or}
+use Rattle.std.specs.Map.{lookup, lookup_entry, remove_entry}
 use Rattle.mpm_cache.specs.declared.cache.Place.{Place}
 
 -- whether a place is a sector of a drive
@@ -11,21 +12,41 @@ is_at drive sector place = (drive == place.drive) && (sector == place.sector)
 unfoldable pub cached_at : List (Place × List ℕ) → ℕ → ℕ → Option (List ℕ)
 cached_at cached drive sector = lookup (is_at drive sector) cached
 
+-- a sector is used: it goes first, where it is cached
+unfoldable pub used : ℕ → ℕ → List (Place × List ℕ) → List (Place × List ℕ)
+used drive sector cached = option_map_or (λ entry. entry ∷ remove_entry (is_at drive sector) cached) (lookup_entry (is_at drive sector) cached) cached
+
+-- a sector is cached with these bytes: it goes first, in place of what was cached of it or, where that was nothing, of the last of 256
+unfoldable pub put_first : ℕ → ℕ → List ℕ → List (Place × List ℕ) → List (Place × List ℕ)
+put_first drive sector bytes cached =
+    (record { drive = drive; sector = sector }, bytes) ∷ (if is_some (cached_at cached drive sector) then (remove_entry (is_at drive sector) cached) else (take 255 cached))
+
+-- that was done, or the sector is a new one, for which there was no memory, and nothing has changed
+abbrev pub IsPut : ℕ → ℕ → List ℕ → List (Place × List ℕ) → List (Place × List ℕ) → Type 0
+IsPut drive sector bytes old new = (new ≡ put_first drive sector bytes old) ⊎ ((cached_at old drive sector ≡ None) × (new ≡ old))
+
+-- a sector is taken out
+unfoldable pub taken_out : ℕ → ℕ → List (Place × List ℕ) → List (Place × List ℕ)
+taken_out drive sector cached = remove_entry (is_at drive sector) cached
+
 -- the same of all sectors
 abbrev pub SameCached : List (Place × List ℕ) → List (Place × List ℕ) → Type 0
 SameCached old new = (drive sector : ℕ) → cached_at new drive sector ≡ cached_at old drive sector
 
--- two sectors are the same one
-abbrev pub is_same_place : ℕ → ℕ → ℕ → ℕ → Bool
-is_same_place drive sector other place = (drive == other) && (sector == place)
+-- a sector stays where another one is cached: that one was cached already, or the sector isn't the last of 256
+unfoldable pub HasRoom : List (Place × List ℕ) → ℕ → ℕ → Place → Type 0
+HasRoom cached drive sector other = IsSome (cached_at cached drive sector) ⊎ IsSome (cached_at (take 255 cached) other.drive other.sector)
 
--- a sector may be cached now, with these bytes; each other one is so as it was, or no more
+-- a sector may be cached now, with these bytes; each other one is so as it was, but one of 256 may be so no more
 pub record Keeps (drive sector : ℕ) (bytes : List ℕ) (old new : List (Place × List ℕ)) : Type 0 where
   pub here : IfSome (cached_at new drive sector) (λ kept. kept ≡ bytes)
-  pub others : (other place : ℕ) → is_same_place drive sector other place ≡ false
-      → IfSome (cached_at new other place) (λ kept. cached_at old other place ≡ Some kept)
+  pub others : (other : Place) → is_at drive sector other ≡ false
+      → IfSome (cached_at new other.drive other.sector) (λ kept. cached_at old other.drive other.sector ≡ Some kept)
+  pub stays : (other : Place) → is_at drive sector other ≡ false → HasRoom old drive sector other
+      → cached_at new other.drive other.sector ≡ cached_at old other.drive other.sector
 
 -- a sector is cached no more; each other one is so as it was
 pub record Forgets (drive sector : ℕ) (old new : List (Place × List ℕ)) : Type 0 where
   pub here : cached_at new drive sector ≡ None
-  pub others : (other place : ℕ) → is_same_place drive sector other place ≡ false → cached_at new other place ≡ cached_at old other place
+  pub others : (other : Place) → is_at drive sector other ≡ false
+      → cached_at new other.drive other.sector ≡ cached_at old other.drive other.sector

@@ -23,7 +23,7 @@ pub(crate) struct Place {
 
 /// The sectors of all drives that were used last, at most 256 of them. Writes go through to the drives.
 ///
-/// Contracts see a list of places and their bytes.
+/// Contracts see a list of pairs, each of a place and its bytes, the one that was used last first.
 #[derive(Drop)]
 pub struct Cache {
     sectors: LruCache<Place, [u8; 128]>,
@@ -41,14 +41,15 @@ impl Model for Cache {
 }
 
 impl Cache {
-    ghost use Rattle.mpm_cache.specs.Cached.{cached_at, SameCached, Keeps, Forgets};
-    ghost use Rattle.mpm_cache.specs.Honest.{HaveOneDrive, IsHonest};
+    ghost use Rattle.mpm_cache.specs.Cached.{cached_at, used, IsPut, taken_out, SameCached, Keeps, Forgets};
+    ghost use Rattle.mpm_cache.specs.Coherent.{IsCoherent, HasNoAlias, StayApart};
 
     /// No sector is cached. Room for 256 is taken here but for their bytes.
-    #[tactic(auto, using(crate::proofs::HonestLaws::honest_none))]
+    #[tactic(auto, using(crate::proofs::CoherentLaws::coherent_none, crate::proofs::AliasLaws::no_alias_none))]
     pub fn new(alloc: Global) -> Result<Cache, OutOfMemory>
         ensures empty { IfOk result (λ cache. cache ≡ []) }
-        ensures honest { IfOk result (λ cache. (disks : Option Disks) → IfSome disks HaveOneDrive → IsHonest cache disks) }
+        ensures coherent { IfOk result (λ cache. (disks : Option Disks) → IsCoherent cache disks) }
+        ensures apart { IfOk result (λ cache. (disks : Option Disks) (drive : ℕ) → HasNoAlias cache disks drive) }
     {
         let room = NonZeroUsize::new(ROOM).unwrap();
         let sectors = LruCache::new(alloc, room)?;
@@ -66,6 +67,7 @@ impl Cache {
     /// The cached bytes of a sector, which is used last now.
     fn find(&mut self, drive: u8, sector: u32) -> Option<[u8; 128]>
         ensures found { result ≡ cached_at self.old drive sector }
+        ensures used { self.new ≡ used drive sector self.old }
         ensures same { SameCached self.old self.new }
         ensures nothing { IfNone result (self.new ≡ self.old) }
     {
@@ -75,15 +77,18 @@ impl Cache {
     /// Caches a sector, in place of what is cached of it. A new one takes memory, and isn't cached where there is none; the
     /// sector that wasn't used longest goes where there is no room.
     fn keep(&mut self, drive: u8, sector: u32, bytes: &[u8; 128])
-        ensures { Keeps drive sector bytes.now self.old self.new }
+        ensures put { IsPut drive sector bytes.now self.old self.new }
+        ensures kept { Keeps drive sector bytes.now self.old self.new }
     {
         let _ = self.sectors.put(Place { drive, sector }, *bytes);
     }
 
     /// Caches a sector no more.
     fn forget(&mut self, drive: u8, sector: u32)
-        ensures { Forgets drive sector self.old self.new }
+        ensures out { self.new ≡ taken_out drive sector self.old }
+        ensures forgotten { Forgets drive sector self.old self.new }
     {
+        // Its length tells that no sector stands twice.
         let _cached = self.sectors.len();
         let _ = self.sectors.pop(&Place { drive, sector });
     }
@@ -91,7 +96,7 @@ impl Cache {
     /// Reads a sector of a drive, which costs no call of the drives where it is cached, and one where it isn't. `steps` counts
     /// that call. What `out` holds where the drive failed isn't said.
     ///
-    /// What is cached is to be what the attached images have, and each image is to have one drive; that is kept.
+    /// What is cached is to be what the attached images have, and stays so.
     pub fn read<D: Drives, L: Ledger>(
         &mut self,
         drives: &mut D,
@@ -101,18 +106,22 @@ impl Cache {
         steps: &mut Steps<L>,
     ) -> Result<(), Failed>
         requires inside { IsInside (D.attached drives.old drive) sector }
-        requires honest { IsHonest self.old (D.disks drives.old) }
+        requires coherent { IsCoherent self.old (D.disks drives.old) }
         ensures bytes { OnOk result (IfSome (D.disks drives.old) (λ told.
             IfSome (image_of told drive) (λ image. out.new ≡ sector_of image sector))) }
-        ensures honest { IsHonest self.new (D.disks drives.new) }
+        ensures coherent { IsCoherent self.new (D.disks drives.new) }
+        ensures apart { StayApart drive self.old self.new (D.disks drives.old) (D.disks drives.new) }
         ensures calls { steps.new ≡ (if is_some (cached_at self.old drive sector) then steps.old else steps.old + 1) }
 
         // A cached sector comes from the cache, and the drives aren't called.
         ensures hit { IfSome (cached_at self.old drive sector) (λ cached. out.new ≡ cached) }
         ensures succeeds { IsSome (cached_at self.old drive sector) → IsOk result }
         ensures uncalled { IsSome (cached_at self.old drive sector) → drives.new ≡ drives.old }
+        ensures used { IsSome (cached_at self.old drive sector) → self.new ≡ used drive sector self.old }
+        ensures same { IsSome (cached_at self.old drive sector) → SameCached self.old self.new }
 
         // What is cached afterwards.
+        ensures put { IfNone (cached_at self.old drive sector) (OnOk result (IsPut drive sector out.new self.old self.new)) }
         ensures kept { OnOk result (Keeps drive sector out.new self.old self.new) }
         ensures err { OnErr result (self.new ≡ self.old) }
 
@@ -139,11 +148,13 @@ impl Cache {
         steps: &mut Steps<L>,
     ) -> Result<(), Failed>
         requires inside { IsInside (D.attached drives.old drive) sector }
-        requires honest { IsHonest self.old (D.disks drives.old) }
+        requires coherent { IsCoherent self.old (D.disks drives.old) }
         ensures bytes { OnOk result (IfSome (D.disks drives.old) (λ told.
             IfSome (image_of told drive) (λ image. out.new ≡ sector_of image sector))) }
-        ensures honest { IsHonest self.new (D.disks drives.new) }
+        ensures coherent { IsCoherent self.new (D.disks drives.new) }
+        ensures apart { StayApart drive self.old self.new (D.disks drives.old) (D.disks drives.new) }
         ensures calls { steps.new ≡ steps.old + 1 }
+        ensures put { OnOk result (IsPut drive sector out.new self.old self.new) }
         ensures kept { OnOk result (Keeps drive sector out.new self.old self.new) }
         ensures err { OnErr result (self.new ≡ self.old) }
         ensures cause { HasCause (D.faults drives.old) (D.faults drives.new) result }
@@ -163,7 +174,8 @@ impl Cache {
 
     /// Writes a sector through to its drive, by one call, which `steps` counts. Where that failed the sector isn't cached.
     ///
-    /// What is cached is to be what the attached images have, and each image is to have one drive; that is kept.
+    /// What is cached is to be what the attached images have, and the drive is to have no alias in the cache: no other drive
+    /// of which a sector is cached has its image. The first stays so.
     pub fn write<D: Drives, L: Ledger>(
         &mut self,
         drives: &mut D,
@@ -173,14 +185,18 @@ impl Cache {
         steps: &mut Steps<L>,
     ) -> Result<(), Failed>
         requires inside { IsInside (D.attached drives.old drive) sector }
-        requires honest { IsHonest self.old (D.disks drives.old) }
+        requires coherent { IsCoherent self.old (D.disks drives.old) }
+        requires apart { HasNoAlias self.old (D.disks drives.old) drive }
         ensures ok { OnOk result (Told (Writes drive sector bytes.now) (D.disks drives.old) (D.disks drives.new)) }
         ensures err { OnErr result (Told SameDisks (D.disks drives.old) (D.disks drives.new)
             ⊎ Told (Writes drive sector bytes.now) (D.disks drives.old) (D.disks drives.new)) }
-        ensures honest { IsHonest self.new (D.disks drives.new) }
+        ensures coherent { IsCoherent self.new (D.disks drives.new) }
+        ensures apart { StayApart drive self.old self.new (D.disks drives.old) (D.disks drives.new) }
         ensures calls { steps.new ≡ steps.old + 1 }
 
         // What is cached afterwards.
+        ensures put { OnOk result (IsPut drive sector bytes.now self.old self.new) }
+        ensures out { OnErr result (self.new ≡ taken_out drive sector self.old) }
         ensures kept { OnOk result (Keeps drive sector bytes.now self.old self.new) }
         ensures forgotten { OnErr result (Forgets drive sector self.old self.new) }
 

@@ -1,8 +1,8 @@
-//! Scenes of the cache before a drive in memory, whose calls are counted by those that are to fail.
+//! Scenes of the cache before drives in memory, whose calls are counted by those that are to fail.
 ghost use Rattle.std.specs.Prelude.{◌≡◌, ℕ, ◌<◌, Some, IfOk};
 ghost use Rattle.mpm_port.specs.Disks.{IsInside};
 ghost use Rattle.mpm_port.specs.MemoryDisks.{size_of, disks_of};
-ghost use Rattle.mpm_cache.specs.Honest.{IsHonest, HaveOneDrive};
+ghost use Rattle.mpm_cache.specs.Coherent.{IsCoherent, HasNoAlias};
 
 use super::*;
 use mpm_base::Steps;
@@ -35,10 +35,10 @@ fn first_byte(sector: u32) -> u8 {
     (sector % 251) as u8
 }
 
-/// Drive 0 in memory. Its attaching was call 1.
-fn one_drive(alloc: Global) -> Result<MemoryDrives, Fail>
-    ensures apart { IfOk result (λ drives. HaveOneDrive (disks_of drives)) }
+/// Drives 0 and 1 in memory, which have one image. Their attaching was calls 1 and 2.
+fn two_drives(alloc: Global) -> Result<MemoryDrives, Fail>
     ensures inside { IfOk result (λ drives. (sector : ℕ) → sector < 257 → IsInside (size_of drives 0) sector) }
+    ensures alias { IfOk result (λ drives. (sector : ℕ) → sector < 257 → IsInside (size_of drives 1) sector) }
 {
     let mut image = Vec::with_capacity(alloc, 32896)?;
     for sector in 0..SECTORS {
@@ -47,21 +47,28 @@ fn one_drive(alloc: Global) -> Result<MemoryDrives, Fail>
     let mut drives = MemoryDrives::new(alloc);
     drives.add("A", image.as_slice())?;
     match drives.attach(0, "A") {
+        Ok(()) => {}
+        Err(_) => return Err(Fail::from("the drive is not attached")),
+    }
+    match drives.attach(1, "A") {
         Ok(()) => Ok(drives),
-        Err(_) => Err(Fail::from("the drive is not attached")),
+        Err(_) => Err(Fail::from("the other drive is not attached")),
     }
 }
 
 /// Reads a sector of drive 0, and answers its first byte.
+#[tactic(auto, using(crate::proofs::AliasLaws::alone_after))]
 fn read<L: Ledger>(
     cache: &mut Cache,
     drives: &mut MemoryDrives,
     steps: &mut Steps<L>,
     sector: u32,
 ) -> Result<u8, Failed>
-    requires honest { IsHonest cache.old (Some (disks_of drives.old)) }
+    requires coherent { IsCoherent cache.old (Some (disks_of drives.old)) }
+    requires apart { HasNoAlias cache.old (Some (disks_of drives.old)) 0 }
     requires inside { (sector : ℕ) → sector < 257 → IsInside (size_of drives.old 0) sector }
-    ensures honest { IsHonest cache.new (Some (disks_of drives.new)) }
+    ensures coherent { IsCoherent cache.new (Some (disks_of drives.new)) }
+    ensures apart { HasNoAlias cache.new (Some (disks_of drives.new)) 0 }
     ensures inside { (sector : ℕ) → sector < 257 → IsInside (size_of drives.new 0) sector }
 {
     if sector >= SECTORS {
@@ -75,6 +82,7 @@ fn read<L: Ledger>(
 }
 
 /// Writes a sector of drive 0 with one byte throughout.
+#[tactic(auto, using(crate::proofs::AliasLaws::alone_after))]
 fn write<L: Ledger>(
     cache: &mut Cache,
     drives: &mut MemoryDrives,
@@ -82,9 +90,11 @@ fn write<L: Ledger>(
     sector: u32,
     byte: u8,
 ) -> Result<(), Failed>
-    requires honest { IsHonest cache.old (Some (disks_of drives.old)) }
+    requires coherent { IsCoherent cache.old (Some (disks_of drives.old)) }
+    requires apart { HasNoAlias cache.old (Some (disks_of drives.old)) 0 }
     requires inside { (sector : ℕ) → sector < 257 → IsInside (size_of drives.old 0) sector }
-    ensures honest { IsHonest cache.new (Some (disks_of drives.new)) }
+    ensures coherent { IsCoherent cache.new (Some (disks_of drives.new)) }
+    ensures apart { HasNoAlias cache.new (Some (disks_of drives.new)) 0 }
     ensures inside { (sector : ℕ) → sector < 257 → IsInside (size_of drives.new 0) sector }
 {
     if sector >= SECTORS {
@@ -95,9 +105,11 @@ fn write<L: Ledger>(
 
 /// Reads all sectors in order, and says whether each is as it was at first.
 fn read_all<L: Ledger>(cache: &mut Cache, drives: &mut MemoryDrives, steps: &mut Steps<L>) -> bool
-    requires honest { IsHonest cache.old (Some (disks_of drives.old)) }
+    requires coherent { IsCoherent cache.old (Some (disks_of drives.old)) }
+    requires apart { HasNoAlias cache.old (Some (disks_of drives.old)) 0 }
     requires inside { (sector : ℕ) → sector < 257 → IsInside (size_of drives.old 0) sector }
-    ensures honest { IsHonest cache.new (Some (disks_of drives.new)) }
+    ensures coherent { IsCoherent cache.new (Some (disks_of drives.new)) }
+    ensures apart { HasNoAlias cache.new (Some (disks_of drives.new)) 0 }
     ensures inside { (sector : ℕ) → sector < 257 → IsInside (size_of drives.new 0) sector }
 {
     for sector in 0..SECTORS {
@@ -115,9 +127,11 @@ fn passes<L: Ledger>(
     steps: &mut Steps<L>,
     line: Line,
 ) -> bool
-    requires honest { IsHonest cache.old (Some (disks_of drives.old)) }
+    requires coherent { IsCoherent cache.old (Some (disks_of drives.old)) }
+    requires apart { HasNoAlias cache.old (Some (disks_of drives.old)) 0 }
     requires inside { (sector : ℕ) → sector < 257 → IsInside (size_of drives.old 0) sector }
-    ensures honest { IsHonest cache.new (Some (disks_of drives.new)) }
+    ensures coherent { IsCoherent cache.new (Some (disks_of drives.new)) }
+    ensures apart { HasNoAlias cache.new (Some (disks_of drives.new)) 0 }
     ensures inside { (sector : ℕ) → sector < 257 → IsInside (size_of drives.new 0) sector }
 {
     match line {
@@ -141,7 +155,7 @@ fn play_counted<L: Ledger>(
     requires some { 0 < L.parts }
 {
     let mut steps = Steps::<L>::new(blank);
-    let mut drives = one_drive(alloc)?;
+    let mut drives = two_drives(alloc)?;
     drives.fail_at(failing[0])?;
     drives.fail_at(failing[1])?;
     let mut cache = Cache::new(alloc)?;
@@ -158,12 +172,12 @@ fn play(alloc: Global, failing: [u64; 2], lines: &[Line]) -> Result<(), Fail> {
     play_counted::<Brand>(alloc, Blank::new(1), failing, lines)
 }
 
-/// The second read of a sector makes no call of the drive, so that call 3 is that of another sector.
+/// The second read of a sector makes no call of the drive, so that call 4 is that of another sector.
 #[test]
 fn a_sector_that_is_read_twice_costs_one_call(rt: HostRuntime) -> Result<(), Fail> {
     play(
         rt.alloc(),
-        [3, 0],
+        [4, 0],
         &[
             Line::Reads(7, 7),
             Line::Reads(7, 7),
@@ -179,7 +193,7 @@ fn a_sector_that_is_read_twice_costs_one_call(rt: HostRuntime) -> Result<(), Fai
 fn writes_go_through(rt: HostRuntime) -> Result<(), Fail> {
     play(
         rt.alloc(),
-        [4, 5],
+        [5, 6],
         &[
             Line::Writes(1, 90),
             Line::Reads(1, 90),
@@ -193,12 +207,12 @@ fn writes_go_through(rt: HostRuntime) -> Result<(), Fail> {
     )
 }
 
-/// Of 257 sectors that are read in order the first is cached no more: to read it again is call 259.
+/// Of 257 sectors that are read in order the first is cached no more: to read it again is call 260.
 #[test]
 fn the_sector_that_was_not_used_longest_goes(rt: HostRuntime) -> Result<(), Fail> {
     play(
         rt.alloc(),
-        [259, 0],
+        [260, 0],
         &[
             Line::ReadsAll,
             Line::Reads(256, 5),
@@ -208,4 +222,52 @@ fn the_sector_that_was_not_used_longest_goes(rt: HostRuntime) -> Result<(), Fail
             Line::Reads(1, 1),
         ],
     )
+}
+
+/// What is cached stays: after two sectors were read and a third was written, none of them costs a call, so that call 6 is that
+/// of a fourth.
+#[test]
+fn other_sectors_stay_cached(rt: HostRuntime) -> Result<(), Fail> {
+    play(
+        rt.alloc(),
+        [6, 0],
+        &[
+            Line::Reads(7, 7),
+            Line::Reads(8, 8),
+            Line::Reads(7, 7),
+            Line::Reads(7, 7),
+            Line::Writes(9, 90),
+            Line::Reads(8, 8),
+            Line::Reads(7, 7),
+            Line::Reads(9, 90),
+            Line::ReadFails(10),
+        ],
+    )
+}
+
+/// Writes a sector of drive 0, and says whether drive 1 has it, whose image is the same.
+fn is_read_by_the_other<L: Ledger>(alloc: Global, blank: Blank) -> Result<bool, Fail>
+    requires name { blank.name ≡ L.name }
+    requires parts { blank.parts ≡ L.parts }
+    requires some { 0 < L.parts }
+{
+    let mut steps = Steps::<L>::new(blank);
+    let mut drives = two_drives(alloc)?;
+    let mut cache = Cache::new(alloc)?;
+    let mut out = [0; 128];
+    Ok(
+        cache.write(&mut drives, 0, 7, &[90; 128], &mut steps) == Ok(())
+            && cache.read(&mut drives, 1, 7, &mut out, &mut steps) == Ok(())
+            && out[0] == 90,
+    )
+}
+
+/// A drive may be written while another one that isn't cached has its image, and what was written is read by that one.
+#[test]
+fn a_drive_with_the_same_image_reads_what_was_written(rt: HostRuntime) -> Result<(), Fail> {
+    if is_read_by_the_other::<Brand>(rt.alloc(), Blank::new(1))? {
+        Ok(())
+    } else {
+        Err(Fail::from("drive 1 has other bytes"))
+    }
 }

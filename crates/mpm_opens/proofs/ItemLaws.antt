@@ -7,12 +7,12 @@ use Rattle.mpm_base.proofs.CountLaws.{one_if, count_cons, one_if_true, one_if_fa
 use Rattle.mpm_opens.specs.declared.kinds.FileKey.{FileKey}
 use Rattle.mpm_opens.specs.declared.kinds.Mode.{Mode}
 use Rattle.mpm_opens.specs.declared.kinds.Item.{Item}
-use Rattle.mpm_opens.specs.declared.kinds.Files.{Files}
-use Rattle.mpm_opens.specs.Kinds.{is_same_file, is_same_mode, do_modes_go_together, is_among}
+use Rattle.mpm_opens.specs.declared.limits.TheConstants.{ITEMS, ITEMS_OF_PROCESS}
+use Rattle.mpm_opens.specs.Kinds.{is_same_file, is_same_mode, do_modes_go_together}
 use Rattle.mpm_opens.specs.Items.{has_item, place_at, has_item_of, excludes, is_excluded, is_of, items_of, new_item, is_given_back, left_in, items_without}
 use Rattle.mpm_opens.specs.Opens.{is_excluding, exclude_each_other, AreItems}
-use Rattle.mpm_opens.proofs.Keys.{both, equal_numbers, is_itself, same_file, file_is_itself, same_file_back, same_number_back, same_mode_back, go_together_back, mode_is_itself}
-use Rattle.mpm_opens.proofs.Listing.{count_set, fails_at}
+use Rattle.mpm_opens.proofs.Keys.{equal_numbers, is_itself, same_file, file_is_itself, same_file_back, same_number_back, same_mode_back, go_together_back, mode_is_itself}
+use Rattle.mpm_opens.proofs.Listing.{both, count_set, fails_at}
 
 -- which item excludes another goes both ways
 clash : Bool → Bool → Bool → Bool → Bool
@@ -46,7 +46,7 @@ stands_within [] i item e = absurd (cc)
 stands_within (x ∷ xs) zero item e = omega arith
 stands_within (x ∷ xs) (suc i) item e = omega (arith, stands_within xs i item e)
 
--- a place behind an item's being put at one
+-- a place after an item was put at one
 pub at_same : (items : List (Option Item)) (i : ℕ) (item : Option Item) → i < length items → place_at (slice_set items i item) i ≡ item
 at_same items i item h = get_or-set_same items i item None h
 
@@ -108,13 +108,13 @@ pub items_changed : (items : List (Option Item)) (i : ℕ) (old new : Item) → 
     → AreItems (slice_set items i (Some new))
 unfolding items_of
 items_changed items i old new is same sound =
-    let behind = slice_set items i (Some new) in
+    let after = slice_set items i (Some new) in
     record {
       places = length-set items i (Some new) ∙ sound.places;
       once = λ p file. omega (arith, sound.once p file, count_changed (has_item_of p file) items i old new is (same_of p file old new same));
       few = λ p. omega (arith, sound.few p, count_changed (has_item (is_of p)) items i old new is (ap (λ q. q == p) same.process));
-      together = λ j k. changed_excluding items i old new is same j (place_at behind k)
-          ∙ exclude_back (place_at items j) (place_at behind k)
+      together = λ j k. changed_excluding items i old new is same j (place_at after k)
+          ∙ exclude_back (place_at items j) (place_at after k)
           ∙ changed_excluding items i old new is same k (place_at items j)
           ∙ exclude_back (place_at items k) (place_at items j)
           ∙ sound.together j k;
@@ -141,12 +141,12 @@ with_new_together : (items : List (Option Item)) (i p : ℕ) (file : FileKey) (m
     → (j k : ℕ) → exclude_each_other (place_at (slice_set items i (Some (new_item p file mode))) j) (place_at (slice_set items i (Some (new_item p file mode))) k) ≡ false
 with_new_together items i p file mode free within sound j k =
     let new : Option Item = Some (new_item p file mode) in
-    let behind = slice_set items i new in
+    let after = slice_set items i new in
     elim (is_or_not i j) [
-      | inl at ↦ ap (λ n. exclude_each_other (place_at behind n) (place_at behind k)) at
-          ∙ ap (λ x. exclude_each_other x (place_at behind k)) (at_same items i new within) ∙ with_new_excluding items i p file mode free within k
-      | inr elsewhere ↦ ap (λ x. exclude_each_other x (place_at behind k)) (at_other items i j new elsewhere) ∙ elim (is_or_not i k) [
-        | inl at ↦ ap (λ n. exclude_each_other (place_at items j) (place_at behind n)) at
+      | inl at ↦ ap (λ n. exclude_each_other (place_at after n) (place_at after k)) at
+          ∙ ap (λ x. exclude_each_other x (place_at after k)) (at_same items i new within) ∙ with_new_excluding items i p file mode free within k
+      | inr elsewhere ↦ ap (λ x. exclude_each_other x (place_at after k)) (at_other items i j new elsewhere) ∙ elim (is_or_not i k) [
+        | inl at ↦ ap (λ n. exclude_each_other (place_at items j) (place_at after n)) at
             ∙ ap (exclude_each_other (place_at items j)) (at_same items i new within)
             ∙ exclude_back (place_at items j) new ∙ new_excludes_none items p file mode free j
         | inr elsewhere' ↦ ap (exclude_each_other (place_at items j)) (at_other items i k new elsewhere') ∙ sound.together j k
@@ -176,7 +176,7 @@ with_new_once items i p file mode within is none sound q g = by_test (has_item_o
     by_test false e = omega (arith, counted, one_if_false (has_item_of q g (Some (new_item p file mode))) e, sound.once q g)
 
 with_new_few : (items : List (Option Item)) (i p : ℕ) (file : FileKey) (mode : Mode) → i < length items → place_at items i ≡ None
-    → items_of items p < 16 → AreItems items → (q : ℕ) → items_of (slice_set items i (Some (new_item p file mode))) q ≤ 16
+    → items_of items p < ITEMS_OF_PROCESS → AreItems items → (q : ℕ) → items_of (slice_set items i (Some (new_item p file mode))) q ≤ ITEMS_OF_PROCESS
 unfolding items_of
 with_new_few items i p file mode within is few sound q = by_test (p == q) refl
   where
@@ -185,7 +185,7 @@ with_new_few items i p file mode within is few sound q = by_test (p == q) refl
         let free : one_if (has_item (is_of q) (place_at items i)) ≡ 0 = ap (λ x. one_if (has_item (is_of q) x)) is in
         omega (arith, count_set (has_item (is_of q)) items i (Some (new_item p file mode)) None within)
 
-    by_test : (b : Bool) → (p == q) ≡ b → count_by (has_item (is_of q)) (slice_set items i (Some (new_item p file mode))) ≤ 16
+    by_test : (b : Bool) → (p == q) ≡ b → count_by (has_item (is_of q)) (slice_set items i (Some (new_item p file mode))) ≤ ITEMS_OF_PROCESS
     by_test true e =
         let its = ap (λ x. count_by (has_item (is_of x)) items) (equal_numbers p q e) in
         omega (arith, counted, one_if_true (p == q) e, its, few)
@@ -206,7 +206,7 @@ pub record MayBeNew (items : List (Option Item)) (i p : ℕ) (file : FileKey) (m
   pub free : place_at items i ≡ None
   pub allowed : is_excluded items p file mode ≡ false
   pub none : count_by (has_item_of p file) items ≡ 0
-  pub few : items_of items p < 16
+  pub few : items_of items p < ITEMS_OF_PROCESS
 
 pub items_with_new : (items : List (Option Item)) (i p : ℕ) (file : FileKey) (mode : Mode) → MayBeNew items i p file mode → AreItems items
     → AreItems (slice_set items i (Some (new_item p file mode)))
@@ -219,78 +219,78 @@ items_with_new items i p file mode may sound = record {
 }
 
 -- items are given back
-left_or_gone : (p : ℕ) (files : Files) (place : Option Item) → (left_in p files place ≡ place) ⊎ (left_in p files place ≡ None)
-left_or_gone p files place = by_test (has_item (is_given_back p files) place)
+left_or_gone : (p : ℕ) (among : FileKey → Bool) (place : Option Item) → (left_in p among place ≡ place) ⊎ (left_in p among place ≡ None)
+left_or_gone p among place = by_test (has_item (is_given_back p among) place)
   where
     by_test : (b : Bool) → ((if b then None else place) ≡ place) ⊎ ((if b then None else place) ≡ None)
     by_test true = inr refl
     by_test false = inl refl
 
-pub place_left : (items : List (Option Item)) (p : ℕ) (files : Files) (i : ℕ) → place_at (map (left_in p files) items) i ≡ left_in p files (place_at items i)
-place_left [] p files i = refl
-place_left (x ∷ xs) p files zero = refl
-place_left (x ∷ xs) p files (suc i) = place_left xs p files i
+pub place_left : (items : List (Option Item)) (p : ℕ) (among : FileKey → Bool) (i : ℕ) → place_at (map (left_in p among) items) i ≡ left_in p among (place_at items i)
+place_left [] p among i = refl
+place_left (x ∷ xs) p among zero = refl
+place_left (x ∷ xs) p among (suc i) = place_left xs p among i
 
--- what is so of no item, and of a place as it was, is so of it behind that
-pub so_of_left : (P : Option Item → Type 0) (p : ℕ) (files : Files) (place : Option Item) → P None → P place → P (left_in p files place)
-so_of_left P p files place of_none of_it =
-    elim (left_or_gone p files place) [
+-- what is so of no item, and of a place as it was, is so of it as it is left
+pub so_of_left : (P : Option Item → Type 0) (p : ℕ) (among : FileKey → Bool) (place : Option Item) → P None → P place → P (left_in p among place)
+so_of_left P p among place of_none of_it =
+    elim (left_or_gone p among place) [
       | inl left ↦ subst P (sym left) of_it
       | inr gone ↦ subst P (sym gone) of_none
     ]
 
-count_left : (test : Item → Bool) (p : ℕ) (files : Files) (items : List (Option Item)) → count_by (has_item test) (map (left_in p files) items) ≤ count_by (has_item test) items
-count_left test p files [] = omega arith
-count_left test p files (x ∷ xs) =
+count_left : (test : Item → Bool) (p : ℕ) (among : FileKey → Bool) (items : List (Option Item)) → count_by (has_item test) (map (left_in p among) items) ≤ count_by (has_item test) items
+count_left test p among [] = omega arith
+count_left test p among (x ∷ xs) =
     let P : Option Item → Type 0 = λ y. one_if (has_item test y) ≤ one_if (has_item test x) in
-    let here : one_if (has_item test (left_in p files x)) ≤ one_if (has_item test x) = so_of_left P p files x (omega arith) (omega arith) in
-    omega (arith, here, count_left test p files xs, count_cons (has_item test) (left_in p files x) (map (left_in p files) xs), count_cons (has_item test) x xs)
+    let here : one_if (has_item test (left_in p among x)) ≤ one_if (has_item test x) = so_of_left P p among x (omega arith) (omega arith) in
+    omega (arith, here, count_left test p among xs, count_cons (has_item test) (left_in p among x) (map (left_in p among) xs), count_cons (has_item test) x xs)
 
-left_together : (p : ℕ) (files : Files) (a b : Option Item) → exclude_each_other a b ≡ false → exclude_each_other (left_in p files a) (left_in p files b) ≡ false
-left_together p files a b e =
-    so_of_left (λ x. exclude_each_other x (left_in p files b) ≡ false) p files a refl
-    (so_of_left (λ y. exclude_each_other a y ≡ false) p files b (exclude_back a None) e)
+left_together : (p : ℕ) (among : FileKey → Bool) (a b : Option Item) → exclude_each_other a b ≡ false → exclude_each_other (left_in p among a) (left_in p among b) ≡ false
+left_together p among a b e =
+    so_of_left (λ x. exclude_each_other x (left_in p among b) ≡ false) p among a refl
+    (so_of_left (λ y. exclude_each_other a y ≡ false) p among b (exclude_back a None) e)
 
-pub items_left : (items : List (Option Item)) (p : ℕ) (files : Files) → AreItems items → AreItems (items_without items p files)
+pub items_left : (items : List (Option Item)) (p : ℕ) (among : FileKey → Bool) → AreItems items → AreItems (items_without items p among)
 unfolding items_without items_of
-items_left items p files sound = record {
-  places = length-map items (left_in p files) ∙ sound.places;
-  once = λ q file. omega (arith, sound.once q file, count_left (λ item. (item.process == q) && is_same_file item.file file) p files items);
-  few = λ q. omega (arith, sound.few q, count_left (is_of q) p files items);
+items_left items p among sound = record {
+  places = length-map items (left_in p among) ∙ sound.places;
+  once = λ q file. omega (arith, sound.once q file, count_left (λ item. (item.process == q) && is_same_file item.file file) p among items);
+  few = λ q. omega (arith, sound.few q, count_left (is_of q) p among items);
   together = λ i j.
-      ap (λ x. exclude_each_other x (place_at (map (left_in p files) items) j)) (place_left items p files i)
-      ∙ ap (exclude_each_other (left_in p files (place_at items i))) (place_left items p files j)
-      ∙ left_together p files (place_at items i) (place_at items j) (sound.together i j);
+      ap (λ x. exclude_each_other x (place_at (map (left_in p among) items) j)) (place_left items p among i)
+      ∙ ap (exclude_each_other (left_in p among (place_at items i))) (place_left items p among j)
+      ∙ left_together p among (place_at items i) (place_at items j) (sound.together i j);
   opened = λ i.
-      ap (has_item (λ item. item.count == 0)) (place_left items p files i)
-      ∙ so_of_left (λ x. has_item (λ item. item.count == 0) x ≡ false) p files (place_at items i) refl (sound.opened i);
+      ap (has_item (λ item. item.count == 0)) (place_left items p among i)
+      ∙ so_of_left (λ x. has_item (λ item. item.count == 0) x ≡ false) p among (place_at items i) refl (sound.opened i);
 }
 
 -- an item that isn't given back is there
-kept_at : (p : ℕ) (files : Files) (q : ℕ) (file : FileKey) (place : Option Item) → ((q == p) && is_among files file) ≡ false
-    → has_item_of q file (left_in p files place) ≡ has_item_of q file place
-kept_at p files q file None e = refl
-kept_at p files q file (Some item) e = by_tests (is_given_back p files item) (has_item_of q file (Some item)) refl refl
+kept_at : (p : ℕ) (among : FileKey → Bool) (q : ℕ) (file : FileKey) (place : Option Item) → ((q == p) && among file) ≡ false
+    → has_item_of q file (left_in p among place) ≡ has_item_of q file place
+kept_at p among q file None e = refl
+kept_at p among q file (Some item) e = by_tests (is_given_back p among item) (has_item_of q file (Some item)) refl refl
   where
-    its : is_given_back p files item ≡ true → has_item_of q file (Some item) ≡ true → ⊥
+    its : is_given_back p among item ≡ true → has_item_of q file (Some item) ≡ true → ⊥
     its given is =
         let same = both (item.process == q) (is_same_file item.file file) is in
-        let key = ap (λ x. (x == p) && is_among files item.file) (equal_numbers item.process q (same.0))
-        ∙ ap (λ f. (q == p) && is_among files f) (same_file item.file file (same.1)) in
+        let key = ap (λ x. (x == p) && among item.file) (equal_numbers item.process q (same.0))
+        ∙ ap (λ f. (q == p) && among f) (same_file item.file file (same.1)) in
         false≢true (sym e ∙ sym key ∙ given)
 
-    by_tests : (a b : Bool) → is_given_back p files item ≡ a → has_item_of q file (Some item) ≡ b
+    by_tests : (a b : Bool) → is_given_back p among item ≡ a → has_item_of q file (Some item) ≡ b
         → has_item_of q file (if a then None else (Some item)) ≡ has_item_of q file (Some item)
     by_tests true true given is = absurd (its given is)
     by_tests true false given is = sym is
     by_tests false b given is = refl
 
-pub count_kept : (items : List (Option Item)) (p : ℕ) (files : Files) (q : ℕ) (file : FileKey) → ((q == p) && is_among files file) ≡ false
-    → count_by (has_item_of q file) (items_without items p files) ≡ count_by (has_item_of q file) items
+pub count_kept : (items : List (Option Item)) (p : ℕ) (among : FileKey → Bool) (q : ℕ) (file : FileKey) → ((q == p) && among file) ≡ false
+    → count_by (has_item_of q file) (items_without items p among) ≡ count_by (has_item_of q file) items
 unfolding items_without
-count_kept [] p files q file e = refl
-count_kept (x ∷ xs) p files q file e =
-    omega (arith, ap one_if (kept_at p files q file x e), count_kept xs p files q file e, count_cons (has_item_of q file) (left_in p files x) (map (left_in p files) xs), count_cons (has_item_of q file) x xs)
+count_kept [] p among q file e = refl
+count_kept (x ∷ xs) p among q file e =
+    omega (arith, ap one_if (kept_at p among q file x e), count_kept xs p among q file e, count_cons (has_item_of q file) (left_in p among x) (map (left_in p among) xs), count_cons (has_item_of q file) x xs)
 
 -- none at first
 count_of_none : (test : Option Item → Bool) (n : ℕ) → test None ≡ false → count_by test (replicate n None) ≡ 0
@@ -302,12 +302,12 @@ none_at zero i = refl
 none_at (suc n) zero = refl
 none_at (suc n) (suc i) = none_at n i
 
-pub items_of_none : AreItems (replicate 64 None)
+pub items_of_none : AreItems (replicate ITEMS None)
 unfolding items_of
 items_of_none = record {
   places = refl;
-  once = λ p file. omega (arith, count_of_none (has_item_of p file) 64 refl);
-  few = λ p. omega (arith, count_of_none (has_item (is_of p)) 64 refl);
-  together = λ i j. ap (λ x. exclude_each_other x (place_at (replicate 64 None) j)) (none_at 64 i);
-  opened = λ i. ap (has_item (λ item. item.count == 0)) (none_at 64 i);
+  once = λ p file. omega (arith, count_of_none (has_item_of p file) ITEMS refl);
+  few = λ p. omega (arith, count_of_none (has_item (is_of p)) ITEMS refl);
+  together = λ i j. ap (λ x. exclude_each_other x (place_at (replicate ITEMS None) j)) (none_at ITEMS i);
+  opened = λ i. ap (has_item (λ item. item.count == 0)) (none_at ITEMS i);
 }

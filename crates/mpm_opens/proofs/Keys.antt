@@ -7,11 +7,7 @@ use Rattle.mpm_opens.specs.declared.kinds.FileKey.{FileKey}
 use Rattle.mpm_opens.specs.declared.kinds.Mode.{Mode}
 use Rattle.mpm_opens.specs.declared.kinds.Mode.TheVariants.{Locked, Unlocked, ReadOnly}
 use Rattle.mpm_opens.specs.Kinds.{is_same_file, is_same_mode, do_modes_go_together}
-
--- both sides of `&&`
-pub both : (a b : Bool) → (a && b) ≡ true → (a ≡ true) × (b ≡ true)
-both true b e = (refl, e)
-both false b e = absurd (cc)
+use Rattle.mpm_opens.proofs.Listing.{both}
 
 pub equal_numbers : (a b : ℕ) → (a == b) ≡ true → a ≡ b
 equal_numbers a b e = grind (arith, nat_tests)
@@ -79,3 +75,14 @@ pub mode_is_itself : (a : Mode) → is_same_mode a a ≡ true
 mode_is_itself Locked = refl
 mode_is_itself Unlocked = refl
 mode_is_itself ReadOnly = refl
+
+pub same_mode : (a b : Mode) → is_same_mode a b ≡ true → a ≡ b
+same_mode Locked Locked e = refl
+same_mode Locked Unlocked e = absurd (cc)
+same_mode Locked ReadOnly e = absurd (cc)
+same_mode Unlocked Locked e = absurd (cc)
+same_mode Unlocked Unlocked e = refl
+same_mode Unlocked ReadOnly e = absurd (cc)
+same_mode ReadOnly Locked e = absurd (cc)
+same_mode ReadOnly Unlocked e = absurd (cc)
+same_mode ReadOnly ReadOnly e = refl

@@ -1,4 +1,4 @@
--- What is left behind a process that gives back files or closes one: its own is gone, and all else is as it was.
+-- What is left after a process gives back files, closes one, or frees a record: its own is gone, and all else is as it was.
 use Rattle.std.proofs.Common.{◌≡◌, ◌≢◌, ◌∙◌, ℕ, zero, suc, ◌<◌, ◌≤◌, Bool, true, false, not, ◌==◌, ◌&&◌, if◌then◌else◌, List, [], ◌∷◌, Option, Some, None, length, filter, get_or, set, sym, refl, ap, arith}
 use Rattle.std.specs.Prelude.{IsSome, count_by, nat_lt, option_map}
 use Rattle.std.specs.List.{find}
@@ -10,14 +10,12 @@ use Rattle.mpm_base.proofs.CountLaws.{count_cons, one_if_true, one_if_false}
 use Rattle.mpm_opens.specs.declared.kinds.FileKey.{FileKey}
 use Rattle.mpm_opens.specs.declared.kinds.Item.{Item}
 use Rattle.mpm_opens.specs.declared.kinds.RecordLock.{RecordLock}
-use Rattle.mpm_opens.specs.declared.kinds.Files.{Files}
-use Rattle.mpm_opens.specs.declared.kinds.Files.TheVariants.{One}
-use Rattle.mpm_opens.specs.Kinds.{is_same_file, is_among}
+use Rattle.mpm_opens.specs.Kinds.{is_same_file, is_file}
 use Rattle.mpm_opens.specs.Items.{place_at, item_at, has_item_of, items_without, with_changed, closed_once}
-use Rattle.mpm_opens.specs.Locks.{is_lock_on, owner_of, is_lock_given_back, locks_without}
-use Rattle.mpm_opens.specs.Opens.{OpenFiles, AreItems, AreLocks, AreOpen, IsLive, item_of, given_back, closed, unless_owned, HasLeft, IsClosed}
-use Rattle.mpm_opens.proofs.Keys.{both, is_itself, same_file, file_is_itself}
-use Rattle.mpm_opens.proofs.Listing.{some_same, count_set, count_filter, counts_where_any, find_kept, found_counts, not_found_where_none, none_where_not_found}
+use Rattle.mpm_opens.specs.Locks.{is_lock_on, owner_of, is_lock_given_back, locks_without, is_lock_among}
+use Rattle.mpm_opens.specs.Opens.{OpenFiles, AreItems, AreLocks, AreOpen, IsLive, item_of, process_of, file_of, given_back, closed_at, unlocked, owner_left, HasLeft, IsClosed, is_record, HasUnlocked}
+use Rattle.mpm_opens.proofs.Keys.{equal_numbers, is_itself, same_file, file_is_itself}
+use Rattle.mpm_opens.proofs.Listing.{both, some_same, count_set, count_filter, counts_where_any, find_kept, found_counts, not_found_where_none, none_where_not_found}
 use Rattle.mpm_opens.proofs.ItemLaws.{at_same, at_other, stands_within, place_left}
 use Rattle.mpm_opens.proofs.OpeningLaws.{live_stands}
 
@@ -36,8 +34,8 @@ dropped : {X : Type 0} (test keep : X → Bool) (xs : List X) (x : X) → find t
 dropped test keep [] x e gone = absurd (cc)
 dropped test keep (y ∷ ys) x e gone = dropped_step test keep x y ys (test y) (keep y) refl refl gone (λ found. dropped test keep ys x found gone) e
 
--- who has a record's lock behind that
-kept_owner : (p owner : ℕ) (among : Bool) → ((owner == p) && among) ≡ false → Some owner ≡ (if among then unless_owned p (Some owner) else (Some owner))
+-- who has a record's lock after that
+kept_owner : (p owner : ℕ) (leaves : Bool) → ((owner == p) && leaves) ≡ false → Some owner ≡ owner_left leaves p (Some owner)
 kept_owner p owner false e = refl
 kept_owner p owner true e = sym (by_test (owner == p) (own (owner == p) e))
   where
@@ -49,65 +47,74 @@ kept_owner p owner true e = sym (by_test (owner == p) (own (owner == p) e))
     by_test true e = absurd (cc)
     by_test false e = refl
 
-gone_owner : (p owner : ℕ) (among : Bool) → ((owner == p) && among) ≡ true → None ≡ (if among then unless_owned p (Some owner) else (Some owner))
-gone_owner p owner among e =
-    let parts = both (owner == p) among e in
-    sym (ap (λ b. if b then unless_owned p (Some owner) else (Some owner)) (parts.1) ∙ ap (λ b. if b then None else (Some owner)) (parts.0))
+gone_owner : (p owner : ℕ) (leaves : Bool) → ((owner == p) && leaves) ≡ true → None ≡ owner_left leaves p (Some owner)
+gone_owner p owner leaves e =
+    let parts = both (owner == p) leaves e in
+    sym (ap (λ b. owner_left b p (Some owner)) (parts.1) ∙ ap (λ b. if b then None else (Some owner)) (parts.0))
 
-no_owner : (p : ℕ) (among : Bool) → None ≡ (if among then unless_owned p None else None)
+no_owner : (p : ℕ) (leaves : Bool) → None ≡ owner_left leaves p None
 no_owner p true = refl
 no_owner p false = refl
 
-isnt_kept : (b : Bool) → b ≡ true → not b ≡ false
-isnt_kept true e = refl
-isnt_kept false e = absurd (cc)
+-- a process's locks that pass a test are given back, one that says of each lock on a record whether it leaves
+abbrev whose : Option RecordLock → Option ℕ
+whose lock = option_map (λ l. l.owner) lock
 
-is_kept : (b : Bool) → b ≡ false → not b ≡ true
-is_kept true e = absurd (cc)
-is_kept false e = refl
-
-pub owners_left : (locks : List RecordLock) (p : ℕ) (files : Files) → AreLocks locks → (file : FileKey) (number : ℕ)
-    → owner_of (locks_without locks p files) file number ≡ (if is_among files file then unless_owned p (owner_of locks file number) else owner_of locks file number)
-unfolding owner_of locks_without
-owners_left locks p files sound file number = by_found (find (is_lock_on file number) locks) refl
+owner_without : (on keep : RecordLock → Bool) (locks : List RecordLock) (p : ℕ) (leaves : Bool) → count_by on locks ≤ 1
+    → ((lock : RecordLock) → on lock ≡ true → keep lock ≡ not ((lock.owner == p) && leaves))
+    → whose (find on (filter keep locks)) ≡ owner_left leaves p (whose (find on locks))
+owner_without on keep locks p leaves once means = by_found (find on locks) refl
   where
-    key : (lock : RecordLock) → is_lock_on file number lock ≡ true → is_lock_given_back p files lock ≡ ((lock.owner == p) && is_among files file)
-    key lock is = ap (λ f. (lock.owner == p) && is_among files f) (same_file lock.file file ((both (lock.number == number) (is_same_file lock.file file) is).1))
-
-    by_given : (lock : RecordLock) (b : Bool) → ((lock.owner == p) && is_among files file) ≡ b → find (is_lock_on file number) locks ≡ Some lock
-        → option_map (λ l. l.owner) (find (is_lock_on file number) (filter (λ l. not (is_lock_given_back p files l)) locks))
-        ≡ (if is_among files file then unless_owned p (Some lock.owner) else (Some lock.owner))
+    by_given : (lock : RecordLock) (b : Bool) → ((lock.owner == p) && leaves) ≡ b → find on locks ≡ Some lock
+        → whose (find on (filter keep locks)) ≡ owner_left leaves p (Some lock.owner)
     by_given lock false e found =
-        let passes = (found_counts (is_lock_on file number) locks lock found).0 in
-        let left = find_kept (is_lock_on file number) (λ l. not (is_lock_given_back p files l)) locks lock found (is_kept (is_lock_given_back p files lock) (key lock passes ∙ e)) in
-        ap (λ o. option_map (λ l. l.owner) o) left ∙ kept_owner p lock.owner (is_among files file) e
+        let passes = (found_counts on locks lock found).0 in
+        ap (λ o. whose o) (find_kept on keep locks lock found (means lock passes ∙ ap not e)) ∙ kept_owner p lock.owner leaves e
     by_given lock true e found =
-        let passes = (found_counts (is_lock_on file number) locks lock found).0 in
-        let fewer = dropped (is_lock_on file number) (λ l. not (is_lock_given_back p files l)) locks lock found (isnt_kept (is_lock_given_back p files lock) (key lock passes ∙ e)) in
-        let none : count_by (is_lock_on file number) (filter (λ l. not (is_lock_given_back p files l)) locks) ≡ 0 = omega (arith, fewer, sound.once file number) in
-        ap (λ o. option_map (λ l. l.owner) o) (not_found_where_none (is_lock_on file number) (filter (λ l. not (is_lock_given_back p files l)) locks) none)
-        ∙ gone_owner p lock.owner (is_among files file) e
+        let passes = (found_counts on locks lock found).0 in
+        let fewer = dropped on keep locks lock found (means lock passes ∙ ap not e) in
+        let none : count_by on (filter keep locks) ≡ 0 = omega (arith, fewer, once) in
+        ap (λ o. whose o) (not_found_where_none on (filter keep locks) none) ∙ gone_owner p lock.owner leaves e
 
-    by_found : (o : Option RecordLock) → find (is_lock_on file number) locks ≡ o
-        → option_map (λ l. l.owner) (find (is_lock_on file number) (filter (λ l. not (is_lock_given_back p files l)) locks))
-        ≡ (if is_among files file then unless_owned p (option_map (λ l. l.owner) (find (is_lock_on file number) locks)) else option_map (λ l. l.owner) (find (is_lock_on file number) locks))
+    by_found : (o : Option RecordLock) → find on locks ≡ o → whose (find on (filter keep locks)) ≡ owner_left leaves p (whose (find on locks))
     by_found None e =
-        let none = none_where_not_found (is_lock_on file number) locks e in
-        let left : count_by (is_lock_on file number) (filter (λ l. not (is_lock_given_back p files l)) locks) ≡ 0 =
-        omega (arith, none, count_filter (is_lock_on file number) (λ l. not (is_lock_given_back p files l)) locks) in
-        ap (λ o. option_map (λ l. l.owner) o) (not_found_where_none (is_lock_on file number) (filter (λ l. not (is_lock_given_back p files l)) locks) left)
-        ∙ no_owner p (is_among files file)
-        ∙ sym (ap (λ o. if is_among files file then unless_owned p (option_map (λ l. l.owner) o) else option_map (λ l. l.owner) o) e)
-    by_found (Some lock) e =
-        by_given lock ((lock.owner == p) && is_among files file) refl e
-        ∙ sym (ap (λ o. if is_among files file then unless_owned p (option_map (λ l. l.owner) o) else option_map (λ l. l.owner) o) e)
+        let none = none_where_not_found on locks e in
+        let left : count_by on (filter keep locks) ≡ 0 = omega (arith, none, count_filter on keep locks) in
+        ap (λ o. whose o) (not_found_where_none on (filter keep locks) left) ∙ no_owner p leaves ∙ sym (ap (λ o. owner_left leaves p (whose o)) e)
+    by_found (Some lock) e = by_given lock ((lock.owner == p) && leaves) refl e ∙ sym (ap (λ o. owner_left leaves p (whose o)) e)
+
+owners_without : (locks : List RecordLock) (p : ℕ) (test : RecordLock → Bool) → AreLocks locks → (file : FileKey) (number : ℕ) (leaves : Bool)
+    → ((lock : RecordLock) → is_lock_on file number lock ≡ true → test lock ≡ leaves)
+    → owner_of (locks_without locks p test) file number ≡ owner_left leaves p (owner_of locks file number)
+unfolding owner_of locks_without
+owners_without locks p test sound file number leaves means =
+    owner_without (is_lock_on file number) (λ lock. not (is_lock_given_back p test lock)) locks p leaves (sound.once file number)
+    (λ lock is. ap (λ b. not ((lock.owner == p) && b)) (means lock is))
+
+owners_left : (locks : List RecordLock) (p : ℕ) (among : FileKey → Bool) → AreLocks locks → (file : FileKey) (number : ℕ)
+    → owner_of (locks_without locks p (is_lock_among among)) file number ≡ owner_left (among file) p (owner_of locks file number)
+owners_left locks p among sound file number =
+    owners_without locks p (is_lock_among among) sound file number (among file)
+    (λ lock is. ap among (same_file lock.file file ((both (lock.number == number) (is_same_file lock.file file) is).1)))
+
+-- a process frees a record
+pub unlocks : (opens : OpenFiles) (p : ℕ) (file : FileKey) (number : ℕ) → AreOpen opens → HasUnlocked p file number opens (unlocked opens p file number)
+unfolding unlocked
+unlocks opens p file number are_open = record {
+  items = refl;
+  owners = λ other n. owners_without opens.locks p (is_lock_on file number) are_open.locks other n (is_record file number other n)
+      (λ lock is.
+      let same = both (lock.number == n) (is_same_file lock.file other) is in
+      ap (λ m. (m == number) && is_same_file lock.file file) (equal_numbers lock.number n (same.0))
+      ∙ ap (λ f. (n == number) && is_same_file f file) (same_file lock.file other (same.1)));
+}
 
 -- a process gives back some files
-pub leaves : (opens : OpenFiles) (p : ℕ) (files : Files) → AreOpen opens → HasLeft p files opens (given_back opens p files)
+pub leaves : (opens : OpenFiles) (p : ℕ) (among : FileKey → Bool) → AreOpen opens → HasLeft p among opens (given_back opens p among)
 unfolding given_back items_without
-leaves opens p files are_open = record {
-  items = λ number. place_left opens.items p files number;
-  owners = λ file number. owners_left opens.locks p files are_open.locks file number;
+leaves opens p among are_open = record {
+  items = λ number. place_left opens.items p among number;
+  owners = λ file number. owners_left opens.locks p among are_open.locks file number;
 }
 
 -- no two places have a process's item of a file
@@ -124,7 +131,7 @@ two_pass test xs i j d blank apart here there =
     let some = counts_where_any test (set xs i d) (list_any_at test (set xs i d) j d (passes_within test (set xs i d) j d blank also) also) in
     omega (arith, some, count_set test xs i d d within, one_if_true (test (get_or xs i d)) here, one_if_false (test d) blank)
 
-alone : (items : List (Option Item)) (number : ℕ) (k : ℕ) → AreItems items → IsSome (place_at items number) → k ≢ number
+pub alone : (items : List (Option Item)) (number : ℕ) (k : ℕ) → AreItems items → IsSome (place_at items number) → k ≢ number
     → has_item_of (item_at items number).process (item_at items number).file (place_at items k) ≡ false
 alone items number k sound live apart = by_test (has_item_of (item_at items number).process (item_at items number).file (place_at items k)) refl
   where
@@ -144,7 +151,7 @@ alone items number k sound live apart = by_test (has_item_of (item_at items numb
         ))
     by_test false e = refl
 
-more_than_one : (n : ℕ) → nat_lt 1 n ≡ true → 1 < n
+pub more_than_one : (n : ℕ) → nat_lt 1 n ≡ true → 1 < n
 more_than_one n e = grind (arith, nat_tests)
 
 at_most_one : (n : ℕ) → nat_lt 1 n ≡ false → n ≤ 1
@@ -164,7 +171,7 @@ closes_again opens number live more =
     }
 
 closes_last : (opens : OpenFiles) (number : ℕ) → AreOpen opens → IsLive opens number → (item_of opens number).count ≤ 1
-    → IsClosed number opens (given_back opens (item_of opens number).process (One (item_of opens number).file))
+    → IsClosed number opens (given_back opens (process_of opens number) (is_file (file_of opens number)))
 unfolding given_back items_without
 closes_last opens number are_open live last =
     let item = item_of opens number in
@@ -172,21 +179,21 @@ closes_last opens number are_open live last =
     let here = ap (has_item_of item.process item.file) stands
     ∙ ap (λ b. b && is_same_file item.file item.file) (is_itself item.process) ∙ file_is_itself item.file in
     record {
-      others = λ k apart. place_left opens.items item.process (One item.file) k
+      others = λ k apart. place_left opens.items item.process (is_file item.file) k
           ∙ ap (λ b. if b then None else place_at opens.items k) (alone opens.items number k are_open.items live apart);
       counted = λ more. absurd (omega (arith, last, more));
       kept = λ more. absurd (omega (arith, last, more));
-      gone = λ _. place_left opens.items item.process (One item.file) number
+      gone = λ _. place_left opens.items item.process (is_file item.file) number
           ∙ ap (λ b. if b then None else place_at opens.items number) here;
-      owners = λ _ file n. owners_left opens.locks item.process (One item.file) are_open.locks file n;
+      owners = λ _ file n. owners_left opens.locks item.process (is_file item.file) are_open.locks file n;
     }
 
-pub closes : (opens : OpenFiles) (number : ℕ) → AreOpen opens → IsLive opens number → IsClosed number opens (closed opens number)
-unfolding closed
+pub closes : (opens : OpenFiles) (number : ℕ) → AreOpen opens → IsLive opens number → IsClosed number opens (closed_at opens number)
+unfolding closed_at
 closes opens number are_open live = by_count (nat_lt 1 (item_of opens number).count) refl
   where
     by_count : (b : Bool) → nat_lt 1 (item_of opens number).count ≡ b
         → IsClosed number opens (if b then record opens { items = with_changed closed_once opens.items number }
-        else (given_back opens (item_of opens number).process (One (item_of opens number).file)))
+        else (given_back opens (process_of opens number) (is_file (file_of opens number))))
     by_count true e = closes_again opens number live (more_than_one (item_of opens number).count e)
     by_count false e = closes_last opens number are_open live (at_most_one (item_of opens number).count e)

@@ -7,3 +7,6 @@ pub mod LockLaws
 pub mod OpenLaws
 pub mod LeavingLaws
 pub mod FindingLaws
+pub mod SoundLaws
+pub mod GivingLaws
+pub mod Examples

@@ -1,4 +1,4 @@
--- Which items of a list pass a test, and how many, behind a change of the list.
+-- Which items of a list pass a test, and how many, after a change of the list.
 use Rattle.std.proofs.Common.{◌≡◌, ◌∙◌, ℕ, zero, suc, ◌+◌, ◌<◌, ◌≤◌, Bool, true, false, not, ◌&&◌, ◌||◌, if◌then◌else◌, List, [], ◌∷◌, ◌++◌, Option, Some, None, length, filter, get_or, set, cond, sym, refl, ap, arith}
 use Rattle.std.specs.Prelude.{count_by, nat_lt, position}
 use Rattle.std.specs.List.{list_any, list_all, position_or_len, find}
@@ -18,7 +18,7 @@ pub count_set : {X : Type 0} (test : X → Bool) (xs : List X) (i : ℕ) (y d : 
 count_set test xs i y d h = sum_by-set (λ x. if test x then 1 else 0) xs i y d h
 
 -- both sides of `&&`
-both : (a b : Bool) → (a && b) ≡ true → (a ≡ true) × (b ≡ true)
+pub both : (a b : Bool) → (a && b) ≡ true → (a ≡ true) × (b ≡ true)
 both true b e = (refl, e)
 both false b e = absurd (cc)
 

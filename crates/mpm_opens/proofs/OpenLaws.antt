@@ -8,11 +8,10 @@ use Rattle.mpm_opens.specs.declared.kinds.FileKey.{FileKey}
 use Rattle.mpm_opens.specs.declared.kinds.Mode.{Mode}
 use Rattle.mpm_opens.specs.declared.kinds.Item.{Item}
 use Rattle.mpm_opens.specs.declared.kinds.RecordLock.{RecordLock}
-use Rattle.mpm_opens.specs.declared.kinds.Files.{Files}
 use Rattle.mpm_opens.specs.declared.kinds.OpenRefused.{OpenRefused}
 use Rattle.mpm_opens.specs.Kinds.{is_same_file}
 use Rattle.mpm_opens.specs.Items.{no_items, has_item, place_at, item_at, has_item_of, number_of, with_changed, opened_again, closed_once, that_wrote, new_item, first_free, refusal_of, opened_at, opened, where_granted, items_added, items_without}
-use Rattle.mpm_opens.specs.Locks.{owner_of, is_freed, with_lock, has_limit, locked_by, locks_locked, without_lock, is_lock_given_back, locks_without}
+use Rattle.mpm_opens.specs.Locks.{owner_of, with_lock, has_limit, locked_by, locks_locked, is_lock_given_back, locks_without, is_lock_among}
 use Rattle.mpm_opens.specs.Opens.{has_owners_item, AreItems, AreOpen}
 use Rattle.mpm_base.proofs.CountLaws.{one_if}
 use Rattle.mpm_opens.proofs.Keys.{is_itself, file_is_itself}
@@ -27,14 +26,14 @@ unfolding no_items
 none_are_open = record { items = items_of_none; locks = no_locks; owned = refl }
 
 -- other items, of which a process has at least as many of each file
-pub with_items : (items behind : List (Option Item)) (locks : List RecordLock) → AreItems behind
-    → ((q : ℕ) (file : FileKey) → count_by (has_item_of q file) items ≤ count_by (has_item_of q file) behind)
-    → AreOpen (record { items = items; locks = locks }) → AreOpen (record { items = behind; locks = locks })
-with_items items behind locks sound more open_files = record {
+pub with_items : (items after : List (Option Item)) (locks : List RecordLock) → AreItems after
+    → ((q : ℕ) (file : FileKey) → count_by (has_item_of q file) items ≤ count_by (has_item_of q file) after)
+    → AreOpen (record { items = items; locks = locks }) → AreOpen (record { items = after; locks = locks })
+with_items items after locks sound more open_files = record {
   items = sound;
   locks = open_files.locks;
-  owned = all_still (has_owners_item items) (has_owners_item behind) locks
-      (λ lock has. any_where_counts (has_item_of lock.owner lock.file) behind
+  owned = all_still (has_owners_item items) (has_owners_item after) locks
+      (λ lock has. any_where_counts (has_item_of lock.owner lock.file) after
       (omega (arith, more lock.owner lock.file, counts_where_any (has_item_of lock.owner lock.file) items has)))
       open_files.owned;
 }
@@ -95,12 +94,12 @@ pub open_added : (items : List (Option Item)) (locks : List RecordLock) (p : ℕ
 open_added items locks p file mode open_files =
     with_items items (items_added items p file mode) locks (sound_added items p file mode open_files.items) (more_added items p file mode) open_files
 
--- locks are freed
-pub locks_freed : (items : List (Option Item)) (locks : List RecordLock) (p : ℕ) (file : FileKey) (number : ℕ)
-    → AreOpen (record { items = items; locks = locks }) → AreOpen (record { items = items; locks = without_lock locks p file number })
-unfolding without_lock
-locks_freed items locks p file number open_files =
-    let keep : RecordLock → Bool = λ lock. not (is_freed p file number lock) in
+-- a process's locks are given back
+pub locks_freed : (items : List (Option Item)) (locks : List RecordLock) (p : ℕ) (test : RecordLock → Bool)
+    → AreOpen (record { items = items; locks = locks }) → AreOpen (record { items = items; locks = locks_without locks p test })
+unfolding locks_without
+locks_freed items locks p test open_files =
+    let keep : RecordLock → Bool = λ lock. not (is_lock_given_back p test lock) in
     record {
       items = open_files.items;
       locks = locks_left keep locks open_files.locks;
@@ -108,25 +107,25 @@ locks_freed items locks p file number open_files =
     }
 
 -- items are given back with their locks
-pub open_given_back : (items : List (Option Item)) (locks : List RecordLock) (p : ℕ) (files : Files)
-    → AreOpen (record { items = items; locks = locks }) → AreOpen (record { items = items_without items p files; locks = locks_without locks p files })
+pub open_given_back : (items : List (Option Item)) (locks : List RecordLock) (p : ℕ) (among : FileKey → Bool)
+    → AreOpen (record { items = items; locks = locks }) → AreOpen (record { items = items_without items p among; locks = locks_without locks p (is_lock_among among) })
 unfolding locks_without
-open_given_back items locks p files open_files =
-    let keep : RecordLock → Bool = λ lock. not (is_lock_given_back p files lock) in
+open_given_back items locks p among open_files =
+    let keep : RecordLock → Bool = λ lock. not (is_lock_given_back p (is_lock_among among) lock) in
     record {
-      items = items_left items p files open_files.items;
+      items = items_left items p among open_files.items;
       locks = locks_left keep locks open_files.locks;
-      owned = all_left (has_owners_item items) (has_owners_item (items_without items p files)) keep locks still open_files.owned;
+      owned = all_left (has_owners_item items) (has_owners_item (items_without items p among)) keep locks still open_files.owned;
     }
   where
     isnt : (b : Bool) → not b ≡ true → b ≡ false
     isnt true e = absurd (cc)
     isnt false e = refl
 
-    still : (lock : RecordLock) → not (is_lock_given_back p files lock) ≡ true → has_owners_item items lock ≡ true → has_owners_item (items_without items p files) lock ≡ true
+    still : (lock : RecordLock) → not (is_lock_given_back p (is_lock_among among) lock) ≡ true → has_owners_item items lock ≡ true → has_owners_item (items_without items p among) lock ≡ true
     still lock kept has =
-        any_where_counts (has_item_of lock.owner lock.file) (items_without items p files)
-        (omega (arith, count_kept items p files lock.owner lock.file (isnt (is_lock_given_back p files lock) kept), counts_where_any (has_item_of lock.owner lock.file) items has))
+        any_where_counts (has_item_of lock.owner lock.file) (items_without items p among)
+        (omega (arith, count_kept items p among lock.owner lock.file (isnt (is_lock_given_back p (is_lock_among among) lock) kept), counts_where_any (has_item_of lock.owner lock.file) items has))
 
 -- a record is locked by a process that has an item of its file
 its_item : (items : List (Option Item)) (number : ℕ) → IsSome (place_at items number)

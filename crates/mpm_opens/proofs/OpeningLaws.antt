@@ -1,14 +1,14 @@
 -- What is known where a file may be opened, and that items stay sound as it is.
-use Rattle.std.proofs.Common.{◌≡◌, ◌≢◌, ◌∙◌, ℕ, ◌<◌, ◌≤◌, Bool, true, false, ◌==◌, ◌&&◌, ◌||◌, if◌then◌else◌, List, Option, Some, None, length, sym, refl, ap, subst, arith}
+use Rattle.std.proofs.Common.{◌≡◌, ◌≢◌, ◌∙◌, ℕ, ◌<◌, Bool, true, false, ◌==◌, ◌&&◌, ◌||◌, if◌then◌else◌, List, Option, Some, None, length, sym, refl, ap, subst, arith}
 use Rattle.std.specs.Prelude.{IsSome, count_by, nat_le, position, is_none, unwrap_or}
 use Rattle.std.proofs.lemmas.Bool.{false≢true}
 use Rattle.std.proofs.lemmas.Bool.Decides.{nat_tests}
-use Rattle.std.proofs.lemmas.List.{get_or_past}
 use Rattle.std.proofs.lemmas.List.Quantifiers.{position-Some}
 use Rattle.mpm_opens.specs.declared.kinds.FileKey.{FileKey}
 use Rattle.mpm_opens.specs.declared.kinds.Mode.{Mode}
 use Rattle.mpm_opens.specs.declared.kinds.Item.{Item}
 use Rattle.mpm_opens.specs.declared.kinds.OpenRefused.{OpenRefused}
+use Rattle.mpm_opens.specs.declared.limits.TheConstants.{ITEMS_OF_PROCESS, OPENINGS}
 use Rattle.mpm_opens.specs.declared.kinds.OpenRefused.TheVariants.{Incompatible, ProcessLimit, NoRoom}
 use Rattle.mpm_opens.specs.Items.{has_item, place_at, blank_item, item_at, has_item_of, is_item_of, number_of, is_named, file_where, file_named, is_excluded, items_of, is_counted_out, has_counted_out, are_full, opened_again, first_free, refusal_of, opened_at, opened, where_granted, items_added}
 use Rattle.mpm_opens.specs.Opens.{AreItems}
@@ -18,14 +18,14 @@ use Rattle.mpm_opens.proofs.ItemLaws.{IsSameItem, items_changed, items_with_new}
 -- what isn't so of a file that may be opened
 pub record MayOpen (items : List (Option Item)) (p : ℕ) (file : FileKey) (mode : Mode) : Type 0 where
   pub allowed : is_excluded items p file mode ≡ false
-  pub few : nat_le 16 (items_of items p) ≡ false
+  pub few : nat_le ITEMS_OF_PROCESS (items_of items p) ≡ false
   pub again : has_counted_out items p file ≡ false
   pub room : are_full items ≡ false
 
 pub may_open : (items : List (Option Item)) (p : ℕ) (file : FileKey) (mode : Mode) → refusal_of items p file mode ≡ None → MayOpen items p file mode
 unfolding refusal_of
 may_open items p file mode e =
-    let means = by_tests (is_excluded items p file mode) (nat_le 16 (items_of items p)) (has_counted_out items p file) (are_full items) e in
+    let means = by_tests (is_excluded items p file mode) (nat_le ITEMS_OF_PROCESS (items_of items p)) (has_counted_out items p file) (are_full items) e in
     record { allowed = means.0; few = means.1; again = means.2; room = means.3 }
   where
     by_tests : (a b c d : Bool) → (if a then Some Incompatible else (if b || c then Some ProcessLimit else (if d then Some NoRoom else None))) ≡ None
@@ -64,22 +64,16 @@ named_is_live items p number drive name file e = by_place (place_at items number
     by_place None e = absurd (cc)
     by_place (Some item) e = refl
 
-pub none_named_past : (items : List (Option Item)) (p number drive : ℕ) (name : List ℕ) → length items ≡ 64 → 64 ≤ number
-    → file_named items p number drive name ≡ None
-unfolding file_named
-none_named_past items p number drive name size past =
-    ap (file_where (is_named p drive name)) (get_or_past items number None (omega (arith, size, past)))
-
--- it was opened fewer than 255 times
+-- it was opened less often than it may be
 pub may_open_again : (items : List (Option Item)) (p : ℕ) (file : FileKey) (mode : Mode) (number : ℕ) → refusal_of items p file mode ≡ None
-    → number_of items p file ≡ Some number → (item_at items number).count ≢ 255
+    → number_of items p file ≡ Some number → (item_at items number).count ≢ OPENINGS
 unfolding has_counted_out
 may_open_again items p file mode number may e full =
     let stands = item_stands items p file number e in
     let item = item_at items number in
     let not_out = fails_at (has_item (is_counted_out p file)) items number None refl ((may_open items p file mode may).again) in
     let out : is_counted_out p file item ≡ true =
-    ap (λ b. b && (item.count == 255)) (stands.1) ∙ ap (λ n. n == 255) full in
+    ap (λ b. b && (item.count == OPENINGS)) (stands.1) ∙ ap (λ n. n == OPENINGS) full in
     false≢true (sym not_out ∙ ap (has_item (is_counted_out p file)) (stands.0) ∙ out)
 
 pub has_room : (items : List (Option Item)) (p : ℕ) (file : FileKey) (mode : Mode) → refusal_of items p file mode ≡ None → are_full items ≡ false

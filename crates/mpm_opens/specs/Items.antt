@@ -1,4 +1,4 @@
--- The files that are open: 64 places, each free or with an item, which is known by the number of its place. (MP/M II
+-- The files that are open: places, each free or with an item, which is known by the number of its place. (MP/M II
 -- Programmer's Guide, "Function 15: Open File", "Function 16: Close File".)
 use Rattle.std.specs.Prelude.{ℕ, ◌+◌, ◌-◌, ◌==◌, ◌&&◌, ◌||◌, not, Bool, true, false, List, [], Option, Some, None, Result, Ok, Err, is_none, unwrap_or, map, replicate, count_by, nat_le, if◌then◌else◌, position, bytes_eq, slice_index_or, slice_set}
 use Rattle.std.specs.List.{list_any}
@@ -8,12 +8,12 @@ use Rattle.mpm_opens.specs.declared.kinds.Mode.TheVariants.{Locked}
 use Rattle.mpm_opens.specs.declared.kinds.Item.{Item}
 use Rattle.mpm_opens.specs.declared.kinds.OpenRefused.{OpenRefused}
 use Rattle.mpm_opens.specs.declared.kinds.OpenRefused.TheVariants.{Incompatible, ProcessLimit, NoRoom}
-use Rattle.mpm_opens.specs.declared.kinds.Files.{Files}
-use Rattle.mpm_opens.specs.Kinds.{is_same_file, is_same_mode, do_modes_go_together, is_among}
+use Rattle.mpm_opens.specs.declared.limits.TheConstants.{ITEMS, ITEMS_OF_PROCESS, OPENINGS}
+use Rattle.mpm_opens.specs.Kinds.{is_same_file, is_same_mode, do_modes_go_together}
 
 -- no file is open
 unfoldable pub no_items : List (Option Item)
-no_items = replicate 64 None
+no_items = replicate ITEMS None
 
 -- what stands at a place has an item that passes a test
 abbrev pub has_item : (Item → Bool) → Option Item → Bool
@@ -81,9 +81,9 @@ is_of p item = item.process == p
 unfoldable pub items_of : List (Option Item) → ℕ → ℕ
 items_of items p = count_by (has_item (is_of p)) items
 
--- a process opened a file 255 times
+-- a process opened a file as often as it may
 abbrev pub is_counted_out : ℕ → FileKey → Item → Bool
-is_counted_out p file item = is_item_of p file item && (item.count == 255)
+is_counted_out p file item = is_item_of p file item && (item.count == OPENINGS)
 
 unfoldable pub has_counted_out : List (Option Item) → ℕ → FileKey → Bool
 has_counted_out items p file = list_any (has_item (is_counted_out p file)) items
@@ -118,7 +118,7 @@ first_free items = unwrap_or (position is_none items) 0
 unfoldable pub refusal_of : List (Option Item) → ℕ → FileKey → Mode → Option OpenRefused
 refusal_of items p file mode =
     if is_excluded items p file mode then Some Incompatible
-    else (if nat_le 16 (items_of items p) || has_counted_out items p file then Some ProcessLimit
+    else (if nat_le ITEMS_OF_PROCESS (items_of items p) || has_counted_out items p file then Some ProcessLimit
     else (if are_full items then Some NoRoom else None))
 
 -- a file is opened: once more where the process has an item of it, else by a new item in the first free place
@@ -147,12 +147,12 @@ items_added items p file mode = where_granted (refusal_of items p file mode) (op
 unfoldable pub add_answer : List (Option Item) → ℕ → FileKey → Mode → Result ℕ OpenRefused
 add_answer items p file mode = granted (refusal_of items p file mode) (opened_number items p file)
 
--- a process's items of some files are given back
-abbrev pub is_given_back : ℕ → Files → Item → Bool
-is_given_back p files item = (item.process == p) && is_among files item.file
+-- a process's items of the files that pass a test are given back
+abbrev pub is_given_back : ℕ → (FileKey → Bool) → Item → Bool
+is_given_back p among item = (item.process == p) && among item.file
 
-abbrev pub left_in : ℕ → Files → Option Item → Option Item
-left_in p files place = if has_item (is_given_back p files) place then None else place
+abbrev pub left_in : ℕ → (FileKey → Bool) → Option Item → Option Item
+left_in p among place = if has_item (is_given_back p among) place then None else place
 
-unfoldable pub items_without : List (Option Item) → ℕ → Files → List (Option Item)
-items_without items p files = map (left_in p files) items
+unfoldable pub items_without : List (Option Item) → ℕ → (FileKey → Bool) → List (Option Item)
+items_without items p among = map (left_in p among) items

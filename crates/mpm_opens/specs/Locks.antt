@@ -4,7 +4,9 @@ use Rattle.std.specs.Prelude.{ℕ, ◌==◌, ◌&&◌, ◌||◌, not, Bool, List
 use Rattle.std.specs.List.{find}
 use Rattle.mpm_opens.specs.declared.kinds.FileKey.{FileKey}
 use Rattle.mpm_opens.specs.declared.kinds.RecordLock.{RecordLock}
-use Rattle.mpm_opens.specs.declared.kinds.Files.{Files}
+use Rattle.mpm_opens.specs.declared.kinds.LockSet.{LockSet}
+use Rattle.mpm_opens.specs.declared.kinds.LockSet.TheVariants.{OnFiles, OnRecord}
+use Rattle.mpm_opens.specs.declared.limits.TheConstants.{LOCKS, LOCKS_OF_PROCESS}
 use Rattle.mpm_opens.specs.declared.kinds.LockDone.{LockDone}
 use Rattle.mpm_opens.specs.declared.kinds.LockDone.TheVariants.{Locked, Other, ProcessLimit, NoRoom}
 use Rattle.mpm_opens.specs.Kinds.{is_same_file, is_among}
@@ -31,7 +33,7 @@ with_lock locks p file number = locks ++ record { owner = p; file = file; number
 -- what becomes of a lock that a process asks for: another process has it, or the process itself, or else the first limit that
 -- is reached
 abbrev pub where_free : List RecordLock → ℕ → LockDone
-where_free locks p = if nat_le 32 (locks_of locks p) then ProcessLimit else (if nat_le 128 (length locks) then NoRoom else Locked)
+where_free locks p = if nat_le LOCKS_OF_PROCESS (locks_of locks p) then ProcessLimit else (if nat_le LOCKS (length locks) then NoRoom else Locked)
 
 abbrev pub where_owned : List RecordLock → ℕ → Option ℕ → LockDone
 where_owned locks p None = where_free locks p
@@ -42,7 +44,7 @@ lock_answer locks p file number = where_owned locks p (owner_of locks file numbe
 
 -- it is a new one where nobody has it and no limit is reached
 abbrev pub has_limit : List RecordLock → ℕ → Bool
-has_limit locks p = nat_le 32 (locks_of locks p) || nat_le 128 (length locks)
+has_limit locks p = nat_le LOCKS_OF_PROCESS (locks_of locks p) || nat_le LOCKS (length locks)
 
 abbrev pub locked_by : List RecordLock → ℕ → FileKey → ℕ → Option ℕ → List RecordLock
 locked_by locks p file number None = if has_limit locks p then locks else (with_lock locks p file number)
@@ -51,16 +53,16 @@ locked_by locks p file number (Some owner) = locks
 unfoldable pub locks_locked : List RecordLock → ℕ → FileKey → ℕ → List RecordLock
 locks_locked locks p file number = locked_by locks p file number (owner_of locks file number)
 
--- a process's lock of a record is freed; another's stays
-abbrev pub is_freed : ℕ → FileKey → ℕ → RecordLock → Bool
-is_freed p file number lock = is_owned_by p lock && is_lock_on file number lock
+-- a process's locks that pass a test are given back, and another's stay: those on some files, or that on one record
+abbrev pub is_lock_given_back : ℕ → (RecordLock → Bool) → RecordLock → Bool
+is_lock_given_back p test lock = is_owned_by p lock && test lock
 
-unfoldable pub without_lock : List RecordLock → ℕ → FileKey → ℕ → List RecordLock
-without_lock locks p file number = filter (λ lock. not (is_freed p file number lock)) locks
+unfoldable pub locks_without : List RecordLock → ℕ → (RecordLock → Bool) → List RecordLock
+locks_without locks p test = filter (λ lock. not (is_lock_given_back p test lock)) locks
 
--- a process's locks of some files are given back
-abbrev pub is_lock_given_back : ℕ → Files → RecordLock → Bool
-is_lock_given_back p files lock = is_owned_by p lock && is_among files lock.file
+abbrev pub is_lock_among : (FileKey → Bool) → RecordLock → Bool
+is_lock_among among lock = among lock.file
 
-unfoldable pub locks_without : List RecordLock → ℕ → Files → List RecordLock
-locks_without locks p files = filter (λ lock. not (is_lock_given_back p files lock)) locks
+abbrev pub is_in_set : LockSet → RecordLock → Bool
+is_in_set (OnFiles files) lock = is_lock_among (is_among files) lock
+is_in_set (OnRecord file number) lock = is_lock_on file number lock

@@ -1,28 +1,32 @@
 ghost use Rattle.std.specs.Prelude.{◌≡◌, ◌≢◌, ◌<◌, ◌==◌, false, Some, None, IsSome, IfSome, map, position, length, slice_set, is_none};
+ghost use Rattle.mpm_opens.specs.Kinds.{is_among};
 ghost use Rattle.mpm_opens.specs.Items.{has_item, has_item_of, is_named, file_where, is_anothers_of, is_anothers_on, excludes, is_of, is_counted_out, is_given_back, left_in};
 
-use crate::kinds::{FileKey, Files, Item, Mode, OpenRefused, is_process};
+use crate::kinds::{FileKey, FileSet, Item, Mode, OpenRefused, is_process};
+use crate::limits::{ITEMS, ITEMS_OF_PROCESS, OPENINGS};
 use mpm_base::Pid;
 use std::marker::Model;
 
-/// The 64 places of items.
+/// The places of items.
 #[derive(Drop)]
 pub(crate) struct Items {
-    places: [Option<Item>; 64],
+    places: [Option<Item>; ITEMS],
 }
 
 impl Model for Items {
     ghost use Rattle.std.specs.Prelude.{◌≡◌, List, Option, length};
     ghost use Rattle.mpm_opens.specs.declared.kinds.Item.{Item};
+    ghost use Rattle.mpm_opens.specs.declared.limits.TheConstants.{ITEMS};
 
     ghost Value = { List (Option Item) };
 
     ghost view = { λ i. i.places };
 
-    ghost invariant = { λ i. length i.places ≡ 64 };
+    ghost invariant = { λ i. length i.places ≡ ITEMS };
 }
 
 impl Items {
+    ghost use Rattle.mpm_opens.specs.declared.limits.TheConstants.{ITEMS, OPENINGS};
     ghost use Rattle.mpm_opens.specs.Items.{no_items, place_at, item_at, number_of, file_named, have_others, have_others_on, is_excluded, items_of, has_counted_out, are_full, first_free, with_changed, opened_again, closed_once, that_wrote, refusal_of, opened, opened_number, items_added, add_answer, items_without};
 
     /// No items.
@@ -30,14 +34,16 @@ impl Items {
     pub(crate) fn new() -> Items
         ensures { result ≡ no_items }
     {
-        Items { places: [None; 64] }
+        Items {
+            places: [None; ITEMS],
+        }
     }
 
     /// The item of a number.
     pub(crate) fn get(&self, number: u8) -> Item
         requires { IsSome (place_at self.now number) }
         ensures item { result ≡ item_at self.now number }
-        ensures within { number < 64 }
+        ensures within { number < ITEMS }
     {
         match self.places[usize::from(number)] {
             Some(item) => item,
@@ -47,7 +53,7 @@ impl Items {
 
     /// Puts an item at a place.
     fn set(&mut self, number: u8, item: Item)
-        requires { number < 64 }
+        requires { number < ITEMS }
         ensures { self.new ≡ slice_set self.old number (Some item) }
     {
         self.places[usize::from(number)] = Some(item);
@@ -56,7 +62,7 @@ impl Items {
     /// An item was opened once more.
     fn open_again(&mut self, number: u8)
         requires live { IsSome (place_at self.old number) }
-        requires few { (item_at self.old number).count ≢ 255 }
+        requires few { (item_at self.old number).count ≢ OPENINGS }
         ensures { self.new ≡ with_changed opened_again self.old number }
     {
         let item = self.get(number);
@@ -120,7 +126,7 @@ impl Items {
         if self.exclude(p, file, mode) {
             return Some(OpenRefused::Incompatible);
         }
-        if 16 <= self.count_of(p) || self.is_counted_out(p, file) {
+        if ITEMS_OF_PROCESS <= self.count_of(p) || self.is_counted_out(p, file) {
             return Some(OpenRefused::ProcessLimit);
         }
         if self.is_full() {
@@ -174,11 +180,13 @@ impl Items {
     pub(crate) fn named(&self, p: Pid, number: u8, drive: u8, name: &[u8; 11]) -> Option<FileKey>
         ensures { result ≡ file_named self.now p number drive name.now }
     {
+        // Read before the early return, which then knows how many places there are.
         let places = &self.places;
-        if 64 <= number {
+        let place = usize::from(number);
+        if ITEMS <= place {
             return None;
         }
-        named_at(&places[usize::from(number)], p, drive, name)
+        named_at(&places[place], p, drive, name)
     }
 
     /// The number of the first free place.
@@ -186,7 +194,7 @@ impl Items {
     fn first_free(&self) -> u8
         requires { are_full self.now ≡ false }
         ensures number { result ≡ first_free self.now }
-        ensures within { result < 64 }
+        ensures within { result < ITEMS }
     {
         match first_free(&self.places) {
             Some(place) => place as u8,
@@ -243,7 +251,7 @@ impl Items {
             .count()
     }
 
-    /// Whether a process opened a file 255 times.
+    /// Whether a process opened a file as often as it may.
     #[tactic(auto, unfolding(crate::specs::Items::has_counted_out))]
     fn is_counted_out(&self, p: Pid, file: &FileKey) -> bool
         ensures { result ≡ has_counted_out self.now p file.now }
@@ -255,8 +263,8 @@ impl Items {
 
     /// A process's items of some files are given back.
     #[tactic(auto, unfolding(crate::specs::Items::items_without))]
-    pub(crate) fn give_back(&mut self, p: Pid, files: &Files)
-        ensures { self.new ≡ items_without self.old p files.now }
+    pub(crate) fn give_back(&mut self, p: Pid, files: &FileSet)
+        ensures { self.new ≡ items_without self.old p (is_among files.now) }
     {
         give_back_each(&mut self.places, p, files);
     }
@@ -348,21 +356,21 @@ fn is_of_process(place: &Option<Item>, p: Pid) -> bool
     }
 }
 
-/// Whether an item that was opened 255 times stands at a place.
+/// Whether a process's item of a file, which was opened as often as it may be, stands at a place.
 fn is_last_count(place: &Option<Item>, p: Pid, file: &FileKey) -> bool
     ensures { result ≡ has_item (is_counted_out p file.now) place.now }
 {
     match place {
         Some(item) => {
-            is_process(item.process, p) && item.file.is_same(file) && item.count == 255
+            is_process(item.process, p) && item.file.is_same(file) && item.count == OPENINGS
         }
         None => false,
     }
 }
 
 /// Whether the item at a place is a process's of some files.
-fn is_given_back(place: &Option<Item>, p: Pid, files: &Files) -> bool
-    ensures { result ≡ has_item (is_given_back p files.now) place.now }
+fn is_given_back(place: &Option<Item>, p: Pid, files: &FileSet) -> bool
+    ensures { result ≡ has_item (is_given_back p (is_among files.now)) place.now }
 {
     match place {
         Some(item) => is_process(item.process, p) && files.has(&item.file),
@@ -371,8 +379,8 @@ fn is_given_back(place: &Option<Item>, p: Pid, files: &Files) -> bool
 }
 
 /// Gives back each of a process's items of some files.
-fn give_back_each(places: &mut [Option<Item>], p: Pid, files: &Files)
-    ensures { places.new ≡ map (left_in p files.now) places.old }
+fn give_back_each(places: &mut [Option<Item>], p: Pid, files: &FileSet)
+    ensures { places.new ≡ map (left_in p (is_among files.now)) places.old }
 {
     for place in places.iter_mut() {
         give_back_at(place, p, files);
@@ -380,8 +388,8 @@ fn give_back_each(places: &mut [Option<Item>], p: Pid, files: &Files)
 }
 
 /// Gives back the item at a place, if it is a process's of some files.
-fn give_back_at(place: &mut Option<Item>, p: Pid, files: &Files)
-    ensures { place.new ≡ left_in p files.now place.old }
+fn give_back_at(place: &mut Option<Item>, p: Pid, files: &FileSet)
+    ensures { place.new ≡ left_in p (is_among files.now) place.old }
 {
     if is_given_back(place, p, files) {
         *place = None;

@@ -25,27 +25,29 @@ pub enum Mode {
     ReadOnly,
 }
 
-/// Why a file isn't opened.
+/// Why a file isn't opened: the first of these that is so, and the extended error that a file call answers for it. (MP/M II
+/// Programmer's Guide, "BDOS Error Handling".)
 #[derive(Clone, Copy, Debug, PartialEq, Eq)]
 pub enum OpenRefused {
-    /// It is open in a mode beside which this one can't be.
+    /// It is open in a mode beside which this one can't be: extended error 5.
     Incompatible,
-    /// The process has 16 open files, or opened this one 255 times.
+    /// The process has 16 open files, or opened this one 255 times: extended error 10.
     ProcessLimit,
-    /// 64 files are open in all.
+    /// 64 files are open in all: extended error 11.
     NoRoom,
 }
 
-/// What became of a lock that was asked for.
+/// What became of a lock that was asked for: the first of these that is so, `Locked` where none of the others is, and the code
+/// that a file call answers for it. (MP/M II Programmer's Guide, "Function 42: Lock Record".)
 #[derive(Clone, Copy, Debug, PartialEq, Eq)]
 pub enum LockDone {
-    /// The process has it, from now on or since before.
+    /// The process has it, from now on or since before, whatever the limits: code 0.
     Locked,
-    /// Another process has it.
+    /// Another process has it: code 8.
     Other { owner: Pid },
-    /// The process has 32 locks.
+    /// The process has 32 locks: code 12.
     ProcessLimit,
-    /// 128 records are locked in all.
+    /// 128 records are locked in all: code 14.
     NoRoom,
 }
 
@@ -71,10 +73,17 @@ pub(crate) struct RecordLock {
 
 /// Some of the files.
 #[derive(Clone, Copy)]
-pub(crate) enum Files {
+pub(crate) enum FileSet {
     All,
     OnDrive(u8),
     One(FileKey),
+}
+
+/// Some of the locks: those on some files, or that on one record.
+#[derive(Clone, Copy)]
+pub(crate) enum LockSet {
+    OnFiles(FileSet),
+    OnRecord { file: FileKey, number: u32 },
 }
 
 impl FileKey {
@@ -111,15 +120,15 @@ impl Mode {
     }
 }
 
-impl Files {
+impl FileSet {
     /// Whether a file is one of them.
     pub(crate) fn has(&self, file: &FileKey) -> bool
         ensures { result ≡ is_among self.now file.now }
     {
         match self {
-            Files::All => true,
-            Files::OnDrive(drive) => file.drive == *drive,
-            Files::One(one) => file.is_same(one),
+            FileSet::All => true,
+            FileSet::OnDrive(drive) => file.drive == *drive,
+            FileSet::One(one) => file.is_same(one),
         }
     }
 }

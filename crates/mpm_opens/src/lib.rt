@@ -4,6 +4,7 @@
 
 mod items;
 mod kinds;
+mod limits;
 mod locks;
 mod opens;
 

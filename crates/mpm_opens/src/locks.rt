@@ -1,30 +1,33 @@
-ghost use Rattle.std.specs.Prelude.{◌≡◌, ◌<◌, ◌≤◌, ◌==◌, ◌&&◌, [], ◌∷◌, ◌++◌, length};
-ghost use Rattle.mpm_opens.specs.Locks.{is_lock_on, is_owned_by, is_freed, is_lock_given_back};
+ghost use Rattle.std.specs.Prelude.{◌≡◌, ◌<◌, ◌≤◌, [], ◌∷◌, ◌++◌, length};
+ghost use Rattle.mpm_opens.specs.Locks.{is_in_set};
 
-use crate::kinds::{FileKey, Files, LockDone, RecordLock, is_process};
+use crate::kinds::{FileKey, LockDone, LockSet, RecordLock, is_process};
+use crate::limits::{LOCKS, LOCKS_OF_PROCESS};
 use mpm_base::Pid;
 use std::marker::Model;
 
-/// At most 128 locks, in the order in which they were made: the first `count` of `locks`.
+/// The locks, in the order in which they were made: the first `count` of `locks`.
 #[derive(Drop)]
 pub(crate) struct Locks {
     count: usize,
-    locks: [RecordLock; 128],
+    locks: [RecordLock; LOCKS],
 }
 
 impl Model for Locks {
     ghost use Rattle.std.specs.Prelude.{◌≤◌, List, take};
     ghost use Rattle.mpm_opens.specs.declared.kinds.RecordLock.{RecordLock};
+    ghost use Rattle.mpm_opens.specs.declared.limits.TheConstants.{LOCKS};
 
     ghost Value = { List RecordLock };
 
     ghost view = { λ l. take l.count l.locks };
 
-    ghost invariant = { λ l. l.count ≤ 128 };
+    ghost invariant = { λ l. l.count ≤ LOCKS };
 }
 
 impl Locks {
-    ghost use Rattle.mpm_opens.specs.Locks.{owner_of, locks_of, lock_answer, locks_locked, without_lock, locks_without};
+    ghost use Rattle.mpm_opens.specs.declared.limits.TheConstants.{LOCKS};
+    ghost use Rattle.mpm_opens.specs.Locks.{owner_of, locks_of, lock_answer, locks_locked, locks_without};
 
     /// No locks.
     pub(crate) fn new() -> Locks
@@ -41,7 +44,7 @@ impl Locks {
         };
         Locks {
             count: 0,
-            locks: [blank; 128],
+            locks: [blank; LOCKS],
         }
     }
 
@@ -54,7 +57,7 @@ impl Locks {
 
     /// One more lock, behind the others.
     fn push(&mut self, lock: RecordLock)
-        requires { length self.old < 128 }
+        requires { length self.old < LOCKS }
         ensures { self.new ≡ self.old ++ lock ∷ [] }
     {
         self.locks[self.count] = lock;
@@ -64,7 +67,7 @@ impl Locks {
     /// The locks, in order.
     fn as_slice(&self) -> &[RecordLock]
         ensures value { result.now ≡ self.now }
-        ensures few { length result.now ≤ 128 }
+        ensures few { length result.now ≤ LOCKS }
     {
         &self.locks[..self.count]
     }
@@ -105,10 +108,10 @@ impl Locks {
                 LockDone::Other { owner }
             };
         }
-        if 32 <= self.count_of(p) {
+        if LOCKS_OF_PROCESS <= self.count_of(p) {
             return LockDone::ProcessLimit;
         }
-        if 128 <= self.len() {
+        if LOCKS <= self.len() {
             return LockDone::NoRoom;
         }
         self.push(RecordLock {
@@ -119,26 +122,13 @@ impl Locks {
         LockDone::Locked
     }
 
-    /// Frees a process's lock of a record, if it has it.
-    pub(crate) fn free(&mut self, p: Pid, file: &FileKey, number: u32)
-        ensures { self.new ≡ without_lock self.old p file.now number }
+    /// Gives back a process's locks of some.
+    pub(crate) fn give_back(&mut self, p: Pid, locks: &LockSet)
+        ensures { self.new ≡ locks_without self.old p (is_in_set locks.now) }
     {
         let mut left = Locks::new();
         for &lock in self.as_slice() {
-            if !lock.is_freed(p, file, number) {
-                left.push(lock);
-            }
-        }
-        *self = left;
-    }
-
-    /// Gives back a process's locks of some files.
-    pub(crate) fn give_back(&mut self, p: Pid, files: &Files)
-        ensures { self.new ≡ locks_without self.old p files.now }
-    {
-        let mut left = Locks::new();
-        for &lock in self.as_slice() {
-            if !lock.is_given_back(p, files) {
+            if !lock.is_given_back(p, locks) {
                 left.push(lock);
             }
         }
@@ -146,9 +136,21 @@ impl Locks {
     }
 }
 
+impl LockSet {
+    /// Whether a lock is one of them.
+    fn has(&self, lock: &RecordLock) -> bool
+        ensures { result ≡ is_in_set self.now lock.now }
+    {
+        match self {
+            LockSet::OnFiles(files) => files.has(&lock.file),
+            LockSet::OnRecord { file, number } => lock.is_on(file, *number),
+        }
+    }
+}
+
 impl RecordLock {
     ghost use Rattle.std.specs.Prelude.{◌≡◌};
-    ghost use Rattle.mpm_opens.specs.Locks.{is_lock_on, is_freed, is_lock_given_back};
+    ghost use Rattle.mpm_opens.specs.Locks.{is_lock_on, is_lock_given_back, is_in_set};
 
     /// Whether it is on a record of a file.
     fn is_on(&self, file: &FileKey, number: u32) -> bool
@@ -157,17 +159,10 @@ impl RecordLock {
         self.number == number && self.file.is_same(file)
     }
 
-    /// Whether it goes where a process frees a record.
-    fn is_freed(&self, p: Pid, file: &FileKey, number: u32) -> bool
-        ensures { result ≡ is_freed p file.now number self.now }
+    /// Whether it goes where a process gives back some.
+    fn is_given_back(&self, p: Pid, locks: &LockSet) -> bool
+        ensures { result ≡ is_lock_given_back p (is_in_set locks.now) self.now }
     {
-        is_process(self.owner, p) && self.is_on(file, number)
-    }
-
-    /// Whether it goes where a process gives back some files.
-    fn is_given_back(&self, p: Pid, files: &Files) -> bool
-        ensures { result ≡ is_lock_given_back p files.now self.now }
-    {
-        is_process(self.owner, p) && files.has(&self.file)
+        is_process(self.owner, p) && locks.has(self)
     }
 }

@@ -1,8 +1,8 @@
 ghost use Rattle.std.specs.Prelude.{◌≡◌, not, Some, IfSome, IfOk, OnErr};
-ghost use Rattle.mpm_opens.specs.declared.kinds.Files.TheVariants.{All, OnDrive, One};
+ghost use Rattle.mpm_opens.specs.Kinds.{is_file, is_on_drive, is_any, is_among};
 
 use crate::items::Items;
-use crate::kinds::{FileKey, Files, LockDone, Mode, OpenRefused};
+use crate::kinds::{FileKey, FileSet, LockDone, LockSet, Mode, OpenRefused};
 use crate::locks::Locks;
 use mpm_base::Pid;
 use std::marker::Model;
@@ -28,12 +28,13 @@ impl Model for Opens {
 impl Opens {
     ghost use Rattle.mpm_opens.specs.Items.{number_of, file_named, have_others, have_others_on, refusal_of, add_answer};
     ghost use Rattle.mpm_opens.specs.Locks.{owner_of, lock_answer};
-    ghost use Rattle.mpm_opens.specs.Opens.{AreOpen, IsLive, item_of, none_open, added, given_back, closed, written, locked, unlocked, HasLeft, IsClosed};
+    ghost use Rattle.mpm_opens.specs.Opens.{AreOpen, IsLive, item_of, process_of, file_of, IsItemOf, none_open, added, given_back, closed_at, closed, written_at, written, locked, unlocked, HasLeft, IsOpened, IsClosed, HasNoted, HasLocked, HasUnlocked, IfLocked, UnlessLocked};
 
     /// Nothing is open, nothing is locked.
     #[tactic(auto, unfolding(crate::specs::Opens::none_open))]
     pub fn new() -> Opens
-        ensures { result ≡ none_open }
+        ensures opens { result ≡ none_open }
+        ensures sound { AreOpen result }
     {
         Opens {
             items: Items::new(),
@@ -49,26 +50,33 @@ impl Opens {
         ensures answer { result ≡ add_answer self.old.items p file mode }
         ensures named { IfOk result (λ item. number_of self.new.items p file ≡ Some item) }
         ensures live { IfOk result (λ item. IsLive self.new item) }
+        ensures its { IfOk result (λ item. IsItemOf self.new p file item) }
+        ensures opened { IfOk result (λ item. IsOpened p file mode item self.old self.new) }
         ensures refused { OnErr result (self.new ≡ self.old) }
+        ensures sound { AreOpen self.new }
     {
         self.items.add(p, file, mode)
     }
 
     /// The number of a process's item of a file.
-    #[tactic(auto, using(crate::proofs::OpeningLaws::number_is_live))]
+    #[tactic(auto, using(crate::proofs::OpeningLaws::number_is_live, crate::proofs::FindingLaws::is_its_item))]
     pub fn item(&self, p: Pid, file: FileKey) -> Option<u8>
         ensures number { result ≡ number_of self.now.items p file }
         ensures live { IfSome result (λ item. IsLive self.now item) }
+        ensures its { IfSome result (λ item. IsItemOf self.now p file item) }
     {
         self.items.number_of(p, &file)
     }
 
-    /// The file of an item that a process names by number, drive and name, as a file control block does; none where the number is
-    /// none of its items, or of another file. The user isn't looked at. (MP/M II Programmer's Guide, "File Control Block".)
-    #[tactic(auto, using(crate::proofs::OpeningLaws::named_is_live))]
+    /// The file of an item that a process names as a file control block does: by the item's number, `drive`, 0 to 15 for A to P,
+    /// and `name`, without the attributes in bit 7. None where the number is none of its items, 64 and more among them, or the
+    /// item's file is another. The user isn't looked at: the answer has that of the item. (MP/M II Programmer's Guide, "File
+    /// Control Block".)
+    #[tactic(auto, using(crate::proofs::OpeningLaws::named_is_live, crate::proofs::FindingLaws::is_named_item))]
     pub fn named(&self, p: Pid, item: u8, drive: u8, name: &[u8; 11]) -> Option<FileKey>
         ensures file { result ≡ file_named self.now.items p item drive name.now }
         ensures live { IfSome result (λ _. IsLive self.now item) }
+        ensures its { IfSome result (λ file. IsItemOf self.now p file item) }
     {
         self.items.named(p, item, drive, name)
     }
@@ -106,37 +114,52 @@ impl Opens {
     /// "Function 16: Close File".)
     pub fn close(&mut self, item: u8)
         requires { IsLive self.old item }
-        ensures opens { self.new ≡ closed self.old item }
+        ensures opens { self.new ≡ closed self.old (process_of self.old item) (file_of self.old item) }
         ensures closed { IsClosed item self.old self.new }
+        ensures sound { AreOpen self.new }
     {
+        // Reading a field tells that all is sound, which the clauses need.
         let _ = &self.items;
         self.close_once(item);
     }
 
     /// Closes an item once.
-    #[tactic(auto, unfolding(crate::specs::Opens::closed))]
+    #[tactic(auto, unfolding(crate::specs::Opens::closed_at))]
     fn close_once(&mut self, item: u8)
         requires { IsLive self.old item }
-        ensures { self.new ≡ closed self.old item }
+        ensures { self.new ≡ closed_at self.old item }
     {
         let found = self.items.get(item);
         if 1 < found.count {
             self.items.close_once(item);
         } else {
-            self.let_go(found.process, &Files::One(found.file));
+            self.let_go(found.process, &FileSet::One(found.file));
         }
     }
 
     /// Notes that a record was written by way of an item, and answers whether that is the first.
-    #[tactic(auto, unfolding(crate::specs::Opens::written))]
     pub fn wrote(&mut self, item: u8) -> bool
         requires { IsLive self.old item }
-        ensures opens { self.new ≡ written self.old item }
+        ensures opens { self.new ≡ written self.old (process_of self.old item) (file_of self.old item) }
         ensures first { result ≡ not (item_of self.old item).has_written }
+        ensures noted { HasNoted item self.old self.new }
+        ensures live { IsLive self.new item }
+        ensures sound { AreOpen self.new }
     {
+        // Reading a field tells that all is sound, which the clauses need.
+        let _ = &self.items;
         let first = !self.has_written(item);
-        self.items.note_written(item);
+        self.note_written(item);
         first
+    }
+
+    /// Notes that a record was written by way of an item.
+    #[tactic(auto, unfolding(crate::specs::Opens::written_at))]
+    fn note_written(&mut self, item: u8)
+        requires { IsLive self.old item }
+        ensures { self.new ≡ written_at self.old item }
+    {
+        self.items.note_written(item);
     }
 
     /// Whether a record was written by way of an item.
@@ -147,13 +170,28 @@ impl Opens {
         self.items.get(item).has_written
     }
 
-    /// Locks a record of an item's file for its process, if nobody else has it. (MP/M II Programmer's Guide, "Function 42: Lock
-    /// Record".)
-    #[tactic(auto, unfolding(crate::specs::Opens::locked))]
+    /// Locks a record of an item's file for its process, if nobody else has it; a refused call changes nothing. (MP/M II
+    /// Programmer's Guide, "Function 42: Lock Record".)
     pub fn lock(&mut self, item: u8, number: u32) -> LockDone
         requires { IsLive self.old item }
-        ensures opens { self.new ≡ locked self.old item number }
-        ensures answer { result ≡ lock_answer self.old.locks (item_of self.old item).process (item_of self.old item).file number }
+        ensures opens { self.new ≡ locked self.old (process_of self.old item) (file_of self.old item) number }
+        ensures answer { result ≡ lock_answer self.old.locks (process_of self.old item) (file_of self.old item) number }
+        ensures locked { IfLocked result (HasLocked (process_of self.old item) (file_of self.old item) number self.old self.new) }
+        ensures refused { UnlessLocked result (self.new ≡ self.old) }
+        ensures live { IsLive self.new item }
+        ensures sound { AreOpen self.new }
+    {
+        // Reading a field tells that all is sound, which the clauses need.
+        let _ = &self.items;
+        self.ask_lock(item, number)
+    }
+
+    /// Asks for the lock of a record.
+    #[tactic(auto, unfolding(crate::specs::Opens::locked))]
+    fn ask_lock(&mut self, item: u8, number: u32) -> LockDone
+        requires { IsLive self.old item }
+        ensures opens { self.new ≡ locked self.old (process_of self.old item) (file_of self.old item) number }
+        ensures answer { result ≡ lock_answer self.old.locks (process_of self.old item) (file_of self.old item) number }
     {
         let found = self.items.get(item);
         self.locks.lock(found.process, found.file, number)
@@ -161,13 +199,32 @@ impl Opens {
 
     /// Frees a record of an item's file, if its process has the lock. (MP/M II Programmer's Guide, "Function 43: Unlock
     /// Record".)
-    #[tactic(auto, unfolding(crate::specs::Opens::unlocked))]
     pub fn unlock(&mut self, item: u8, number: u32)
         requires { IsLive self.old item }
-        ensures { self.new ≡ unlocked self.old item number }
+        ensures opens { self.new ≡ unlocked self.old (process_of self.old item) (file_of self.old item) number }
+        ensures unlocked { HasUnlocked (process_of self.old item) (file_of self.old item) number self.old self.new }
+        ensures live { IsLive self.new item }
+        ensures sound { AreOpen self.new }
+    {
+        // Reading a field tells that all is sound, which the clauses need.
+        let _ = &self.items;
+        self.free_lock(item, number);
+    }
+
+    /// Frees a record of an item's file.
+    #[tactic(auto, unfolding(crate::specs::Opens::unlocked))]
+    fn free_lock(&mut self, item: u8, number: u32)
+        requires { IsLive self.old item }
+        ensures { self.new ≡ unlocked self.old (process_of self.old item) (file_of self.old item) number }
     {
         let found = self.items.get(item);
-        self.locks.free(found.process, &found.file, number);
+        self.locks.give_back(
+            found.process,
+            &LockSet::OnRecord {
+                file: found.file,
+                number,
+            },
+        );
     }
 
     /// Who has the lock of a record.
@@ -181,43 +238,48 @@ impl Opens {
     /// A process's items on a drive are given back, however often they were opened, with its locks there. (MP/M II Programmer's
     /// Guide, "Function 39: Free Drive".)
     pub fn leave_drive(&mut self, p: Pid, drive: u8)
-        ensures opens { self.new ≡ given_back self.old p (OnDrive drive) }
-        ensures left { HasLeft p (OnDrive drive) self.old self.new }
+        ensures opens { self.new ≡ given_back self.old p (is_on_drive drive) }
+        ensures left { HasLeft p (is_on_drive drive) self.old self.new }
+        ensures sound { AreOpen self.new }
     {
-        self.give_back_files(p, &Files::OnDrive(drive));
+        self.give_back_files(p, &FileSet::OnDrive(drive));
     }
 
     /// A process's item of a file is given back, if it has one, however often it was opened, with its locks there.
     pub fn leave_file(&mut self, p: Pid, file: FileKey)
-        ensures opens { self.new ≡ given_back self.old p (One file) }
-        ensures left { HasLeft p (One file) self.old self.new }
+        ensures opens { self.new ≡ given_back self.old p (is_file file) }
+        ensures left { HasLeft p (is_file file) self.old self.new }
+        ensures sound { AreOpen self.new }
     {
-        self.give_back_files(p, &Files::One(file));
+        self.give_back_files(p, &FileSet::One(file));
     }
 
     /// All items and locks of a process are given back.
     pub fn give_back(&mut self, p: Pid)
-        ensures opens { self.new ≡ given_back self.old p All }
-        ensures left { HasLeft p All self.old self.new }
+        ensures opens { self.new ≡ given_back self.old p is_any }
+        ensures left { HasLeft p is_any self.old self.new }
+        ensures sound { AreOpen self.new }
     {
-        self.give_back_files(p, &Files::All);
+        self.give_back_files(p, &FileSet::All);
     }
 
     /// A process's items of some files are given back, with its locks there: nothing of these is left, and all else is as it was.
-    fn give_back_files(&mut self, p: Pid, files: &Files)
-        ensures opens { self.new ≡ given_back self.old p files.now }
-        ensures left { HasLeft p files.now self.old self.new }
+    fn give_back_files(&mut self, p: Pid, files: &FileSet)
+        ensures opens { self.new ≡ given_back self.old p (is_among files.now) }
+        ensures left { HasLeft p (is_among files.now) self.old self.new }
+        ensures sound { AreOpen self.new }
     {
+        // Reading a field tells that all is sound, which the clauses need.
         let _ = &self.items;
         self.let_go(p, files);
     }
 
     /// Gives back a process's items of some files and its locks there.
     #[tactic(auto, unfolding(crate::specs::Opens::given_back))]
-    fn let_go(&mut self, p: Pid, files: &Files)
-        ensures { self.new ≡ given_back self.old p files.now }
+    fn let_go(&mut self, p: Pid, files: &FileSet)
+        ensures { self.new ≡ given_back self.old p (is_among files.now) }
     {
         self.items.give_back(p, files);
-        self.locks.give_back(p, files);
+        self.locks.give_back(p, &LockSet::OnFiles(*files));
     }
 }

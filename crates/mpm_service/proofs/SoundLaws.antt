@@ -72,6 +72,7 @@ sound_starting service p waiting sound first is =
 
 -- who doesn't wait doesn't leave
 pub nothing_left : (service : DiskService) (p : ℕ) → in_list p service.waiting ≡ false → left_by service p ≡ service
+unfolding left_by
 nothing_left service p absent = ap (λ (ms : List Member). record service { waiting = ms }) (without_slot_absent service.waiting p absent)
 
 pub served_stays : (service : DiskService) (p : ℕ) → IsSound service → IfSome service.served (λ call. call.p ≡ p → in_list p service.waiting ≡ false)
@@ -117,6 +118,10 @@ after_answer call turn_steps service answer some is said =
     let begun : HasBegun service = subst (λ (o : Option Served). IfSome o (λ now. 0 < now.left)) (sym is)
     (left_after (call.passed + 1 == turn_steps) (call.left == 1) call some (λ apart. grind (arith, nat_tests))) in
     subst (λ (t : Turn). IsAfter t service) (sym said) (answer_so (call.passed + 1 == turn_steps) (call.left == 1) call.p service begun)
+
+-- who is served stays, and what is so of its turns
+pub stays_begun : (old new : DiskService) → new.served ≡ old.served → HasBegun old → HasBegun new
+stays_begun old new same begun = subst (λ (o : Option Served). IfSome o (λ call. 0 < call.left)) (sym same) begun
 
 -- a call that is in service has begun
 pub has_begun : (service : DiskService) (call : Served) → HasBegun service → service.served ≡ Some call → 0 < call.left

@@ -14,19 +14,19 @@ pub record DiskService : Type 0 where
   pub served : Option Served
 
 -- nobody waits or is served
-abbrev pub no_service : ℕ → DiskService
+unfoldable pub no_service : ℕ → DiskService
 no_service turn_steps = record { turn_steps = turn_steps; waiting = []; served = None }
 
 -- one more call waits, behind all of equal or better priority
-abbrev pub entered : DiskService → ℕ → ℕ → DiskService
+unfoldable pub entered : DiskService → ℕ → ℕ → DiskService
 entered service p priority = record service { waiting = put_in service.waiting (record { slot = p; priority = priority }) }
 
 -- a process waits no more
-abbrev pub left_by : DiskService → ℕ → DiskService
+unfoldable pub left_by : DiskService → ℕ → DiskService
 left_by service p = record service { waiting = without_slot p service.waiting }
 
 -- whose call is in service
-abbrev pub served_process : DiskService → Option ℕ
+unfoldable pub served_process : DiskService → Option ℕ
 served_process service = option_map (λ call. call.p) service.served
 
 -- one step of a call's turn: it is the turn's last where no more are left of it
@@ -58,7 +58,7 @@ abbrev pub served_after : ℕ → Option Served → Option ℕ → Option Served
 served_after turn_steps (Some call) first = after_step turn_steps call
 served_after turn_steps None first = option_map starting first
 
-abbrev pub turned : DiskService → DiskService
+unfoldable pub turned : DiskService → DiskService
 turned service = record service {
   waiting = waiting_after service.served (first_of service.waiting) service.waiting;
   served = served_after service.turn_steps service.served (first_of service.waiting);
@@ -69,14 +69,14 @@ answer_by turn_steps (Some call) first = step_answer turn_steps call
 answer_by turn_steps None (Some p) = Starts p
 answer_by turn_steps None None = Idle
 
-abbrev pub turn_answer : DiskService → Turn
+unfoldable pub turn_answer : DiskService → Turn
 turn_answer service = answer_by service.turn_steps service.served (first_of service.waiting)
 
 -- the call that has entered service takes so many turns
 abbrev pub with_turns : ℕ → Served → Served
 with_turns turns call = record { p = call.p; left = turns; passed = 0 }
 
-abbrev pub begun : DiskService → ℕ → DiskService
+unfoldable pub begun : DiskService → ℕ → DiskService
 begun service turns = record service { served = option_map (with_turns turns) service.served }
 
 -- the call in service, if there is one, has turns left; or it has just entered service, and has none yet

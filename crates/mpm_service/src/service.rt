@@ -53,8 +53,11 @@ impl Service {
     ghost use Rattle.mpm_service.specs.Turns.{TakesTurns};
 
     /// Nobody waits or is served. A turn has `disk_turn` steps; where that is 0 no call may wait.
+    #[tactic(auto, unfolding(crate::specs::Disk::no_service))]
     pub fn new(disk_turn: u32) -> Service
-        ensures { result ≡ no_service disk_turn }
+        ensures service { result ≡ no_service disk_turn }
+        ensures steps { result.turn_steps ≡ disk_turn }
+        ensures begun { HasBegun result }
     {
         Service {
             turn_steps: disk_turn,
@@ -64,11 +67,15 @@ impl Service {
     }
 
     /// A process's call waits from now on, behind all of equal or better priority (0 is best, 255 worst).
+    #[tactic(auto, using(crate::proofs::SoundLaws::stays_begun), unfolding(crate::specs::Disk::entered))]
     pub fn enter(&mut self, p: Pid, priority: u8)
         requires steps { 0 < self.old.turn_steps }
         requires waits { in_list p self.old.waiting ≡ false }
         requires served { IfSome self.old.served (λ call. call.p ≢ p) }
-        ensures { self.new ≡ entered self.old p priority }
+        ensures service { self.new ≡ entered self.old p priority }
+        ensures steps { self.new.turn_steps ≡ self.old.turn_steps }
+        ensures same { self.new.served ≡ self.old.served }
+        ensures begun { HasBegun self.old → HasBegun self.new }
     {
         self.waiting.put(p, priority);
     }
@@ -76,13 +83,14 @@ impl Service {
     /// A step of the disk. After the `last` turn of a call it is made once more, so that the next call enters service.
     ///
     /// It asks that `begin` followed each `Starts`.
-    #[tactic(auto, using(crate::proofs::SoundLaws::has_begun, crate::proofs::SoundLaws::after_answer, crate::proofs::SoundLaws::last_ends))]
+    #[tactic(auto, using(crate::proofs::SoundLaws::has_begun, crate::proofs::SoundLaws::after_answer, crate::proofs::SoundLaws::last_ends), unfolding(crate::specs::Disk::turned, crate::specs::Disk::turn_answer))]
     pub fn turn(&mut self) -> Turn
         requires begun { HasBegun self.old }
         ensures service { self.new ≡ turned self.old }
         ensures answer { result ≡ turn_answer self.old }
         ensures after { IsAfter result self.new }
         ensures last { (p : ℕ) → result ≡ Turn.Work p true → self.new.served ≡ None }
+        ensures steps { self.new.turn_steps ≡ self.old.turn_steps }
     {
         match self.served {
             Some(call) => {
@@ -95,11 +103,13 @@ impl Service {
     }
 
     /// The first call that waits enters service, if one does.
+    #[tactic(auto, unfolding(crate::specs::Disk::turned, crate::specs::Disk::turn_answer))]
     fn start(&mut self) -> Turn
         requires { self.old.served ≡ None }
         ensures service { self.new ≡ turned self.old }
         ensures answer { result ≡ turn_answer self.old }
         ensures after { IsAfter result self.new }
+        ensures steps { self.new.turn_steps ≡ self.old.turn_steps }
     {
         let Some(p) = self.waiting.first() else {
             return Turn::Idle;
@@ -114,12 +124,14 @@ impl Service {
     }
 
     /// The call that has just entered service takes so many turns, of which the first begins with the next step.
+    #[tactic(auto, unfolding(crate::specs::Disk::begun))]
     pub fn begin(&mut self, turns: u32)
         requires entered { HasEntered self.old }
         requires some { 0 < turns }
         ensures service { self.new ≡ begun self.old turns }
         ensures begun { HasBegun self.new }
         ensures turns { IfSome self.new.served (TakesTurns self.new.turn_steps turns) }
+        ensures steps { self.new.turn_steps ≡ self.old.turn_steps }
     {
         if let Some(call) = self.served {
             self.served = Some(Served {
@@ -131,23 +143,28 @@ impl Service {
     }
 
     /// Drops the call of a process that waits; false, and nothing changes, exactly where it doesn't wait, as who is served.
-    #[tactic(auto, using(crate::proofs::SoundLaws::gone, crate::proofs::SoundLaws::nothing_left, crate::proofs::SoundLaws::served_stays))]
+    #[tactic(auto, using(crate::proofs::SoundLaws::gone, crate::proofs::SoundLaws::nothing_left, crate::proofs::SoundLaws::served_stays, crate::proofs::SoundLaws::stays_begun), unfolding(crate::specs::Disk::left_by))]
     pub fn leave(&mut self, p: Pid) -> bool
         ensures service { self.new ≡ left_by self.old p }
         ensures answer { result ≡ in_list p self.old.waiting }
         ensures gone { in_list p self.new.waiting ≡ false }
         ensures nothing { result ≡ false → self.new ≡ self.old }
         ensures served { IfSome self.old.served (λ call. call.p ≡ p → result ≡ false) }
+        ensures steps { self.new.turn_steps ≡ self.old.turn_steps }
+        ensures same { self.new.served ≡ self.old.served }
+        ensures begun { HasBegun self.old → HasBegun self.new }
     {
         self.waiting.remove(p)
     }
 
     /// The process whose call is in service, none exactly where none is.
+    #[tactic(auto, unfolding(crate::specs::Disk::served_process))]
     pub fn serving(&self) -> Option<Pid>
         ensures served { result ≡ served_process self.now }
         ensures sound { IsSound self.now }
         ensures waiting { IsWaitList self.now.waiting }
     {
+        // Asked only for what is so of the list, which the clause `waiting` says.
         let _first = self.waiting.first();
         match self.served {
             Some(call) => Some(call.p),
@@ -157,7 +174,15 @@ impl Service {
 }
 
 impl Served {
-    ghost use Rattle.mpm_service.specs.Disk.{after_step, step_answer};
+    ghost use Rattle.mpm_service.specs.Disk.{is_last_step, after_step, step_answer};
+
+    /// Whether one more step is the last of its turn.
+    fn is_last_step(&self, turn_steps: u32) -> bool
+        requires { self.now.passed < turn_steps }
+        ensures { result ≡ is_last_step turn_steps self.now }
+    {
+        self.passed + 1 == turn_steps
+    }
 
     /// The call after one more step, none where that was the last of its last turn.
     #[tactic(auto, unfolding(crate::specs::Disk::after_step))]
@@ -166,7 +191,7 @@ impl Served {
         requires begun { 0 < self.now.left }
         ensures { result ≡ after_step turn_steps self.now }
     {
-        if self.passed + 1 < turn_steps {
+        if !self.is_last_step(turn_steps) {
             return Some(Served {
                 p: self.p,
                 left: self.left,
@@ -189,7 +214,7 @@ impl Served {
         requires { self.now.passed < turn_steps }
         ensures { result ≡ step_answer turn_steps self.now }
     {
-        if self.passed + 1 < turn_steps {
+        if !self.is_last_step(turn_steps) {
             return Turn::Passing;
         }
         Turn::Work {

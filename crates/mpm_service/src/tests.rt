@@ -28,6 +28,7 @@ enum Line {
 }
 
 /// Puts a process into the list; false where it waits or is served.
+#[tactic(auto, unfolding(crate::specs::Disk::entered, crate::specs::Disk::left_by, crate::specs::Disk::served_process))]
 fn enter(service: &mut Service, p: u8, priority: u8) -> bool
     requires steps { 0 < service.old.turn_steps }
     requires begun { HasBegun service.old }
@@ -88,6 +89,7 @@ fn served(service: &Service) -> Option<u8> {
 }
 
 /// Plays a line, and says whether what is seen is as it says.
+#[tactic(auto, unfolding(crate::specs::Disk::left_by))]
 fn passes(service: &mut Service, line: Line) -> bool
     requires steps { 0 < service.old.turn_steps }
     requires begun { HasBegun service.old }
@@ -234,6 +236,7 @@ fn only_who_waits_leaves(_rt: HostRuntime) -> Result<(), Fail> {
 
 /// Where turns have no steps nobody waits, and each step is idle.
 #[test]
+#[tactic(auto, unfolding(crate::specs::Disk::no_service, crate::specs::Disk::turned, crate::specs::Disk::turn_answer))]
 fn without_turns_all_steps_are_idle(rt: HostRuntime) {
     let mut service = Service::new(0);
     assert_eq!(rt; service.turn(), Turn::Idle);

@@ -1,12 +1,17 @@
 use Rattle.std.proofs.Common.{◌≡◌, ℕ, List, ap, sym, subst, ◌∙◌}
 use Rattle.mpm_cache.specs.declared.cache.Place.{Place}
-use Rattle.mpm_cache.specs.Cached.{cached_at, SameCached}
-use Rattle.mpm_cache.proofs.CachedLaws.{same_promoted, none_promoted, if_none}
+use Rattle.mpm_cache.specs.Cached.{cached_at, used, SameCached}
+use Rattle.mpm_cache.proofs.CachedLaws.{used_promoted, same_promoted, none_promoted, if_none}
 use Rattle.mpm_cache.proofs.cache.Cache.find.Goals as goal
 
 pub returns-clause-found : goal.returns-clause-found
 unfolding cached_at
 returns-clause-found c = c.copied.ensures ∙ c.get.ensures.value ∙ ap (λ es. cached_at es c.args.drive c.args.sector) c.self.view_is
+
+pub returns-clause-used : goal.returns-clause-used
+returns-clause-used c =
+    subst (λ (es : List (Place × List ℕ)). c.get.follows.lender-at-none.entries ≡ used c.args.drive c.args.sector es) c.self.view_is
+    (used_promoted c.args.drive c.args.sector c.self.inside.sectors.entries c.get.follows.lender-at-none.entries (ap (λ l. l.entries) c.get.follows.holds-at-none))
 
 pub returns-clause-same : goal.returns-clause-same
 returns-clause-same c =

@@ -1,7 +1,17 @@
-use Rattle.mpm_cache.proofs.HonestLaws.{honest_read}
+use Rattle.std.proofs.Common.{refl}
+use Rattle.mpm_cache.proofs.CoherentLaws.{coherent_read}
+use Rattle.mpm_cache.proofs.AliasLaws.{apart_read, apart_same}
 use Rattle.mpm_cache.proofs.cache.Cache.read_through.Goals as goal
 
-pub returns-in-Ok-clause-honest : goal.returns-in-Ok-clause-honest
-returns-in-Ok-clause-honest g c =
-    honest_read c.args.self.now c.keep.new.self (g.D.Drives.disks c.args.drives.now) (g.D.Drives.disks c.read.new.self) c.args.drive c.args.sector _
-    c.keep.ensures c.read.ensures.disks c.in-Ok.ensures.bytes c.requires.honest
+pub returns-in-Ok-clause-coherent : goal.returns-in-Ok-clause-coherent
+returns-in-Ok-clause-coherent g c =
+    coherent_read c.args.self.now c.keep.new.self (g.D.Drives.disks c.args.drives.now) (g.D.Drives.disks c.read.new.self) c.args.drive c.args.sector _
+    c.keep.ensures.kept c.read.ensures.disks c.in-Ok.ensures.bytes c.requires.coherent
+
+pub returns-in-Ok-clause-apart : goal.returns-in-Ok-clause-apart
+returns-in-Ok-clause-apart g c =
+    apart_read c.args.drive c.args.sector _ c.args.self.now c.keep.new.self (g.D.Drives.disks c.args.drives.now) (g.D.Drives.disks c.read.new.self) c.keep.ensures.kept c.read.ensures.disks
+
+pub returns-in-Err-clause-apart : goal.returns-in-Err-clause-apart
+returns-in-Err-clause-apart g c =
+    apart_same c.args.drive c.args.self.now c.args.self.now (g.D.Drives.disks c.args.drives.now) (g.D.Drives.disks c.read.new.self) (λ d s. refl) c.read.ensures.disks
