@@ -3,4 +3,6 @@ pub mod Positions
 pub mod Sizes
 pub mod UsedTo
 pub mod Laws
+pub mod Written
+pub mod ToldImages
 pub mod Examples

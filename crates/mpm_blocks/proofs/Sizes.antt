@@ -1,8 +1,8 @@
 -- Sizes of the kinds of disks.
-use Rattle.std.proofs.Common.{◌≡◌, ℕ, ◌+◌, ◌-◌, ◌*◌, ◌/◌, ◌≤◌, arith, refl, if◌then◌else◌}
+use Rattle.std.proofs.Common.{◌≡◌, ◌+◌, ◌*◌, ◌≤◌, arith, refl, if◌then◌else◌}
 use Rattle.mpm_base.specs.declared.kind.Kind.{Kind}
 use Rattle.mpm_base.specs.declared.kind.Kind.TheVariants.{Ibm3740, Hd4, Hd8}
-use Rattle.mpm_blocks.specs.Geometries.{geometry_of, last_block, block_records, Parameters, parameters_of, logical_sectors, system_sectors}
+use Rattle.mpm_blocks.specs.Geometries.{geometry_of, last_block, block_records, parameters_of, logical_sectors, system_sectors}
 
 pub last_small : (kind : Kind) → last_block kind ≤ 2047
 last_small Ibm3740 = omega arith

@@ -1,2 +1,3 @@
 pub mod Geometries
 pub mod Maps
+pub mod Sectors

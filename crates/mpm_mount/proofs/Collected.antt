@@ -1,14 +1,14 @@
 -- A map that is collected from a list, when one item of the list is replaced.
-use Rattle.std.proofs.Common.{◌≡◌, ◌≢◌, ℕ, zero, suc, ◌+◌, ◌<◌, Bool, true, false, cond, ◌||◌, List, [], ◌∷◌, ◌++◌, length, get_or, take, drop, refl, sym, ap, subst, ◌∙◌, arith, inl, inr}
-use Rattle.std.specs.Prelude.{Option, Some, None, is_some, slice_set}
+use Rattle.std.proofs.Common.{◌≡◌, ℕ, zero, suc, ◌<◌, Bool, true, false, cond, List, [], ◌∷◌, length, get_or, refl, sym, ap, ◌∙◌, arith}
+use Rattle.std.specs.Prelude.{Option, Some, None, slice_set}
 use Rattle.std.specs.List.{list_any}
 use Rattle.std.specs.declared.cmp.Ordering.{Ordering}
-use Rattle.std.specs.declared.cmp.Ordering.TheVariants.{Less, Equal, Greater}
+use Rattle.std.specs.declared.cmp.Ordering.TheVariants.{Equal}
 use Rattle.std.specs.Ordering.{eq_by_cmp, is_eq}
-use Rattle.std.specs.Cmp.{IsTotalOrder}
-use Rattle.std.specs.FinMap.{FinMap, IsAntisymmetric, get, insert, remove, empty, get-empty, get-insert, get-remove, same_map}
+use Rattle.std.specs.Cmp.{IsTotalOrder, Equal-is}
+use Rattle.std.specs.FinMap.{FinMap, IsAntisymmetric, get, get-empty, get-insert, get-remove, same_map}
 use Rattle.std.proofs.lemmas.List.{length-set, get_or-set_same}
-use Rattle.std.proofs.lemmas.Bool.{true≢false, false≢true, cases_Bool, or_parts, cond-true, cond-false}
+use Rattle.std.proofs.lemmas.Bool.{false≢true, or_parts, cond-true, cond-false}
 use Rattle.mpm_mount.specs.Images.{collected}
 use Rattle.mpm_mount.specs.Directories.{others}
 use Rattle.mpm_mount.specs.Changes.{with_pair, without_pair}
@@ -80,11 +80,6 @@ one_alike : {K X : Type 0} (R : K → K → Ordering) → IsTotalOrder R → (q 
 one_alike R o q x tied None = refl
 one_alike R o q x tied (Some item) = ap is_eq (o.congr q x item.0 tied)
 
-equal_of : (r : Ordering) → is_eq r ≡ true → r ≡ Equal
-equal_of Less here = absurd (false≢true here)
-equal_of Equal here = refl
-equal_of Greater here = absurd (false≢true here)
-
 tied_alike : {K X : Type 0} (R : K → K → Ordering) → IsTotalOrder R → (q x : K) → R q x ≡ Equal → (items : List (Option (K × X))) → list_any (ties R q) items ≡ list_any (ties R x) items
 tied_alike R o q x tied items = any_alike (ties R q) (ties R x) items (λ item. one_alike R o q x tied item)
 
@@ -109,10 +104,10 @@ abbrev pub StandsAlone : {K X : Type 0} (R : K → K → Ordering) → Option (K
 StandsAlone R None rest = Unit {0}
 StandsAlone R (Some item) rest = list_any (ties R item.0) rest ≡ false
 
-alone_at : {K X : Type 0} (R : K → K → Ordering) → IsTotalOrder R → (item : Option (K × X)) (rest : List (Option (K × X))) (q : K) → StandsAlone R item rest → ties R q item ≡ true
+pub alone_at : {K X : Type 0} (R : K → K → Ordering) → IsTotalOrder R → (item : Option (K × X)) (rest : List (Option (K × X))) (q : K) → StandsAlone R item rest → ties R q item ≡ true
     → list_any (ties R q) rest ≡ false
 alone_at R o None rest q alone here = absurd (false≢true here)
-alone_at R o (Some item) rest q alone here = tied_alike R o q item.0 (equal_of (R q item.0) here) rest ∙ alone
+alone_at R o (Some item) rest q alone here = tied_alike R o q item.0 ((Equal-is (R q item.0)).0 here) rest ∙ alone
 
 scanned_value : {K X : Type 0} (R : K → K → Ordering) (q : K) (items : List (Option (K × X))) (i : ℕ) (item : Option (K × X)) → i < length items
     → get_or items i None ≡ item → ties R q item ≡ true → list_any (ties R q) (others items i) ≡ false → scanned R q items ≡ value_of item

@@ -1,5 +1,5 @@
 -- Two slots of a directory without a fault have different entries of files, XFCBs and labels.
-use Rattle.std.proofs.Common.{◌≡◌, ◌≢◌, ℕ, ◌+◌, ◌<◌, ◌≤◌, ◌==◌, Bool, true, false, ◌&&◌, inl, inr, List, [], ◌∷◌, ◌++◌, Option, Some, None, length, get_or, take, refl, sym, ap, subst, ◌∙◌, arith, eq-eqb}
+use Rattle.std.proofs.Common.{◌≡◌, ℕ, ◌<◌, ◌==◌, Bool, true, false, ◌&&◌, inl, inr, List, Some, None, length, get_or, take, refl, sym, ap, ◌∙◌, arith, eq-eqb}
 use Rattle.std.specs.Prelude.{bytes_eq, is_some, if◌then◌else◌}
 use Rattle.std.specs.List.{list_any}
 use Rattle.std.specs.Cmp.Lexicographic.{bytes_decides}
@@ -11,11 +11,12 @@ use Rattle.mpm_dirent.specs.declared.kinds.FileEntry.{FileEntry}
 use Rattle.mpm_dirent.specs.declared.kinds.XfcbEntry.{XfcbEntry}
 use Rattle.mpm_dirent.specs.declared.kinds.LabelEntry.{LabelEntry}
 use Rattle.mpm_mount.specs.declared.slots.EntryName.{EntryName}
-use Rattle.mpm_mount.specs.Drives.{FileName, entry_number}
+use Rattle.mpm_mount.specs.Drives.{entry_number}
 use Rattle.mpm_mount.specs.Faults.{plain, extent_of, name_of, is_named, is_label, is_xfcb, cause_of, first_fault}
 use Rattle.mpm_mount.specs.Directories.{others}
 use Rattle.mpm_mount.proofs.FirstFault.{faultless_at}
 use Rattle.mpm_mount.proofs.Others.{others_none}
+use Rattle.mpm_mount.proofs.Orders.{same_entry}
 use Rattle.mpm_mount.proofs.Sound.{sound_at, any_earlier}
 
 -- a name that an entry has is its own
@@ -26,13 +27,10 @@ name_parts kind f name named =
     let two = and_parts (bytes_eq (plain f.name) name.name) (entry_number kind (extent_of f) == name.number) one.1 in
     (eqb-true f.user name.user one.0, (bytes_decides (plain f.name) name.name).0 two.0, eqb-true (entry_number kind (extent_of f)) name.number two.1)
 
-same_name : (a b : EntryName) → a.user ≡ b.user → a.name ≡ b.name → a.number ≡ b.number → a ≡ b
-same_name a b user name number = λ i. record { user = user i; name = name i; number = number i }
-
 pub name_is : (kind : Kind) (f : FileEntry) (name : EntryName) → is_named kind name (File f) ≡ true → name_of kind f ≡ name
 name_is kind f name named =
     let parts = name_parts kind f name named in
-    same_name (name_of kind f) name parts.0 parts.1 parts.2
+    same_entry (name_of kind f) name parts.0 parts.1 parts.2
 
 pub own_name : (kind : Kind) (f : FileEntry) → is_named kind (name_of kind f) (File f) ≡ true
 own_name kind f =

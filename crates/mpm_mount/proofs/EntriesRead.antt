@@ -1,5 +1,5 @@
 -- Directory entries, as they are read sector by sector.
-use Rattle.std.proofs.Common.{◌≡◌, ℕ, zero, suc, ◌+◌, ◌*◌, ◌/◌, ◌%◌, ◌<◌, ◌≤◌, Bool, List, [], ◌∷◌, ◌++◌, length, map, refl, sym, ap, subst, ◌∙◌, arith}
+use Rattle.std.proofs.Common.{◌≡◌, ℕ, zero, suc, ◌+◌, ◌*◌, ◌/◌, ◌%◌, ◌<◌, Bool, List, [], ◌∷◌, ◌++◌, length, map, refl, sym, ap, subst, ◌∙◌, arith}
 use Rattle.std.specs.Prelude.{Option, Some, None, IfSome}
 use Rattle.std.specs.List.{range_with_len}
 use Rattle.std.proofs.lemmas.List.{append-nil, append_assoc, length-append}
@@ -7,12 +7,12 @@ use Rattle.std.proofs.lemmas.List.FromFn.{map-range_with_len_more}
 use Rattle.mpm_base.specs.declared.kind.Kind.{Kind}
 use Rattle.mpm_base.specs.declared.kind.Kind.TheVariants.{Ibm3740, Hd4, Hd8}
 use Rattle.mpm_blocks.specs.Geometries.{geometry_of, place_of}
+use Rattle.mpm_blocks.specs.Sectors.{told_image, Sectors, sectors_of}
+use Rattle.mpm_blocks.proofs.ToldImages.{told_read}
 use Rattle.mpm_port.specs.Disks.{Disks, image_of, sector_of}
-use Rattle.mpm_mount.specs.Mounting.{told_image}
-use Rattle.mpm_mount.proofs.Telling.{told_read}
 use Rattle.mpm_dirent.specs.declared.kinds.Entry.{Entry}
 use Rattle.mpm_dirent.specs.Entries.{part, entry_of}
-use Rattle.mpm_mount.specs.Images.{Sectors, sectors_of, slot_entry, entries_to, entries_in, entries_of}
+use Rattle.mpm_mount.specs.Images.{slot_entry, entries_to, entries_in}
 use Rattle.mpm_mount.proofs.Ranges.{plus_zero, zero_plus, plus_one, map_same}
 
 split : {X : Type 0} (f : ℕ → X) (m n : ℕ) → map f (range_with_len 0 (m + n)) ≡ map f (range_with_len 0 m) ++ map (λ k. f (m + k)) (range_with_len 0 n)

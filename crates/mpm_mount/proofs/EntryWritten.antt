@@ -1,40 +1,34 @@
 -- A directory entry that is written in the place of another: the image stands for the drive in which the one replaces the other.
-use Rattle.std.proofs.Common.{◌≡◌, ◌≢◌, ℕ, suc, ◌+◌, ◌-◌, ◌*◌, ◌/◌, ◌%◌, ◌<◌, ◌≤◌, ◌==◌, ◌⊎◌, Bool, true, false, inl, inr, List, [], ◌∷◌, Option, Some, None, map, length, get_or, take, drop, refl, sym, ap, ◌∙◌, arith, eq-eqb}
+use Rattle.std.proofs.Common.{◌≡◌, ◌≢◌, ℕ, suc, ◌+◌, ◌*◌, ◌/◌, ◌%◌, ◌<◌, ◌≤◌, ◌==◌, ◌⊎◌, Bool, inl, inr, List, [], ◌∷◌, Some, None, map, length, get_or, refl, sym, ap, subst, ◌∙◌, arith, eq-eqb}
 use Rattle.std.specs.Prelude.{slice_set, if◌then◌else◌}
 use Rattle.std.specs.List.{range_with_len}
 use Rattle.std.specs.FinMap.{FinMap}
 use Rattle.std.proofs.lemmas.Bool.{cases_eq, cases_order}
-use Rattle.std.proofs.lemmas.List.{length-set, length-drop, length-take-le, get_or-set_same, get_or-set_other, ext_get_or}
+use Rattle.std.proofs.lemmas.List.{length-set, get_or-set_same, get_or-set_other, ext_get_or}
 use Rattle.std.proofs.lemmas.List.FromFn.{length-map-range_with_len}
 use Rattle.mpm_base.specs.declared.kind.Kind.{Kind}
 use Rattle.mpm_base.specs.declared.kind.Kind.TheVariants.{Ibm3740, Hd4, Hd8}
 use Rattle.mpm_blocks.specs.Geometries.{geometry_of, block_records, logical_sectors, place_of}
+use Rattle.mpm_blocks.specs.Sectors.{Sectors, sectors_of, with_slot, SectorWritten}
+use Rattle.mpm_blocks.proofs.Written.{spliced_size, spliced_here, spliced_kept, written_size, written_again, sectors_written, sector_size}
 use Rattle.mpm_dirent.specs.declared.kinds.Entry.{Entry}
 use Rattle.mpm_dirent.specs.declared.kinds.Entry.TheVariants.{Free, File, Xfcb, Label, Kept}
-use Rattle.mpm_dirent.specs.declared.kinds.FileEntry.{FileEntry}
 use Rattle.mpm_dirent.specs.Entries.{part, entry_of}
 use Rattle.mpm_port.specs.Disks.{with_sector}
 use Rattle.mpm_mount.specs.Drives.{entry_cmp, PhysicalExtent, Drive, places}
-use Rattle.mpm_mount.specs.Faults.{name_of, block_at, first_fault}
-use Rattle.mpm_mount.specs.Images.{Sectors, sectors_of, slot_entry, entries_to, entries_of, contents_of, extent_in, extent_from, collected, drive_of}
-use Rattle.mpm_mount.specs.Directories.{Directory, entry_in, with_entry, Stands}
-use Rattle.mpm_mount.specs.Changes.{exchanged, with_slot, SectorWritten}
+use Rattle.mpm_mount.specs.Faults.{name_of, block_at, cause_of, first_fault}
+use Rattle.mpm_mount.specs.Images.{slot_entry, entries_to, entries_of, contents_of, extent_in, extent_from, collected, drive_of}
+use Rattle.mpm_mount.specs.Directories.{others, Directory, entry_in, with_entry, Stands}
+use Rattle.mpm_mount.specs.Changes.{exchanged}
 use Rattle.mpm_mount.specs.Using.{IsInside}
 use Rattle.mpm_mount.proofs.Ranges.{map_same, map_at}
 use Rattle.mpm_mount.proofs.UsedBlocks.{inside_at}
 use Rattle.mpm_mount.proofs.Replaced.{old_inside}
-use Rattle.mpm_mount.proofs.Written.{from_to, place_inside, spliced_size, spliced_here, spliced_kept, written_size, sectors_written}
+use Rattle.mpm_mount.proofs.Still.{still_faultless}
 use Rattle.mpm_mount.proofs.Unheld.{behind_directory}
 use Rattle.mpm_mount.proofs.Exchanged.{drive_exchanged}
 
-pub sector_size : (kind : Kind) (image : List ℕ) (s : ℕ) → length image ≡ (geometry_of kind).bytes → s < logical_sectors kind → length (sectors_of image kind s) ≡ 128
-unfolding sectors_of
-sector_size kind image s whole h =
-    let a : ℕ = 128 * place_of kind s in
-    ap (λ n. length (take n (drop a image))) (from_to a)
-    ∙ length-take-le 128 (drop a image) (omega (arith, length-drop a image, place_inside kind s h))
-
-directory_within : (kind : Kind) (slot : ℕ) → slot < (geometry_of kind).drm + 1 → slot / 4 < logical_sectors kind
+pub directory_within : (kind : Kind) (slot : ℕ) → slot < (geometry_of kind).drm + 1 → slot / 4 < logical_sectors kind
 directory_within Ibm3740 slot h = omega arith
 directory_within Hd4 slot h = omega arith
 directory_within Hd8 slot h = omega arith
@@ -45,7 +39,7 @@ places_of_slots i slot apart sector = elim (cases_order i slot) [
   | inr other ↦ elim other [ inl less ↦ inl (omega arith) | inr more ↦ inr (omega arith) ]
 ]
 
-slot_room : (slot : ℕ) (sector : List ℕ) → length sector ≡ 128 → 32 * (slot % 4) + 32 ≤ length sector
+pub slot_room : (slot : ℕ) (sector : List ℕ) → length sector ≡ 128 → 32 * (slot % 4) + 32 ≤ length sector
 slot_room slot sector size = omega arith
 
 -- the entry in each slot
@@ -130,14 +124,15 @@ drive_behind kind old new slot bytes entries written h faultless =
 
 -- one directory entry written in the place of another
 pub entry_written : (image : List ℕ) (d : Directory) (files : Drive) (slot : ℕ) (bytes : List ℕ) → Stands image d files → slot < (geometry_of d.kind).drm + 1
-    → slot < length d.entries → length bytes ≡ 32 → first_fault d.kind (slice_set d.entries slot (entry_of bytes (geometry_of d.kind).wide)) ≡ None
+    → slot < length d.entries → length bytes ≡ 32 → cause_of d.kind (others d.entries slot) (entry_of bytes (geometry_of d.kind).wide) ≡ None
     → Stands (with_sector image (place_of d.kind (slot / 4)) (with_slot (sectors_of image d.kind (slot / 4)) (slot % 4) bytes))
     (with_entry d slot (entry_of bytes (geometry_of d.kind).wide))
     (exchanged (sectors_of image d.kind) files (entry_in d slot) (entry_of bytes (geometry_of d.kind).wide))
-entry_written image d files slot bytes stands h inside size after =
+entry_written image d files slot bytes stands h inside size none =
     let s : ℕ = slot / 4 in
     let old = sectors_of image d.kind in
     let entry : Entry = entry_of bytes (geometry_of d.kind).wide in
+    let after : first_fault d.kind (slice_set d.entries slot entry) ≡ None = still_faultless d.kind d.entries slot entry stands.faultless inside none in
     let within : s < logical_sectors d.kind = directory_within d.kind slot h in
     let whole : length (old s) ≡ 128 = sector_size d.kind image s stands.size within in
     let sector : List ℕ = with_slot (old s) (slot % 4) bytes in
@@ -152,3 +147,45 @@ entry_written image d files slot bytes stands h inside size after =
           ∙ sym (drive_exchanged old d.kind d.entries slot entry stands.faultless inside after)
           ∙ sym (drive_behind d.kind old new slot sector (slice_set d.entries slot entry) written h after);
     }
+
+-- a sector of the directory with one entry written has its size
+slot_size : (kind : Kind) (image : List ℕ) (slot : ℕ) (bytes : List ℕ) → length image ≡ (geometry_of kind).bytes → slot < (geometry_of kind).drm + 1 → length bytes ≡ 32
+    → length (with_slot (sectors_of image kind (slot / 4)) (slot % 4) bytes) ≡ 128
+slot_size kind image slot bytes whole h size =
+    let sector : List ℕ = sectors_of image kind (slot / 4) in
+    let long : length sector ≡ 128 = sector_size kind image (slot / 4) whole (directory_within kind slot h) in
+    spliced_size sector bytes (32 * (slot % 4)) 32 size (slot_room slot sector long) ∙ long
+
+-- what bytes mean to a directory; an image with an entry written, and with another one of the same sector
+abbrev read_by : Directory → List ℕ → Entry
+read_by d bytes = entry_of bytes (geometry_of d.kind).wide
+
+abbrev image_with : List ℕ → Kind → ℕ → List ℕ → List ℕ
+image_with image kind slot bytes = with_sector image (place_of kind (slot / 4)) (with_slot (sectors_of image kind (slot / 4)) (slot % 4) bytes)
+
+abbrev image_with_two : List ℕ → Kind → ℕ → List ℕ → ℕ → List ℕ → List ℕ
+image_with_two image kind slot bytes other more =
+    with_sector image (place_of kind (slot / 4)) (with_slot (with_slot (sectors_of image kind (slot / 4)) (slot % 4) bytes) (other % 4) more)
+
+pub two_written : (image : List ℕ) (d : Directory) (files : Drive) (slot other : ℕ) (bytes more : List ℕ) → Stands image d files → slot < (geometry_of d.kind).drm + 1
+    → slot < length d.entries → other < (geometry_of d.kind).drm + 1 → other < length d.entries → other / 4 ≡ slot / 4 → length bytes ≡ 32 → length more ≡ 32
+    → cause_of d.kind (others d.entries slot) (read_by d bytes) ≡ None → cause_of d.kind (others (slice_set d.entries slot (read_by d bytes)) other) (read_by d more) ≡ None
+    → Stands (image_with_two image d.kind slot bytes other more) (with_entry (with_entry d slot (read_by d bytes)) other (read_by d more))
+    (exchanged (sectors_of (image_with image d.kind slot bytes) d.kind) (exchanged (sectors_of image d.kind) files (entry_in d slot) (read_by d bytes))
+    (entry_in (with_entry d slot (read_by d bytes)) other) (read_by d more))
+two_written image d files slot other bytes more stands h inside k within same size long none none_more =
+    let s : ℕ = slot / 4 in
+    let sector : List ℕ = with_slot (sectors_of image d.kind s) (slot % 4) bytes in
+    let mid : List ℕ = image_with image d.kind slot bytes in
+    let one : Directory = with_entry d slot (read_by d bytes) in
+    let files_one : Drive = exchanged (sectors_of image d.kind) files (entry_in d slot) (read_by d bytes) in
+    let room : s < logical_sectors d.kind = directory_within d.kind slot h in
+    let whole : length sector ≡ 128 = slot_size d.kind image slot bytes stands.size h size in
+    let written = sectors_written d.kind image sector s stands.size whole room in
+    let stands_one = entry_written image d files slot bytes stands h inside size none in
+    let stands_two = entry_written mid one files_one other more stands_one k (omega (arith, length-set d.entries slot (read_by d bytes))) long none_more in
+    let is : image_with mid d.kind other more ≡ image_with_two image d.kind slot bytes other more =
+    ap (λ (t : ℕ). with_sector mid (place_of d.kind t) (with_slot (sectors_of mid d.kind t) (other % 4) more)) same
+    ∙ ap (λ (bs : List ℕ). with_sector mid (place_of d.kind s) (with_slot bs (other % 4) more)) written.here
+    ∙ written_again d.kind image sector (with_slot sector (other % 4) more) s stands.size whole room in
+    subst (λ (i : List ℕ). Stands i (with_entry one other (read_by d more)) (exchanged (sectors_of mid d.kind) files_one (entry_in one other) (read_by d more))) is stands_two

@@ -1,6 +1,6 @@
 -- The drive of a directory in which one entry is replaced by another.
-use Rattle.std.proofs.Common.{◌≡◌, ℕ, zero, suc, ◌+◌, ◌-◌, ◌<◌, ◌==◌, ◌&&◌, Bool, true, false, List, [], ◌∷◌, ◌++◌, Option, Some, None, map, length, get_or, refl, sym, ap, subst, ◌∙◌, arith}
-use Rattle.std.specs.Prelude.{slice_set, count_by, is_some, bytes_eq, if◌then◌else◌}
+use Rattle.std.proofs.Common.{◌≡◌, ℕ, zero, suc, ◌+◌, ◌-◌, ◌<◌, ◌==◌, ◌&&◌, Bool, true, false, List, [], ◌∷◌, Option, Some, None, map, length, get_or, refl, sym, ap, subst, ◌∙◌, arith}
+use Rattle.std.specs.Prelude.{slice_set, count_by, is_some, bytes_eq}
 use Rattle.std.specs.List.{list_any}
 use Rattle.std.specs.FinMap.{FinMap}
 use Rattle.std.specs.Cmp.Lexicographic.{bytes_decides}
@@ -9,14 +9,16 @@ use Rattle.std.proofs.lemmas.Bool.{false≢true, true≢false, false_from_ne_tru
 use Rattle.std.proofs.lemmas.List.{length-map, length-set, map-set, get_or-map, get_or-set_same}
 use Rattle.std.proofs.lemmas.List.Sums.{sum_by-set}
 use Rattle.mpm_base.specs.declared.kind.Kind.{Kind}
+use Rattle.mpm_base.proofs.CountLaws.{one_if}
+use Rattle.mpm_blocks.specs.Sectors.{Sectors}
 use Rattle.mpm_dirent.specs.declared.kinds.Entry.{Entry}
 use Rattle.mpm_dirent.specs.declared.kinds.Entry.TheVariants.{Free, File, Xfcb, Label, Kept}
 use Rattle.mpm_mount.specs.declared.slots.EntryName.{EntryName}
 use Rattle.mpm_mount.specs.Drives.{FileName, entry_cmp, file_cmp, PhysicalExtent, Protection, DirectoryLabel, Drive}
 use Rattle.mpm_mount.specs.Faults.{plain, name_of, is_named, is_label, is_xfcb, first_some, first_fault}
-use Rattle.mpm_mount.specs.Images.{Sectors, extent_in, extent_from, xfcb_from, label_from, is_kept, collected, drive_of}
+use Rattle.mpm_mount.specs.Images.{extent_from, xfcb_from, label_from, is_kept, collected, drive_of}
 use Rattle.mpm_mount.specs.Directories.{others}
-use Rattle.mpm_mount.specs.Changes.{with_pair, without_pair, label_after, one_if, exchanged}
+use Rattle.mpm_mount.specs.Changes.{with_pair, without_pair, label_after, exchanged}
 use Rattle.mpm_mount.proofs.FirstFault.{first_past, first_here}
 use Rattle.mpm_mount.proofs.Collected.{ties, StandsAlone, collected_set, others_set}
 use Rattle.mpm_mount.proofs.Orders.{entry_total, file_total, entry_same, file_same, entry_tied, file_tied}
@@ -69,7 +71,7 @@ gives_xfcb file Free tied = absurd (false≢true tied)
 gives_xfcb file (Label l) tied = absurd (false≢true tied)
 gives_xfcb file (Kept bytes) tied = absurd (false≢true tied)
 
-xfcb_stands_alone : (kind : Kind) (entries : List Entry) (slot : ℕ) (entry : Entry) → first_fault kind entries ≡ None → slot < length entries → get_or entries slot Free ≡ entry
+pub xfcb_stands_alone : (kind : Kind) (entries : List Entry) (slot : ℕ) (entry : Entry) → first_fault kind entries ≡ None → slot < length entries → get_or entries slot Free ≡ entry
     → StandsAlone file_cmp (xfcb_from entry) (others (map xfcb_from entries) slot)
 xfcb_stands_alone kind entries slot (Xfcb x) faultless h is =
     let file : FileName = record { user = x.user; name = plain x.name } in
@@ -97,13 +99,13 @@ first_of_others (x ∷ xs) zero h none = first_past x xs none
 first_of_others (None ∷ xs) (suc i) h none = first_of_others xs i (omega arith) none
 first_of_others (Some x ∷ xs) (suc i) h none = refl
 
-none_first : {X : Type 0} (items : List (Option X)) → list_any is_some items ≡ false → first_some items ≡ None
+pub none_first : {X : Type 0} (items : List (Option X)) → list_any is_some items ≡ false → first_some items ≡ None
 unfolding first_some
 none_first [] none = refl
 none_first (None ∷ xs) none = none_first xs none
 none_first (Some x ∷ xs) none = absurd (true≢false none)
 
-first_alone : {X : Type 0} (items : List (Option X)) (i : ℕ) (x : X) → i < length items → get_or items i None ≡ Some x → list_any is_some (others items i) ≡ false
+pub first_alone : {X : Type 0} (items : List (Option X)) (i : ℕ) (x : X) → i < length items → get_or items i None ≡ Some x → list_any is_some (others items i) ≡ false
     → first_some items ≡ Some x
 unfolding first_some
 first_alone [] i x h is none = absurd (omega arith)
@@ -128,14 +130,14 @@ label_set items i None None h is old_only new_only =
     first_of_others (slice_set items i None) i (omega (arith, length-set items i None)) (get_or-set_same items i None None h)
     ∙ ap first_some (others_set items i None) ∙ sym (first_of_others items i h is)
 
-gives_label : (e : Entry) → is_some (label_from e) ≡ true → is_label e ≡ true
+pub gives_label : (e : Entry) → is_some (label_from e) ≡ true → is_label e ≡ true
 gives_label (Label l) some = refl
 gives_label (File f) some = absurd (false≢true some)
 gives_label Free some = absurd (false≢true some)
 gives_label (Xfcb x) some = absurd (false≢true some)
 gives_label (Kept bytes) some = absurd (false≢true some)
 
-label_only : (kind : Kind) (entries : List Entry) (slot : ℕ) (entry : Entry) → first_fault kind entries ≡ None → slot < length entries → get_or entries slot Free ≡ entry
+pub label_only : (kind : Kind) (entries : List Entry) (slot : ℕ) (entry : Entry) → first_fault kind entries ≡ None → slot < length entries → get_or entries slot Free ≡ entry
     → IsOnly (label_from entry) (others (map label_from entries) slot)
 label_only kind entries slot (Label l) faultless h is =
     ap (list_any is_some) (others_map label_from entries slot)

@@ -1,8 +1,10 @@
 -- An image that is mounted, and one that isn't.
-use Rattle.std.proofs.Common.{◌≡◌, ℕ, ◌+◌, Bool, true, false, ◌==◌, List, length, refl, sym, ap, subst, ◌∙◌, eq-eqb, ne_eqb}
+use Rattle.std.proofs.Common.{◌≡◌, ℕ, Bool, List, length, refl, sym, ap, subst, ◌∙◌, eq-eqb, ne_eqb}
 use Rattle.std.specs.Prelude.{Option, Some, None, Result, Ok, Err, IfOk, IfErr, OnOk, IfSome, IsSomeAnd, if◌then◌else◌}
 use Rattle.mpm_base.specs.declared.kind.Kind.{Kind}
 use Rattle.mpm_blocks.specs.Geometries.{geometry_of}
+use Rattle.mpm_blocks.specs.Sectors.{sectors_of, told_image}
+use Rattle.mpm_blocks.proofs.ToldImages.{told_size}
 use Rattle.mpm_dirent.specs.declared.kinds.Entry.{Entry}
 use Rattle.mpm_port.specs.Disks.{Disks, image_of}
 use Rattle.mpm_mount.specs.declared.errors.ImageFault.{ImageFault}
@@ -10,9 +12,9 @@ use Rattle.mpm_mount.specs.declared.errors.MountError.{MountError}
 use Rattle.mpm_mount.specs.declared.errors.MountError.TheVariants.{Image, DiskFault, OutOfMemory}
 use Rattle.mpm_mount.specs.Drives.{Drive}
 use Rattle.mpm_mount.specs.Faults.{first_fault}
-use Rattle.mpm_mount.specs.Images.{sectors_of, entries_of, drive_of, unless, files_of}
+use Rattle.mpm_mount.specs.Images.{entries_of, drive_of, unless, files_of}
 use Rattle.mpm_mount.specs.Directories.{Directory, Stands}
-use Rattle.mpm_mount.specs.Mounting.{told_image, drive_in, IsMounted, IsFault, IsImageFault, IsDevice}
+use Rattle.mpm_mount.specs.Mounting.{drive_in, IsMounted, IsFault, IsImageFault, IsDevice}
 
 -- what an image of its kind's size stands for
 sized : (image : List ℕ) (kind : Kind) → length image ≡ (geometry_of kind).bytes
@@ -61,17 +63,6 @@ device_no_fault None kind error device = tt
 device_no_fault (Some image) kind (Image cause place) device = absurd device
 device_no_fault (Some image) kind DiskFault device = tt
 device_no_fault (Some image) kind OutOfMemory device = tt
-
--- from the law of sizes: a told image has the size that its drive was attached with
-found : (P : List ℕ → Type 0) (o : Option (List ℕ)) → IsSomeAnd o P → IfSome o P
-found P None h = tt
-found P (Some image) h = h
-
-pub told_size : (disks : Option Disks) (drive bytes : ℕ) → ((told : Disks) → disks ≡ Some told → IsSomeAnd (image_of told drive) (λ image. length image ≡ bytes))
-    → IfSome (told_image disks drive) (λ image. length image ≡ bytes)
-unfolding told_image
-told_size None drive bytes law = tt
-told_size (Some disks) drive bytes law = found (λ image. length image ≡ bytes) (image_of disks drive) (law disks refl)
 
 -- two facts on a told image give a third
 pub told_both : (told : Option (List ℕ)) (P Q R : List ℕ → Type 0) → ((image : List ℕ) → P image → Q image → R image) → IfSome told P → IfSome told Q → IfSome told R

@@ -1,12 +1,9 @@
 -- The orders of files and of their entries, and which keys they take for one.
-use Rattle.std.proofs.Common.{◌≡◌, ℕ, Bool, true, false, List, [], ◌∷◌, ◌++◌, get_or, drop, refl, sym, ap, subst, ◌∙◌}
-use Rattle.std.specs.Ordering.{eq_by_cmp, is_eq, nat_cmp}
-use Rattle.std.specs.declared.cmp.Ordering.{Ordering}
-use Rattle.std.specs.declared.cmp.Ordering.TheVariants.{Less, Equal, Greater}
-use Rattle.std.specs.Cmp.{IsTotalOrder}
-use Rattle.std.specs.Cmp.Lexicographic.{slice_cmp, nat_list_cmp_total}
+use Rattle.std.proofs.Common.{◌≡◌, ℕ, true, List, [], ◌∷◌, ◌++◌, get_or, drop, ap}
+use Rattle.std.specs.Ordering.{eq_by_cmp}
+use Rattle.std.specs.Cmp.{IsTotalOrder, Equal-is}
+use Rattle.std.specs.Cmp.Lexicographic.{nat_list_cmp_total}
 use Rattle.std.specs.FinMap.{IsAntisymmetric, nat_cmp-IsAntisymmetric, slice_cmp-IsAntisymmetric}
-use Rattle.std.proofs.lemmas.Bool.{false≢true}
 use Rattle.std.proofs.lemmas.List.{same_from_push}
 use Rattle.mpm_mount.specs.declared.slots.EntryName.{EntryName}
 use Rattle.mpm_mount.specs.Drives.{FileName, file_cmp, entry_cmp}
@@ -33,10 +30,10 @@ file_total = record {
   congr = λ x y z. nat_list_cmp_total.congr (file_key x) (file_key y) (file_key z);
 }
 
-same_entry : (a b : EntryName) → a.user ≡ b.user → a.name ≡ b.name → a.number ≡ b.number → a ≡ b
+pub same_entry : (a b : EntryName) → a.user ≡ b.user → a.name ≡ b.name → a.number ≡ b.number → a ≡ b
 same_entry a b user name number = λ i. record { user = user i; name = name i; number = number i }
 
-same_file : (a b : FileName) → a.user ≡ b.user → a.name ≡ b.name → a ≡ b
+pub same_file : (a b : FileName) → a.user ≡ b.user → a.name ≡ b.name → a ≡ b
 same_file a b user name = λ i. record { user = user i; name = name i }
 
 entry_from_key : (a b : EntryName) → entry_key a ≡ entry_key b → a ≡ b
@@ -55,13 +52,8 @@ file_same a b tied =
     let keys : file_key a ≡ file_key b = slice_cmp-IsAntisymmetric nat_cmp-IsAntisymmetric (file_key a) (file_key b) tied in
     same_file a b (ap (λ (k : List ℕ). get_or k 0 0) keys) (ap (drop 1) keys)
 
-equal_of : (r : Ordering) → is_eq r ≡ true → r ≡ Equal
-equal_of Less here = absurd (false≢true here)
-equal_of Equal here = refl
-equal_of Greater here = absurd (false≢true here)
-
 pub entry_tied : (a b : EntryName) → eq_by_cmp entry_cmp a b ≡ true → a ≡ b
-entry_tied a b tied = entry_same a b (equal_of (entry_cmp a b) tied)
+entry_tied a b tied = entry_same a b ((Equal-is (entry_cmp a b)).0 tied)
 
 pub file_tied : (a b : FileName) → eq_by_cmp file_cmp a b ≡ true → a ≡ b
-file_tied a b tied = file_same a b (equal_of (file_cmp a b) tied)
+file_tied a b tied = file_same a b ((Equal-is (file_cmp a b)).0 tied)

@@ -1,14 +1,15 @@
 -- A record's sector that is written changes that record alone.
-use Rattle.std.proofs.Common.{◌≡◌, ◌≢◌, ℕ, ◌+◌, ◌*◌, ◌<◌, ◌≤◌, ◌==◌, Bool, true, false, cond, not, ◌&&◌, ◌||◌, inl, inr, List, [], ◌∷◌, Option, Some, None, map, length, get_or, take, refl, sym, ap, subst, ◌∙◌, arith, eq-eqb, ne_eqb}
+use Rattle.std.proofs.Common.{◌≡◌, ◌≢◌, ℕ, ◌+◌, ◌*◌, ◌<◌, ◌==◌, Bool, true, false, not, ◌&&◌, ◌||◌, inl, inr, List, [], Option, Some, None, map, length, get_or, take, sym, ap, subst, ◌∙◌, arith, ne_eqb}
 use Rattle.std.specs.Prelude.{slice_set, option_map, if◌then◌else◌}
 use Rattle.std.specs.List.{range_with_len, list_any}
-use Rattle.std.specs.FinMap.{FinMap, insert, remove, get, get-insert, get-remove, same_map}
-use Rattle.std.specs.Ordering.{eq_by_cmp}
-use Rattle.std.proofs.lemmas.Bool.{both_ways, false_from_ne_true, cases_eq, cases_order, or_parts}
+use Rattle.std.specs.FinMap.{FinMap}
+use Rattle.std.proofs.lemmas.Bool.{both_ways, cases_eq, cases_order, or_parts}
 use Rattle.std.proofs.lemmas.List.{length-map, length-set, get_or-map, get_or-set_same, get_or-set_other, ext_get_or}
 use Rattle.std.proofs.lemmas.List.FromFn.{length-map-range_with_len}
 use Rattle.mpm_base.specs.declared.kind.Kind.{Kind}
-use Rattle.mpm_blocks.specs.Geometries.{geometry_of, last_block, block_records, logical_sectors, place_of}
+use Rattle.mpm_blocks.specs.Geometries.{block_records, logical_sectors, place_of}
+use Rattle.mpm_blocks.specs.Sectors.{Sectors, sectors_of, SectorWritten}
+use Rattle.mpm_blocks.proofs.Written.{written_size, sectors_written}
 use Rattle.mpm_dirent.specs.declared.kinds.Entry.{Entry}
 use Rattle.mpm_dirent.specs.declared.kinds.Entry.TheVariants.{Free, File}
 use Rattle.mpm_dirent.specs.declared.kinds.FileEntry.{FileEntry}
@@ -16,17 +17,17 @@ use Rattle.mpm_port.specs.Disks.{with_sector}
 use Rattle.mpm_mount.specs.declared.slots.EntryName.{EntryName}
 use Rattle.mpm_mount.specs.Drives.{entry_cmp, PhysicalExtent, Drive, places, with_record_in, with_extent}
 use Rattle.mpm_mount.specs.Faults.{name_of, block_at, has_at, holds, is_taken, some_place, first_fault}
-use Rattle.mpm_mount.specs.Images.{Sectors, sectors_of, contents_of, extent_in, extent_from, collected, drive_of}
+use Rattle.mpm_mount.specs.Images.{contents_of, extent_in, extent_from, collected, drive_of}
 use Rattle.mpm_mount.specs.Directories.{others, Directory, entry_in, Stands}
-use Rattle.mpm_mount.specs.Changes.{with_pair, without_pair, SectorWritten}
-use Rattle.mpm_mount.proofs.Ranges.{map_at, any_at}
+use Rattle.mpm_mount.specs.Changes.{with_pair, without_pair}
+use Rattle.mpm_mount.proofs.Ranges.{map_at}
 use Rattle.mpm_mount.proofs.UsedBlocks.{nowhere_at}
 use Rattle.mpm_mount.proofs.Sound.{sound_at, held_once, block_within}
 use Rattle.mpm_mount.proofs.Collected.{StandsAlone, collected_set}
 use Rattle.mpm_mount.proofs.Orders.{entry_total, entry_same}
 use Rattle.mpm_mount.proofs.Still.{has_own, other_at}
 use Rattle.mpm_mount.proofs.Exchanged.{extent_alone}
-use Rattle.mpm_mount.proofs.Written.{written_size, sectors_written}
+use Rattle.mpm_mount.proofs.Sorts.{again}
 use Rattle.mpm_mount.proofs.Unheld.{entries_kept, contents_kept, from_kept, block_sector}
 
 untaken_before : (b : ℕ) (earlier before : Bool) → b ≢ 0 → (not (b == 0) && (earlier || before)) ≡ false → before ≡ false
@@ -34,7 +35,7 @@ untaken_before b earlier before some none =
     (or_parts earlier before (sym (ap (λ z. not z && (earlier || before)) (ne_eqb b 0 some)) ∙ none)).1
 
 -- a block stands once in an entry
-before_in : (kind : Kind) (earlier : List Entry) (f : FileEntry) (i j : ℕ) → some_place kind (is_taken kind earlier f) ≡ false → i < j → j < places kind → block_at f j ≢ 0
+pub before_in : (kind : Kind) (earlier : List Entry) (f : FileEntry) (i j : ℕ) → some_place kind (is_taken kind earlier f) ≡ false → i < j → j < places kind → block_at f j ≢ 0
     → block_at f i ≢ block_at f j
 before_in kind earlier f i j free less h some same =
     let none : is_taken kind earlier f j ≡ false = nowhere_at kind (is_taken kind earlier f) j free h in
@@ -52,19 +53,19 @@ places_differ kind earlier f i j free hi hj some apart = elim (cases_order j i) 
 ]
 
 -- the records of the block
-set_range : (g : ℕ → List ℕ) (h : ℕ → List ℕ) (n r : ℕ) (bytes : List ℕ) → r < n → h r ≡ bytes → ((i : ℕ) → i < n → i ≢ r → h i ≡ g i)
-    → map h (range_with_len 0 n) ≡ slice_set (map g (range_with_len 0 n)) r bytes
-set_range g h n r bytes less here others =
+pub set_range : {X : Type 0} (d : X) (g h : ℕ → X) (n r : ℕ) (x : X) → r < n → h r ≡ x → ((i : ℕ) → i < n → i ≢ r → h i ≡ g i)
+    → map h (range_with_len 0 n) ≡ slice_set (map g (range_with_len 0 n)) r x
+set_range d g h n r x less here others =
     let long : length (map g (range_with_len 0 n)) ≡ n = length-map-range_with_len g 0 n in
     let longer : length (map h (range_with_len 0 n)) ≡ n = length-map-range_with_len h 0 n in
-    ext_get_or [] (map h (range_with_len 0 n)) (slice_set (map g (range_with_len 0 n)) r bytes) (longer ∙ sym long ∙ sym (length-set (map g (range_with_len 0 n)) r bytes)) (λ i small.
+    ext_get_or d (map h (range_with_len 0 n)) (slice_set (map g (range_with_len 0 n)) r x) (longer ∙ sym long ∙ sym (length-set (map g (range_with_len 0 n)) r x)) (λ i small.
     let within : i < n = omega arith in
     elim (cases_eq i r) [
       | inl same ↦
-          map_at h n i [] within ∙ ap h same ∙ here ∙ sym (get_or-set_same (map g (range_with_len 0 n)) r bytes [] (omega arith))
-          ∙ sym (ap (λ (k : ℕ). get_or (slice_set (map g (range_with_len 0 n)) r bytes) k []) same)
+          map_at h n i d within ∙ ap h same ∙ here ∙ sym (get_or-set_same (map g (range_with_len 0 n)) r x d (omega arith))
+          ∙ sym (ap (λ (k : ℕ). get_or (slice_set (map g (range_with_len 0 n)) r x) k d) same)
       | inr apart ↦
-          map_at h n i [] within ∙ others i within apart ∙ sym (map_at g n i [] within) ∙ sym (get_or-set_other (map g (range_with_len 0 n)) r i bytes [] apart)
+          map_at h n i d within ∙ others i within apart ∙ sym (map_at g n i d within) ∙ sym (get_or-set_other (map g (range_with_len 0 n)) r i x d apart)
     ])
 
 -- the block's contents
@@ -76,7 +77,7 @@ contents_set kind old new block r bytes written less some =
     let h : ℕ → List ℕ = λ i. new (block * block_records kind + i) in
     let n : ℕ = block_records kind in
     ap (λ b. if b then None else Some (map h (range_with_len 0 n))) (ne_eqb block 0 some)
-    ∙ ap (λ (records : List (List ℕ)). Some records) (set_range g h n r bytes less written.here (λ i small apart. written.others (block * block_records kind + i) (λ same. apart (omega arith))))
+    ∙ ap (λ (records : List (List ℕ)). Some records) (set_range [] g h n r bytes less written.here (λ i small apart. written.others (block * block_records kind + i) (λ same. apart (omega arith))))
     ∙ sym (ap (λ b. option_map (λ records. slice_set records r bytes) (if b then None else Some (map g (range_with_len 0 n)))) (ne_eqb block 0 some))
 
 -- the blocks of the entry
@@ -89,19 +90,8 @@ blocks_set kind earlier old new f i r bytes written less h some free =
     let k : ℕ → Option (List (List ℕ)) = λ j. contents_of new kind (block_at f j) in
     let n : ℕ = places kind in
     let put : Option (List (List ℕ)) = option_map (λ records. slice_set records r bytes) (contents_of old kind (block_at f i)) in
-    let long : length (map g (range_with_len 0 n)) ≡ n = length-map-range_with_len g 0 n in
-    let longer : length (map k (range_with_len 0 n)) ≡ n = length-map-range_with_len k 0 n in
-    ext_get_or None (map k (range_with_len 0 n)) (slice_set (map g (range_with_len 0 n)) i put) (longer ∙ sym long ∙ sym (length-set (map g (range_with_len 0 n)) i put)) (λ j small.
-    let within : j < n = omega arith in
-    elim (cases_eq j i) [
-      | inl same ↦
-          map_at k n j None within ∙ ap k same ∙ contents_set kind old new (block_at f i) r bytes written less some
-          ∙ sym (get_or-set_same (map g (range_with_len 0 n)) i put None (omega arith)) ∙ sym (ap (λ (m : ℕ). get_or (slice_set (map g (range_with_len 0 n)) i put) m None) same)
-      | inr apart ↦
-          map_at k n j None within
-          ∙ contents_kept kind old new (block_at f i) r (block_at f j) bytes written less (places_differ kind earlier f i j free h within some apart)
-          ∙ sym (map_at g n j None within) ∙ sym (get_or-set_other (map g (range_with_len 0 n)) i j put None apart)
-    ])
+    set_range None g k n i put h (contents_set kind old new (block_at f i) r bytes written less some)
+    (λ j within apart. contents_kept kind old new (block_at f i) r (block_at f j) bytes written less (places_differ kind earlier f i j free h within some apart))
 
 extent_set : (kind : Kind) (earlier : List Entry) (old new : Sectors) (f : FileEntry) (i r : ℕ) (bytes : List ℕ) → SectorWritten (block_at f i * block_records kind + r) bytes old new
     → r < block_records kind → i < places kind → block_at f i ≢ 0 → some_place kind (is_taken kind earlier f) ≡ false
@@ -112,19 +102,6 @@ extent_set kind earlier old new f i r bytes written less h some free =
     ap (λ (bs : List (Option (List (List ℕ)))). record (extent_in old kind f) { blocks = bs })
     (blocks_set kind earlier old new f i r bytes written less h some free
     ∙ ap (λ (o : Option (List (List ℕ))). slice_set blocks i (option_map (λ records. slice_set records r bytes) o)) (sym (map_at (λ j. contents_of old kind (block_at f j)) (places kind) i None h)))
-
-shadow : {X : Type 0} (b : Bool) (x y z : X) → cond b x (cond b y z) ≡ cond b x z
-shadow true x y z = refl
-shadow false x y z = refl
-
--- a key's value replaced
-again : (m : FinMap entry_cmp PhysicalExtent) (name : EntryName) (value : PhysicalExtent) → insert (remove m name) name value ≡ insert m name value
-again m name value =
-    same_map entry_total entry_same (insert (remove m name) name value) (insert m name value) (λ q.
-    get-insert entry_total (remove m name) name value q
-    ∙ ap (λ (o : Option PhysicalExtent). cond (eq_by_cmp entry_cmp q name) (Some value) o) (get-remove entry_total m name q)
-    ∙ shadow (eq_by_cmp entry_cmp q name) (Some value) None (get m q)
-    ∙ sym (get-insert entry_total m name value q))
 
 -- the entries' items: one is replaced
 items_set : (kind : Kind) (entries : List Entry) (slot : ℕ) (old new : Sectors) (f : FileEntry) (i r : ℕ) (bytes : List ℕ) → first_fault kind entries ≡ None → slot < length entries
@@ -168,7 +145,7 @@ drive_set kind entries slot old new f i r bytes faultless h is written less with
     ∙ collected_set entry_cmp entry_total entry_same before slot put (omega (arith, length-map entries from))
     (subst (λ o. StandsAlone entry_cmp o (others before slot)) (sym was) alone) alone
     ∙ ap (λ o. with_pair (without_pair (collected entry_cmp before) o) put) was
-    ∙ again (collected entry_cmp before) (name_of kind f) (with_record_in (extent_in old kind f) i r bytes))
+    ∙ again entry_cmp entry_total entry_same (collected entry_cmp before) (name_of kind f) (with_record_in (extent_in old kind f) i r bytes))
 
 -- a record's sector, rewritten
 pub record_written : (image : List ℕ) (d : Directory) (files : Drive) (slot i r : ℕ) (f : FileEntry) (bytes : List ℕ) → Stands image d files → slot < length d.entries

@@ -1,34 +1,27 @@
 -- A directory in which one entry is replaced by another keeps what it keeps of itself.
-use Rattle.std.proofs.Common.{◌≡◌, ◌≢◌, ℕ, ◌+◌, ◌<◌, ◌≤◌, ◌==◌, Bool, true, false, ◌&&◌, ◌||◌, not, inl, inr, List, None, length, get_or, refl, sym, ap, subst, ◌∙◌, arith, ne_eqb}
+use Rattle.std.proofs.Common.{◌≡◌, ℕ, ◌<◌, ◌==◌, Bool, true, false, ◌&&◌, ◌||◌, not, List, None, length, get_or, refl, sym, ap, subst, ◌∙◌, arith, ne_eqb}
 use Rattle.std.specs.Prelude.{nat_lt, slice_set}
 use Rattle.std.specs.List.{list_any}
 use Rattle.std.proofs.lemmas.Bool.{true≢false, le-ltb}
 use Rattle.std.proofs.lemmas.List.{length-set, get_or-set_same}
 use Rattle.std.proofs.lemmas.List.Elements.{All-set}
 use Rattle.mpm_base.specs.declared.kind.Kind.{Kind}
-use Rattle.mpm_blocks.specs.Geometries.{geometry_of, last_block}
+use Rattle.mpm_blocks.specs.Geometries.{geometry_of}
 use Rattle.mpm_blocks.specs.Maps.{Blocks}
 use Rattle.mpm_blocks.specs.Maps as maps
 use Rattle.mpm_dirent.specs.declared.kinds.Entry.{Entry}
 use Rattle.mpm_dirent.specs.declared.kinds.Entry.TheVariants.{Free, File, Xfcb, Label, Kept}
-use Rattle.mpm_dirent.specs.declared.kinds.FileEntry.{FileEntry}
 use Rattle.mpm_dirent.specs.Proper.{IsProper}
-use Rattle.mpm_mount.specs.Faults.{holds, is_outside, some_place, first_fault}
-use Rattle.mpm_mount.specs.Directories.{others, is_used, used_blocks, IsKept}
-use Rattle.mpm_mount.specs.Using.{IsUsedBy, is_of, Claims, Frees, IsInside}
+use Rattle.mpm_mount.specs.Faults.{holds, first_fault}
+use Rattle.mpm_mount.specs.Directories.{others, IsKept}
+use Rattle.mpm_mount.specs.Using.{IsUsedBy, Claims, Frees, IsInside}
+use Rattle.mpm_mount.proofs.Ranges.{or_none}
+use Rattle.mpm_mount.proofs.UsedBlocks.{or_last}
 use Rattle.mpm_mount.proofs.UsedBy.{used_at, used_by, size_used, zero_used}
 use Rattle.mpm_mount.proofs.Others.{any_split, any_set}
 use Rattle.mpm_mount.proofs.Sound.{sound_at, held_once, block_within}
 
-or_none : (b : Bool) → (b || false) ≡ b
-or_none true = refl
-or_none false = refl
-
-or_last : (b : Bool) → (b || true) ≡ true
-or_last true = refl
-or_last false = refl
-
-and_all : (b : Bool) → (b && true) ≡ b
+pub and_all : (b : Bool) → (b && true) ≡ b
 and_all true = refl
 and_all false = refl
 

@@ -1,9 +1,10 @@
 -- What one directory entry in the place of another makes of a drive, sort by sort of change.
-use Rattle.std.proofs.Common.{◌≡◌, ℕ, ◌+◌, ◌-◌, Bool, true, false, cond, List, Option, Some, None, refl, sym, ap, ◌∙◌, arith}
+use Rattle.std.proofs.Common.{◌≡◌, ℕ, ◌+◌, ◌-◌, Bool, true, false, cond, Some, None, refl, sym, ap, ◌∙◌, arith}
 use Rattle.std.specs.declared.cmp.Ordering.{Ordering}
 use Rattle.std.specs.Ordering.{eq_by_cmp}
 use Rattle.std.specs.Cmp.{IsTotalOrder}
 use Rattle.std.specs.FinMap.{FinMap, IsAntisymmetric, insert, remove, get, get-insert, get-remove, same_map}
+use Rattle.mpm_blocks.specs.Sectors.{Sectors}
 use Rattle.mpm_dirent.specs.declared.kinds.Entry.TheVariants.{Free, File, Xfcb, Label}
 use Rattle.mpm_dirent.specs.declared.kinds.FileEntry.{FileEntry}
 use Rattle.mpm_dirent.specs.declared.kinds.XfcbEntry.{XfcbEntry}
@@ -11,7 +12,7 @@ use Rattle.mpm_dirent.specs.declared.kinds.LabelEntry.{LabelEntry}
 use Rattle.mpm_mount.specs.declared.slots.EntryName.{EntryName}
 use Rattle.mpm_mount.specs.Drives.{FileName, entry_cmp, file_cmp, PhysicalExtent, Protection, DirectoryLabel, Drive, with_extent, without_extent, with_xfcb, without_xfcb}
 use Rattle.mpm_mount.specs.Faults.{plain, name_of}
-use Rattle.mpm_mount.specs.Images.{Sectors, extent_in}
+use Rattle.mpm_mount.specs.Images.{extent_in}
 use Rattle.mpm_mount.specs.Changes.{exchanged}
 use Rattle.mpm_mount.proofs.Orders.{entry_total, entry_same, file_total, file_same}
 
@@ -55,10 +56,10 @@ extent_changed sectors drive f g same =
     ∙ ap (λ (m : FinMap entry_cmp PhysicalExtent). record drive { extents = m }) (again entry_cmp entry_total entry_same drive.extents (name_of drive.kind g) (extent_in sectors drive.kind g))
 
 -- an XFCB likewise
-abbrev file_of : XfcbEntry → FileName
+abbrev pub file_of : XfcbEntry → FileName
 file_of x = record { user = x.user; name = plain x.name }
 
-abbrev protection_of : XfcbEntry → Protection
+abbrev pub protection_of : XfcbEntry → Protection
 protection_of x = record { mode = x.mode; decode = x.decode; password = x.password; first = x.first; second = x.second }
 
 pub xfcb_added : (sectors : Sectors) (drive : Drive) (x : XfcbEntry) → exchanged sectors drive Free (Xfcb x) ≡ with_xfcb drive (record { user = x.user; name = plain x.name })
@@ -85,7 +86,7 @@ xfcb_changed sectors drive x y file old new =
     ∙ ap (λ (m : FinMap file_cmp Protection). record drive { xfcbs = m }) (again file_cmp file_total file_same drive.xfcbs file (protection_of y))
 
 -- a label comes, or another in its place
-label_of : LabelEntry → DirectoryLabel
+abbrev pub label_of : LabelEntry → DirectoryLabel
 label_of l = record { name = l.name; protection = record { mode = l.mode; decode = l.decode; password = l.password; first = l.first; second = l.second } }
 
 pub label_added : (sectors : Sectors) (drive : Drive) (l : LabelEntry) → exchanged sectors drive Free (Label l) ≡ record drive {
@@ -94,7 +95,7 @@ pub label_added : (sectors : Sectors) (drive : Drive) (l : LabelEntry) → excha
     protection = record { mode = l.mode; decode = l.decode; password = l.password; first = l.first; second = l.second };
   });
 }
-unfolding exchanged label_of
+unfolding exchanged
 label_added sectors drive l = ap (λ (k : ℕ). record drive { label = Some (label_of l); kept = k }) (as_many drive.kept)
 
 pub label_changed : (sectors : Sectors) (drive : Drive) (old l : LabelEntry) → exchanged sectors drive (Label old) (Label l) ≡ record drive {
@@ -103,5 +104,5 @@ pub label_changed : (sectors : Sectors) (drive : Drive) (old l : LabelEntry) →
     protection = record { mode = l.mode; decode = l.decode; password = l.password; first = l.first; second = l.second };
   });
 }
-unfolding exchanged label_of
+unfolding exchanged
 label_changed sectors drive old l = ap (λ (k : ℕ). record drive { label = Some (label_of l); kept = k }) (as_many drive.kept)

@@ -1,9 +1,9 @@
 -- A directory stays without a fault where an entry is replaced by one that is not at fault behind all others.
-use Rattle.std.proofs.Common.{◌≡◌, ◌≢◌, ℕ, zero, suc, ◌+◌, ◌<◌, ◌≤◌, ◌==◌, Bool, true, false, ◌&&◌, ◌||◌, not, inl, inr, List, [], ◌∷◌, ◌++◌, Option, Some, None, length, get_or, take, drop, refl, sym, ap, subst, ◌∙◌, arith}
+use Rattle.std.proofs.Common.{◌≡◌, ◌≢◌, ℕ, zero, suc, ◌<◌, ◌≤◌, ◌==◌, Bool, true, false, ◌&&◌, ◌||◌, not, inl, inr, List, [], ◌∷◌, Some, None, length, get_or, take, drop, refl, sym, ap, ◌∙◌, arith}
 use Rattle.std.specs.Prelude.{slice_set, bytes_eq, if◌then◌else◌}
 use Rattle.std.specs.List.{list_any}
 use Rattle.std.specs.Cmp.Lexicographic.{bytes_decides}
-use Rattle.std.proofs.lemmas.Bool.{false≢true, true≢false, both_ways, false_from_ne_true, cases_eq, or_parts, and_parts, and_from, eqb-true, eq-eqb}
+use Rattle.std.proofs.lemmas.Bool.{true≢false, both_ways, false_from_ne_true, cases_eq, or_parts, and_parts, and_from, eqb-true, eq-eqb}
 use Rattle.std.proofs.lemmas.List.{length-set, length-take-le, get_or-take, get_or-set_same, get_or-set_other, take-set-le}
 use Rattle.std.proofs.lemmas.List.Folds.{list_any-append}
 use Rattle.mpm_base.specs.declared.kind.Kind.{Kind}
@@ -11,7 +11,7 @@ use Rattle.mpm_dirent.specs.declared.kinds.Entry.{Entry}
 use Rattle.mpm_dirent.specs.declared.kinds.Entry.TheVariants.{Free, File, Xfcb, Label, Kept}
 use Rattle.mpm_dirent.specs.declared.kinds.FileEntry.{FileEntry}
 use Rattle.mpm_mount.specs.Drives.{places}
-use Rattle.mpm_mount.specs.Faults.{plain, name_of, block_at, has_at, holds, is_taken, some_place, is_named, is_label, is_xfcb, cause_of, cause_at, first_fault}
+use Rattle.mpm_mount.specs.Faults.{plain, name_of, block_at, has_at, holds, is_taken, is_named, is_label, is_xfcb, cause_of, cause_at, first_fault}
 use Rattle.mpm_mount.specs.Directories.{others}
 use Rattle.mpm_mount.proofs.Ranges.{any_at, none_in}
 use Rattle.mpm_mount.proofs.UsedBlocks.{nowhere_at, some_none}
@@ -30,7 +30,7 @@ AsClear kind those these (Xfcb x) = list_any (is_xfcb x.user (plain x.name)) tho
 AsClear kind those these Free = Unit {0}
 AsClear kind those these (Kept bytes) = Unit {0}
 
-if_none : (b : Bool) (cause : ℕ) → b ≡ false → (if b then Some cause else None) ≡ None
+pub if_none : (b : Bool) (cause : ℕ) → b ≡ false → (if b then Some cause else None) ≡ None
 if_none true cause none = absurd (true≢false none)
 if_none false cause none = refl
 

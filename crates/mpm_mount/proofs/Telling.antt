@@ -1,27 +1,12 @@
 -- What the calls of a device leave of what it tells.
-use Rattle.std.proofs.Common.{◌≡◌, ℕ, ◌+◌, ◌*◌, ◌/◌, ◌-◌, ◌<◌, ◌≤◌, List, length, refl, sym, ap, subst, ◌∙◌, arith}
-use Rattle.std.specs.Prelude.{Option, Some, None, IfSome, IsSomeAnd, is_some, option_and_then}
+use Rattle.std.proofs.Common.{◌≡◌, ℕ, ◌+◌, ◌*◌, ◌<◌, ◌≤◌, List, refl, sym, ap, subst, ◌∙◌, arith}
+use Rattle.std.specs.Prelude.{Option, Some, None, is_some}
 use Rattle.std.proofs.lemmas.Bool.{true≢false}
 use Rattle.mpm_base.specs.declared.kind.Kind.{Kind}
 use Rattle.mpm_base.specs.declared.kind.Kind.TheVariants.{Ibm3740, Hd4, Hd8}
-use Rattle.mpm_blocks.specs.Geometries.{geometry_of, image_sectors, logical_sectors, place_of}
-use Rattle.mpm_port.specs.Disks.{Disks, SameDisks, Told, IsInside, image_of, sector_of}
-use Rattle.mpm_mount.specs.Images.{sectors_of}
-use Rattle.mpm_mount.specs.Mounting.{told_image, SameDrives, IsSectorOf}
-
-image_through : (name : Option (List ℕ)) (f g : List ℕ → Option (List ℕ)) → ((n : List ℕ) → f n ≡ g n) → option_and_then f name ≡ option_and_then g name
-image_through None f g same = refl
-image_through (Some name) f g same = same name
-
-same_image : (old new : Disks) (drive : ℕ) → SameDisks old new → image_of new drive ≡ image_of old drive
-same_image old new drive same =
-    ap (option_and_then new.image) (same.names drive) ∙ image_through (old.name_of drive) new.image old.image same.images
-
-pub told_image_same : (old new : Option Disks) (drive : ℕ) → Told SameDisks old new → told_image new drive ≡ told_image old drive
-unfolding told_image
-told_image_same None new drive same = ap (λ (d : Option Disks). told_image d drive) same
-told_image_same (Some old) None drive same = absurd same
-told_image_same (Some old) (Some new) drive same = same_image old new drive same
+use Rattle.mpm_blocks.specs.Geometries.{geometry_of, image_sectors, logical_sectors}
+use Rattle.mpm_port.specs.Disks.{Disks, SameDisks, Told, IsInside}
+use Rattle.mpm_mount.specs.Mounting.{SameDrives}
 
 pub same_told : (told : Option Disks) → Told SameDisks told told
 same_told None = refl
@@ -51,12 +36,6 @@ same_over attached disks names a b c one two = record {
   images = told_over (disks a) (disks b) (disks c) one.images two.images;
   failed = two.failed ∙ one.failed;
 }
-
--- a fact on the image of a drive, where it is told
-pub told_read : (disks : Option Disks) (drive : ℕ) (P : List ℕ → Type 0) → IfSome disks (λ told. IfSome (image_of told drive) P) → IfSome (told_image disks drive) P
-unfolding told_image
-told_read None drive P h = tt
-told_read (Some disks) drive P h = h
 
 -- the sectors of a directory are inside its drive
 pub directory_sector : (kind : Kind) (sector : ℕ) → 4 * sector < (geometry_of kind).drm + 1 → sector < logical_sectors kind

@@ -1,25 +1,24 @@
 -- A sector that no entry's block has: what is written there changes neither the directory nor the drive.
-use Rattle.std.proofs.Common.{◌≡◌, ◌≢◌, ℕ, ◌+◌, ◌*◌, ◌/◌, ◌%◌, ◌<◌, ◌≤◌, ◌==◌, Bool, true, false, inl, inr, List, [], ◌∷◌, map, length, refl, sym, ap, ◌∙◌, arith, eq-eqb, ne_eqb}
-use Rattle.std.specs.Prelude.{Option, Some, None, if◌then◌else◌}
-use Rattle.std.specs.List.{range_with_len, list_any}
+use Rattle.std.proofs.Common.{◌≡◌, ◌≢◌, ℕ, ◌+◌, ◌*◌, ◌/◌, ◌%◌, ◌<◌, ◌≤◌, ◌==◌, Bool, false, List, [], ◌∷◌, map, length, refl, sym, ap, ◌∙◌, arith, eq-eqb}
+use Rattle.std.specs.Prelude.{Some, None, if◌then◌else◌}
+use Rattle.std.specs.List.{list_any}
 use Rattle.std.specs.FinMap.{FinMap}
-use Rattle.std.proofs.lemmas.Bool.{cases_eq, both_ways, or_parts}
+use Rattle.std.proofs.lemmas.Bool.{both_ways, or_parts}
 use Rattle.mpm_base.specs.declared.kind.Kind.{Kind}
 use Rattle.mpm_base.specs.declared.kind.Kind.TheVariants.{Ibm3740, Hd4, Hd8}
 use Rattle.mpm_blocks.specs.Geometries.{geometry_of, last_block, block_records, logical_sectors, place_of}
+use Rattle.mpm_blocks.specs.Sectors.{Sectors, sectors_of, SectorWritten}
+use Rattle.mpm_blocks.proofs.Written.{written_size, sectors_written}
 use Rattle.mpm_dirent.specs.declared.kinds.Entry.{Entry}
 use Rattle.mpm_dirent.specs.declared.kinds.Entry.TheVariants.{Free, File, Xfcb, Label, Kept}
 use Rattle.mpm_dirent.specs.declared.kinds.FileEntry.{FileEntry}
 use Rattle.mpm_dirent.specs.Entries.{part, entry_of}
 use Rattle.mpm_port.specs.Disks.{with_sector}
-use Rattle.mpm_mount.specs.declared.slots.EntryName.{EntryName}
 use Rattle.mpm_mount.specs.Drives.{entry_cmp, PhysicalExtent, Drive, places}
 use Rattle.mpm_mount.specs.Faults.{name_of, block_at, has_at, holds}
-use Rattle.mpm_mount.specs.Images.{Sectors, sectors_of, slot_entry, entries_to, entries_of, contents_of, extent_in, extent_from, collected, drive_of}
+use Rattle.mpm_mount.specs.Images.{slot_entry, entries_to, entries_of, contents_of, extent_in, extent_from, collected, drive_of}
 use Rattle.mpm_mount.specs.Directories.{Directory, Stands}
-use Rattle.mpm_mount.specs.Changes.{SectorWritten}
 use Rattle.mpm_mount.proofs.Ranges.{map_same, none_at}
-use Rattle.mpm_mount.proofs.Written.{written_size, sectors_written}
 
 -- the sectors of a file's blocks are behind those of the directory, and no two blocks have one
 pub behind_directory : (kind : Kind) (block r slot : ℕ) → (geometry_of kind).directory_blocks ≤ block → slot < (geometry_of kind).drm + 1 → slot / 4 ≢ block * block_records kind + r
@@ -57,7 +56,7 @@ contents_kept kind old new block r b bytes written less apart =
     (map_same (λ i. new (b * block_records kind + i)) (λ i. old (b * block_records kind + i)) (block_records kind) (λ i h.
     written.others (b * block_records kind + i) (blocks_apart kind b block i r apart h less)))
 
-not_held : (f : FileEntry) (count block i : ℕ) → has_at f count block ≡ false → i < count → block_at f i ≢ block
+pub not_held : (f : FileEntry) (count block i : ℕ) → has_at f count block ≡ false → i < count → block_at f i ≢ block
 unfolding has_at
 not_held f count block i none h same = both_ways (block_at f i == block) (none_at (λ j. block_at f j == block) count i none h) (eq-eqb (block_at f i) block same)
 

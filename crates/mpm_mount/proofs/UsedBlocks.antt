@@ -1,8 +1,8 @@
 -- The blocks of an entry, used or freed one after another.
-use Rattle.std.proofs.Common.{◌≡◌, ◌≢◌, ℕ, ◌+◌, ◌<◌, ◌≤◌, ◌==◌, Bool, true, false, ◌&&◌, ◌||◌, not, ◌⊎◌, inl, inr, List, length, get_or, refl, sym, ap, subst, ◌∙◌, arith, eq-eqb, ne_eqb}
-use Rattle.std.specs.Prelude.{nat_lt, slice_set, if◌then◌else◌}
+use Rattle.std.proofs.Common.{◌≡◌, ◌≢◌, ℕ, ◌+◌, ◌<◌, ◌≤◌, ◌==◌, Bool, true, false, ◌&&◌, ◌||◌, not, inl, inr, length, refl, sym, ap, subst, ◌∙◌, arith, eq-eqb, ne_eqb}
+use Rattle.std.specs.Prelude.{nat_lt, if◌then◌else◌}
 use Rattle.std.specs.List.{range_with_len, list_any}
-use Rattle.std.proofs.lemmas.Bool.{false≢true, cases_eq, cases_Bool, eqb-true, eqb-false, ltb-false, or_right, and_right, or_parts, and_from, not_from_false}
+use Rattle.std.proofs.lemmas.Bool.{false≢true, cases_eq, ltb-false, or_parts, and_from}
 use Rattle.std.proofs.lemmas.List.{length-set}
 use Rattle.mpm_base.specs.declared.kind.Kind.{Kind}
 use Rattle.mpm_blocks.specs.Geometries.{geometry_of, last_block}
@@ -11,8 +11,8 @@ use Rattle.mpm_blocks.proofs.Laws.{claimed_is_used, claimed_keeps_others, freed_
 use Rattle.mpm_dirent.specs.declared.kinds.FileEntry.{FileEntry}
 use Rattle.mpm_mount.specs.Drives.{places}
 use Rattle.mpm_mount.specs.Faults.{block_at, has_at, is_outside, some_place}
-use Rattle.mpm_mount.specs.Using.{is_among, Leaves, ClaimsTo, FreesTo, clashes, claimed_unless_zero, freed_unless_zero}
-use Rattle.mpm_mount.proofs.Ranges.{any_more, any_at, none_at, none_if}
+use Rattle.mpm_mount.specs.Using.{is_among, ClaimsTo, FreesTo, clashes, claimed_unless_zero, freed_unless_zero}
+use Rattle.mpm_mount.proofs.Ranges.{or_none, any_more, any_at, none_at, none_if}
 
 pub some_found : (kind : Kind) (t : ℕ → Bool) (i : ℕ) → i < places kind → t i ≡ true → some_place kind t ≡ true
 unfolding some_place
@@ -54,7 +54,7 @@ within_at kind f i none h = elim (cases_eq (block_at f i) 0) [
 
 -- used
 
-claims_none_bit : (was other : Bool) → was ≡ (was || (other && false))
+pub claims_none_bit : (was other : Bool) → was ≡ (was || (other && false))
 claims_none_bit true other = refl
 claims_none_bit false true = refl
 claims_none_bit false false = refl
@@ -78,30 +78,26 @@ frees_none f blocks = record {
   used = λ block. frees_none_bit (is_used blocks block) (not (block == 0)) ∙ ap (λ b. is_used blocks block && not (not (block == 0) && b)) (sym (has_none f block));
 }
 
-or_last : (b : Bool) → (b || true) ≡ true
+pub or_last : (b : Bool) → (b || true) ≡ true
 or_last true = refl
 or_last false = refl
 
-or_none : (b : Bool) → (b || false) ≡ b
-or_none true = refl
-or_none false = refl
-
-and_last : (b : Bool) → (b && false) ≡ false
+pub and_last : (b : Bool) → (b && false) ≡ false
 and_last true = refl
 and_last false = refl
 
 -- whether a block is among one more
-among_here : (f : FileEntry) (i block : ℕ) → block ≢ 0 → block_at f i ≡ block → is_among f (i + 1) block ≡ true
+pub among_here : (f : FileEntry) (i block : ℕ) → block ≢ 0 → block_at f i ≡ block → is_among f (i + 1) block ≡ true
 among_here f i block some same =
     let nonzero : not (block == 0) ≡ true = ap not (ne_eqb block 0 some) in
     let here : has_at f (i + 1) block ≡ true = has_more f i block ∙ ap (λ b. has_at f i block || b) (eq-eqb (block_at f i) block same) ∙ or_last (has_at f i block) in
     and_from (not (block == 0)) (has_at f (i + 1) block) nonzero here
 
-among_other : (f : FileEntry) (i block : ℕ) → block_at f i ≢ block → is_among f (i + 1) block ≡ is_among f i block
+pub among_other : (f : FileEntry) (i block : ℕ) → block_at f i ≢ block → is_among f (i + 1) block ≡ is_among f i block
 among_other f i block other =
     ap (λ b. not (block == 0) && b) (has_more f i block ∙ ap (λ b. has_at f i block || b) (ne_eqb (block_at f i) block other) ∙ or_none (has_at f i block))
 
-among_zero : (f : FileEntry) (i block : ℕ) → block_at f i ≡ 0 → is_among f (i + 1) block ≡ is_among f i block
+pub among_zero : (f : FileEntry) (i block : ℕ) → block_at f i ≡ 0 → is_among f (i + 1) block ≡ is_among f i block
 among_zero f i block zero = elim (cases_eq block 0) [
   | inl none ↦ ap (λ z. not z && has_at f (i + 1) block) (eq-eqb block 0 none) ∙ sym (ap (λ z. not z && has_at f i block) (eq-eqb block 0 none))
   | inr some ↦ among_other f i block (λ same. some (sym same ∙ zero))

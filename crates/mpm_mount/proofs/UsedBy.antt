@@ -1,8 +1,8 @@
 -- The blocks that a list of entries uses.
-use Rattle.std.proofs.Common.{◌≡◌, ◌≢◌, ℕ, ◌+◌, ◌<◌, ◌≤◌, ◌==◌, Bool, true, false, ◌&&◌, ◌||◌, not, inl, inr, List, [], ◌∷◌, ◌++◌, length, get_or, map, refl, sym, ap, subst, ◌∙◌, arith, eq-eqb, ne_eqb}
+use Rattle.std.proofs.Common.{◌≡◌, ◌≢◌, ℕ, ◌+◌, ◌<◌, ◌≤◌, ◌==◌, Bool, true, false, ◌&&◌, ◌||◌, not, inl, inr, List, [], ◌∷◌, ◌++◌, length, get_or, refl, sym, ap, ◌∙◌, arith, eq-eqb, ne_eqb}
 use Rattle.std.specs.Prelude.{nat_lt, Option, Some, if◌then◌else◌}
-use Rattle.std.specs.List.{range_with_len, list_any}
-use Rattle.std.proofs.lemmas.Bool.{false≢true, cases_eq, le-ltb, lt-ltb}
+use Rattle.std.specs.List.{list_any}
+use Rattle.std.proofs.lemmas.Bool.{false≢true, cases_eq, le-ltb}
 use Rattle.std.proofs.lemmas.List.Folds.{list_any-append}
 use Rattle.std.proofs.lemmas.List.FromFn.{length-map-range_with_len, fill_by_all}
 use Rattle.mpm_base.specs.declared.kind.Kind.{Kind}
@@ -11,14 +11,13 @@ use Rattle.mpm_blocks.specs.Geometries.{geometry_of, last_block}
 use Rattle.mpm_blocks.specs.Maps.{Blocks, new_map, used_to}
 use Rattle.mpm_blocks.specs.Maps as maps
 use Rattle.mpm_dirent.specs.declared.kinds.Entry.{Entry}
-use Rattle.mpm_dirent.specs.declared.kinds.Entry.TheVariants.{Free, File, Xfcb, Label, Kept}
 use Rattle.mpm_dirent.specs.declared.kinds.FileEntry.{FileEntry}
 use Rattle.mpm_mount.specs.Drives.{places}
 use Rattle.mpm_mount.specs.Faults.{block_at, has_at, holds, is_outside, is_taken, some_place, name_cause, file_cause}
 use Rattle.mpm_mount.specs.Directories.{is_used, used_blocks}
-use Rattle.mpm_mount.specs.Using.{IsUsedBy, is_of, Leaves, Claims, ClaimsTo, clashes}
-use Rattle.mpm_mount.proofs.Ranges.{any_same, map_same, map_at}
-use Rattle.mpm_mount.proofs.UsedBlocks.{inside_at, within_at}
+use Rattle.mpm_mount.specs.Using.{IsUsedBy, is_of, Claims, clashes}
+use Rattle.mpm_mount.proofs.Ranges.{or_none, any_same, map_same, map_at}
+use Rattle.mpm_mount.proofs.UsedBlocks.{inside_at}
 
 pub used_size : (kind : Kind) (entries : List Entry) → length (used_blocks kind entries) ≡ last_block kind + 1
 unfolding used_blocks
@@ -53,10 +52,6 @@ used_by kind entries blocks of_kind size each zero = record {
 }
 
 -- a new map is that of no entries
-or_none : (b : Bool) → (b || false) ≡ b
-or_none true = refl
-or_none false = refl
-
 pub new_used : (kind : Kind) (blocks : Blocks) → blocks ≡ new_map kind → IsUsedBy kind [] blocks
 unfolding used_blocks used_to
 new_used kind blocks new = record {

@@ -1,15 +1,16 @@
 -- The directory of an image, kept in memory, and what is asked of it.
-use Rattle.std.specs.Prelude.{◌≡◌, ℕ, suc, ◌+◌, ◌*◌, ◌||◌, not, Bool, true, false, List, ◌++◌, take, drop, Option, Some, None, nat_lt, length, map, count_by, position, slice_index_or, slice_set}
+use Rattle.std.specs.Prelude.{◌≡◌, ℕ, suc, ◌+◌, ◌*◌, ◌≤◌, ◌||◌, not, Bool, true, false, List, ◌++◌, take, drop, Option, None, nat_lt, length, map, count_by, position, slice_index_or, slice_set}
 use Rattle.std.specs.List.{All, range_with_len, list_any}
 use Rattle.mpm_base.specs.declared.kind.Kind.{Kind}
 use Rattle.mpm_blocks.specs.Maps.{Blocks}
 use Rattle.mpm_blocks.specs.Geometries.{geometry_of, last_block, block_records}
+use Rattle.mpm_blocks.specs.Sectors.{sectors_of}
 use Rattle.mpm_dirent.specs.declared.kinds.Entry.{Entry}
 use Rattle.mpm_dirent.specs.declared.kinds.Entry.TheVariants.{Free, File, Xfcb, Label, Kept}
 use Rattle.mpm_dirent.specs.Proper.{IsProper}
 use Rattle.mpm_mount.specs.Drives.{FileName, Drive, entry_name}
 use Rattle.mpm_mount.specs.Faults.{holds, is_named, is_label, is_xfcb, first_fault}
-use Rattle.mpm_mount.specs.Images.{sectors_of, entries_of, drive_of}
+use Rattle.mpm_mount.specs.Images.{entries_of, drive_of}
 
 -- the drive's number, its kind, and the entry of each slot
 pub record Directory : Type 0 where
@@ -54,8 +55,17 @@ used_blocks kind entries = map (is_used kind entries) (range_with_len 0 (last_bl
 abbrev pub free_block : Directory → Option ℕ
 free_block d = position not (used_blocks d.kind d.entries)
 
+-- a block of files that no entry holds
+pub record IsFreeBlock (d : Directory) (block : ℕ) : Type 0 where
+  pub low : (geometry_of d.kind).directory_blocks ≤ block
+  pub high : block ≤ last_block d.kind
+  pub unheld : list_any (holds d.kind block) d.entries ≡ false
+
 abbrev pub free_records_in : Directory → ℕ
 free_records_in d = count_by not (used_blocks d.kind d.entries) * block_records d.kind
+
+abbrev pub free_entries_in : Directory → ℕ
+free_entries_in d = count_by is_free d.entries
 
 -- the entries of all other slots
 abbrev pub others : {X : Type 0} → List X → ℕ → List X

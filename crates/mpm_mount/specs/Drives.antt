@@ -1,7 +1,7 @@
 -- A drive as its files, without allocation blocks and without the places of directory entries: images whose entries stand in
 -- another order, or whose blocks lie elsewhere, are one drive. (MP/M II Programmer's Guide, "File Control Blocks" and
 -- "Directory Entries".)
-use Rattle.std.specs.Prelude.{ℕ, ◌+◌, ◌-◌, ◌*◌, ◌/◌, ◌%◌, ◌==◌, ◌&&◌, Bool, List, [], ◌∷◌, ◌++◌, Option, Some, None, is_some, option_and_then, option_map, slice_index_or, slice_set, nat_lt, nat_le, bytes_eq, sum_by, count_by, if◌then◌else◌}
+use Rattle.std.specs.Prelude.{◌≡◌, ℕ, ◌+◌, ◌-◌, ◌*◌, ◌/◌, ◌%◌, ◌≤◌, ◌==◌, ◌&&◌, Bool, List, [], ◌∷◌, ◌++◌, Option, Some, None, is_some, option_and_then, option_map, length, slice_index_or, slice_set, nat_lt, nat_le, bytes_eq, sum_by, count_by, if◌then◌else◌}
 use Rattle.std.specs.List.{filter}
 use Rattle.std.specs.declared.cmp.Ordering.{Ordering}
 use Rattle.std.specs.Ordering.{nat_cmp}
@@ -63,6 +63,14 @@ places kind = if (geometry_of kind).wide then 8 else 16
 -- the number of the entry that covers an extent
 abbrev pub entry_number : Kind → ℕ → ℕ
 entry_number kind extent = extent / covered kind
+
+-- what is so of each entry that the drive of an image has
+pub record IsOfImage (kind : Kind) (name : EntryName) (extent : PhysicalExtent) : Type 0 where
+  pub attributes : length extent.attributes ≡ 11
+  pub last : extent.last ≤ 2047
+  pub number : entry_number kind extent.last ≡ name.number
+  pub count : extent.count ≤ 128
+  pub blocks : length extent.blocks ≡ places kind
 
 -- the entry that covers an extent
 abbrev pub entry_name : Kind → FileName → ℕ → EntryName

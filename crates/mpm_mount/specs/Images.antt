@@ -4,23 +4,16 @@ use Rattle.std.specs.List.{range_with_len}
 use Rattle.std.specs.declared.cmp.Ordering.{Ordering}
 use Rattle.std.specs.FinMap.{FinMap, insert, empty}
 use Rattle.mpm_base.specs.declared.kind.Kind.{Kind}
-use Rattle.mpm_blocks.specs.Geometries.{geometry_of, block_records, place_of}
+use Rattle.mpm_blocks.specs.Geometries.{geometry_of, block_records}
+use Rattle.mpm_blocks.specs.Sectors.{Sectors, sectors_of}
 use Rattle.mpm_dirent.specs.declared.kinds.Entry.{Entry}
 use Rattle.mpm_dirent.specs.declared.kinds.Entry.TheVariants.{Free, File, Xfcb, Label, Kept}
 use Rattle.mpm_dirent.specs.declared.kinds.FileEntry.{FileEntry}
 use Rattle.mpm_dirent.specs.Entries.{part, entry_of}
-use Rattle.mpm_port.specs.Disks.{sector_of}
 use Rattle.mpm_mount.specs.declared.errors.ImageFault.{ImageFault}
 use Rattle.mpm_mount.specs.declared.slots.EntryName.{EntryName}
 use Rattle.mpm_mount.specs.Drives.{FileName, entry_cmp, file_cmp, PhysicalExtent, Protection, DirectoryLabel, Drive, places}
 use Rattle.mpm_mount.specs.Faults.{plain, extent_of, name_of, block_at, first_some, first_fault}
-
--- the sectors of an image behind the system's tracks, in the order in which they are used
-abbrev pub Sectors : Type 0
-Sectors = ℕ → List ℕ
-
-unfoldable pub sectors_of : List ℕ → Kind → Sectors
-sectors_of image kind logical = sector_of image (place_of kind logical)
 
 -- the directory's entries, four in each of the first sectors
 abbrev pub slot_bytes : Sectors → ℕ → List ℕ
@@ -88,6 +81,16 @@ is_kept Free = false
 is_kept (File f) = false
 is_kept (Xfcb x) = false
 is_kept (Label l) = false
+
+-- all that an entry gives
+pub record Given : Type 0 where
+  pub extent : Option (EntryName × PhysicalExtent)
+  pub xfcb : Option (FileName × Protection)
+  pub label : Option DirectoryLabel
+  pub kept : Bool
+
+abbrev pub given : Sectors → Kind → Entry → Given
+given sectors kind e = record { extent = extent_from sectors kind e; xfcb = xfcb_from e; label = label_from e; kept = is_kept e }
 
 -- the map of those pairs that are there
 unfoldable pub collected : {K X : Type 0} (R : K → K → Ordering) → List (Option (K × X)) → FinMap R X

@@ -5,3 +5,4 @@ pub mod Directories
 pub mod Using
 pub mod Changes
 pub mod Mounting
+pub mod Searching

@@ -1,21 +1,17 @@
 -- What mounting leaves of the device, and what each of its answers says.
-use Rattle.std.specs.Prelude.{◌≡◌, ℕ, ◌+◌, ◌*◌, ◌<◌, List, Option, Some, None, Result, Ok, Err, ⊤}
+use Rattle.std.specs.Prelude.{◌≡◌, ℕ, ◌+◌, ◌*◌, ◌<◌, List, Option, Some, Result, Ok, Err, ⊤}
 use Rattle.mpm_base.specs.declared.kind.Kind.{Kind}
 use Rattle.mpm_blocks.specs.Geometries.{geometry_of}
+use Rattle.mpm_blocks.specs.Sectors.{sectors_of}
 use Rattle.mpm_dirent.specs.declared.kinds.Entry.{Entry}
 use Rattle.mpm_port.specs.Causes.{Rose}
-use Rattle.mpm_port.specs.Disks.{Disks, SameDisks, Told, image_of}
+use Rattle.mpm_port.specs.Disks.{Disks, SameDisks, Told}
 use Rattle.mpm_mount.specs.declared.errors.MountError.{MountError}
 use Rattle.mpm_mount.specs.declared.errors.MountError.TheVariants.{Image, DiskFault, OutOfMemory}
 use Rattle.mpm_mount.specs.Drives.{Drive}
 use Rattle.mpm_mount.specs.Faults.{first_fault}
-use Rattle.mpm_mount.specs.Images.{sectors_of, drive_of, files_of}
+use Rattle.mpm_mount.specs.Images.{drive_of, files_of}
 use Rattle.mpm_mount.specs.Directories.{Directory, Stands}
-
--- the image of a drive, where it is told
-unfoldable pub told_image : Option Disks → ℕ → Option (List ℕ)
-told_image None drive = None
-told_image (Some disks) drive = image_of disks drive
 
 -- the device is as it was, but for its count
 pub record SameDrives {D : Type 0} (attached : D → ℕ → Option ℕ) (disks : D → Option Disks) (names : D → List (List ℕ)) (old new : D) : Type 0 where

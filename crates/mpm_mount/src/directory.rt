@@ -1,13 +1,15 @@
 ghost use Rattle.std.specs.Prelude.{◌≡◌, ℕ, ◌+◌, ◌<◌, ◌≤◌, Some, None, length, slice_set};
 ghost use Rattle.mpm_blocks.specs.Geometries.{geometry_of, last_block};
 ghost use Rattle.mpm_dirent.specs.Proper.{IsProper};
-ghost use Rattle.mpm_mount.specs.Faults.{plain, first_fault};
-ghost use Rattle.mpm_mount.specs.Directories.{IsKept, entry_in, with_entry, extent_slot, xfcb_slot, label_slot, free_slot, free_block, free_records_in};
+ghost use Rattle.mpm_mount.specs.Faults.{plain, cause_of, first_fault};
+ghost use Rattle.mpm_mount.specs.Directories.{IsKept, others, entry_in, with_entry, extent_slot, xfcb_slot, label_slot, free_slot, free_block, free_records_in, free_entries_in};
+ghost use Rattle.mpm_mount.specs.Searching.{IsNext, search_of};
 ghost use Rattle.mpm_mount.specs.Using.{IsInside, Claims, Frees};
 
 use crate::blocks::{claim_all, free_all};
-use crate::slots;
+use crate::searching::{Found, Search};
 use crate::slots::EntryName;
+use crate::{searching, slots};
 use mpm_base::Kind;
 use mpm_blocks::{BlockMap, geometry};
 use mpm_dirent::Entry;
@@ -58,7 +60,9 @@ impl Mounted {
 
     /// The drive's kind.
     pub fn kind(&self) -> Kind
-        ensures { result ≡ self.now.kind }
+        ensures kind { result ≡ self.now.kind }
+        ensures full { length self.now.entries ≡ (geometry_of self.now.kind).drm + 1 }
+        ensures faultless { first_fault self.now.kind self.now.entries ≡ None }
     {
         self.kind
     }
@@ -71,6 +75,14 @@ impl Mounted {
         u32::from(self.blocks.left()) * (u32::from(geometry(self.kind).block) / 128)
     }
 
+    /// How many slots are free.
+    #[tactic(auto, using(crate::proofs::Positions::last_entry_small))]
+    pub fn free_entries(&self) -> u16
+        ensures { result ≡ free_entries_in self.now }
+    {
+        slots::free_slots(self.entries.as_slice())
+    }
+
     /// The entry in a slot, at most the directory's last.
     pub fn entry(&self, slot: u16) -> &Entry
         requires { slot ≤ (geometry_of self.now.kind).drm }
@@ -80,11 +92,11 @@ impl Mounted {
         &self.entries[usize::from(slot)]
     }
 
-    /// Replaces the entry in a slot, at most the directory's last; with the new entry there is no fault.
+    /// Replaces the entry in a slot, at most the directory's last, by one that is not at fault beside all others.
     pub fn put(&mut self, slot: u16, entry: Entry)
         requires slot { slot ≤ (geometry_of self.old.kind).drm }
         requires proper { IsProper (geometry_of self.old.kind).wide entry }
-        requires faultless { first_fault self.old.kind (slice_set self.old.entries slot entry) ≡ None }
+        requires faultless { cause_of self.old.kind (others self.old.entries slot) entry ≡ None }
         ensures { self.new ≡ with_entry self.old slot entry }
     {
         replace(
@@ -133,6 +145,16 @@ impl Mounted {
         slots::free_slot(self.entries.as_slice())
     }
 
+    /// Of a user's entries whose names fit a pattern, the least by name and entry number that stands above the last that was
+    /// found, or the least of all. Bit 7 of the pattern is left out.
+    #[tactic(auto, using(crate::proofs::Positions::last_entry_small))]
+    pub fn next(&self, user: u8, pattern: &[u8; 11], last: Option<Found>) -> Option<Found>
+        ensures { IsNext self.now.kind (search_of self.now.kind user pattern.now last) self.now.entries result }
+    {
+        let search = Search::new(self.kind, user, pattern, last);
+        searching::least(self.kind, &search, self.entries.as_slice())
+    }
+
     /// The lowest free block.
     pub fn free_block(&self) -> Option<u16>
         ensures { result ≡ free_block self.now }
@@ -146,7 +168,7 @@ fn replace(kind: Kind, entries: &mut Vec<Entry>, blocks: &mut BlockMap, slot: us
     requires kept { IsKept kind entries.old.items blocks.old }
     requires slot { slot < length entries.old.items }
     requires proper { IsProper (geometry_of kind).wide entry }
-    requires faultless { first_fault kind (slice_set entries.old.items slot entry) ≡ None }
+    requires faultless { cause_of kind (others entries.old.items slot) entry ≡ None }
     ensures entries { entries.new.items ≡ slice_set entries.old.items slot entry }
     ensures kept { IsKept kind entries.new.items blocks.new }
 {

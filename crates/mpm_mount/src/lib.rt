@@ -8,11 +8,13 @@ mod errors;
 mod faults;
 mod mounting;
 mod reading;
+mod searching;
 mod slots;
 
 pub use directory::Mounted;
 pub use errors::{ImageFault, MountError};
 pub use mounting::mount;
+pub use searching::Found;
 
 /// No memory was found: the allocator's own error.
 pub use std::alloc::AllocError as OutOfMemory;

@@ -1,9 +1,10 @@
 ghost use Rattle.std.specs.Prelude.{◌≡◌, ◌+◌, None, Some, IsSome, IfOk, IfErr, IfSome, OnOk, length};
 ghost use Rattle.std.specs.List.{All};
 ghost use Rattle.mpm_blocks.specs.Geometries.{geometry_of};
+ghost use Rattle.mpm_blocks.specs.Sectors.{told_image};
 ghost use Rattle.mpm_dirent.specs.Proper.{IsProper};
 ghost use Rattle.mpm_mount.specs.Faults as faults;
-ghost use Rattle.mpm_mount.specs.Mounting.{told_image, SameDrives, Counts, IsFault, IsImageFault, IsMounted};
+ghost use Rattle.mpm_mount.specs.Mounting.{SameDrives, Counts, IsFault, IsImageFault, IsMounted};
 
 use crate::directory::Mounted;
 use crate::errors::MountError;

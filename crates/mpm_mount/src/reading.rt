@@ -1,10 +1,11 @@
 ghost use Rattle.std.specs.Prelude.{◌≡◌, ℕ, ◌+◌, ◌*◌, ◌≤◌, ◌++◌, Some, IfOk, IfErr, IfSome, OnOk, length};
 ghost use Rattle.std.specs.List.{All};
 ghost use Rattle.mpm_blocks.specs.Geometries.{geometry_of};
+ghost use Rattle.mpm_blocks.specs.Sectors.{sectors_of, told_image};
 ghost use Rattle.mpm_dirent.specs.Entries.{part};
 ghost use Rattle.mpm_dirent.specs.Proper.{IsProper};
-ghost use Rattle.mpm_mount.specs.Images.{sectors_of, entries_of, entries_in};
-ghost use Rattle.mpm_mount.specs.Mounting.{told_image, SameDrives, Counts, IsDevice, IsSectorOf};
+ghost use Rattle.mpm_mount.specs.Images.{entries_of, entries_in};
+ghost use Rattle.mpm_mount.specs.Mounting.{SameDrives, Counts, IsDevice, IsSectorOf};
 
 use crate::OutOfMemory;
 use crate::errors::MountError;

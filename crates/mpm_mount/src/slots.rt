@@ -1,4 +1,4 @@
-ghost use Rattle.std.specs.Prelude.{◌≡◌, ℕ, ◌<◌, ◌≤◌, ◌==◌, length, position, IfSome};
+ghost use Rattle.std.specs.Prelude.{◌≡◌, ℕ, ◌<◌, ◌≤◌, ◌==◌, length, position, count_by, IfSome};
 ghost use Rattle.std.specs.List.{list_any};
 ghost use Rattle.mpm_mount.specs.Drives as drives;
 ghost use Rattle.mpm_mount.specs.Faults as spec;
@@ -9,7 +9,7 @@ use mpm_blocks::geometry;
 use mpm_dirent::{Entry, FileEntry};
 
 /// An entry of a file: its user, its name without bit 7 and its entry number.
-#[derive(Clone, Copy, Debug, PartialEq, Eq)]
+#[derive(Clone, Copy, Debug, PartialEq, Eq, PartialOrd, Ord)]
 pub(crate) struct EntryName {
     pub(crate) user: u8,
     pub(crate) name: [u8; 11],
@@ -189,4 +189,21 @@ fn free_place(entries: &[Entry]) -> Option<usize>
     ensures { result ≡ position directory.is_free entries.now }
 {
     entries.iter().position(|entry| is_free(entry))
+}
+
+/// How many slots are free.
+pub(crate) fn free_slots(entries: &[Entry]) -> u16
+    requires { length entries.now ≤ 65535 }
+    ensures { result ≡ count_by directory.is_free entries.now }
+{
+    count_free(entries) as u16
+}
+
+/// As many as there are free entries.
+#[tactic(auto, using(crate::proofs::Positions::free_within))]
+fn count_free(entries: &[Entry]) -> usize
+    ensures count { result ≡ count_by directory.is_free entries.now }
+    ensures within { result ≤ length entries.now }
+{
+    entries.iter().filter(|entry| is_free(entry)).count()
 }

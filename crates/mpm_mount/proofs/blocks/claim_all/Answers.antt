@@ -1,8 +1,6 @@
-use Rattle.std.proofs.Common.{◌≡◌, ◌<◌, ◌≤◌, slice_index_or, length, refl, sym, subst, ◌∙◌, arith}
+use Rattle.std.proofs.Common.{◌<◌, ◌≤◌, slice_index_or, length, refl, sym, subst, ◌∙◌, arith}
 use Rattle.mpm_base.specs.declared.kind.Kind.{Kind}
 use Rattle.mpm_blocks.specs.Geometries.{last_block}
-use Rattle.mpm_mount.specs.Drives as drives
-use Rattle.mpm_mount.specs.Faults as faults
 use Rattle.mpm_mount.specs.Using.{clashes}
 use Rattle.mpm_mount.proofs.UsedBlocks.{within_at, claims_none, claims_more, answer_here, answer_more, answer_all}
 use Rattle.mpm_mount.proofs.blocks.claim_all.Goals as goal

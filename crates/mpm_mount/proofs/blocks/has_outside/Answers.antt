@@ -1,5 +1,4 @@
-use Rattle.std.proofs.Common.{rules, ◌≡◌, ◌<◌, true, sym, arith}
-use Rattle.mpm_mount.specs.Drives as drives
+use Rattle.std.proofs.Common.{rules, ◌≡◌, true, sym, arith}
 use Rattle.mpm_mount.specs.Faults as faults
 use Rattle.mpm_mount.proofs.UsedBlocks.{some_found}
 use Rattle.mpm_mount.proofs.blocks.has_outside.Goals as goal

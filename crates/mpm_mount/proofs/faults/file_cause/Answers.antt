@@ -1,8 +1,7 @@
-use Rattle.std.proofs.Common.{rules, ◌≡◌, true, false, nat_lt, sym, ◌∙◌, arith}
+use Rattle.std.proofs.Common.{rules, ◌≡◌, true, false, nat_lt, ◌∙◌, arith}
 use Rattle.std.proofs.lemmas.Bool.Decides.{nat_tests}
 use Rattle.mpm_dirent.specs.declared.kinds.Entry.TheVariants.{File}
 use Rattle.mpm_mount.specs.Faults as spec
-use Rattle.mpm_mount.specs.Using.{clashes}
 use Rattle.mpm_mount.proofs.UsedBlocks.{flipped, kept_flip}
 use Rattle.mpm_mount.proofs.UsedBy.{size_used, used_behind, cause_taken, cause_later}
 use Rattle.mpm_mount.proofs.faults.file_cause.Goals as goal

@@ -1,7 +1,7 @@
 use Rattle.mpm_blocks.specs.Geometries.{geometry_of}
-use Rattle.mpm_mount.specs.Mounting.{told_image}
-use Rattle.mpm_mount.proofs.Telling.{told_image_same}
-use Rattle.mpm_mount.proofs.Mounts.{told_size, mounted_so, refused_so}
+use Rattle.mpm_blocks.specs.Sectors.{told_image}
+use Rattle.mpm_blocks.proofs.ToldImages.{told_image_same, told_size}
+use Rattle.mpm_mount.proofs.Mounts.{mounted_so, refused_so}
 use Rattle.mpm_mount.proofs.mounting.mount.Goals as goal
 
 pub returns-in-Ok-read_directory-clause-ok : goal.returns-in-Ok-read_directory-clause-ok

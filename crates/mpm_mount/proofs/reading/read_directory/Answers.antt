@@ -2,12 +2,13 @@ use Rattle.std.proofs.Common.{◌≡◌, ◌*◌, List, [], length, refl, sym, a
 use Rattle.std.specs.Prelude.{IfSome}
 use Rattle.std.proofs.lemmas.List.Elements.{All-nil, All-same}
 use Rattle.mpm_blocks.specs.Geometries.{geometry_of}
+use Rattle.mpm_blocks.specs.Sectors.{sectors_of, told_image}
+use Rattle.mpm_blocks.proofs.ToldImages.{told_image_same}
 use Rattle.mpm_dirent.specs.declared.kinds.Entry.{Entry}
 use Rattle.mpm_dirent.specs.Proper.{IsProper}
-use Rattle.mpm_mount.specs.Images.{sectors_of, entries_to}
-use Rattle.mpm_mount.specs.Mounting.{told_image}
+use Rattle.mpm_mount.specs.Images.{entries_to}
 use Rattle.mpm_mount.proofs.EntriesRead.{told_none, told_more}
-use Rattle.mpm_mount.proofs.Telling.{told_image_same, same_itself, same_over}
+use Rattle.mpm_mount.proofs.Telling.{same_itself, same_over}
 use Rattle.mpm_mount.proofs.reading.read_directory.Goals as goal
 
 pub loop-sector-init : goal.loop-sector-init

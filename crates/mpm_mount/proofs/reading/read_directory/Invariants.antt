@@ -2,9 +2,10 @@ use Rattle.std.proofs.Common.{◌≡◌, ◌*◌, length}
 use Rattle.std.specs.Prelude.{IfSome}
 use Rattle.std.specs.List.{All}
 use Rattle.mpm_blocks.specs.Geometries.{geometry_of}
+use Rattle.mpm_blocks.specs.Sectors.{sectors_of, told_image}
 use Rattle.mpm_dirent.specs.Proper.{IsProper}
-use Rattle.mpm_mount.specs.Images.{sectors_of, entries_to}
-use Rattle.mpm_mount.specs.Mounting.{told_image, SameDrives}
+use Rattle.mpm_mount.specs.Images.{entries_to}
+use Rattle.mpm_mount.specs.Mounting.{SameDrives}
 use Rattle.mpm_mount.proofs.reading.read_directory.Given as goal
 
 abbrev pub invariant-loop-sector : goal.invariant-loop-sector

@@ -1,14 +1,13 @@
 -- A sector of an image that is written: it has the new bytes, and every other sector is as it was.
-use Rattle.std.proofs.Common.{◌≡◌, ◌≢◌, ℕ, ◌+◌, ◌-◌, ◌*◌, ◌/◌, ◌%◌, ◌<◌, ◌≤◌, ◌⊎◌, inl, inr, min, List, ◌++◌, length, get_or, take, drop, refl, sym, ap, ◌∙◌, arith}
-use Rattle.std.proofs.lemmas.Bool.{cases_lt, cases_order}
-use Rattle.std.proofs.lemmas.List.{length-append, length-take, length-take-le, length-drop, get_or_append_left, get_or-append_right, get_or-take, get_or-drop, drop_at, take_at, ext_get_or}
+use Rattle.std.proofs.Common.{◌≡◌, ◌≢◌, ℕ, ◌+◌, ◌-◌, ◌*◌, ◌%◌, ◌<◌, ◌≤◌, ◌⊎◌, inl, inr, min, List, ◌++◌, length, get_or, take, drop, sym, ap, ◌∙◌, arith}
+use Rattle.std.proofs.lemmas.Bool.{cases_order}
+use Rattle.std.proofs.lemmas.List.{append_assoc, length-append, length-take, length-take-le, length-drop, get_or_append_left, get_or-append_right, get_or-take, get_or-drop, drop_at, take_at, ext_get_or}
 use Rattle.mpm_base.specs.declared.kind.Kind.{Kind}
 use Rattle.mpm_base.specs.declared.kind.Kind.TheVariants.{Ibm3740, Hd4, Hd8}
-use Rattle.mpm_blocks.specs.Geometries.{geometry_of, image_sectors, logical_sectors, skew, place_of}
+use Rattle.mpm_blocks.specs.Geometries.{geometry_of, logical_sectors, place_of}
 use Rattle.mpm_blocks.proofs.Skew.{skew_low, skew_high, place_injective}
 use Rattle.mpm_port.specs.Disks.{with_sector}
-use Rattle.mpm_mount.specs.Images.{sectors_of}
-use Rattle.mpm_mount.specs.Changes.{SectorWritten}
+use Rattle.mpm_blocks.specs.Sectors.{sectors_of, SectorWritten}
 
 -- a list with other bytes in the place of some
 abbrev pub spliced : List ℕ → List ℕ → ℕ → ℕ → List ℕ
@@ -21,6 +20,15 @@ spliced_size xs ys a n size h =
 pub spliced_here : (xs ys : List ℕ) (a n : ℕ) → length ys ≡ n → a + n ≤ length xs → take n (drop a (spliced xs ys a n)) ≡ ys
 spliced_here xs ys a n size h =
     ap (take n) (drop_at (take a xs) (ys ++ drop (a + n) xs) a (length-take-le a xs (omega arith))) ∙ take_at ys (drop (a + n) xs) n size
+
+pub spliced_again : (xs ys zs : List ℕ) (a n : ℕ) → length ys ≡ n → a + n ≤ length xs → spliced (spliced xs ys a n) zs a n ≡ spliced xs zs a n
+spliced_again xs ys zs a n size h =
+    let front : List ℕ = take a xs in
+    let rest : List ℕ = drop (a + n) xs in
+    let long : length front ≡ a = length-take-le a xs (omega arith) in
+    let whole : length (front ++ ys) ≡ a + n = omega (arith, length-append front ys) in
+    ap (λ ws. ws ++ (zs ++ drop (a + n) (spliced xs ys a n))) (take_at front (ys ++ rest) a long)
+    ∙ ap (λ ws. front ++ (zs ++ ws)) (ap (drop (a + n)) (sym (append_assoc front ys rest)) ∙ drop_at (front ++ ys) rest (a + n) whole)
 
 byte_before : (xs ys : List ℕ) (a n m : ℕ) → a + n ≤ length xs → m < a → get_or (spliced xs ys a n) m 0 ≡ get_or xs m 0
 byte_before xs ys a n m h less =
@@ -80,6 +88,11 @@ pub written_size : (kind : Kind) (image bytes : List ℕ) (s : ℕ) → length i
 written_size kind image bytes s whole size h =
     spliced_size image bytes (128 * place_of kind s) 128 size (omega (arith, place_inside kind s h))
 
+-- a sector that is written twice has the later bytes
+pub written_again : (kind : Kind) (image bytes more : List ℕ) (s : ℕ) → length image ≡ (geometry_of kind).bytes → length bytes ≡ 128 → s < logical_sectors kind
+    → with_sector (with_sector image (place_of kind s) bytes) (place_of kind s) more ≡ with_sector image (place_of kind s) more
+written_again kind image bytes more s whole size h = spliced_again image bytes more (128 * place_of kind s) 128 size (omega (arith, place_inside kind s h))
+
 pub sectors_written : (kind : Kind) (image bytes : List ℕ) (s : ℕ) → length image ≡ (geometry_of kind).bytes → length bytes ≡ 128 → s < logical_sectors kind
     → SectorWritten s bytes (sectors_of image kind) (sectors_of (with_sector image (place_of kind s) bytes) kind)
 unfolding sectors_of
@@ -94,3 +107,11 @@ sectors_written kind image bytes s whole size h =
           ∙ spliced_kept image bytes (128 * p) 128 (128 * q) 128 size inside (places_apart p q (λ same. apart (sym (place_injective kind s t same))))
           ∙ sym (ap (λ n. take n (drop (128 * q) image)) (from_to (128 * q)));
     }
+
+-- a sector has 128 bytes
+pub sector_size : (kind : Kind) (image : List ℕ) (s : ℕ) → length image ≡ (geometry_of kind).bytes → s < logical_sectors kind → length (sectors_of image kind s) ≡ 128
+unfolding sectors_of
+sector_size kind image s whole h =
+    let a : ℕ = 128 * place_of kind s in
+    ap (λ n. length (take n (drop a image))) (from_to a)
+    ∙ length-take-le 128 (drop a image) (omega (arith, length-drop a image, place_inside kind s h))
