@@ -1,0 +1,5 @@
+pub mod Bounds
+pub mod OtherImages
+pub mod WriteLaws
+pub mod LeavesLaws
+pub mod SlotLaws

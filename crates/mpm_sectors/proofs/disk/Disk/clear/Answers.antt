@@ -1,0 +1,35 @@
+use Rattle.std.proofs.Common.{refl, ◌∙◌, arith}
+use Rattle.mpm_sectors.specs.Writes.{zeros}
+use Rattle.mpm_sectors.proofs.WriteLaws.{zeros_at_first, zeros_one_more, zeros_stopped}
+use Rattle.mpm_sectors.proofs.LeavesLaws.{leaves_itself, leaves_over}
+use Rattle.mpm_sectors.proofs.disk.Disk.clear.Goals as goal
+
+pub loop-number-init : goal.loop-number-init
+loop-number-init g c = record {
+  written = zeros_at_first c.args.self.now.drive c.args.self.now.kind c.args.first (g.D.Drives.disks c.args.drives.now);
+  calls = omega arith;
+  leaves = leaves_itself g.D.Drives.attached g.D.Drives.disks g.D.Drives.failed_names c.args.self.now.drive c.args.cache.now c.args.drives.now c.requires.coherent;
+  faults = refl;
+}
+
+pub put-requires-clause-apart : goal.put-requires-clause-apart
+put-requires-clause-apart g c = c.loop-number.invariant.leaves.alone c.requires.apart
+
+pub returns-in-Err-clause-puts : goal.returns-in-Err-clause-puts
+unfolding zeros
+returns-in-Err-clause-puts g c = record {
+  ok = tt;
+  err = zeros_stopped c.args.self.now.drive c.args.self.now.kind c.args.first c.loop-number.number c.args.count (g.D.Drives.disks c.args.drives.now)
+      (g.D.Drives.disks c.loop-number.drives) (g.D.Drives.disks c.put.new.drives) (omega arith) c.loop-number.invariant.written c.in-Err.ensures.puts.err;
+}
+
+pub loop-number-preserved : goal.loop-number-preserved
+unfolding zeros
+loop-number-preserved g c = record {
+  written = zeros_one_more c.args.self.now.drive c.args.self.now.kind c.args.first c.loop-number.number (g.D.Drives.disks c.args.drives.now)
+      (g.D.Drives.disks c.loop-number.drives) (g.D.Drives.disks c.put.new.drives) c.loop-number.invariant.written c.in-Ok.ensures.puts.ok;
+  calls = omega (arith, c.put.ensures.calls, c.loop-number.invariant.calls);
+  leaves = leaves_over g.D.Drives.attached g.D.Drives.disks g.D.Drives.failed_names c.args.self.now.drive c.args.cache.now c.loop-number.cache c.put.new.cache
+      c.args.drives.now c.loop-number.drives c.put.new.drives c.loop-number.invariant.leaves c.put.ensures.leaves;
+  faults = c.in-Ok.ensures.cause.stays ∙ c.loop-number.invariant.faults;
+}

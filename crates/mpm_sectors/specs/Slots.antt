@@ -1,0 +1,49 @@
+-- Directory entries in the sectors of the directory, four in each. (MP/M II Programmer's Guide, "Directory Entries" and
+-- "Extended File Control Blocks".)
+use Rattle.std.specs.Prelude.{ℕ, ◌+◌, ◌*◌, ◌/◌, ◌%◌, ◌&&◌, Bool, List, ◌∷◌, ◌++◌, nat_le, take, drop, slice_index, if◌then◌else◌}
+use Rattle.mpm_base.specs.declared.kind.Kind.{Kind}
+use Rattle.mpm_blocks.specs.Geometries.{geometry_of}
+use Rattle.mpm_dirent.specs.declared.kinds.Entry.{Entry}
+use Rattle.mpm_dirent.specs.declared.kinds.Entry.TheVariants.{Free, File, Xfcb, Label, Kept}
+use Rattle.mpm_dirent.specs.Entries.{part, bytes_of}
+use Rattle.mpm_blocks.specs.Sectors.{sectors_of, with_slot}
+use Rattle.mpm_sectors.specs.Writes.{Write}
+
+-- the bytes of an entry of a sector
+abbrev pub slot_bytes : List ℕ → ℕ → List ℕ
+slot_bytes sector place = part (32 * place) 32 sector
+
+-- the first byte of an XFCB or a label
+abbrev pub is_extended : ℕ → Bool
+is_extended sort = nat_le 16 sort && nat_le sort 32
+
+-- the bytes of an XFCB or a label, of which 14 and 15, that no field says, stay where they were those of one
+abbrev pub with_reserved : List ℕ → List ℕ → List ℕ
+with_reserved old bytes = if is_extended (slice_index old 0) then take 14 bytes ++ (part 14 2 old ++ drop 16 bytes) else bytes
+
+-- the bytes of an entry in the place of others: a free entry changes the first byte alone
+unfoldable pub bytes_over : Bool → List ℕ → Entry → List ℕ
+bytes_over wide old Free = 229 ∷ drop 1 old
+bytes_over wide old (File f) = bytes_of (File f) wide
+bytes_over wide old (Xfcb x) = with_reserved old (bytes_of (Xfcb x) wide)
+bytes_over wide old (Label l) = with_reserved old (bytes_of (Label l) wide)
+bytes_over wide old (Kept bytes) = bytes_of (Kept bytes) wide
+
+-- a sector with an entry in the place of another
+unfoldable pub with_entry : Bool → List ℕ → ℕ → Entry → List ℕ
+with_entry wide sector place entry = with_slot sector place (bytes_over wide (slot_bytes sector place) entry)
+
+-- the sector of a slot of the directory, with an entry in that slot
+abbrev pub slot_write : Kind → List ℕ → ℕ → Entry → Write
+slot_write kind image slot entry = record {
+  sector = slot / 4;
+  bytes = with_entry (geometry_of kind).wide (sectors_of image kind (slot / 4)) (slot % 4) entry;
+}
+
+-- the sector of two slots of the directory, with an entry in each
+abbrev pub slots_write : Kind → List ℕ → ℕ → Entry → ℕ → Entry → Write
+slots_write kind image slot entry other_slot other = record {
+  sector = slot / 4;
+  bytes =
+      with_entry (geometry_of kind).wide (with_entry (geometry_of kind).wide (sectors_of image kind (slot / 4)) (slot % 4) entry) (other_slot % 4) other;
+}

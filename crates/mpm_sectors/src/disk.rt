@@ -1,0 +1,234 @@
+ghost use Rattle.std.specs.Prelude.{◌≡◌, ℕ, ◌+◌, ◌/◌, ◌<◌, ◌≤◌, [], ◌∷◌, List, Some, IsSome, IsOk, OnOk, is_some, length, if◌then◌else◌};
+ghost use Rattle.mpm_port.specs.Causes.{HasCause};
+ghost use Rattle.mpm_port.specs.Disks.{SameDisks, Told};
+ghost use Rattle.mpm_blocks.specs.Geometries.{geometry_of, last_block, block_records, logical_sectors, place_of};
+ghost use Rattle.mpm_dirent.specs.Entries.{entry_of};
+ghost use Rattle.mpm_dirent.specs.Proper.{IsProper};
+ghost use Rattle.mpm_cache.specs.Cached.{cached_at};
+ghost use Rattle.mpm_cache.specs.Coherent.{IsCoherent, HasNoAlias};
+ghost use Rattle.mpm_blocks.specs.Sectors.{told_image, sectors_of};
+ghost use Rattle.mpm_sectors.specs.Writes.{Puts, zeros_from, block_writes, block_calls};
+ghost use Rattle.mpm_sectors.specs.Slots.{bytes_over, slot_write, slots_write};
+ghost use Rattle.mpm_sectors.specs.Disks.{Leaves};
+
+use crate::slots::{entry_bytes, put_entry};
+use mpm_base::{Kind, Steps};
+use mpm_blocks::{geometry, place};
+use mpm_cache::Cache;
+use mpm_dirent::Entry;
+use mpm_port::{Drives, Failed};
+use std::sync::ledger::Ledger;
+
+/// A drive with the kind of its disk. Sectors are counted from 0 behind the system's tracks, in the order in which they are
+/// used; `steps` counts the calls of the drives.
+///
+/// Each call asks that the drive is attached to an image of its kind's size and that what is cached is what the images have,
+/// which it keeps, also where the drive failed. What writes asks too that no other drive of which a sector is cached has this
+/// one's image.
+#[derive(Clone, Copy, Debug, PartialEq, Eq)]
+pub struct Disk {
+    /// The drive's number.
+    pub drive: u8,
+    /// The kind of its disk.
+    pub kind: Kind,
+}
+
+impl Disk {
+    /// Reads a sector, which costs no call of the drives where it is cached, and one where it isn't.
+    #[tactic(auto, using(crate::proofs::Bounds::sector_inside, crate::proofs::OtherImages::elsewhere_same, mpm_cache::proofs::AliasLaws::alone_after))]
+    pub fn read<D: Drives, L: Ledger>(
+        &self,
+        cache: &mut Cache,
+        drives: &mut D,
+        sector: u32,
+        out: &mut [u8; 128],
+        steps: &mut Steps<L>,
+    ) -> Result<(), Failed>
+        requires size { D.attached drives.old self.now.drive ≡ Some (geometry_of self.now.kind).bytes }
+        requires within { sector < logical_sectors self.now.kind }
+        requires coherent { IsCoherent cache.old (D.disks drives.old) }
+        ensures bytes { (image : List ℕ) → told_image (D.disks drives.old) self.now.drive ≡ Some image
+            → OnOk result (out.new ≡ sectors_of image self.now.kind sector) }
+        ensures calls { steps.new ≡ (if is_some (cached_at cache.old self.now.drive (place_of self.now.kind sector)) then steps.old else steps.old + 1) }
+        ensures succeeds { IsSome (cached_at cache.old self.now.drive (place_of self.now.kind sector)) → IsOk result }
+        ensures uncalled { IsSome (cached_at cache.old self.now.drive (place_of self.now.kind sector)) → drives.new ≡ drives.old }
+        ensures leaves { Leaves D.attached D.disks D.failed_names self.now.drive cache.old cache.new drives.old drives.new }
+        ensures disks { Told SameDisks (D.disks drives.old) (D.disks drives.new) }
+        ensures cause { HasCause (D.faults drives.old) (D.faults drives.new) result }
+    {
+        cache.read(drives, self.drive, place(self.kind, sector), out, steps)
+    }
+
+    /// Writes a sector, by one call of the drives.
+    #[tactic(auto, using(crate::proofs::Bounds::sector_inside, crate::proofs::WriteLaws::put_elsewhere, mpm_cache::proofs::AliasLaws::alone_after))]
+    pub fn put<D: Drives, L: Ledger>(
+        &self,
+        cache: &mut Cache,
+        drives: &mut D,
+        sector: u32,
+        bytes: &[u8; 128],
+        steps: &mut Steps<L>,
+    ) -> Result<(), Failed>
+        requires size { D.attached drives.old self.now.drive ≡ Some (geometry_of self.now.kind).bytes }
+        requires within { sector < logical_sectors self.now.kind }
+        requires coherent { IsCoherent cache.old (D.disks drives.old) }
+        requires apart { HasNoAlias cache.old (D.disks drives.old) self.now.drive }
+        ensures puts { Puts self.now.drive self.now.kind (record { sector = sector; bytes = bytes.now } ∷ []) (D.disks drives.old) (D.disks drives.new) result }
+        ensures calls { steps.new ≡ steps.old + 1 }
+        ensures leaves { Leaves D.attached D.disks D.failed_names self.now.drive cache.old cache.new drives.old drives.new }
+        ensures cause { HasCause (D.faults drives.old) (D.faults drives.new) result }
+    {
+        cache.write(drives, self.drive, place(self.kind, sector), bytes, steps)
+    }
+
+    /// Writes zeros into some sectors in a row, by a call of the drives each, up to the first that fails.
+    pub fn clear<D: Drives, L: Ledger>(
+        &self,
+        cache: &mut Cache,
+        drives: &mut D,
+        first: u32,
+        count: u32,
+        steps: &mut Steps<L>,
+    ) -> Result<(), Failed>
+        requires size { D.attached drives.old self.now.drive ≡ Some (geometry_of self.now.kind).bytes }
+        requires within { first + count ≤ logical_sectors self.now.kind }
+        requires coherent { IsCoherent cache.old (D.disks drives.old) }
+        requires apart { HasNoAlias cache.old (D.disks drives.old) self.now.drive }
+        ensures puts { Puts self.now.drive self.now.kind (zeros_from first count) (D.disks drives.old) (D.disks drives.new) result }
+        ensures calls { OnOk result (steps.new ≡ steps.old + count) }
+        ensures most { steps.new ≤ steps.old + count }
+        ensures leaves { Leaves D.attached D.disks D.failed_names self.now.drive cache.old cache.new drives.old drives.new }
+        ensures cause { HasCause (D.faults drives.old) (D.faults drives.new) result }
+    {
+        for number in 0..count {
+            match self.put(cache, drives, first + number, &[0; 128], steps) {
+                Ok(()) => {}
+                Err(failed) => return Err(failed),
+            }
+        }
+        Ok(())
+    }
+
+    /// Writes a record at its index into a fresh allocation block, of which so many sectors are zeros already: zeros into its
+    /// other sectors, and then the record, by a call of the drives each, up to the first that fails.
+    pub fn put_block<D: Drives, L: Ledger>(
+        &self,
+        cache: &mut Cache,
+        drives: &mut D,
+        block: u16,
+        clear: u8,
+        index: u8,
+        bytes: &[u8; 128],
+        steps: &mut Steps<L>,
+    ) -> Result<(), Failed>
+        requires size { D.attached drives.old self.now.drive ≡ Some (geometry_of self.now.kind).bytes }
+        requires block { block ≤ last_block self.now.kind }
+        requires clear { clear ≤ block_records self.now.kind }
+        requires index { index < block_records self.now.kind }
+        requires coherent { IsCoherent cache.old (D.disks drives.old) }
+        requires apart { HasNoAlias cache.old (D.disks drives.old) self.now.drive }
+        ensures puts { Puts self.now.drive self.now.kind (block_writes self.now.kind block clear index bytes.now) (D.disks drives.old) (D.disks drives.new) result }
+        ensures calls { OnOk result (steps.new ≡ steps.old + block_calls self.now.kind clear index) }
+        ensures most { steps.new ≤ steps.old + block_calls self.now.kind clear index }
+        ensures leaves { Leaves D.attached D.disks D.failed_names self.now.drive cache.old cache.new drives.old drives.new }
+        ensures cause { HasCause (D.faults drives.old) (D.faults drives.new) result }
+    {
+        let records = u32::from(geometry(self.kind).block) / 128;
+        let first = u32::from(block) * records;
+        let clear = u32::from(clear);
+        let index = u32::from(index);
+        match self.clear(
+            cache,
+            drives,
+            first + clear,
+            index.saturating_sub(clear),
+            steps,
+        ) {
+            Ok(()) => {}
+            Err(failed) => return Err(failed),
+        }
+        let behind = clear.max(index + 1);
+        match self.clear(cache, drives, first + behind, records - behind, steps) {
+            Ok(()) => {}
+            Err(failed) => return Err(failed),
+        }
+        self.put(cache, drives, first + index, bytes, steps)
+    }
+
+    /// Writes a directory entry into its slot: its sector is read, which costs a call of the drives where it isn't cached, and
+    /// written by one more. Bytes that the entry has no field for stay as they were.
+    pub fn put_slot<D: Drives, L: Ledger>(
+        &self,
+        cache: &mut Cache,
+        drives: &mut D,
+        slot: u16,
+        entry: &Entry,
+        steps: &mut Steps<L>,
+    ) -> Result<(), Failed>
+        requires size { D.attached drives.old self.now.drive ≡ Some (geometry_of self.now.kind).bytes }
+        requires within { slot ≤ (geometry_of self.now.kind).drm }
+        requires proper { IsProper (geometry_of self.now.kind).wide entry.now }
+        requires coherent { IsCoherent cache.old (D.disks drives.old) }
+        requires apart { HasNoAlias cache.old (D.disks drives.old) self.now.drive }
+        ensures puts { (image : List ℕ) → told_image (D.disks drives.old) self.now.drive ≡ Some image
+            → Puts self.now.drive self.now.kind (slot_write self.now.kind image slot entry.now ∷ []) (D.disks drives.old) (D.disks drives.new) result }
+        ensures back { (old : List ℕ) → length old ≡ 32
+            → entry_of (bytes_over (geometry_of self.now.kind).wide old entry.now) (geometry_of self.now.kind).wide ≡ entry.now }
+        ensures calls { OnOk result (steps.new ≡ (if is_some (cached_at cache.old self.now.drive (place_of self.now.kind (slot / 4))) then steps.old else steps.old + 1) + 1) }
+        ensures most { steps.new ≤ steps.old + 2 }
+        ensures leaves { Leaves D.attached D.disks D.failed_names self.now.drive cache.old cache.new drives.old drives.new }
+        ensures cause { HasCause (D.faults drives.old) (D.faults drives.new) result }
+    {
+        let wide = geometry(self.kind).wide;
+        let bytes = entry_bytes(entry, wide);
+        let mut sector = [0; 128];
+        match self.read(cache, drives, u32::from(slot / 4), &mut sector, steps) {
+            Ok(()) => {}
+            Err(failed) => return Err(failed),
+        }
+        put_entry(&mut sector, slot % 4, entry, &bytes, wide);
+        self.put(cache, drives, u32::from(slot / 4), &sector, steps)
+    }
+
+    /// Writes two directory entries into their slots, which are of one sector, as `put_slot` writes one.
+    pub fn put_slots<D: Drives, L: Ledger>(
+        &self,
+        cache: &mut Cache,
+        drives: &mut D,
+        slot: u16,
+        entry: &Entry,
+        other_slot: u16,
+        other: &Entry,
+        steps: &mut Steps<L>,
+    ) -> Result<(), Failed>
+        requires size { D.attached drives.old self.now.drive ≡ Some (geometry_of self.now.kind).bytes }
+        requires within { slot ≤ (geometry_of self.now.kind).drm }
+        requires same { other_slot / 4 ≡ slot / 4 }
+        requires proper { IsProper (geometry_of self.now.kind).wide entry.now }
+        requires other { IsProper (geometry_of self.now.kind).wide other.now }
+        requires coherent { IsCoherent cache.old (D.disks drives.old) }
+        requires apart { HasNoAlias cache.old (D.disks drives.old) self.now.drive }
+        ensures puts { (image : List ℕ) → told_image (D.disks drives.old) self.now.drive ≡ Some image
+            → Puts self.now.drive self.now.kind (slots_write self.now.kind image slot entry.now other_slot other.now ∷ []) (D.disks drives.old) (D.disks drives.new) result }
+        ensures back { (old : List ℕ) → length old ≡ 32
+            → entry_of (bytes_over (geometry_of self.now.kind).wide old entry.now) (geometry_of self.now.kind).wide ≡ entry.now }
+        ensures other_back { (old : List ℕ) → length old ≡ 32
+            → entry_of (bytes_over (geometry_of self.now.kind).wide old other.now) (geometry_of self.now.kind).wide ≡ other.now }
+        ensures calls { OnOk result (steps.new ≡ (if is_some (cached_at cache.old self.now.drive (place_of self.now.kind (slot / 4))) then steps.old else steps.old + 1) + 1) }
+        ensures most { steps.new ≤ steps.old + 2 }
+        ensures leaves { Leaves D.attached D.disks D.failed_names self.now.drive cache.old cache.new drives.old drives.new }
+        ensures cause { HasCause (D.faults drives.old) (D.faults drives.new) result }
+    {
+        let wide = geometry(self.kind).wide;
+        let bytes = entry_bytes(entry, wide);
+        let other_bytes = entry_bytes(other, wide);
+        let mut sector = [0; 128];
+        match self.read(cache, drives, u32::from(slot / 4), &mut sector, steps) {
+            Ok(()) => {}
+            Err(failed) => return Err(failed),
+        }
+        put_entry(&mut sector, slot % 4, entry, &bytes, wide);
+        put_entry(&mut sector, other_slot % 4, other, &other_bytes, wide);
+        self.put(cache, drives, u32::from(slot / 4), &sector, steps)
+    }
+}
