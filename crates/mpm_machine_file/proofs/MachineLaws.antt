@@ -1,5 +1,5 @@
 -- A machine file that is read lies within the limits of its keys.
-use Rattle.std.proofs.Common.{◌≡◌, ◌≢◌, ℕ, ◌+◌, ◌<◌, ◌≤◌, ◌⊎◌, Bool, true, ◌||◌, ◌&&◌, ◌==◌, nat_le, if◌then◌else◌, suc, List, [], ◌∷◌, length, map, Option, Some, None, refl, subst, arith, lit≤}
+use Rattle.std.proofs.Common.{◌≡◌, ◌≢◌, ℕ, ◌+◌, ◌<◌, ◌≤◌, ◌⊎◌, Bool, true, false, ◌||◌, ◌&&◌, ◌==◌, nat_le, if◌then◌else◌, suc, List, [], ◌∷◌, length, map, Option, Some, None, refl, subst, arith, lit≤}
 use Rattle.std.specs.Prelude.{codes}
 use Rattle.std.specs.List.{AllByRecursion}
 use Rattle.std.specs.Option.{option_map_or}
@@ -12,8 +12,9 @@ use Rattle.mpm_base.specs.declared.kind.Kind.{Kind}
 use Rattle.mpm_machine_file.specs.declared.lists.DriveSpec.{DriveSpec}
 use Rattle.mpm_machine_file.specs.declared.machine_file.MachineFile.{MachineFile}
 use Rattle.mpm_machine_file.specs.Fields.{only_keys, number_at, number_or, text_at, text_if, all_of, counted}
-use Rattle.mpm_machine_file.specs.Segments.{segment_keys, segment_of, segments_of, segments_in}
+use Rattle.mpm_machine_file.specs.Segments.{segment_keys, segment_of, most_segments, segments_of, segments_in}
 use Rattle.mpm_machine_file.specs.Drives.{drive_keys, letter_of, kind_of, drive_of, all_differ, by_letter, drives_of, drives_in}
+use Rattle.mpm_machine_file.specs.Residents.{residents_in}
 use Rattle.mpm_machine_file.specs.MachineFiles.{machine_keys, ticks_of, machine_of, document_of, whole_file_of, IsSegment, IsDrive, IsMachine}
 use Rattle.mpm_script.proofs.Finds.{bind_some}
 use Rattle.mpm_machine_file.proofs.LimitLaws.{IsBetween, between_test, number_at_limits, number_or_limits, text_at_limits, text_if_limits, all_of_each, counted_limits}
@@ -36,21 +37,29 @@ segment_limits value segment e =
 -- what is read of the segments
 pub record AreSegments (segments : List SegmentSpec) : Type 0 where
   pub some : 1 ≤ length segments
-  pub few : length segments ≤ 8
+  pub few : length segments ≤ 16
   pub each : AllByRecursion IsSegment segments
 
-segments_limits : (value : Data) (segments : List SegmentSpec) → segments_of value ≡ Some segments → AreSegments segments
+most_limit : (version : ℕ) → most_segments version ≤ 16
+most_limit version = by_test (version == 1)
+  where
+    by_test : (test : Bool) → (if test then 8 else 16) ≤ 16
+    by_test true = omega arith
+    by_test false = omega arith
+
+segments_limits : (most : ℕ) (value : Data) (segments : List SegmentSpec) → most ≤ 16 → segments_of most value ≡ Some segments → AreSegments segments
 unfolding segments_of
-segments_limits value segments e =
+segments_limits most value segments few e =
     let items = bind_some (as_array value) _ segments e in
     let read = bind_some (all_of segment_of items.0) _ segments items.2 in
-    let count = counted_limits 1 8 read.0 segments read.2 in
-    subst AreSegments count.0 (record { some = count.1.0; few = count.1.1; each = all_of_each IsSegment segment_of segment_limits items.0 read.0 read.1 })
+    let count = counted_limits 1 most read.0 segments read.2 in
+    subst AreSegments count.0 (record { some = count.1.0; few = omega (arith, count.1.1, few); each = all_of_each IsSegment segment_of segment_limits items.0 read.0 read.1 })
 
-pub segments_in_limits : (table : Members) (segments : List SegmentSpec) → segments_in table ≡ Some segments → AreSegments segments
+pub segments_in_limits : (version : ℕ) (table : Members) (segments : List SegmentSpec) → segments_in version table ≡ Some segments → AreSegments segments
 unfolding segments_in
-segments_in_limits table segments e =
-    let value = bind_some (get_member (codes "segment") table) segments_of segments e in segments_limits value.0 segments value.2
+segments_in_limits version table segments e =
+    let value = bind_some (get_member (codes "segment") table) (segments_of (most_segments version)) segments e in
+    segments_limits (most_segments version) value.0 segments (most_limit version) value.2
 
 -- what is read of the drives
 pub record AreDrives (drives : List DriveSpec) : Type 0 where
@@ -130,7 +139,7 @@ below_next n greatest fits = omega arith
 machine_limits : (table : Members) (file : MachineFile) → machine_of table ≡ Some file → IsMachine file
 unfolding machine_of
 machine_limits table file e =
-    let version = bind_some (number_at (codes "version") 1 1 table) _ file e in
+    let version = bind_some (number_at (codes "version") 1 2 table) _ file e in
     let consoles = bind_some (number_at (codes "consoles") 1 8 table) _ file version.2 in
     let printers = bind_some (number_or (codes "printers") 1 0 4 table) _ file consoles.2 in
     let ticks = bind_some (ticks_of table) _ file printers.2 in
@@ -139,17 +148,18 @@ machine_limits table file e =
     let hour = bind_some (number_or (codes "hour") 0 0 23 table) _ file date.2 in
     let minute = bind_some (number_or (codes "minute") 0 0 59 table) _ file hour.2 in
     let second = bind_some (number_or (codes "second") 0 0 59 table) _ file minute.2 in
-    let segments = bind_some (segments_in table) _ file second.2 in
+    let segments = bind_some (segments_in version.0 table) _ file second.2 in
     let drives = bind_some (drives_in table) _ file segments.2 in
     let script = bind_some (text_if (codes "script") table) _ file drives.2 in
-    let made = cond_some (only_keys machine_keys table) _ file script.2 in
+    let residents = bind_some (residents_in version.0 table) _ file script.2 in
+    let made = cond_some (only_keys machine_keys table) _ file residents.2 in
     let console_limits = number_at_limits (codes "consoles") 1 8 table consoles.0 consoles.1 in
     let printer_limits = number_or_limits (codes "printers") 1 0 4 table printers.0 (lit≤ tt, lit≤ tt) printers.1 in
     let turn_limits = number_or_limits (codes "disk_turn") 0 0 1000 table turn.0 (lit≤ tt, lit≤ tt) turn.1 in
     let hour_limits = number_or_limits (codes "hour") 0 0 23 table hour.0 (lit≤ tt, lit≤ tt) hour.1 in
     let minute_limits = number_or_limits (codes "minute") 0 0 59 table minute.0 (lit≤ tt, lit≤ tt) minute.1 in
     let second_limits = number_or_limits (codes "second") 0 0 59 table second.0 (lit≤ tt, lit≤ tt) second.1 in
-    let are_segments = segments_in_limits table segments.0 segments.1 in
+    let are_segments = segments_in_limits version.0 table segments.0 segments.1 in
     let are_drives = drives_in_limits table drives.0 drives.1 in
     subst IsMachine made.1 (record {
       some_console = console_limits.0;

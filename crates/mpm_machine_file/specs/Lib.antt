@@ -2,4 +2,5 @@ pub mod Reading
 pub mod Fields
 pub mod Segments
 pub mod Drives
+pub mod Residents
 pub mod MachineFiles

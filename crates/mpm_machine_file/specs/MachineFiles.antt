@@ -1,5 +1,5 @@
 -- The machine file: a TOML document of these keys and no others, each within its limits.
-use Rattle.std.specs.Prelude.{◌≡◌, ◌≢◌, ℕ, ◌+◌, ◌<◌, ◌≤◌, ◌⊎◌, Bool, true, ◌&&◌, ◌||◌, ◌==◌, nat_le, if◌then◌else◌, List, [], ◌∷◌, length, map, codes, All, Option, Some, None, IfSome}
+use Rattle.std.specs.Prelude.{◌≡◌, ◌≢◌, ℕ, ◌+◌, ◌<◌, ◌≤◌, ◌⊎◌, Bool, true, not, ◌&&◌, ◌||◌, ◌==◌, nat_le, if◌then◌else◌, List, [], ◌∷◌, length, map, codes, All, Option, Some, None, IfSome}
 use Rattle.std.specs.List.Sorted.{IsStrictlyIncreasing}
 use Rattle.std.specs.Str.{is_utf8}
 use Rattle.toml.specs.Data.{Members}
@@ -11,11 +11,13 @@ use Rattle.mpm_script.specs.Numbers.{◌>>=◌}
 use Rattle.mpm_machine_file.specs.Fields.{only_keys, number_at, number_or, text_if}
 use Rattle.mpm_machine_file.specs.Segments.{segments_in}
 use Rattle.mpm_machine_file.specs.Drives.{drives_in, all_differ}
+use Rattle.mpm_machine_file.specs.Residents.{residents_in}
 
 abbrev pub machine_keys : List (List ℕ)
 machine_keys =
     codes "version" ∷ codes "consoles" ∷ codes "printers" ∷ codes "tick_every" ∷ codes "disk_turn" ∷ codes "date" ∷ codes "hour"
-    ∷ codes "minute" ∷ codes "second" ∷ codes "segment" ∷ codes "drive" ∷ codes "script" ∷ []
+    ∷ codes "minute" ∷ codes "second" ∷ codes "segment" ∷ codes "drive" ∷ codes "script"
+    ∷ codes "residents" ∷ []
 
 -- 0, or 100 to 1,000,000 steps between two ticks
 unfoldable pub ticks_of : Members → Option ℕ
@@ -26,7 +28,7 @@ ticks_of table = do
 -- the machine file that a document's table is
 unfoldable pub machine_of : Members → Option MachineFile
 machine_of table = do
-  version ← number_at (codes "version") 1 1 table
+  version ← number_at (codes "version") 1 2 table
   consoles ← number_at (codes "consoles") 1 8 table
   printers ← number_or (codes "printers") 1 0 4 table
   tick_every ← ticks_of table
@@ -35,9 +37,10 @@ machine_of table = do
   hour ← number_or (codes "hour") 0 0 23 table
   minute ← number_or (codes "minute") 0 0 59 table
   second ← number_or (codes "second") 0 0 59 table
-  segments ← segments_in table
+  segments ← segments_in version table
   drives ← drives_in table
   script ← text_if (codes "script") table
+  residents ← residents_in version table
   if only_keys machine_keys table then Some (record {
     consoles = consoles;
     printers = printers;
@@ -50,6 +53,8 @@ machine_of table = do
     segments = segments;
     drives = drives;
     script = script;
+    spool = residents.spool;
+    sched = residents.sched;
   }) else None
 
 -- the table that a text is, a TOML document in UTF-8
@@ -60,9 +65,9 @@ document_of text = if is_utf8 text then parse_document text else None
 unfoldable pub whole_file_of : List ℕ → Option MachineFile
 whole_file_of text = document_of text >>= machine_of
 
--- no part is asked for that isn't built yet: no turns of a disk, no drives
+-- no part is asked for that isn't built yet: no turns of a disk, no spooler and no scheduler
 unfoldable pub is_built : MachineFile → Bool
-is_built file = file.disk_turn == 0 && length file.drives == 0
+is_built file = file.disk_turn == 0 && (not file.spool && not file.sched)
 
 -- the machine file that a text is, of parts that are built
 unfoldable pub machine_of_text : List ℕ → Option MachineFile
@@ -92,7 +97,7 @@ pub record IsMachine (file : MachineFile) : Type 0 where
   pub minute : file.minute < 60
   pub second : file.second < 60
   pub some_segment : 1 ≤ length file.segments
-  pub segments : length file.segments ≤ 8
+  pub segments : length file.segments ≤ 16
   pub each_segment : All IsSegment file.segments
   pub drives : length file.drives ≤ 16
   pub each_drive : All IsDrive file.drives

@@ -1,5 +1,5 @@
 -- The memory segments of a machine file: pages of 256 bytes below C000h, of which the last is page 191.
-use Rattle.std.specs.Prelude.{ℕ, ◌+◌, ◌&&◌, nat_le, if◌then◌else◌, List, [], ◌∷◌, codes, Option, Some, None}
+use Rattle.std.specs.Prelude.{ℕ, ◌+◌, ◌&&◌, ◌==◌, nat_le, if◌then◌else◌, List, [], ◌∷◌, codes, Option, Some, None}
 use Rattle.toml.specs.Data.{Data, Members, get_member, as_table, as_array}
 use Rattle.mpm_base.specs.declared.segment.SegmentSpec.{SegmentSpec}
 use Rattle.mpm_script.specs.Numbers.{◌>>=◌}
@@ -16,13 +16,17 @@ segment_of value = do
   pages ← number_at (codes "pages") 4 192 table
   if only_keys segment_keys table && nat_le (base + pages) 192 then Some (record { base = base; pages = pages }) else None
 
--- 1 to 8 segments
-unfoldable pub segments_of : Data → Option (List SegmentSpec)
-segments_of value = do
+-- how many segments a machine file of a version may have
+abbrev pub most_segments : ℕ → ℕ
+most_segments version = if version == 1 then 8 else 16
+
+-- 1 segment or more
+unfoldable pub segments_of : ℕ → Data → Option (List SegmentSpec)
+segments_of most value = do
   items ← as_array value
   segments ← all_of segment_of items
-  counted 1 8 segments
+  counted 1 most segments
 
--- the segments of a machine file, which must be there
-unfoldable pub segments_in : Members → Option (List SegmentSpec)
-segments_in table = get_member (codes "segment") table >>= segments_of
+-- the segments of a machine file of a version, which must be there
+unfoldable pub segments_in : ℕ → Members → Option (List SegmentSpec)
+segments_in version table = get_member (codes "segment") table >>= segments_of (most_segments version)

@@ -7,6 +7,7 @@ mod fields;
 mod lists;
 mod machine_file;
 mod reading;
+mod residents;
 mod segments;
 mod text;
 

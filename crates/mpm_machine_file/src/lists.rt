@@ -70,3 +70,19 @@ impl DriveSpecs {
         self.items.as_slice()
     }
 }
+
+/// A process of the system that a machine file may ask for.
+#[derive(Clone, Copy, Debug, PartialEq, Eq)]
+pub enum Resident {
+    /// The print spooler.
+    Spool,
+    /// The scheduler of commands.
+    Sched,
+}
+
+/// The processes of the system that a machine file asks for.
+#[derive(Clone, Copy, Debug, PartialEq, Eq)]
+pub struct Residents {
+    pub spool: bool,
+    pub sched: bool,
+}

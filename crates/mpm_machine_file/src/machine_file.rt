@@ -20,10 +20,14 @@ pub struct MachineFile {
     pub minute: u8,
     /// The second, 0 to 59.
     pub second: u8,
-    /// The memory segments, 1 to 8, in the file's order.
+    /// The memory segments, 1 to 16, in the file's order.
     pub segments: Segments,
     /// The disk drives, at most 16, in the order of their letters.
     pub drives: DriveSpecs,
     /// The name of the script, where there is one.
     pub script: Option<Text>,
+    /// Whether the print spooler is to run.
+    pub spool: bool,
+    /// Whether the scheduler of commands is to run.
+    pub sched: bool,
 }

@@ -12,18 +12,19 @@ use crate::error::MachineError;
 use crate::fields::{has_only, number_at, number_or, text_if, value_at};
 use crate::lists::{DriveSpecs, Segments};
 use crate::machine_file::MachineFile;
-use crate::segments::segments;
+use crate::residents::residents_at;
+use crate::segments::{most_segments, segments};
 use std::alloc::Global;
 use toml::Table;
 
 /// Reads a machine file: a TOML document in UTF-8. It is a fault exactly where the text isn't one, or asks for a part that
-/// isn't built yet: a disk's turns or a drive.
+/// isn't built yet: a disk's turns, the spooler or the scheduler.
 ///
 /// These are its keys, and no others may stand in it. Those marked * must be there.
 ///
 /// | Key | Value | Where missing |
 /// |---|---|---|
-/// | `version` * | 1 | |
+/// | `version` * | 1 or 2 | |
 /// | `consoles` * | 1 to 8 | |
 /// | `printers` | 0 to 4 | 1 |
 /// | `tick_every` | 0, or 100 to 1,000,000 steps between two ticks | 0 |
@@ -31,8 +32,9 @@ use toml::Table;
 /// | `date` | 0 to 65,535 | 1 |
 /// | `hour`, `minute`, `second` | 0 to 23, 0 to 59, 0 to 59 | 0 |
 /// | `script` | the name of a file, not empty | none |
-/// | `segment` * | an array of 1 to 8 tables: `base` * 0 to 188, `pages` * 4 to 192, together at most 192 | |
-/// | `drive` | an array of at most 16 tables: `letter` * `A` to `P`, `kind` * `ibm3740` or `hd4`, `image` * the name of a file, not empty; letters differ, images differ | none |
+/// | `segment` * | an array of 1 to 8 tables, of 1 to 16 where the version is 2: `base` * 0 to 188, `pages` * 4 to 192, together at most 192 | |
+/// | `drive` | an array of at most 16 tables: `letter` * `A` to `P`, `kind` * `ibm3740`, `hd4` or `hd8`, `image` * the name of a file, not empty; letters differ, images differ | none |
+/// | `residents` | in version 2 alone: an array of different texts, each `spool` or `sched` | empty |
 #[tactic(auto, unfolding(crate::specs::MachineFiles::machine_of_text))]
 pub fn read_machine(alloc: Global, text: &[u8]) -> Result<MachineFile, MachineError>
     ensures ok { IfOk result (λ file. spec.machine_of_text text.now ≡ Some file) }
@@ -52,7 +54,7 @@ pub fn read_machine(alloc: Global, text: &[u8]) -> Result<MachineFile, MachineEr
 fn is_built(file: &MachineFile) -> bool
     ensures { result ≡ spec.is_built file.now }
 {
-    file.disk_turn == 0 && file.drives.as_slice().is_empty()
+    file.disk_turn == 0 && !file.spool && !file.sched
 }
 
 /// Reads a machine file, whichever parts it asks for.
@@ -80,7 +82,7 @@ fn document(alloc: Global, text: &[u8]) -> Result<Table, MachineError>
 fn machine(alloc: Global, table: &Table) -> Result<MachineFile, MachineError>
     ensures { Reads result (spec.machine_of (table_view table.now)) }
 {
-    number_at(table, "version", 1, 1)?;
+    let version = number_at(table, "version", 1, 2)?;
     let consoles = number_at(table, "consoles", 1, 8)?;
     let printers = number_or(table, "printers", 1, 0, 4)?;
     let tick_every = tick_every(table)?;
@@ -89,9 +91,10 @@ fn machine(alloc: Global, table: &Table) -> Result<MachineFile, MachineError>
     let hour = number_or(table, "hour", 0, 0, 23)?;
     let minute = number_or(table, "minute", 0, 0, 59)?;
     let second = number_or(table, "second", 0, 0, 59)?;
-    let segments = segments_at(alloc, table)?;
+    let segments = segments_at(alloc, version, table)?;
     let drives = drives_at(alloc, table)?;
     let script = text_if(alloc, table, "script")?;
+    let residents = residents_at(alloc, version, table)?;
     if !has_only_keys(table) {
         return Err(MachineError::Fault);
     }
@@ -107,6 +110,8 @@ fn machine(alloc: Global, table: &Table) -> Result<MachineFile, MachineError>
         segments,
         drives,
         script,
+        spool: residents.spool,
+        sched: residents.sched,
     })
 }
 
@@ -129,6 +134,7 @@ fn has_only_keys(table: &Table) -> bool
             "segment",
             "drive",
             "script",
+            "residents",
         ],
     )
 }
@@ -146,13 +152,13 @@ fn tick_every(table: &Table) -> Result<u32, MachineError>
     }
 }
 
-/// The segments, which must be there.
+/// The segments of a machine file of a version, which must be there.
 #[tactic(auto, unfolding(crate::specs::Segments::segments_in))]
-fn segments_at(alloc: Global, table: &Table) -> Result<Segments, MachineError>
-    ensures { Reads result (segments_in (table_view table.now)) }
+fn segments_at(alloc: Global, version: u32, table: &Table) -> Result<Segments, MachineError>
+    ensures { Reads result (segments_in version (table_view table.now)) }
 {
     match value_at(table, "segment") {
-        Some(value) => segments(alloc, value),
+        Some(value) => segments(alloc, most_segments(version), value),
         None => Err(MachineError::Fault),
     }
 }

@@ -15,16 +15,23 @@ use toml::Value;
 /// The page at which common memory begins: segments end below it.
 const END_PAGE: u32 = 192;
 
-/// The segments of the array at `segment`.
+/// How many segments a machine file of a version, 1 or 2, may have.
+pub fn most_segments(version: u32) -> usize
+    ensures { result ≡ spec.most_segments version }
+{
+    if version == 1 { 8 } else { 16 }
+}
+
+/// The segments of the array at `segment`: one or more, and no more than that many.
 #[tactic(auto, unfolding(crate::specs::Segments::segments_of))]
-pub fn segments(alloc: Global, value: &Value) -> Result<Segments, MachineError>
-    ensures { Reads result (spec.segments_of (view value.now)) }
+pub fn segments(alloc: Global, most: usize, value: &Value) -> Result<Segments, MachineError>
+    ensures { Reads result (spec.segments_of most (view value.now)) }
 {
     let Some(items) = value.as_array() else {
         return Err(MachineError::Fault);
     };
     let segments = each_segment(alloc, items.as_slice())?;
-    if 1 <= segments.len() && segments.len() <= 8 {
+    if 1 <= segments.len() && segments.len() <= most {
         Ok(Segments::of(segments))
     } else {
         Err(MachineError::Fault)

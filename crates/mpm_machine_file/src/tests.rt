@@ -59,6 +59,7 @@ fn missing_keys_have_their_values(rt: HostRuntime) -> Result<(), Fail> {
     );
     assert_eq!(rt; file.drives.as_slice().len(), 0);
     assert!(rt; file.script.is_none());
+    assert!(rt; !file.spool && !file.sched);
     Ok(())
 }
 
@@ -73,8 +74,9 @@ fn each_key_is_kept(rt: HostRuntime) -> Result<(), Fail> {
         tick_every = 1000000
         printers = 4
         consoles = 8
-        version = 1
+        version = 2
         script = 'keys.txt'
+        residents = ['sched']
         segment = [{ base = 64, pages = 8 }, { pages = 4, base = 188 }]
         drive = [
             { letter = 'P', kind = 'hd8', image = 'p.img' },
@@ -113,6 +115,7 @@ fn each_key_is_kept(rt: HostRuntime) -> Result<(), Fail> {
         file.script.as_ref().ok_or("no script")?.as_str(),
         "keys.txt"
     );
+    assert!(rt; !file.spool && file.sched);
     Ok(())
 }
 
@@ -159,7 +162,9 @@ fn versions_and_consoles_have_their_limits(rt: HostRuntime) -> Result<(), Fail> 
         ("version = 1\nconsoles = 0", false),
         ("version = 1\nconsoles = 9", false),
         ("version = 0\nconsoles = 1", false),
-        ("version = 2\nconsoles = 1", false),
+        ("version = 2\nconsoles = 1", true),
+        ("version = 3\nconsoles = 1", false),
+        ("version = '2'\nconsoles = 1", false),
         ("version = 1", false),
         ("consoles = 1", false),
         ("", false),
@@ -210,16 +215,52 @@ fn segments_have_their_limits(rt: HostRuntime) -> Result<(), Fail> {
     Ok(())
 }
 
-#[test]
-fn eight_segments_are_the_most(rt: HostRuntime) -> Result<(), Fail> {
-    let mut text = String::from_str(rt.alloc(), "version = 1\nconsoles = 1\n")?;
-    for count in 0..10 {
-        assert_eq!(rt;
-            is_read(rt.alloc(), text.as_bytes())?,
-            1 <= count && count <= 8
-        );
+/// The first number of segments, of up to 17, that is judged otherwise than that up to a number are read, behind such lines.
+fn first_misjudged_count(alloc: Global, lines: &str, most: usize) -> Result<Option<usize>, Fail> {
+    let mut text = String::from_str(alloc, lines)?;
+    for count in 0..18 {
+        if is_read(alloc, text.as_bytes())? != (1 <= count && count <= most) {
+            return Ok(Some(count));
+        }
         text.push_str("[[segment]]\nbase = 0\npages = 4\n")?;
     }
+    Ok(None)
+}
+
+#[test]
+fn each_version_has_its_most_segments(rt: HostRuntime) -> Result<(), Fail> {
+    let first = first_misjudged_count(rt.alloc(), "version = 1\nconsoles = 1\n", 8)?;
+    let second = first_misjudged_count(rt.alloc(), "version = 2\nconsoles = 1\n", 16)?;
+    assert_eq!(rt; (first, second), (None, None));
+    Ok(())
+}
+
+#[test]
+fn residents_are_of_version_2(rt: HostRuntime) -> Result<(), Fail> {
+    let rows = [
+        ("version = 2\nresidents = []", true),
+        ("version = 2\nresidents = ['spool']", true),
+        ("version = 2\nresidents = ['sched']", true),
+        ("version = 2\nresidents = ['sched', 'spool']", true),
+        ("version = 2\nresidents = ['spool', 'spool']", false),
+        (
+            "version = 2\nresidents = ['sched', 'spool', 'sched']",
+            false,
+        ),
+        ("version = 2\nresidents = ['spool', 'cli']", false),
+        ("version = 2\nresidents = ['SPOOL']", false),
+        ("version = 2\nresidents = ['']", false),
+        ("version = 2\nresidents = [1]", false),
+        ("version = 2\nresidents = [['spool']]", false),
+        ("version = 2\nresidents = 'spool'", false),
+        ("version = 1\nresidents = []", false),
+        ("version = 1\nresidents = ['spool']", false),
+        ("version = 1\nresidents = 1", false),
+    ];
+    assert_eq!(rt;
+        first_misjudged(rt.alloc(), "consoles = 1\n", &rows, BEHIND)?,
+        None
+    );
     Ok(())
 }
 
@@ -373,17 +414,23 @@ fn other_texts_of_toml_are_judged_by_the_form(rt: HostRuntime) -> Result<(), Fai
 #[test]
 fn parts_that_are_not_built_yet_are_faults(rt: HostRuntime) -> Result<(), Fail> {
     let rows = [
-        ("script = 'x'", true),
-        ("tick_every = 100", true),
-        ("disk_turn = 1", false),
+        ("version = 1\nscript = 'x'", true),
+        ("version = 1\ntick_every = 100", true),
+        ("version = 1\ndisk_turn = 1", false),
         (
-            "drive = [{ letter = 'A', kind = 'hd4', image = 'a' }]",
-            false,
+            "version = 1\ndrive = [{ letter = 'A', kind = 'hd4', image = 'a' }]",
+            true,
         ),
-        ("tick_every = 0\ndisk_turn = 0\ndrive = []", true),
+        (
+            "version = 1\ntick_every = 0\ndisk_turn = 0\ndrive = []",
+            true,
+        ),
+        ("version = 2\nresidents = []", true),
+        ("version = 2\nresidents = ['spool']", false),
+        ("version = 2\nresidents = ['sched']", false),
     ];
     for (lines, expected) in rows {
-        let text = with_lines(rt.alloc(), lines)?;
+        let text = format!(in rt.alloc(); "consoles = 1\n{lines}{BEHIND}")?;
         assert!(rt; is_read(rt.alloc(), text.as_bytes())?);
         match read_machine(rt.alloc(), text.as_bytes()) {
             Ok(_) => assert!(rt; expected, "{lines}"),

@@ -1,7 +1,7 @@
 -- A byte that is rotated or shifted is a byte.
-use Rattle.std.proofs.Common.{ℕ, ◌<◌, Bool, false, arith}
+use Rattle.std.proofs.Common.{ℕ, ◌<◌, Bool, true, false, arith}
 use Rattle.z80_alu.specs.declared.kinds.Rotate.{Rotate}
-use Rattle.z80_alu.specs.declared.kinds.Rotate.TheVariants.{Rlc, Rrc, Rl, Rr, Sla, Sra, Srl}
+use Rattle.z80_alu.specs.declared.kinds.Rotate.TheVariants.{Rlc, Rrc, Rl, Rr, Sla, Sra, Srl, Sll}
 use Rattle.z80_alu.specs.Flags.{has}
 use Rattle.z80_alu.specs.Bits.{left_with, right_with, rotated}
 use Rattle.z80_alu.proofs.FlagLaws.{bit_below_2}
@@ -20,3 +20,4 @@ rotated_fits Rr value carry fits = right_fits carry value fits
 rotated_fits Sla value carry fits = left_fits false value
 rotated_fits Sra value carry fits = right_fits (has value 128) value fits
 rotated_fits Srl value carry fits = right_fits false value fits
+rotated_fits Sll value carry fits = left_fits true value

@@ -1,10 +1,11 @@
--- AND, OR, XOR, rotations and shifts. (UM0080, "8-Bit Arithmetic Group", "Rotate and Shift Group".)
+-- AND, OR, XOR, rotations and shifts. (UM0080, "8-Bit Arithmetic Group", "Rotate and Shift Group"; for SLL "The
+-- Undocumented Z80 Documented".)
 use Rattle.std.specs.Prelude.{ℕ, ◌+◌, ◌*◌, ◌/◌, ◌%◌, Bool, true, false, bit_and, bit_or, bit_xor}
 use Rattle.z80_alu.specs.declared.flags.Flags.{Flags}
 use Rattle.z80_alu.specs.declared.kinds.Logic.{Logic}
 use Rattle.z80_alu.specs.declared.kinds.Logic.TheVariants.{And, Or, Xor}
 use Rattle.z80_alu.specs.declared.kinds.Rotate.{Rotate}
-use Rattle.z80_alu.specs.declared.kinds.Rotate.TheVariants.{Rlc, Rrc, Rl, Rr, Sla, Sra, Srl}
+use Rattle.z80_alu.specs.declared.kinds.Rotate.TheVariants.{Rlc, Rrc, Rl, Rr, Sla, Sra, Srl, Sll}
 use Rattle.z80_alu.specs.Flags.{bit, has, flags_of, byte_of, with_byte}
 
 abbrev pub combined : Logic → ℕ → ℕ → ℕ
@@ -42,6 +43,7 @@ rotated Rr value carry = right_with carry value
 rotated Sla value carry = left_with false value
 rotated Sra value carry = right_with (has value 128) value
 rotated Srl value carry = right_with false value
+rotated Sll value carry = left_with true value
 
 -- the bit that moves out: bit 7 to the left, bit 0 to the right
 abbrev pub moved_out : Rotate → ℕ → Bool
@@ -52,6 +54,7 @@ moved_out Rr value = has value 1
 moved_out Sla value = has value 128
 moved_out Sra value = has value 1
 moved_out Srl value = has value 1
+moved_out Sll value = has value 128
 
 -- the flags with the bit that a rotation or shift moves out
 abbrev pub with_moved_out : Rotate → ℕ → Flags → Flags
@@ -61,7 +64,7 @@ with_moved_out kind value flags = record flags {
   carry = moved_out kind value;
 }
 
--- RLC, RRC, RL, RR, SLA, SRA, SRL
+-- RLC, RRC, RL, RR, SLA, SRA, SRL, SLL
 unfoldable pub rotated_flags : Rotate → ℕ → ℕ → ℕ
 rotated_flags kind value f =
     byte_of (with_moved_out kind value (with_byte (rotated kind value (has f 1)) (flags_of f)))

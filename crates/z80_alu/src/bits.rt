@@ -85,6 +85,7 @@ fn rotate_by_one(kind: Rotate, value: u8, carry: bool) -> u8
         Rotate::Sla => to_left(false, value),
         Rotate::Sra => to_right(value / 128 % 2 == 1, value),
         Rotate::Srl => to_right(false, value),
+        Rotate::Sll => to_left(true, value),
     }
 }
 
@@ -94,7 +95,7 @@ fn bit_moved_out(kind: Rotate, value: u8) -> bool
     ensures { result ≡ moved_out kind value }
 {
     match kind {
-        Rotate::Rlc | Rotate::Rl | Rotate::Sla => value / 128 % 2 == 1,
+        Rotate::Rlc | Rotate::Rl | Rotate::Sla | Rotate::Sll => value / 128 % 2 == 1,
         Rotate::Rrc | Rotate::Rr | Rotate::Sra | Rotate::Srl => value % 2 == 1,
     }
 }
@@ -112,7 +113,8 @@ fn set_moved_out(kind: Rotate, value: u8, flags: Flags) -> Flags
     }
 }
 
-/// RLC, RRC, RL, RR, SLA, SRA and SRL: the result, and the new F (UM0080, "Rotate and Shift Group").
+/// RLC, RRC, RL, RR, SLA, SRA, SRL and SLL: the result, and the new F (UM0080, "Rotate and Shift Group"; SLL has the flags
+/// of SLA).
 #[inline]
 #[tactic(auto, unfolding(crate::specs::Bits::rotated_flags))]
 pub fn rotate(kind: Rotate, value: u8, f: u8) -> (u8, u8)

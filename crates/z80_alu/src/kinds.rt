@@ -6,7 +6,7 @@ pub enum Logic {
     Xor,
 }
 
-/// The rotations and shifts of a byte by one bit (UM0080, "Rotate and Shift Group").
+/// The rotations and shifts of a byte by one bit (UM0080, "Rotate and Shift Group"; SLL is undocumented).
 #[derive(Clone, Copy, Debug, PartialEq, Eq)]
 pub enum Rotate {
     /// To the left; bit 7 comes in at bit 0.
@@ -23,4 +23,6 @@ pub enum Rotate {
     Sra,
     /// To the right; 0 comes in at bit 7.
     Srl,
+    /// To the left; 1 comes in at bit 0.
+    Sll,
 }

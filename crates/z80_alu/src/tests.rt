@@ -51,6 +51,8 @@ fn rotations_and_shifts(rt: HostRuntime) {
     assert_eq!(rt; rotate(Rotate::Sra, 0x81, 0x00), (0xc0, 0x85));
     assert_eq!(rt; rotate(Rotate::Srl, 0x81, 0x00), (0x40, 0x01));
     assert_eq!(rt; rotate(Rotate::Srl, 0x01, 0x00), (0x00, 0x45));
+    assert_eq!(rt; rotate(Rotate::Sll, 0x80, 0x00), (0x01, 0x01));
+    assert_eq!(rt; rotate(Rotate::Sll, 0x40, 0xff), (0x81, 0xac));
 }
 
 #[test]

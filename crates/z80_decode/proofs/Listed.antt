@@ -14,9 +14,9 @@ use Rattle.z80_decode.specs.declared.page_forms.IndexForm.{IndexForm}
 use Rattle.z80_decode.specs.Fields.{pair_of, operand_of}
 use Rattle.z80_decode.specs.StackPairs.{stack_pair_of}
 use Rattle.z80_decode.specs.Opcodes.{low_quarter, high_quarter, form_of}
-use Rattle.z80_decode.specs.PageOpcodes.{bit_form_of, second_quarter, third_quarter, extended_form_of, index_form_of}
-use Rattle.z80_decode.specs.Decoding.{bit_instr_by, extended_instr_by, index_instr_by, index_bit_instr_by, index_instr_of, prefixed_instr_of, main_instr_by, main_instr_of, main_or_prefixed, instr_of}
-use Rattle.z80_decode.specs.Listed.{is_in, unlisted_behind_cb, listed_behind_ed, listed_behind_dd, is_listed_indexed_bit, is_listed_indexed, is_listed}
+use Rattle.z80_decode.specs.PageOpcodes.{indexed_bit_form_of, second_quarter, third_quarter, extended_form_of, index_form_of}
+use Rattle.z80_decode.specs.Decoding.{extended_instr_by, index_instr_by, index_bit_instr_by, index_instr_of, prefixed_instr_of, main_instr_by, main_instr_of, main_or_prefixed, instr_of}
+use Rattle.z80_decode.specs.Listed.{is_in, listed_behind_ed, listed_behind_dd, is_listed_indexed_bit, is_listed_indexed, is_listed}
 
 -- two tests that answer alike at each number below a limit
 alike_below : (one other : ℕ → Bool) (n : ℕ) → map one (range_with_len 0 n) ≡ map other (range_with_len 0 n) →
@@ -36,11 +36,6 @@ main_table : map (λ opcode. is_some (form_of opcode)) (range_with_len 0 256)
 unfolding form_of high_quarter
 main_table = refl
 
-bits_table : map (λ opcode. is_some (bit_form_of opcode)) (range_with_len 0 256)
-    ≡ map (λ opcode. not (is_in unlisted_behind_cb opcode)) (range_with_len 0 256)
-unfolding bit_form_of unlisted_behind_cb
-bits_table = refl
-
 extended_table : map (λ opcode. is_some (extended_form_of opcode)) (range_with_len 0 256)
     ≡ map (is_in listed_behind_ed) (range_with_len 0 256)
 unfolding extended_form_of second_quarter third_quarter listed_behind_ed
@@ -51,17 +46,12 @@ index_table : map (λ opcode. is_some (index_form_of opcode)) (range_with_len 0 
 unfolding index_form_of form_of low_quarter high_quarter pair_of operand_of stack_pair_of listed_behind_dd
 index_table = refl
 
-index_bits_table : (page : Page) (displacement : ℕ) →
-    map (λ opcode. is_some (index_bit_instr_by (bit_form_of opcode) page displacement opcode)) (range_with_len 0 256)
+index_bits_table : map (λ opcode. is_some (indexed_bit_form_of opcode)) (range_with_len 0 256)
     ≡ map is_listed_indexed_bit (range_with_len 0 256)
-unfolding bit_form_of
-index_bits_table page displacement = refl
+unfolding indexed_bit_form_of
+index_bits_table = refl
 
 -- an opcode that has a form has an instruction
-bits_by : (form : Option BitForm) (opcode : ℕ) → is_some (bit_instr_by form opcode) ≡ is_some form
-bits_by None opcode = refl
-bits_by (Some form) opcode = refl
-
 extended_by : (form : Option ExtendedForm) (opcode first second : ℕ) →
     is_some (extended_instr_by form opcode first second) ≡ is_some form
 extended_by None opcode first second = refl
@@ -71,6 +61,11 @@ index_by : (form : Option IndexForm) (page : Page) (opcode first second : ℕ) �
     is_some (index_instr_by form page opcode first second) ≡ is_some form
 index_by None page opcode first second = refl
 index_by (Some form) page opcode first second = refl
+
+index_bits_by : (form : Option BitForm) (page : Page) (displacement opcode : ℕ) →
+    is_some (index_bit_instr_by form page displacement opcode) ≡ is_some form
+index_bits_by None page displacement opcode = refl
+index_bits_by (Some form) page displacement opcode = refl
 
 main_by : (form : Option Form) (opcode first second : ℕ) (bytes : List ℕ) →
     is_some (main_or_prefixed (main_instr_by form opcode first second) bytes)
@@ -95,15 +90,15 @@ index_listed : (page bits : Page) (second third fourth : ℕ) → second < 256 �
 unfolding index_instr_of
 index_listed page bits second third fourth small last =
     choice_by (second == 0xcb) _ _ _ _
-    (alike_below (λ opcode. is_some (index_bit_instr_by (bit_form_of opcode) bits third opcode)) is_listed_indexed_bit 256
-    (index_bits_table bits third) fourth last)
+    (index_bits_by (indexed_bit_form_of fourth) bits third fourth
+    ∙ alike_below (λ opcode. is_some (indexed_bit_form_of opcode)) is_listed_indexed_bit 256 index_bits_table fourth last)
     (index_by (index_form_of second) page second third fourth
     ∙ alike_below (λ opcode. is_some (index_form_of opcode)) (is_in listed_behind_dd) 256 index_table second small)
 
 -- behind the prefixes
 prefixed_listed : (bytes : List ℕ) → slice_index bytes 1 < 256 → slice_index bytes 3 < 256 →
     is_some (prefixed_instr_of bytes) ≡
-    (if slice_index bytes 0 == 0xcb then not (is_in unlisted_behind_cb (slice_index bytes 1))
+    (if slice_index bytes 0 == 0xcb then true
     else (if slice_index bytes 0 == 0xed then is_in listed_behind_ed (slice_index bytes 1)
     else (is_listed_indexed (slice_index bytes 1) (slice_index bytes 3))))
 unfolding prefixed_instr_of
@@ -111,10 +106,7 @@ prefixed_listed bytes small last =
     let second = slice_index bytes 1 in
     let third = slice_index bytes 2 in
     let fourth = slice_index bytes 3 in
-    choice_by (slice_index bytes 0 == 0xcb) _ _ _ _
-    (bits_by (bit_form_of second) second
-    ∙ alike_below (λ opcode. is_some (bit_form_of opcode)) (λ opcode. not (is_in unlisted_behind_cb opcode)) 256 bits_table
-    second small)
+    choice_by (slice_index bytes 0 == 0xcb) _ _ _ _ refl
     (choice_by (slice_index bytes 0 == 0xed) _ _ _ _
     (extended_by (extended_form_of second) second third fourth
     ∙ alike_below (λ opcode. is_some (extended_form_of opcode)) (is_in listed_behind_ed) 256 extended_table second small)
@@ -122,13 +114,13 @@ prefixed_listed bytes small last =
     (index_listed Iy IyCb second third fourth small last)))
 
 -- where the first byte is no prefix all are listed
-without_prefix : (cb ed index bits extended indexed : Bool) →
-    (not (cb || (ed || index)) || (if cb then bits else (if ed then extended else indexed)))
-    ≡ (if cb then bits else (if ed then extended else (if index then indexed else true)))
-without_prefix true ed index bits extended indexed = refl
-without_prefix false true index bits extended indexed = refl
-without_prefix false false true bits extended indexed = refl
-without_prefix false false false bits extended indexed = refl
+without_prefix : (cb ed index extended indexed : Bool) →
+    (not (cb || (ed || index)) || (if cb then true else (if ed then extended else indexed)))
+    ≡ (if cb then true else (if ed then extended else (if index then indexed else true)))
+without_prefix true ed index extended indexed = refl
+without_prefix false true index extended indexed = refl
+without_prefix false false true extended indexed = refl
+without_prefix false false false extended indexed = refl
 
 pub decoded : (bytes : List ℕ) → slice_index bytes 0 < 256 → slice_index bytes 1 < 256 → slice_index bytes 3 < 256 →
     is_some (instr_of bytes) ≡ is_listed bytes
@@ -140,5 +132,4 @@ decoded bytes head small last =
       alike_below (λ opcode. is_some (form_of opcode)) (λ opcode. not (is_prefix opcode)) 256 main_table first head,
       prefixed_listed bytes small last,
     ) (without_prefix (first == 0xcb) (first == 0xed) (first == 0xdd || first == 0xfd)
-    (not (is_in unlisted_behind_cb (slice_index bytes 1))) (is_in listed_behind_ed (slice_index bytes 1))
-    (is_listed_indexed (slice_index bytes 1) (slice_index bytes 3)))
+    (is_in listed_behind_ed (slice_index bytes 1)) (is_listed_indexed (slice_index bytes 1) (slice_index bytes 3)))

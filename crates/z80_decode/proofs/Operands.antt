@@ -1,5 +1,5 @@
 -- What is decoded has its width, where the bytes have theirs.
-use Rattle.std.proofs.Common.{ℕ, ◌<◌, ◌%◌, ◌==◌, List, Option, None, Some, Bool, true, false, arith, slice_index}
+use Rattle.std.proofs.Common.{ℕ, ◌<◌, ◌==◌, List, Option, None, Some, Bool, true, false, arith, slice_index}
 use Rattle.std.specs.Prelude.{if◌then◌else◌}
 use Rattle.z80_decode.specs.declared.instr.Instr.{Instr}
 use Rattle.z80_decode.specs.declared.instr.Page.{Page}
@@ -11,8 +11,8 @@ use Rattle.z80_decode.specs.declared.page_forms.BitForm.{BitForm}
 use Rattle.z80_decode.specs.declared.page_forms.ExtendedForm.{ExtendedForm}
 use Rattle.z80_decode.specs.declared.page_forms.IndexForm.{IndexForm}
 use Rattle.z80_decode.specs.Opcodes.{form_of}
-use Rattle.z80_decode.specs.PageOpcodes.{bit_form_of, extended_form_of, index_form_of}
-use Rattle.z80_decode.specs.Decoding.{tail_of, extended_tail_of, index_tail_of, instr_with, bit_instr_by, extended_instr_by, index_instr_by, index_bit_instr_by, index_instr_of, prefixed_instr_of, main_instr_by, main_instr_of, main_or_prefixed, instr_of}
+use Rattle.z80_decode.specs.PageOpcodes.{indexed_bit_form_of, extended_form_of, index_form_of}
+use Rattle.z80_decode.specs.Decoding.{tail_of, extended_tail_of, index_tail_of, instr_with, bit_instr_of, extended_instr_by, index_instr_by, index_bit_instr_by, index_instr_of, prefixed_instr_of, main_instr_by, main_instr_of, main_or_prefixed, instr_of}
 
 -- an operand has 16 bits, where there is an instruction
 abbrev pub OperandFits : Option Instr → Type 0
@@ -33,9 +33,8 @@ either_fits : (test : Bool) (one other : Option Instr) → OperandFits one → O
 either_fits true one other fits _ = fits
 either_fits false one other _ fits = fits
 
-bits_fit : (form : Option BitForm) (opcode : ℕ) → OperandFits (bit_instr_by form opcode)
-bits_fit None opcode = tt
-bits_fit (Some form) opcode = omega arith
+bits_fit : (opcode : ℕ) → OperandFits (Some (bit_instr_of opcode))
+bits_fit opcode = omega arith
 
 extended_fits : (form : Option ExtendedForm) (opcode first second : ℕ) → first < 256 → second < 256 →
     OperandFits (extended_instr_by form opcode first second)
@@ -52,15 +51,15 @@ index_by_fits (Some form) page opcode first second small other =
 index_bits_fit : (form : Option BitForm) (page : Page) (displacement opcode : ℕ) →
     OperandFits (index_bit_instr_by form page displacement opcode)
 index_bits_fit None page displacement opcode = tt
-index_bits_fit (Some form) page displacement opcode = either_fits (opcode % 8 == 6) (Some _) None (omega arith) tt
+index_bits_fit (Some form) page displacement opcode = omega arith
 
 index_fits : (page bits : Page) (second third fourth : ℕ) → third < 256 → fourth < 256 →
     OperandFits (index_instr_of page bits second third fourth)
 unfolding index_instr_of
 index_fits page bits second third fourth small other =
-    either_fits (second == 203) (index_bit_instr_by (bit_form_of fourth) bits third fourth)
+    either_fits (second == 203) (index_bit_instr_by (indexed_bit_form_of fourth) bits third fourth)
     (index_instr_by (index_form_of second) page second third fourth)
-    (index_bits_fit (bit_form_of fourth) bits third fourth)
+    (index_bits_fit (indexed_bit_form_of fourth) bits third fourth)
     (index_by_fits (index_form_of second) page second third fourth small other)
 
 prefixed_fits : (bytes : List ℕ) → slice_index bytes 2 < 256 → slice_index bytes 3 < 256 →
@@ -70,7 +69,7 @@ prefixed_fits bytes small other =
     let second = slice_index bytes 1 in
     let third = slice_index bytes 2 in
     let fourth = slice_index bytes 3 in
-    either_fits (slice_index bytes 0 == 203) _ _ (bits_fit (bit_form_of second) second)
+    either_fits (slice_index bytes 0 == 203) _ _ (bits_fit second)
     (either_fits (slice_index bytes 0 == 237) _ _ (extended_fits (extended_form_of second) second third fourth small other)
     (either_fits (slice_index bytes 0 == 221) _ _ (index_fits Ix IxCb second third fourth small other)
     (index_fits Iy IyCb second third fourth small other)))

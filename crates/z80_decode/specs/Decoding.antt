@@ -1,11 +1,12 @@
 -- The instruction that some bytes begin with. (UM0080, "Z80 Instruction Description".)
-use Rattle.std.specs.Prelude.{ℕ, ◌+◌, ◌%◌, ◌==◌, List, slice_index, Option, None, Some, if◌then◌else◌}
+use Rattle.std.specs.Prelude.{ℕ, ◌+◌, ◌==◌, List, slice_index, Option, None, Some, if◌then◌else◌}
 use Rattle.z80_regs.specs.Words.{word_of}
 use Rattle.z80_decode.specs.declared.instr.Page.{Page}
 use Rattle.z80_decode.specs.declared.instr.Page.TheVariants.{Main, Cb, Ed, Ix, Iy, IxCb, IyCb}
 use Rattle.z80_decode.specs.declared.instr.Instr.{Instr}
 use Rattle.z80_decode.specs.declared.forms.Form.{Form}
 use Rattle.z80_decode.specs.declared.forms.Form.TheVariants.{DecrementJump, JumpRelative, JumpRelativeIf, LoadPair, StoreHl, LoadHl, StoreA, LoadA, LoadNumber, CalculateNumber, JumpIf, Jump, Output, Input, CallIf, Call}
+use Rattle.z80_decode.specs.declared.forms.Operand.TheVariants.{Memory}
 use Rattle.z80_decode.specs.declared.forms.Tail.{Tail}
 use Rattle.z80_decode.specs.declared.forms.Tail.TheVariants.{Nothing, Byte, Word, Displacement, DisplacementByte}
 use Rattle.z80_decode.specs.declared.page_forms.BitForm.{BitForm}
@@ -14,7 +15,7 @@ use Rattle.z80_decode.specs.declared.page_forms.ExtendedForm.TheVariants as exte
 use Rattle.z80_decode.specs.declared.page_forms.IndexForm.{IndexForm}
 use Rattle.z80_decode.specs.declared.page_forms.IndexForm.TheVariants as index
 use Rattle.z80_decode.specs.Opcodes.{form_of}
-use Rattle.z80_decode.specs.PageOpcodes.{bit_form_of, extended_form_of, index_form_of}
+use Rattle.z80_decode.specs.PageOpcodes.{indexed_bit_form_of, extended_form_of, index_form_of}
 
 -- what stands behind the opcode in each form
 abbrev pub tail_of : Form → Tail
@@ -45,12 +46,13 @@ abbrev pub index_tail_of : IndexForm → Tail
 index_tail_of index.LoadNumber = Word
 index_tail_of index.Store = Word
 index_tail_of index.Load = Word
-index_tail_of index.IncrementAt = Displacement
-index_tail_of index.DecrementAt = Displacement
+index_tail_of (index.IncrementByte Memory) = Displacement
+index_tail_of (index.DecrementByte Memory) = Displacement
+index_tail_of (index.LoadByte Memory) = DisplacementByte
+index_tail_of (index.LoadByte half) = Byte
 index_tail_of (index.LoadFrom operand) = Displacement
 index_tail_of (index.StoreTo operand) = Displacement
-index_tail_of (index.Calculate math) = Displacement
-index_tail_of index.StoreNumber = DisplacementByte
+index_tail_of (index.Calculate math Memory) = Displacement
 index_tail_of other = Nothing
 
 -- the instruction of a page whose opcode is its byte of that number, from 1, and of the two bytes behind the opcode
@@ -66,11 +68,11 @@ instr_with Displacement page place opcode first second =
 instr_with DisplacementByte page place opcode first second =
     record { length = place + 2; page = page; opcode = opcode; displacement = first; operand = second }
 
--- the pages by the opcode's form, where it has one
-abbrev pub bit_instr_by : Option BitForm → ℕ → Option Instr
-bit_instr_by None opcode = None
-bit_instr_by (Some form) opcode = Some (instr_with Nothing Cb 2 opcode 0 0)
+-- behind CBh
+abbrev pub bit_instr_of : ℕ → Instr
+bit_instr_of opcode = instr_with Nothing Cb 2 opcode 0 0
 
+-- the other pages by the opcode's form, where it has one
 abbrev pub extended_instr_by : Option ExtendedForm → ℕ → ℕ → ℕ → Option Instr
 extended_instr_by None opcode first second = None
 extended_instr_by (Some form) opcode first second =
@@ -81,18 +83,16 @@ index_instr_by None page opcode first second = None
 index_instr_by (Some form) page opcode first second =
     Some (instr_with (index_tail_of form) page 2 opcode first second)
 
--- behind DDh CBh and FDh CBh: the displacement, then the opcode, which names (HL)
+-- behind DDh CBh and FDh CBh: the displacement, then the opcode
 abbrev pub index_bit_instr_by : Option BitForm → Page → ℕ → ℕ → Option Instr
 index_bit_instr_by None page displacement opcode = None
 index_bit_instr_by (Some form) page displacement opcode =
-    if opcode % 8 == 6 then
     Some (record { length = 4; page = page; opcode = opcode; displacement = displacement; operand = 0 })
-    else None
 
 -- behind DDh and FDh, by their page and the page that a CBh opens
 unfoldable pub index_instr_of : Page → Page → ℕ → ℕ → ℕ → Option Instr
 index_instr_of page bits second third fourth =
-    if second == 203 then index_bit_instr_by (bit_form_of fourth) bits third fourth
+    if second == 203 then index_bit_instr_by (indexed_bit_form_of fourth) bits third fourth
     else (index_instr_by (index_form_of second) page second third fourth)
 
 -- behind the prefixes CBh, EDh, DDh and FDh
@@ -102,7 +102,7 @@ prefixed_instr_of bytes =
     let second = slice_index bytes 1 in
     let third = slice_index bytes 2 in
     let fourth = slice_index bytes 3 in
-    if first == 203 then bit_instr_by (bit_form_of second) second
+    if first == 203 then Some (bit_instr_of second)
     else (if first == 237 then extended_instr_by (extended_form_of second) second third fourth
     else (if first == 221 then index_instr_of Ix IxCb second third fourth
     else (index_instr_of Iy IyCb second third fourth)))

@@ -1,4 +1,5 @@
--- Which bytes begin a listed instruction, by their numbers. (UM0080, "Z80 Instruction Description".)
+-- Which bytes begin a listed instruction, by their numbers. (UM0080, "Z80 Instruction Description"; for SLL and the halves
+-- of IX and IY "The Undocumented Z80 Documented".)
 use Rattle.std.specs.Prelude.{ℕ, ◌%◌, ◌==◌, ◌&&◌, ◌||◌, Bool, true, not, nat_le, List, [], ◌∷◌, slice_index, if◌then◌else◌}
 use Rattle.std.specs.List.{list_any}
 
@@ -17,10 +18,6 @@ alone byte = through byte byte
 abbrev pub is_in : List Run → ℕ → Bool
 is_in runs byte = list_any (λ run. nat_le run.first byte && nat_le byte run.last) runs
 
--- behind CBh, those that are not listed
-unfoldable pub unlisted_behind_cb : List Run
-unlisted_behind_cb = through 0x30 0x37 ∷ []
-
 -- behind EDh
 unfoldable pub listed_behind_ed : List Run
 listed_behind_ed =
@@ -31,10 +28,11 @@ listed_behind_ed =
 -- behind DDh and FDh
 unfoldable pub listed_behind_dd : List Run
 listed_behind_dd =
-    alone 0x09 ∷ alone 0x19 ∷ through 0x21 0x23 ∷ through 0x29 0x2b ∷ through 0x34 0x36 ∷ alone 0x39 ∷ alone 0x46
-    ∷ alone 0x4e ∷ alone 0x56 ∷ alone 0x5e ∷ alone 0x66 ∷ alone 0x6e ∷ through 0x70 0x75 ∷ alone 0x77 ∷ alone 0x7e
-    ∷ alone 0x86 ∷ alone 0x8e ∷ alone 0x96 ∷ alone 0x9e ∷ alone 0xa6 ∷ alone 0xae ∷ alone 0xb6 ∷ alone 0xbe
-    ∷ alone 0xe1 ∷ alone 0xe3 ∷ alone 0xe5 ∷ alone 0xe9 ∷ alone 0xf9 ∷ []
+    alone 0x09 ∷ alone 0x19 ∷ through 0x21 0x26 ∷ through 0x29 0x2e ∷ through 0x34 0x36 ∷ alone 0x39 ∷ through 0x44 0x46
+    ∷ through 0x4c 0x4e ∷ through 0x54 0x56 ∷ through 0x5c 0x5e ∷ through 0x60 0x6f ∷ through 0x70 0x75 ∷ alone 0x77
+    ∷ through 0x7c 0x7e ∷ through 0x84 0x86 ∷ through 0x8c 0x8e ∷ through 0x94 0x96 ∷ through 0x9c 0x9e
+    ∷ through 0xa4 0xa6 ∷ through 0xac 0xae ∷ through 0xb4 0xb6 ∷ through 0xbc 0xbe ∷ alone 0xe1 ∷ alone 0xe3
+    ∷ alone 0xe5 ∷ alone 0xe9 ∷ alone 0xf9 ∷ []
 
 -- behind DDh CBh, FDh CBh and a displacement: those of (HL) but 36h
 abbrev pub is_listed_indexed_bit : ℕ → Bool
@@ -45,13 +43,13 @@ abbrev pub is_listed_indexed : ℕ → ℕ → Bool
 is_listed_indexed second fourth =
     if second == 0xcb then is_listed_indexed_bit fourth else (is_in listed_behind_dd second)
 
--- whether four bytes begin with a listed instruction: without prefix all are
+-- whether four bytes begin with a listed instruction: without prefix and behind CBh all are
 unfoldable pub is_listed : List ℕ → Bool
 is_listed bytes =
     let first = slice_index bytes 0 in
     let second = slice_index bytes 1 in
     let fourth = slice_index bytes 3 in
-    if first == 0xcb then not (is_in unlisted_behind_cb second)
+    if first == 0xcb then true
     else (if first == 0xed then is_in listed_behind_ed second
     else (if first == 0xdd || first == 0xfd then is_listed_indexed second fourth
     else true))

@@ -1,13 +1,14 @@
 -- Which form an opcode behind a prefix is, by its fields x = bits 7-6, y = bits 5-3 and z = bits 2-0. (UM0080, "Z80
--- Instruction Description".)
-use Rattle.std.specs.Prelude.{ℕ, ◌^◌, ◌/◌, ◌%◌, ◌==◌, nat_lt, nat_le, Option, None, Some, if◌then◌else◌}
+-- Instruction Description"; for SLL and the halves of IX and IY "The Undocumented Z80 Documented".)
+use Rattle.std.specs.Prelude.{ℕ, ◌^◌, ◌/◌, ◌%◌, ◌==◌, nat_lt, nat_le, Bool, true, false, not, ◌&&◌, ◌||◌, Option, None, Some, if◌then◌else◌}
 use Rattle.z80_decode.specs.declared.forms.Pair.TheVariants as pair
 use Rattle.z80_decode.specs.declared.forms.StackPair.TheVariants as stack
-use Rattle.z80_decode.specs.declared.forms.Operand.TheVariants.{Memory}
+use Rattle.z80_decode.specs.declared.forms.Operand.{Operand}
+use Rattle.z80_decode.specs.declared.forms.Operand.TheVariants.{H, L, Memory}
 use Rattle.z80_decode.specs.declared.forms.Form.{Form}
 use Rattle.z80_decode.specs.declared.forms.Form.TheVariants as main
 use Rattle.z80_decode.specs.declared.page_forms.Shift.{Shift}
-use Rattle.z80_decode.specs.declared.page_forms.Shift.TheVariants.{LeftCircular, RightCircular, Left, Right, LeftArithmetic, RightArithmetic, RightLogical}
+use Rattle.z80_decode.specs.declared.page_forms.Shift.TheVariants.{LeftCircular, RightCircular, Left, Right, LeftArithmetic, RightArithmetic, LeftLogical, RightLogical}
 use Rattle.z80_decode.specs.declared.page_forms.BitChange.TheVariants.{Rotate, Reset, Set}
 use Rattle.z80_decode.specs.declared.page_forms.BitForm.{BitForm}
 use Rattle.z80_decode.specs.declared.page_forms.BitForm.TheVariants.{Test, Change}
@@ -21,7 +22,7 @@ use Rattle.z80_decode.specs.declared.page_forms.IndexForm.TheVariants as index
 use Rattle.z80_decode.specs.Fields.{pair_of, operand_of}
 use Rattle.z80_decode.specs.Opcodes.{form_of}
 
--- RLC, RRC, RL, RR, SLA, SRA, SRL; 6 names none
+-- RLC, RRC, RL, RR, SLA, SRA, SLL, SRL
 unfoldable pub shift_of : ℕ → Shift
 shift_of y =
     if y == 0 then LeftCircular
@@ -30,17 +31,22 @@ shift_of y =
     else (if y == 3 then Right
     else (if y == 4 then LeftArithmetic
     else (if y == 5 then RightArithmetic
-    else RightLogical)))))
+    else (if y == 6 then LeftLogical
+    else RightLogical))))))
 
 -- the form of an opcode behind CBh
-unfoldable pub bit_form_of : ℕ → Option BitForm
+unfoldable pub bit_form_of : ℕ → BitForm
 bit_form_of opcode =
     let x = opcode / 64 in
     let y = opcode / 8 % 8 in
-    if x == 0 then (if y == 6 then None else (Some (Change (Rotate (shift_of y)))))
-    else (if x == 1 then Some (Test (2 ^ y))
-    else (if x == 2 then Some (Change (Reset (2 ^ y)))
-    else (Some (Change (Set (2 ^ y))))))
+    if x == 0 then Change (Rotate (shift_of y))
+    else (if x == 1 then Test (2 ^ y)
+    else (if x == 2 then Change (Reset (2 ^ y))
+    else (Change (Set (2 ^ y)))))
+
+-- the form of an opcode behind DDh CBh or FDh CBh: of those that name (HL) all but SLL
+unfoldable pub indexed_bit_form_of : ℕ → Option BitForm
+indexed_bit_form_of opcode = if opcode % 8 == 6 && not (opcode == 0x36) then Some (bit_form_of opcode) else None
 
 -- behind EDh, x = 1: columns z = 5, 6 and 7
 abbrev pub interrupt_returns : ℕ → Option ExtendedForm
@@ -99,8 +105,14 @@ extended_form_of opcode =
     let z = opcode % 8 in
     if x == 1 then second_quarter y z else (if x == 2 then third_quarter y z else None)
 
--- what a form becomes where IX or IY stands for HL, and (IX+d) or (IY+d) for (HL); None where neither is named, and at
--- EX DE,HL
+-- whether an operand is another one where IX or IY stands for HL: H and L are its halves, and (HL) is (IX+d) or (IY+d)
+abbrev pub is_index_operand : Operand → Bool
+is_index_operand H = true
+is_index_operand L = true
+is_index_operand Memory = true
+is_index_operand other = false
+
+-- what a form becomes where IX or IY stands for HL; None where nothing of HL is named, and at EX DE,HL
 abbrev pub indexed : Form → Option IndexForm
 indexed (main.AddPair pair) = Some (index.AddPair pair)
 indexed (main.LoadPair pair.HL) = Some index.LoadNumber
@@ -108,12 +120,14 @@ indexed main.StoreHl = Some index.Store
 indexed main.LoadHl = Some index.Load
 indexed (main.IncrementPair pair.HL) = Some index.Increment
 indexed (main.DecrementPair pair.HL) = Some index.Decrement
-indexed (main.Increment Memory) = Some index.IncrementAt
-indexed (main.Decrement Memory) = Some index.DecrementAt
-indexed (main.LoadNumber Memory) = Some index.StoreNumber
+indexed (main.Increment at) = if is_index_operand at then Some (index.IncrementByte at) else None
+indexed (main.Decrement at) = if is_index_operand at then Some (index.DecrementByte at) else None
+indexed (main.LoadNumber to) = if is_index_operand to then Some (index.LoadByte to) else None
 indexed (main.Load to Memory) = Some (index.LoadFrom to)
 indexed (main.Load Memory from) = Some (index.StoreTo from)
-indexed (main.Calculate math Memory) = Some (index.Calculate math)
+indexed (main.Load to from) =
+    if is_index_operand to || is_index_operand from then Some (index.LoadHalf to from) else None
+indexed (main.Calculate math from) = if is_index_operand from then Some (index.Calculate math from) else None
 indexed (main.Pop stack.HL) = Some index.Pop
 indexed main.ExchangeStack = Some index.ExchangeStack
 indexed (main.Push stack.HL) = Some index.Push

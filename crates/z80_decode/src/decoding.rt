@@ -6,7 +6,7 @@ ghost use Rattle.z80_decode.specs.Decoding.{
   extended_tail_of,
   index_tail_of,
   instr_with,
-  bit_instr_by,
+  bit_instr_of,
   extended_instr_by,
   index_instr_by,
   index_bit_instr_by,
@@ -17,13 +17,13 @@ ghost use Rattle.z80_decode.specs.Decoding.{
 };
 ghost use Rattle.z80_decode.specs.Opcodes.{form_of};
 ghost use Rattle.z80_decode.specs.Listed.{is_listed};
-ghost use Rattle.z80_decode.specs.PageOpcodes.{bit_form_of, extended_form_of, index_form_of};
+ghost use Rattle.z80_decode.specs.PageOpcodes.{indexed_bit_form_of, extended_form_of, index_form_of};
 
-use crate::forms::{Form, Tail};
+use crate::forms::{Form, Operand, Tail};
 use crate::instr::{Instr, Page};
 use crate::opcodes::main_form;
 use crate::page_forms::{ExtendedForm, IndexForm};
-use crate::page_opcodes::{bit_form, extended_form, index_form};
+use crate::page_opcodes::{extended_form, index_form, indexed_bit_form};
 use z80_regs::Bus;
 
 /// What stands behind the opcode in a form.
@@ -58,10 +58,12 @@ pub fn index_tail(form: IndexForm) -> Tail
 {
     match form {
         IndexForm::LoadNumber | IndexForm::Store | IndexForm::Load => Tail::Word,
-        IndexForm::IncrementAt | IndexForm::DecrementAt => Tail::Displacement,
+        IndexForm::IncrementByte(Operand::Memory) => Tail::Displacement,
+        IndexForm::DecrementByte(Operand::Memory) => Tail::Displacement,
+        IndexForm::LoadByte(Operand::Memory) => Tail::DisplacementByte,
+        IndexForm::LoadByte(_) => Tail::Byte,
         IndexForm::LoadFrom(_) | IndexForm::StoreTo(_) => Tail::Displacement,
-        IndexForm::Calculate(_) => Tail::Displacement,
-        IndexForm::StoreNumber => Tail::DisplacementByte,
+        IndexForm::Calculate(_, Operand::Memory) => Tail::Displacement,
         _ => Tail::Nothing,
     }
 }
@@ -130,13 +132,10 @@ pub fn read_instr<B: Bus>(
 }
 
 /// The instruction behind CBh.
-fn decode_bits(opcode: u8) -> Option<Instr>
-    ensures { result ≡ bit_instr_by (bit_form_of opcode) opcode }
+fn decode_bits(opcode: u8) -> Instr
+    ensures { result ≡ bit_instr_of opcode }
 {
-    match bit_form(opcode) {
-        None => None,
-        Some(_) => Some(assemble(Tail::Nothing, Page::Cb, 2, opcode, 0, 0)),
-    }
+    assemble(Tail::Nothing, Page::Cb, 2, opcode, 0, 0)
 }
 
 /// The instruction behind EDh.
@@ -151,17 +150,17 @@ fn decode_extended(opcode: u8, first: u8, second: u8) -> Option<Instr>
 
 /// The instruction behind DDh CBh or FDh CBh: the displacement, then the opcode.
 fn decode_index_bits(page: Page, displacement: u8, opcode: u8) -> Option<Instr>
-    ensures { result ≡ index_bit_instr_by (bit_form_of opcode) page displacement opcode }
+    ensures { result ≡ index_bit_instr_by (indexed_bit_form_of opcode) page displacement opcode }
 {
-    match bit_form(opcode) {
-        Some(_) if opcode % 8 == 6 => Some(Instr {
+    match indexed_bit_form(opcode) {
+        None => None,
+        Some(_) => Some(Instr {
             length: 4,
             page,
             opcode,
             displacement,
             operand: 0,
         }),
-        _ => None,
     }
 }
 
@@ -185,7 +184,7 @@ fn decode_prefixed(first: u8, second: u8, third: u8, fourth: u8) -> Option<Instr
     ensures { result ≡ prefixed_instr_of (first ∷ second ∷ third ∷ fourth ∷ []) }
 {
     match first {
-        0xcb => decode_bits(second),
+        0xcb => Some(decode_bits(second)),
         0xed => decode_extended(second, third, fourth),
         0xdd => decode_index(Page::Ix, Page::IxCb, second, third, fourth),
         _ => decode_index(Page::Iy, Page::IyCb, second, third, fourth),

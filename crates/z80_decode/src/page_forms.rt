@@ -1,6 +1,6 @@
 use crate::forms::{Math, Operand, Pair};
 
-/// How a byte is rotated or shifted: RLC, RRC, RL, RR, SLA, SRA and SRL.
+/// How a byte is rotated or shifted: RLC, RRC, RL, RR, SLA, SRA, SLL and SRL, by three bits. SLL is undocumented.
 #[derive(Clone, Copy)]
 pub enum Shift {
     LeftCircular,
@@ -9,6 +9,7 @@ pub enum Shift {
     Right,
     LeftArithmetic,
     RightArithmetic,
+    LeftLogical,
     RightLogical,
 }
 
@@ -88,7 +89,8 @@ pub enum ExtendedForm {
 }
 
 /// The forms of the instructions behind DDh and FDh, in which IX or IY stands for HL (UM0080, "Z80 Instruction
-/// Description").
+/// Description"). An operand H or L is the high or low half of that register, IXH or IXL, which is undocumented, and
+/// (HL) is (IX+d).
 #[derive(Clone, Copy)]
 pub enum IndexForm {
     /// ADD IX,pp, where HL stands for IX.
@@ -103,18 +105,20 @@ pub enum IndexForm {
     Increment,
     /// DEC IX.
     Decrement,
-    /// INC (IX+d).
-    IncrementAt,
-    /// DEC (IX+d).
-    DecrementAt,
-    /// LD (IX+d),n.
-    StoreNumber,
-    /// LD r,(IX+d).
+    /// INC IXH, INC IXL and INC (IX+d).
+    IncrementByte(Operand),
+    /// DEC IXH, DEC IXL and DEC (IX+d).
+    DecrementByte(Operand),
+    /// LD IXH,n, LD IXL,n and LD (IX+d),n.
+    LoadByte(Operand),
+    /// LD IXH,r, LD r,IXH and their kin: the operand that is set, and the one that it is set to. Neither is (IX+d).
+    LoadHalf(Operand, Operand),
+    /// LD r,(IX+d), where H and L are H and L themselves.
     LoadFrom(Operand),
-    /// LD (IX+d),r.
+    /// LD (IX+d),r, where H and L are H and L themselves.
     StoreTo(Operand),
-    /// ADD A,(IX+d) and its kin.
-    Calculate(Math),
+    /// ADD A,IXH, ADD A,IXL, ADD A,(IX+d) and their kin.
+    Calculate(Math, Operand),
     /// POP IX.
     Pop,
     /// EX (SP),IX.

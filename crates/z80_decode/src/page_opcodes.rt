@@ -2,7 +2,9 @@ ghost use Rattle.std.specs.Prelude.{◌≡◌, ◌<◌, ◌^◌, Option, None};
 ghost use Rattle.z80_decode.specs.PageOpcodes.{
   shift_of,
   bit_form_of,
+  indexed_bit_form_of,
   extended_form_of,
+  is_index_operand,
   indexed,
   index_form_of,
 };
@@ -23,6 +25,7 @@ fn shift_at(y: u8) -> Shift
         3 => Shift::Right,
         4 => Shift::LeftArithmetic,
         5 => Shift::RightArithmetic,
+        6 => Shift::LeftLogical,
         _ => Shift::RightLogical,
     }
 }
@@ -35,18 +38,30 @@ fn weight_at(y: u8) -> u8
     1 << y
 }
 
-/// The form of an opcode behind CBh, or None from 30h to 37h.
+/// The form of an opcode behind CBh: each has one.
 #[tactic(auto, unfolding(crate::specs::PageOpcodes::bit_form_of))]
-pub fn bit_form(opcode: u8) -> Option<BitForm>
+pub fn bit_form(opcode: u8) -> BitForm
     ensures { result ≡ bit_form_of opcode }
 {
     let y = opcode / 8 % 8;
     match opcode / 64 {
-        0 if y == 6 => None,
-        0 => Some(BitForm::Change(BitChange::Rotate(shift_at(y)))),
-        1 => Some(BitForm::Test(weight_at(y))),
-        2 => Some(BitForm::Change(BitChange::Reset(weight_at(y)))),
-        _ => Some(BitForm::Change(BitChange::Set(weight_at(y)))),
+        0 => BitForm::Change(BitChange::Rotate(shift_at(y))),
+        1 => BitForm::Test(weight_at(y)),
+        2 => BitForm::Change(BitChange::Reset(weight_at(y))),
+        _ => BitForm::Change(BitChange::Set(weight_at(y))),
+    }
+}
+
+/// The form of an opcode behind DDh CBh or FDh CBh, or None where it doesn't name (HL), and at 36h: SLL (IX+d) isn't
+/// listed.
+#[tactic(auto, unfolding(crate::specs::PageOpcodes::indexed_bit_form_of))]
+pub fn indexed_bit_form(opcode: u8) -> Option<BitForm>
+    ensures { result ≡ indexed_bit_form_of opcode }
+{
+    if opcode % 8 == 6 && opcode != 0x36 {
+        Some(bit_form(opcode))
+    } else {
+        None
     }
 }
 
@@ -119,6 +134,17 @@ pub fn extended_form(opcode: u8) -> Option<ExtendedForm>
     }
 }
 
+/// Whether an operand is another one where IX or IY stands for HL: H, L and (HL).
+#[inline(always)]
+fn is_indexed(operand: Operand) -> bool
+    ensures { result ≡ is_index_operand operand }
+{
+    match operand {
+        Operand::H | Operand::L | Operand::Memory => true,
+        _ => false,
+    }
+}
+
 /// What a form becomes where IX or IY stands for HL.
 fn index_form_from(form: Form) -> Option<IndexForm>
     ensures { result ≡ indexed form }
@@ -130,12 +156,17 @@ fn index_form_from(form: Form) -> Option<IndexForm>
         Form::LoadHl => Some(IndexForm::Load),
         Form::IncrementPair(Pair::HL) => Some(IndexForm::Increment),
         Form::DecrementPair(Pair::HL) => Some(IndexForm::Decrement),
-        Form::Increment(Operand::Memory) => Some(IndexForm::IncrementAt),
-        Form::Decrement(Operand::Memory) => Some(IndexForm::DecrementAt),
-        Form::LoadNumber(Operand::Memory) => Some(IndexForm::StoreNumber),
+        Form::Increment(at) if is_indexed(at) => Some(IndexForm::IncrementByte(at)),
+        Form::Decrement(at) if is_indexed(at) => Some(IndexForm::DecrementByte(at)),
+        Form::LoadNumber(to) if is_indexed(to) => Some(IndexForm::LoadByte(to)),
         Form::Load(to, Operand::Memory) => Some(IndexForm::LoadFrom(to)),
         Form::Load(Operand::Memory, from) => Some(IndexForm::StoreTo(from)),
-        Form::Calculate(math, Operand::Memory) => Some(IndexForm::Calculate(math)),
+        Form::Load(to, from) if is_indexed(to) || is_indexed(from) => {
+            Some(IndexForm::LoadHalf(to, from))
+        }
+        Form::Calculate(math, from) if is_indexed(from) => {
+            Some(IndexForm::Calculate(math, from))
+        }
         Form::Pop(StackPair::HL) => Some(IndexForm::Pop),
         Form::ExchangeStack => Some(IndexForm::ExchangeStack),
         Form::Push(StackPair::HL) => Some(IndexForm::Push),

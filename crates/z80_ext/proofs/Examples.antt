@@ -8,7 +8,7 @@ use Rattle.z80_regs.specs.declared.regs.Regs.{Regs}
 use Rattle.z80_alu.specs.Single.{block_load_flags_of, bit_test_flags}
 use Rattle.z80_decode.specs.Fields.{operand_of}
 use Rattle.z80_decode.specs.Opcodes.{form_of, low_quarter, high_quarter}
-use Rattle.z80_decode.specs.PageOpcodes.{bit_form_of, third_quarter, transfer_of, extended_form_of, index_form_of}
+use Rattle.z80_decode.specs.PageOpcodes.{bit_form_of, indexed_bit_form_of, third_quarter, transfer_of, extended_form_of, index_form_of}
 use Rattle.z80_decode.specs.Decoding.{index_instr_of, prefixed_instr_of, main_instr_of, instr_of}
 use Rattle.z80_exec.specs.Performing.{performed, main_outcome}
 use Rattle.z80_ext.specs.Extended.{extended_outcome, extended_performed}
@@ -83,7 +83,7 @@ pub bit_tested_indexed : (regs : Regs) (memory ports : ℕ → ℕ) → regs.hal
       registers = record (begun regs) { pc = 260; f = bit_test_flags true regs.f };
       actions = [];
     })
-unfolding instruction instr_of main_instr_of form_of high_quarter prefixed_instr_of index_instr_of bit_form_of index_bits_outcome
+unfolding instruction instr_of main_instr_of form_of high_quarter prefixed_instr_of index_instr_of bit_form_of indexed_bit_form_of index_bits_outcome
 bit_tested_indexed regs memory ports runs at iy prefix bits displacement opcode byte = search (rules, common_steps)
 
 -- LDIR at 0100h with 0001h in BC is the last step: PC goes behind it
@@ -130,5 +130,5 @@ indexed_load ports = refl
 
 -- a shift of a byte at IX + 1 that isn't listed
 pub unlisted_shift : instr_of (221 ∷ 203 ∷ 1 ∷ 54 ∷ []) ≡ None
-unfolding instr_of main_instr_of form_of high_quarter prefixed_instr_of index_instr_of bit_form_of
+unfolding instr_of main_instr_of form_of high_quarter prefixed_instr_of index_instr_of indexed_bit_form_of
 unlisted_shift = refl

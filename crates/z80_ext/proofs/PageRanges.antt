@@ -1,7 +1,7 @@
 -- What the instructions behind the prefixes do to a bus has its width, where the registers, the operand and what is read
 -- have theirs.
 use Rattle.std.proofs.Common.{ℕ, ◌<◌, ◌-◌, ◌/◌, ◌%◌, ◌==◌, Option, None, Some, Bool, true, false, rules, arith}
-use Rattle.std.specs.Prelude.{All, if◌then◌else◌, nat_lt}
+use Rattle.std.specs.Prelude.{All, if◌then◌else◌, nat_lt, not, ◌&&◌}
 use Rattle.std.proofs.Math.Pow.{pow-lt}
 use Rattle.std.proofs.lemmas.Nat.{and_le_l, or_of_8}
 use Rattle.std.proofs.lemmas.List.Elements.{All-nil, All-cons}
@@ -14,6 +14,7 @@ use Rattle.z80_alu.specs.Single.{byte_flags}
 use Rattle.z80_alu.proofs.Ranges.{rotated_fits}
 use Rattle.z80_decode.specs.declared.instr.Instr.{Instr}
 use Rattle.z80_decode.specs.declared.forms.Operand.{Operand}
+use Rattle.z80_decode.specs.declared.forms.Operand.TheVariants as operand
 use Rattle.z80_decode.specs.declared.forms.Pair.{Pair}
 use Rattle.z80_decode.specs.declared.forms.Pair.TheVariants.{BC, DE, HL, SP}
 use Rattle.z80_decode.specs.declared.page_forms.BitChange.{BitChange}
@@ -28,17 +29,17 @@ use Rattle.z80_decode.specs.declared.page_forms.ExtendedForm.TheVariants as exte
 use Rattle.z80_decode.specs.declared.page_forms.IndexForm.{IndexForm}
 use Rattle.z80_decode.specs.declared.page_forms.IndexForm.TheVariants as index
 use Rattle.z80_decode.specs.Fields.{operand_of}
-use Rattle.z80_decode.specs.PageOpcodes.{bit_form_of, extended_form_of, index_form_of}
+use Rattle.z80_decode.specs.PageOpcodes.{bit_form_of, indexed_bit_form_of, extended_form_of, index_form_of}
 use Rattle.z80_exec.specs.Operands.{stored, hl_of, pair_word, operand_byte, with_operand}
 use Rattle.z80_exec.specs.StackPairs.{pushed}
 use Rattle.z80_exec.specs.Performing.{behind}
 use Rattle.z80_exec.proofs.Ranges.{hl_fits, byte_fits, set_fits, word_fits, top_fits, behind_fits}
 use Rattle.z80_ext.specs.declared.index.IndexRegister.{IndexRegister}
 use Rattle.z80_ext.specs.declared.index.IndexRegister.TheVariants.{Ix, Iy}
-use Rattle.z80_ext.specs.Bits.{kind_of, changed_byte, bits_changed, operand_bits, memory_bits, bits_by, bits_outcome}
+use Rattle.z80_ext.specs.Bits.{kind_of, changed_byte, bits_changed, operand_bits, memory_bits, bits_outcome}
 use Rattle.z80_ext.specs.Block.{after_input, port_repeated, block_performed}
 use Rattle.z80_ext.specs.Extended.{extended_performed, extended_by, extended_outcome}
-use Rattle.z80_ext.specs.Index.{index_word, indexed_address, index_performed, index_by, index_outcome, index_bits_by, index_bits_outcome}
+use Rattle.z80_ext.specs.Index.{index_word, index_byte, with_index_byte, indexed_address, index_performed, index_by, index_outcome, index_bits_by, index_bits_outcome}
 
 -- a choice of two
 pub choice_fits : {X : Type 0} (P : X → Type 0) (test : Bool) (one other : X) → P one → P other →
@@ -68,18 +69,16 @@ WeightFits (change.Rotate shift) = Unit
 WeightFits (change.Reset weight) = Unit
 WeightFits (change.Set weight) = weight < 256
 
-abbrev BitFormFits : Option BitForm → Type 0
-BitFormFits None = Unit
-BitFormFits (Some (Test weight)) = Unit
-BitFormFits (Some (Change change)) = WeightFits change
+abbrev BitFormFits : BitForm → Type 0
+BitFormFits (Test weight) = Unit
+BitFormFits (Change change) = WeightFits change
 
 bit_form_fits : (opcode : ℕ) → BitFormFits (bit_form_of opcode)
 unfolding bit_form_of
 bit_form_fits opcode =
-    choice_fits BitFormFits (opcode / 64 == 0) _ _
-    (choice_fits BitFormFits (opcode / 8 % 8 == 6) None _ tt tt)
-    (choice_fits BitFormFits (opcode / 64 == 1) (Some (Test _)) _ tt
-    (choice_fits BitFormFits (opcode / 64 == 2) (Some (Change (change.Reset _))) (Some (Change (change.Set _))) tt
+    choice_fits BitFormFits (opcode / 64 == 0) (Change (change.Rotate _)) _ tt
+    (choice_fits BitFormFits (opcode / 64 == 1) (Test _) _ tt
+    (choice_fits BitFormFits (opcode / 64 == 2) (Change (change.Reset _)) (Change (change.Set _)) tt
     (pow-lt {i = opcode / 8 % 8} {j = 8} (omega arith))))
 
 -- a byte that a rotation, a shift, RES or SET makes of a byte
@@ -89,13 +88,13 @@ changed_fits (change.Reset weight) byte f weighs small = omega (arith, and_le_l 
 changed_fits (change.Set weight) byte f weighs small = or_of_8 byte weight small weighs
 
 operand_bits_fit : (form : BitForm) (operand : Operand) (byte : ℕ) (regs : Regs) → RegistersFit regs →
-    BitFormFits (Some form) → byte < 256 → All ActionFits (operand_bits form operand byte regs).actions
+    BitFormFits form → byte < 256 → All ActionFits (operand_bits form operand byte regs).actions
 operand_bits_fit (Test weight) operand byte regs fit weighs small = All-nil ActionFits
 operand_bits_fit (Change change) operand byte regs fit weighs small =
     set_fits operand (changed_byte change byte regs.f) (bits_changed change byte regs) (hl_fits regs fit)
     (changed_fits change byte regs.f weighs small)
 
-memory_bits_fit : (form : BitForm) (address byte : ℕ) (regs : Regs) → address < 65536 → BitFormFits (Some form) →
+memory_bits_fit : (form : BitForm) (address byte : ℕ) (regs : Regs) → address < 65536 → BitFormFits form →
     byte < 256 → All ActionFits (memory_bits form address byte regs).actions
 memory_bits_fit (Test weight) address byte regs near weighs small = All-nil ActionFits
 memory_bits_fit (Change change) address byte regs near weighs small =
@@ -103,19 +102,14 @@ memory_bits_fit (Change change) address byte regs near weighs small =
     (changed_fits change byte regs.f weighs small)
 
 -- behind CBh
-bits_by_fits : (form : Option BitForm) (instr : Instr) (regs : Regs) (memory : ℕ → ℕ) → RegistersFit regs →
-    BitFormFits form → ReadsBytes 65536 memory → All ActionFits (bits_by form instr regs memory).actions
-bits_by_fits None instr regs memory fit weighs reads = All-nil ActionFits
-bits_by_fits (Some form) instr regs memory fit weighs reads =
-    operand_bits_fit form (operand_of (instr.opcode % 8))
-    (operand_byte (operand_of (instr.opcode % 8)) regs memory) (behind instr.length regs)
-    (behind_fits instr.length regs fit) weighs (byte_fits (operand_of (instr.opcode % 8)) regs memory fit reads)
-
 pub bits_fit : (instr : Instr) (regs : Regs) (memory : ℕ → ℕ) → RegistersFit regs → ReadsBytes 65536 memory →
     All ActionFits (bits_outcome instr regs memory).actions
 unfolding bits_outcome
 bits_fit instr regs memory fit reads =
-    bits_by_fits (bit_form_of instr.opcode) instr regs memory fit (bit_form_fits instr.opcode) reads
+    operand_bits_fit (bit_form_of instr.opcode) (operand_of (instr.opcode % 8))
+    (operand_byte (operand_of (instr.opcode % 8)) regs memory) (behind instr.length regs)
+    (behind_fits instr.length regs fit) (bit_form_fits instr.opcode)
+    (byte_fits (operand_of (instr.opcode % 8)) regs memory fit reads)
 
 -- what is done after the reading of a port
 input_fits : (port : ℕ) (outcome : Outcome) → port < 256 → All ActionFits outcome.actions →
@@ -189,6 +183,30 @@ address_fits : (register : IndexRegister) (instr : Instr) (regs : Regs) → inde
 address_fits register instr regs =
     choice_fits (λ address. address < 65536) (nat_lt instr.displacement 128) _ _ (omega arith) (omega arith)
 
+-- the byte of an operand
+index_byte_fits : (register : IndexRegister) (at : Operand) (address : ℕ) (regs : Regs) (memory : ℕ → ℕ) →
+    RegistersFit regs → address < 65536 → ReadsBytes 65536 memory → index_byte register at address regs memory < 256
+index_byte_fits register operand.B address regs memory fit near reads = fit.b
+index_byte_fits register operand.C address regs memory fit near reads = fit.c
+index_byte_fits register operand.D address regs memory fit near reads = fit.d
+index_byte_fits register operand.E address regs memory fit near reads = fit.e
+index_byte_fits register operand.H address regs memory fit near reads = omega (arith, index_word_fits register regs fit)
+index_byte_fits register operand.L address regs memory fit near reads = omega arith
+index_byte_fits register operand.Memory address regs memory fit near reads = reads address near
+index_byte_fits register operand.A address regs memory fit near reads = fit.a
+
+-- a byte that goes to an operand
+index_set_fits : (register : IndexRegister) (at : Operand) (address byte : ℕ) (regs : Regs) → address < 65536 →
+    byte < 256 → All ActionFits (with_index_byte register at address byte regs).actions
+index_set_fits register operand.B address byte regs near small = All-nil ActionFits
+index_set_fits register operand.C address byte regs near small = All-nil ActionFits
+index_set_fits register operand.D address byte regs near small = All-nil ActionFits
+index_set_fits register operand.E address byte regs near small = All-nil ActionFits
+index_set_fits register operand.H address byte regs near small = All-nil ActionFits
+index_set_fits register operand.L address byte regs near small = All-nil ActionFits
+index_set_fits register operand.Memory address byte regs near small = stored_fits address byte regs near small
+index_set_fits register operand.A address byte regs near small = All-nil ActionFits
+
 -- behind DDh and FDh
 index_performed_fits : (form : IndexForm) (register : IndexRegister) (instr : Instr) (regs : Regs) (memory : ℕ → ℕ) →
     RegistersFit regs → instr.operand < 65536 → ReadsBytes 65536 memory →
@@ -201,19 +219,23 @@ index_performed_fits index.Store register instr regs memory fit small reads =
 index_performed_fits index.Load register instr regs memory fit small reads = All-nil ActionFits
 index_performed_fits index.Increment register instr regs memory fit small reads = All-nil ActionFits
 index_performed_fits index.Decrement register instr regs memory fit small reads = All-nil ActionFits
-index_performed_fits index.IncrementAt register instr regs memory fit small reads =
-    stored_fits (indexed_address register instr regs) _ regs (address_fits register instr regs) (omega arith)
-index_performed_fits index.DecrementAt register instr regs memory fit small reads =
-    stored_fits (indexed_address register instr regs) _ regs (address_fits register instr regs) (omega arith)
-index_performed_fits index.StoreNumber register instr regs memory fit small reads =
-    stored_fits (indexed_address register instr regs) _ regs (address_fits register instr regs) (omega arith)
+index_performed_fits (index.IncrementByte at) register instr regs memory fit small reads =
+    index_set_fits register at (indexed_address register instr regs) _ _ (address_fits register instr regs) (omega arith)
+index_performed_fits (index.DecrementByte at) register instr regs memory fit small reads =
+    index_set_fits register at (indexed_address register instr regs) _ _ (address_fits register instr regs) (omega arith)
+index_performed_fits (index.LoadByte to) register instr regs memory fit small reads =
+    index_set_fits register to (indexed_address register instr regs) _ regs (address_fits register instr regs) (omega arith)
+index_performed_fits (index.LoadHalf to from) register instr regs memory fit small reads =
+    index_set_fits register to (indexed_address register instr regs) _ regs (address_fits register instr regs)
+    (index_byte_fits register from (indexed_address register instr regs) regs memory fit
+    (address_fits register instr regs) reads)
 index_performed_fits (index.LoadFrom operand) register instr regs memory fit small reads =
     set_fits operand _ regs (hl_fits regs fit)
     (reads (indexed_address register instr regs) (address_fits register instr regs))
 index_performed_fits (index.StoreTo operand) register instr regs memory fit small reads =
     stored_fits (indexed_address register instr regs) _ regs (address_fits register instr regs)
     (byte_fits operand regs memory fit reads)
-index_performed_fits (index.Calculate math) register instr regs memory fit small reads = All-nil ActionFits
+index_performed_fits (index.Calculate math from) register instr regs memory fit small reads = All-nil ActionFits
 index_performed_fits index.Pop register instr regs memory fit small reads = All-nil ActionFits
 index_performed_fits index.ExchangeStack register instr regs memory fit small reads =
     top_fits (index_word register regs) regs fit (index_word_fits register regs fit)
@@ -238,8 +260,18 @@ index_fits register instr regs memory fit small reads =
     index_by_fits (index_form_of instr.opcode) register instr regs memory fit small reads
 
 -- behind DDh CBh and FDh CBh
+abbrev IndexedBitFormFits : Option BitForm → Type 0
+IndexedBitFormFits None = Unit
+IndexedBitFormFits (Some form) = BitFormFits form
+
+indexed_bit_form_fits : (opcode : ℕ) → IndexedBitFormFits (indexed_bit_form_of opcode)
+unfolding indexed_bit_form_of
+indexed_bit_form_fits opcode =
+    choice_fits IndexedBitFormFits (opcode % 8 == 6 && not (opcode == 0x36)) (Some (bit_form_of opcode)) None
+    (bit_form_fits opcode) tt
+
 index_bits_by_fits : (form : Option BitForm) (register : IndexRegister) (instr : Instr) (regs : Regs)
-    (memory : ℕ → ℕ) → BitFormFits form → ReadsBytes 65536 memory →
+    (memory : ℕ → ℕ) → IndexedBitFormFits form → ReadsBytes 65536 memory →
     All ActionFits (index_bits_by form register instr regs memory).actions
 index_bits_by_fits None register instr regs memory weighs reads = All-nil ActionFits
 index_bits_by_fits (Some form) register instr regs memory weighs reads =
@@ -251,4 +283,4 @@ pub index_bits_fit : (register : IndexRegister) (instr : Instr) (regs : Regs) (m
     ReadsBytes 65536 memory → All ActionFits (index_bits_outcome register instr regs memory).actions
 unfolding index_bits_outcome
 index_bits_fit register instr regs memory reads =
-    index_bits_by_fits (bit_form_of instr.opcode) register instr regs memory (bit_form_fits instr.opcode) reads
+    index_bits_by_fits (indexed_bit_form_of instr.opcode) register instr regs memory (indexed_bit_form_fits instr.opcode) reads

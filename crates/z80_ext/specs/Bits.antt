@@ -1,17 +1,17 @@
 -- Rotations, shifts, and the single bits of a byte. (UM0080, "Rotate and Shift Group", "Bit Set, Reset, and Test
 -- Group".)
-use Rattle.std.specs.Prelude.{ℕ, ◌-◌, ◌%◌, ◌==◌, bit_and, bit_or, Option, None, Some}
+use Rattle.std.specs.Prelude.{ℕ, ◌-◌, ◌%◌, ◌==◌, bit_and, bit_or}
 use Rattle.z80_regs.specs.Outcome.{Outcome}
 use Rattle.z80_regs.specs.declared.regs.Regs.{Regs}
 use Rattle.z80_alu.specs.declared.kinds.Rotate.{Rotate}
-use Rattle.z80_alu.specs.declared.kinds.Rotate.TheVariants.{Rlc, Rrc, Rl, Rr, Sla, Sra, Srl}
+use Rattle.z80_alu.specs.declared.kinds.Rotate.TheVariants.{Rlc, Rrc, Rl, Rr, Sla, Sra, Srl, Sll}
 use Rattle.z80_alu.specs.Flags.{has}
 use Rattle.z80_alu.specs.Bits.{rotated, rotated_flags}
 use Rattle.z80_alu.specs.Single.{bit_test_flags}
 use Rattle.z80_decode.specs.declared.instr.Instr.{Instr}
 use Rattle.z80_decode.specs.declared.forms.Operand.{Operand}
 use Rattle.z80_decode.specs.declared.page_forms.Shift.{Shift}
-use Rattle.z80_decode.specs.declared.page_forms.Shift.TheVariants.{LeftCircular, RightCircular, Left, Right, LeftArithmetic, RightArithmetic, RightLogical}
+use Rattle.z80_decode.specs.declared.page_forms.Shift.TheVariants.{LeftCircular, RightCircular, Left, Right, LeftArithmetic, RightArithmetic, LeftLogical, RightLogical}
 use Rattle.z80_decode.specs.declared.page_forms.BitChange.{BitChange}
 use Rattle.z80_decode.specs.declared.page_forms.BitChange.TheVariants as change
 use Rattle.z80_decode.specs.declared.page_forms.BitForm.{BitForm}
@@ -21,7 +21,7 @@ use Rattle.z80_decode.specs.PageOpcodes.{bit_form_of}
 use Rattle.z80_exec.specs.Operands.{quiet, stored, operand_byte, with_operand}
 use Rattle.z80_exec.specs.Performing.{behind}
 
--- RLC, RRC, RL, RR, SLA, SRA, SRL
+-- RLC, RRC, RL, RR, SLA, SRA, SLL, SRL
 abbrev pub kind_of : Shift → Rotate
 kind_of LeftCircular = Rlc
 kind_of RightCircular = Rrc
@@ -29,6 +29,7 @@ kind_of Left = Rl
 kind_of Right = Rr
 kind_of LeftArithmetic = Sla
 kind_of RightArithmetic = Sra
+kind_of LeftLogical = Sll
 kind_of RightLogical = Srl
 
 -- the byte that a rotation, a shift, RES or SET makes of a byte, with F before
@@ -63,13 +64,8 @@ memory_bits (Test weight) address byte regs = quiet (bit_tested weight byte regs
 memory_bits (Change change) address byte regs =
     stored address (changed_byte change byte regs.f) (bits_changed change byte regs)
 
--- an instruction behind CBh by its form
-abbrev pub bits_by : Option BitForm → Instr → Regs → (ℕ → ℕ) → Outcome
-bits_by None instr regs memory = quiet regs
-bits_by (Some form) instr regs memory =
-    let operand = operand_of (instr.opcode % 8) in
-    operand_bits form operand (operand_byte operand regs memory) (behind instr.length regs)
-
 -- an instruction behind CBh
 unfoldable pub bits_outcome : Instr → Regs → (ℕ → ℕ) → Outcome
-bits_outcome instr regs memory = bits_by (bit_form_of instr.opcode) instr regs memory
+bits_outcome instr regs memory =
+    let operand = operand_of (instr.opcode % 8) in
+    operand_bits (bit_form_of instr.opcode) operand (operand_byte operand regs memory) (behind instr.length regs)

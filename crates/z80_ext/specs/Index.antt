@@ -1,7 +1,7 @@
--- What the instructions behind DDh and FDh do: IX or IY stands for HL, and (IX+d) or (IY+d) for (HL). (UM0080, "Z80
--- Instruction Description", "Indexed Addressing".)
+-- What the instructions behind DDh and FDh do: IX or IY stands for HL, its halves for H and L, and (IX+d) or (IY+d) for
+-- (HL). (UM0080, "Z80 Instruction Description", "Indexed Addressing"; for the halves "The Undocumented Z80 Documented".)
 use Rattle.std.specs.Prelude.{ℕ, false, Option, None, Some}
-use Rattle.z80_regs.specs.Words.{onward, back}
+use Rattle.z80_regs.specs.Words.{onward, back, word_of, low, high}
 use Rattle.z80_regs.specs.Outcome.{Outcome}
 use Rattle.z80_regs.specs.declared.regs.Regs.{Regs}
 use Rattle.z80_alu.specs.Bytes.{sum_of, difference_of, increment_flags, decrement_flags}
@@ -11,10 +11,12 @@ use Rattle.z80_decode.specs.declared.instr.Page.{Page}
 use Rattle.z80_decode.specs.declared.instr.Page.TheVariants as page
 use Rattle.z80_decode.specs.declared.forms.Pair.{Pair}
 use Rattle.z80_decode.specs.declared.forms.Pair.TheVariants.{BC, DE, HL, SP}
+use Rattle.z80_decode.specs.declared.forms.Operand.{Operand}
+use Rattle.z80_decode.specs.declared.forms.Operand.TheVariants as operand
 use Rattle.z80_decode.specs.declared.page_forms.BitForm.{BitForm}
 use Rattle.z80_decode.specs.declared.page_forms.IndexForm.{IndexForm}
-use Rattle.z80_decode.specs.declared.page_forms.IndexForm.TheVariants.{AddPair, LoadNumber, Store, Load, Increment, Decrement, IncrementAt, DecrementAt, StoreNumber, LoadFrom, StoreTo, Calculate, Pop, ExchangeStack, Push, Jump, LoadSp}
-use Rattle.z80_decode.specs.PageOpcodes.{bit_form_of, index_form_of}
+use Rattle.z80_decode.specs.declared.page_forms.IndexForm.TheVariants.{AddPair, LoadNumber, Store, Load, Increment, Decrement, IncrementByte, DecrementByte, LoadByte, LoadHalf, LoadFrom, StoreTo, Calculate, Pop, ExchangeStack, Push, Jump, LoadSp}
+use Rattle.z80_decode.specs.PageOpcodes.{indexed_bit_form_of, index_form_of}
 use Rattle.z80_exec.specs.Operands.{quiet, stored, word_from, pair_word, operand_byte, with_operand}
 use Rattle.z80_exec.specs.StackPairs.{pushed}
 use Rattle.z80_exec.specs.Loads.{word_stored, top_replaced}
@@ -63,14 +65,30 @@ index_added index pair regs =
     let other = index_pair_word index pair regs in
     record (with_index index (word_sum_of one other false) regs) { f = word_add_flags one other regs.f }
 
--- INC and DEC of the byte at an address
-abbrev pub byte_incremented : ℕ → ℕ → Regs → Outcome
-byte_incremented address byte regs =
-    stored address (sum_of byte 1 false) (record regs { f = increment_flags byte regs.f })
+-- the byte of an operand, with IX+d or IY+d
+abbrev pub index_byte : IndexRegister → Operand → ℕ → Regs → (ℕ → ℕ) → ℕ
+index_byte index operand.H address regs memory = high (index_word index regs)
+index_byte index operand.L address regs memory = low (index_word index regs)
+index_byte index operand.Memory address regs memory = memory address
+index_byte index other address regs memory = operand_byte other regs memory
 
-abbrev pub byte_decremented : ℕ → ℕ → Regs → Outcome
-byte_decremented address byte regs =
-    stored address (difference_of byte 1 false) (record regs { f = decrement_flags byte regs.f })
+-- a byte in an operand
+abbrev pub with_index_byte : IndexRegister → Operand → ℕ → ℕ → Regs → Outcome
+with_index_byte index operand.H address byte regs =
+    quiet (with_index index (word_of (low (index_word index regs)) byte) regs)
+with_index_byte index operand.L address byte regs =
+    quiet (with_index index (word_of byte (high (index_word index regs))) regs)
+with_index_byte index operand.Memory address byte regs = stored address byte regs
+with_index_byte index other address byte regs = with_operand other byte regs
+
+-- INC and DEC of an operand whose byte is known
+abbrev pub byte_incremented : IndexRegister → Operand → ℕ → ℕ → Regs → Outcome
+byte_incremented index operand address byte regs =
+    with_index_byte index operand address (sum_of byte 1 false) (record regs { f = increment_flags byte regs.f })
+
+abbrev pub byte_decremented : IndexRegister → Operand → ℕ → ℕ → Regs → Outcome
+byte_decremented index operand address byte regs =
+    with_index_byte index operand address (difference_of byte 1 false) (record regs { f = decrement_flags byte regs.f })
 
 -- EX (SP),IX
 abbrev pub index_exchanged : IndexRegister → Regs → (ℕ → ℕ) → Outcome
@@ -90,7 +108,7 @@ index_pushed index regs = record {
 abbrev pub index_popped : IndexRegister → Regs → (ℕ → ℕ) → Regs
 index_popped index regs memory = with_index index (word_from memory regs.sp) (record regs { sp = onward regs.sp 2 })
 
--- a form's instruction; its loads of H and L use H and L themselves
+-- a form's instruction; the loads between H or L and (IX+d) or (IY+d) are of H and L themselves
 unfoldable pub index_performed : IndexForm → IndexRegister → Instr → Regs → (ℕ → ℕ) → Outcome
 index_performed (AddPair pair) index instr regs memory = quiet (index_added index pair regs)
 index_performed LoadNumber index instr regs memory = quiet (with_index index instr.operand regs)
@@ -99,20 +117,23 @@ index_performed Load index instr regs memory = quiet (with_index index (word_fro
 index_performed Increment index instr regs memory =
     quiet (with_index index (onward (index_word index regs) 1) regs)
 index_performed Decrement index instr regs memory = quiet (with_index index (back (index_word index regs) 1) regs)
-index_performed IncrementAt index instr regs memory =
+index_performed (IncrementByte at) index instr regs memory =
     let address = indexed_address index instr regs in
-    byte_incremented address (memory address) regs
-index_performed DecrementAt index instr regs memory =
+    byte_incremented index at address (index_byte index at address regs memory) regs
+index_performed (DecrementByte at) index instr regs memory =
     let address = indexed_address index instr regs in
-    byte_decremented address (memory address) regs
-index_performed StoreNumber index instr regs memory =
-    stored (indexed_address index instr regs) (number instr) regs
+    byte_decremented index at address (index_byte index at address regs memory) regs
+index_performed (LoadByte to) index instr regs memory =
+    with_index_byte index to (indexed_address index instr regs) (number instr) regs
+index_performed (LoadHalf to from) index instr regs memory =
+    let address = indexed_address index instr regs in
+    with_index_byte index to address (index_byte index from address regs memory) regs
 index_performed (LoadFrom operand) index instr regs memory =
     with_operand operand (memory (indexed_address index instr regs)) regs
 index_performed (StoreTo operand) index instr regs memory =
     stored (indexed_address index instr regs) (operand_byte operand regs memory) regs
-index_performed (Calculate math) index instr regs memory =
-    quiet (calculated math (memory (indexed_address index instr regs)) regs)
+index_performed (Calculate math from) index instr regs memory =
+    quiet (calculated math (index_byte index from (indexed_address index instr regs) regs memory) regs)
 index_performed Pop index instr regs memory = quiet (index_popped index regs memory)
 index_performed ExchangeStack index instr regs memory = index_exchanged index regs memory
 index_performed Push index instr regs memory = index_pushed index regs
@@ -137,4 +158,4 @@ index_bits_by (Some form) index instr regs memory =
 
 -- an instruction behind DDh CBh or FDh CBh
 unfoldable pub index_bits_outcome : IndexRegister → Instr → Regs → (ℕ → ℕ) → Outcome
-index_bits_outcome index instr regs memory = index_bits_by (bit_form_of instr.opcode) index instr regs memory
+index_bits_outcome index instr regs memory = index_bits_by (indexed_bit_form_of instr.opcode) index instr regs memory

@@ -1,9 +1,8 @@
-ghost use Rattle.std.specs.Prelude.{◌≡◌, ◌↔◌, ℕ, IsNone};
+ghost use Rattle.std.specs.Prelude.{◌≡◌, ℕ};
 ghost use Rattle.z80_regs.specs.Words.{onward};
 ghost use Rattle.z80_regs.specs.Outcome.{Leaves};
-ghost use Rattle.z80_decode.specs.PageOpcodes.{bit_form_of};
-ghost use Rattle.z80_decode.specs.Decoding.{bit_instr_by};
-ghost use Rattle.z80_ext.specs.Instruction.{outcome_of, registers_after, actions_of};
+ghost use Rattle.z80_decode.specs.Decoding.{bit_instr_of};
+ghost use Rattle.z80_ext.specs.Instruction.{begun};
 ghost use Rattle.z80_ext.specs.Bits.{
   kind_of,
   changed_byte,
@@ -12,9 +11,10 @@ ghost use Rattle.z80_ext.specs.Bits.{
   bit_tested,
   operand_bits,
   memory_bits,
+  bits_outcome,
 };
 
-use crate::stepped::{Stepped, begin_behind};
+use crate::stepped::begin_behind;
 use z80_alu::Rotate;
 use z80_decode::{BitChange, BitForm, Operand, Shift, bit_form, operand_at};
 use z80_exec::{operand, set_operand};
@@ -31,6 +31,7 @@ fn kind(shift: Shift) -> Rotate
         Shift::Right => Rotate::Rr,
         Shift::LeftArithmetic => Rotate::Sla,
         Shift::RightArithmetic => Rotate::Sra,
+        Shift::LeftLogical => Rotate::Sll,
         Shift::RightLogical => Rotate::Srl,
     }
 }
@@ -90,23 +91,15 @@ pub fn act_on_memory<B: Bus>(form: BitForm, address: u16, regs: &mut Regs, bus: 
 
 /// One step where CBh is at PC. (UM0080, "Rotate and Shift Group", "Bit Set, Reset, and Test Group".)
 #[tactic(auto, unfolding(crate::specs::Bits::bits_outcome, z80_regs::specs::Outcome::Leaves))]
-pub fn step_bits<B: Bus>(regs: &mut Regs, bus: &mut B) -> Stepped
-    ensures illegal { let opcode = B.byte bus.old (onward regs.old.pc 1) in (result ≡ Stepped.Illegal) ↔ IsNone
-        (outcome_of (bit_instr_by (bit_form_of opcode) opcode) regs.old (B.byte bus.old) (B.port_byte bus.old)) }
-    ensures registers { let opcode = B.byte bus.old (onward regs.old.pc 1) in regs.new ≡ registers_after
-        (outcome_of (bit_instr_by (bit_form_of opcode) opcode) regs.old (B.byte bus.old) (B.port_byte bus.old)) regs.old }
-    ensures bus { let opcode = B.byte bus.old (onward regs.old.pc 1) in Leaves B.wrote B.took
-        (actions_of (outcome_of (bit_instr_by (bit_form_of opcode) opcode) regs.old (B.byte bus.old) (B.port_byte bus.old)))
+pub fn step_bits<B: Bus>(regs: &mut Regs, bus: &mut B)
+    ensures registers { regs.new ≡
+        (bits_outcome (bit_instr_of (B.byte bus.old (onward regs.old.pc 1))) (begun regs.old) (B.byte bus.old)).registers }
+    ensures bus { Leaves B.wrote B.took
+        (bits_outcome (bit_instr_of (B.byte bus.old (onward regs.old.pc 1))) (begun regs.old) (B.byte bus.old)).actions
         bus.old bus.new }
 {
     let opcode = bus.read(regs.pc.wrapping_add(1));
-    match bit_form(opcode) {
-        None => Stepped::Illegal,
-        Some(form) => {
-            begin_behind(2, regs);
-            let at = operand_at(opcode % 8);
-            act_on_operand(form, at, operand(at, regs, bus), regs, bus);
-            Stepped::Ran
-        }
-    }
+    begin_behind(2, regs);
+    let at = operand_at(opcode % 8);
+    act_on_operand(bit_form(opcode), at, operand(at, regs, bus), regs, bus);
 }

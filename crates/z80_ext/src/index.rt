@@ -1,7 +1,7 @@
 ghost use Rattle.std.specs.Prelude.{◌≡◌, ◌↔◌, ℕ, IsNone};
 ghost use Rattle.z80_regs.specs.Words.{onward};
 ghost use Rattle.z80_regs.specs.Outcome.{Leaves};
-ghost use Rattle.z80_decode.specs.PageOpcodes.{bit_form_of};
+ghost use Rattle.z80_decode.specs.PageOpcodes.{indexed_bit_form_of};
 ghost use Rattle.z80_decode.specs.Decoding.{index_bit_instr_by, index_instr_of};
 ghost use Rattle.z80_ext.specs.Instruction.{outcome_of, registers_after, actions_of};
 ghost use Rattle.z80_ext.specs.Index.{
@@ -9,6 +9,8 @@ ghost use Rattle.z80_ext.specs.Index.{
   with_index,
   index_pair_word,
   indexed_address,
+  index_byte,
+  with_index_byte,
   index_added,
   byte_incremented,
   byte_decremented,
@@ -22,7 +24,9 @@ ghost use Rattle.z80_ext.specs.Index.{
 
 use crate::bits::act_on_memory;
 use crate::stepped::{Stepped, begin_behind};
-use z80_decode::{IndexForm, Instr, Page, Pair, bit_form, index_form, index_tail, read_instr};
+use z80_decode::{
+    IndexForm, Instr, Operand, Page, Pair, index_form, index_tail, indexed_bit_form, read_instr,
+};
 use z80_exec::{
     calculate, number_at, operand, pair_at, push, relative_to, replace_top, set_operand,
     store_word, word_at,
@@ -88,28 +92,71 @@ fn add_pair(index: IndexRegister, pair: Pair, regs: &mut Regs)
     regs.f = flags;
 }
 
-/// INC of the byte at an address.
-#[tactic(auto, unfolding(z80_regs::specs::Outcome::Leaves))]
-fn increment_at<B: Bus>(address: u16, regs: &mut Regs, bus: &mut B)
-    ensures registers { regs.new ≡ (byte_incremented address (B.byte bus.old address) regs.old).registers }
-    ensures bus { Leaves B.wrote B.took (byte_incremented address (B.byte bus.old address) regs.old).actions
-        bus.old bus.new }
+/// The byte of an operand, where an index register stands for HL, and an address for (IX+d).
+#[inline(always)]
+fn byte_at<B: Bus>(index: IndexRegister, from: Operand, address: u16, regs: &Regs, bus: &B) -> u8
+    ensures { result ≡ index_byte index from address regs.now (B.byte bus.now) }
 {
-    let (value, flags) = z80_alu::inc8(bus.read(address), regs.f);
-    regs.f = flags;
-    bus.write(address, value);
+    match from {
+        Operand::H => (index_at(regs, index) / 256) as u8,
+        Operand::L => (index_at(regs, index) % 256) as u8,
+        Operand::Memory => bus.read(address),
+        _ => operand(from, regs, bus),
+    }
 }
 
-/// DEC of the byte at an address.
+/// Sets an operand likewise.
+#[inline(always)]
 #[tactic(auto, unfolding(z80_regs::specs::Outcome::Leaves))]
-fn decrement_at<B: Bus>(address: u16, regs: &mut Regs, bus: &mut B)
-    ensures registers { regs.new ≡ (byte_decremented address (B.byte bus.old address) regs.old).registers }
-    ensures bus { Leaves B.wrote B.took (byte_decremented address (B.byte bus.old address) regs.old).actions
-        bus.old bus.new }
+fn set_byte<B: Bus>(
+    index: IndexRegister,
+    to: Operand,
+    address: u16,
+    byte: u8,
+    regs: &mut Regs,
+    bus: &mut B,
+)
+    ensures registers { regs.new ≡ (with_index_byte index to address byte regs.old).registers }
+    ensures bus { Leaves B.wrote B.took (with_index_byte index to address byte regs.old).actions bus.old bus.new }
 {
-    let (value, flags) = z80_alu::dec8(bus.read(address), regs.f);
+    match to {
+        Operand::H => {
+            let low = (index_at(regs, index) % 256) as u8;
+            set_index(regs, index, u16::from_le_bytes([low, byte]));
+        }
+        Operand::L => {
+            let high = (index_at(regs, index) / 256) as u8;
+            set_index(regs, index, u16::from_le_bytes([byte, high]));
+        }
+        Operand::Memory => bus.write(address, byte),
+        _ => set_operand(to, byte, regs, bus),
+    }
+}
+
+/// INC of an operand, where an index register stands for HL, and an address for (IX+d).
+#[inline(always)]
+fn increment<B: Bus>(index: IndexRegister, at: Operand, address: u16, regs: &mut Regs, bus: &mut B)
+    ensures registers { regs.new ≡ (byte_incremented index at address
+        (index_byte index at address regs.old (B.byte bus.old)) regs.old).registers }
+    ensures bus { Leaves B.wrote B.took (byte_incremented index at address
+        (index_byte index at address regs.old (B.byte bus.old)) regs.old).actions bus.old bus.new }
+{
+    let (value, flags) = z80_alu::inc8(byte_at(index, at, address, regs, bus), regs.f);
     regs.f = flags;
-    bus.write(address, value);
+    set_byte(index, at, address, value, regs, bus);
+}
+
+/// DEC likewise.
+#[inline(always)]
+fn decrement<B: Bus>(index: IndexRegister, at: Operand, address: u16, regs: &mut Regs, bus: &mut B)
+    ensures registers { regs.new ≡ (byte_decremented index at address
+        (index_byte index at address regs.old (B.byte bus.old)) regs.old).registers }
+    ensures bus { Leaves B.wrote B.took (byte_decremented index at address
+        (index_byte index at address regs.old (B.byte bus.old)) regs.old).actions bus.old bus.new }
+{
+    let (value, flags) = z80_alu::dec8(byte_at(index, at, address, regs, bus), regs.f);
+    regs.f = flags;
+    set_byte(index, at, address, value, regs, bus);
 }
 
 /// EX (SP),IX.
@@ -160,15 +207,21 @@ fn perform<B: Bus>(
         IndexForm::Load => set_index(regs, index, word_at(bus, instr.operand)),
         IndexForm::Increment => set_index(regs, index, word.wrapping_add(1)),
         IndexForm::Decrement => set_index(regs, index, word.wrapping_sub(1)),
-        IndexForm::IncrementAt => increment_at(address, regs, bus),
-        IndexForm::DecrementAt => decrement_at(address, regs, bus),
-        IndexForm::StoreNumber => bus.write(address, number_at(instr)),
+        IndexForm::IncrementByte(at) => increment(index, at, address, regs, bus),
+        IndexForm::DecrementByte(at) => decrement(index, at, address, regs, bus),
+        IndexForm::LoadByte(to) => set_byte(index, to, address, number_at(instr), regs, bus),
+        IndexForm::LoadHalf(to, from) => {
+            let byte = byte_at(index, from, address, regs, bus);
+            set_byte(index, to, address, byte, regs, bus);
+        }
         IndexForm::LoadFrom(to) => set_operand(to, bus.read(address), regs, bus),
         IndexForm::StoreTo(from) => {
             let value = operand(from, regs, bus);
             bus.write(address, value);
         }
-        IndexForm::Calculate(math) => calculate(math, bus.read(address), regs),
+        IndexForm::Calculate(math, from) => {
+            calculate(math, byte_at(index, from, address, regs, bus), regs);
+        }
         IndexForm::Pop => pop_index(index, regs, bus),
         IndexForm::ExchangeStack => exchange_stack(index, regs, bus),
         IndexForm::Push => push_index(index, regs, bus),
@@ -201,23 +254,23 @@ fn bits_page(index: IndexRegister) -> Page
 #[tactic(auto, using(crate::proofs::Next::index_bits_page), unfolding(crate::specs::Index::index_bits_outcome, z80_regs::specs::Outcome::Leaves))]
 fn step_index_bits<B: Bus>(index: IndexRegister, regs: &mut Regs, bus: &mut B) -> Stepped
     ensures illegal { let opcode = B.byte bus.old (onward regs.old.pc 3) in (result ≡ Stepped.Illegal) ↔ IsNone
-        (outcome_of (index_bit_instr_by (bit_form_of opcode) (bits_page_of index) (B.byte bus.old (onward regs.old.pc 2)) opcode) regs.old (B.byte bus.old) (B.port_byte bus.old)) }
+        (outcome_of (index_bit_instr_by (indexed_bit_form_of opcode) (bits_page_of index) (B.byte bus.old (onward regs.old.pc 2)) opcode) regs.old (B.byte bus.old) (B.port_byte bus.old)) }
     ensures registers { let opcode = B.byte bus.old (onward regs.old.pc 3) in regs.new ≡ registers_after
-        (outcome_of (index_bit_instr_by (bit_form_of opcode) (bits_page_of index) (B.byte bus.old (onward regs.old.pc 2)) opcode) regs.old (B.byte bus.old) (B.port_byte bus.old)) regs.old }
+        (outcome_of (index_bit_instr_by (indexed_bit_form_of opcode) (bits_page_of index) (B.byte bus.old (onward regs.old.pc 2)) opcode) regs.old (B.byte bus.old) (B.port_byte bus.old)) regs.old }
     ensures bus { let opcode = B.byte bus.old (onward regs.old.pc 3) in Leaves B.wrote B.took
-        (actions_of (outcome_of (index_bit_instr_by (bit_form_of opcode) (bits_page_of index) (B.byte bus.old (onward regs.old.pc 2)) opcode) regs.old (B.byte bus.old) (B.port_byte bus.old)))
+        (actions_of (outcome_of (index_bit_instr_by (indexed_bit_form_of opcode) (bits_page_of index) (B.byte bus.old (onward regs.old.pc 2)) opcode) regs.old (B.byte bus.old) (B.port_byte bus.old)))
         bus.old bus.new }
 {
     let opcode = bus.read(regs.pc.wrapping_add(3));
-    match bit_form(opcode) {
-        Some(form) if opcode % 8 == 6 => {
+    match indexed_bit_form(opcode) {
+        None => Stepped::Illegal,
+        Some(form) => {
             let displacement = bus.read(regs.pc.wrapping_add(2));
             let address = relative_to(index_at(regs, index), displacement);
             begin_behind(4, regs);
             act_on_memory(form, address, regs, bus);
             Stepped::Ran
         }
-        _ => Stepped::Illegal,
     }
 }
 

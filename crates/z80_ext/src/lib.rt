@@ -35,7 +35,10 @@ fn act_behind<B: Bus>(prefix: u8, regs: &mut Regs, bus: &mut B) -> Stepped
         bus.old bus.new }
 {
     match prefix {
-        0xcb => step_bits(regs, bus),
+        0xcb => {
+            step_bits(regs, bus);
+            Stepped::Ran
+        }
         0xed => step_extended(regs, bus),
         0xdd => step_index(IndexRegister::Ix, regs, bus),
         _ => step_index(IndexRegister::Iy, regs, bus),

@@ -1,0 +1,9 @@
+use Rattle.std.proofs.Common.{◌≡◌, drop}
+use Rattle.toml.specs.View.{items_view}
+use Rattle.mpm_machine_file.specs.Fields.{all_of}
+use Rattle.mpm_machine_file.specs.Residents.{resident_of}
+use Rattle.mpm_machine_file.proofs.ArrayLaws.{onto}
+use Rattle.mpm_machine_file.proofs.residents.each_resident.Given as goal
+
+abbrev pub invariant-loop-item : goal.invariant-loop-item
+invariant-loop-item l = all_of resident_of (items_view l.items) ≡ onto l.residents.items (all_of resident_of (items_view (drop l.item-index l.items)))
