@@ -13,10 +13,28 @@ pub fn number(status: Status) -> u8
         Status::Usage => 1,
         Status::MachineFault => 2,
         Status::ScriptFault { .. } => 3,
+        Status::ImageFault { .. } => 4,
         Status::TooLong { .. } => 5,
         Status::ReadFault => 6,
+        Status::DiskFault { .. } => 7,
         Status::WriteFault { .. } => 8,
         Status::OutOfMemory => 9,
+    }
+}
+
+/// The letter of a drive, numbered from 0 to 15.
+#[derive(Clone, Copy, Drop)]
+struct Letter(u8);
+
+impl fmt::Display for Letter {
+    ghost use Rattle.std.specs.Prelude.{Some, [], ◌∷◌};
+    ghost use Rattle.mpm.specs.Endings.{letter_of};
+
+    ghost output = { λ letter. Some (letter_of letter.0 ∷ []) };
+
+    fn fmt<W: fmt::Write>(&self, f: &mut fmt::Formatter<W>) -> fmt::Result {
+        let letter = char::from(b'A' + self.0 % 16);
+        write!(f, "{letter}")
     }
 }
 
@@ -41,8 +59,17 @@ impl fmt::Display for Message {
             }
             Status::MachineFault => write!(f, "bad machine file"),
             Status::ScriptFault { line } => write!(f, "bad script line {line}"),
+            Status::ImageFault {
+                drive,
+                cause,
+                place,
+            } => {
+                let letter = Letter(drive);
+                write!(f, "bad image {letter}: cause {cause} at {place}")
+            }
             Status::TooLong { .. } => write!(f, "input too long"),
             Status::ReadFault => write!(f, "cannot read"),
+            Status::DiskFault { step } => write!(f, "disk failed at step {step}"),
             Status::WriteFault { step } => write!(f, "output failed at step {step}"),
             Status::OutOfMemory => write!(f, "out of memory"),
         }

@@ -1,13 +1,14 @@
-//! MP/M II as a machine: runs what its words ask, over the host's files and its standard output.
+//! MP/M II as a machine: runs what its words ask, over the host's files and drives and its standard output.
 #![tactic(auto)]
 
+mod drives;
 mod ending;
 mod files;
 mod sink;
 
+use crate::drives::RealDrives;
 use crate::files::RealFiles;
 use crate::sink::RealSink;
-use mpm_port::MemoryDrives;
 use mpm_top::{Status, run_words};
 use std::alloc::{AllocError, Global};
 use std::env;
@@ -36,7 +37,7 @@ fn main(rt: HostRuntime) -> ExitCode {
     let status = match words_after_name(alloc, &rt) {
         Ok(words) => {
             let mut files = RealFiles::new(rt);
-            let mut drives = MemoryDrives::new(alloc);
+            let mut drives = RealDrives::new(rt);
             let mut sink = RealSink::new(rt.stdout());
             run_words(alloc, words.as_slice(), &mut files, &mut drives, &mut sink)
         }

@@ -94,7 +94,7 @@ nobody_due_after (suc n) s w some = nobody_due_step (after n s).system (whole_af
 pub nobody_due_run : (n : ℕ) (old new : System) → IsWhole old → new ≡ system_after n old → 0 < n → NobodyDue new.kernel
 nobody_due_run n old new w is some =
     let P : System → Type 0 = λ s. NobodyDue s.kernel in
-    subst P (sym is) (nobody_due_after n (record { system = old; outputs = [] }) w some)
+    subst P (sym is) (nobody_due_after n (record { system = old; outputs = []; drives = [] }) w some)
 
 contained_next : (s : State) → IsWhole s.system → IsContained s.system (next s).system
 unfolding next
@@ -109,7 +109,7 @@ contained_after n s w =
 -- the same of each step of a run, by the system that it begins with
 
 pub contained_in_run : (k : ℕ) (old : System) → IsWhole old → IsContained (system_after k old) (system_after (k + 1) old)
-contained_in_run k old w = contained_after k (record { system = old; outputs = [] }) w
+contained_in_run k old w = contained_after k (record { system = old; outputs = []; drives = [] }) w
 
 -- what a step does from a system that a run comes to
 next_in_run : (k : ℕ) (old : System) → system_after (k + 1) old ≡ (step_of (system_after k old)).system
@@ -118,7 +118,7 @@ next_in_run k old = sym (system_after_more k old (system_after k old) (step_of (
 pub instructed_in_run : (k p seg : ℕ) (old : System) → old.kernel.dispatcher.completed ≡ [] → Instructs (system_after k old) p seg
     → OnlyInstructed p (system_after k old) (system_after (k + 1) old)
 instructed_in_run k p seg old none i =
-    instructs_only (system_after k old) (system_after (k + 1) old) p seg i (handed_after k (record { system = old; outputs = [] }) none) (next_in_run k old)
+    instructs_only (system_after k old) (system_after (k + 1) old) p seg i (handed_after k (record { system = old; outputs = []; drives = [] }) none) (next_in_run k old)
 
 pub served_in_run : (k p seg : ℕ) (old : System) → Calls (system_after k old) p seg
     → ServedByValue p seg (system_after k old) (system_after (k + 1) old)

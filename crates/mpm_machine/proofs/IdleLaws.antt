@@ -36,7 +36,7 @@ idle_step system n on =
 idle_next : (s : State) (n : ℕ) → Idles s.system (n + 1) → next (record s { system = later s.system n }) ≡ record s { system = later s.system (n + 1) }
 unfolding next
 idle_next s n on =
-    ap (λ (change : Change). record { system = change.system; outputs = change.emitted ++ s.outputs }) (idle_step s.system n on)
+    ap (λ (change : Change). record s { system = change.system; outputs = change.emitted ++ s.outputs }) (idle_step s.system n on)
 
 fewer : (system : System) (n : ℕ) → Idles system (n + 1) → Idles system n
 fewer system n on = record {
@@ -65,7 +65,7 @@ idle_stands n old new kept written s first on is stands =
 
 -- and its system is the one after so many steps
 pub idle_system : (n : ℕ) (old new : System) → Idles old n → new ≡ later old n → new ≡ system_after n old
-idle_system n old new on is = is ∙ sym (ap (λ (s : State). s.system) (after_idle n (record { system = old; outputs = [] }) on))
+idle_system n old new on is = is ∙ sym (ap (λ (s : State). s.system) (after_idle n (record { system = old; outputs = []; drives = [] }) on))
 
 pub idle_whole : (n : ℕ) (old new : System) → IsWhole old → new ≡ later old n → IsWhole new
 idle_whole n old new w is = subst IsWhole (sym is) (whole_steps old (old.steps + n) w)

@@ -22,3 +22,5 @@ pub mod ServedLaws
 pub mod Containment
 pub mod AfterLaws
 pub mod InstructedLaws
+pub mod FaultLaws
+pub mod DriveLaws

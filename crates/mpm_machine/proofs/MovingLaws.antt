@@ -150,7 +150,7 @@ next_view : (s : State) (p seg n : ℕ) (view : View) → p < length s.system.ke
     → next (with_system s (with_view s.system p view n)) ≡ with_system s (with_view s.system p (moved seg view) (n + 1))
 unfolding next with_system
 next_view s p seg n view below on can quiet =
-    ap (λ (change : Change). record { system = change.system; outputs = change.emitted ++ s.outputs }) (step_view s.system p seg n view below on can quiet)
+    ap (λ (change : Change). record s { system = change.system; outputs = change.emitted ++ s.outputs }) (step_view s.system p seg n view below on can quiet)
 
 after_moves : (n : ℕ) (s : State) (p seg : ℕ) → p < length s.system.kernel.dispatcher.procs.processes → RunsOn s.system p seg
     → ((k : ℕ) → k < n → CanMove (is_inside s.system.kernel.dispatcher.procs p) seg (moves k seg (view_of s.system p))) → Quiet n s.system
@@ -194,7 +194,7 @@ moved_stands n p seg old new kept written s first w on moved quiet stands =
 pub moved_system : (n p seg : ℕ) (old new : System) → IsWhole old → RunsOn old p seg → Moved n p seg old new → Quiet n old → new ≡ system_after n old
 unfolding with_system
 moved_system n p seg old new w on moved quiet =
-    let start : State = record { system = old; outputs = [] } in
+    let start : State = record { system = old; outputs = []; drives = [] } in
     let below : p < length old.kernel.dispatcher.procs.processes =
     omega (arith, w.sound.slots.processes, lives_below old.kernel.dispatcher.procs p w.sound.slots (runner_lives old.kernel p w.sound on.running)) in
     moved.is ∙ ap (λ v. with_view old p v n) moved.moves.is

@@ -6,7 +6,7 @@ use Rattle.mpm_base.specs.Calls.{Taken, Answer}
 use Rattle.mpm_base.specs.declared.call.Outcome.{Outcome as CallOutcome}
 use Rattle.mpm_base.specs.declared.call.Outcome.TheVariants.{Done, Held, Retry, Ended}
 use Rattle.mpm_render.specs.Outputs.{rendered}
-use Rattle.mpm_render.specs.Shown.{Shows, EndsBetween}
+use Rattle.mpm_render.specs.Shown.{Kept, Shows, EndsBetween}
 use Rattle.mpm_script.specs.declared.event.Event.{Event}
 use Rattle.std.specs.List.{range_with_len}
 use Rattle.mpm_base.proofs.Choices.{either}
@@ -19,7 +19,13 @@ use Rattle.mpm_processor.specs.declared.gate.Gate.{Gate}
 use Rattle.mpm_processor.specs.declared.gate.Gate.TheVariants.{End, Call, Return}
 use Rattle.mpm_output.specs.Outside.{Outside, Device}
 use Rattle.mpm_output.specs.Writing.{Wrote, Stopped, Fails, Emits}
-use Rattle.mpm_machine.specs.State.{State, Change, speaking, StandsFor}
+use Rattle.mpm_port.specs.Disks.{Disks}
+use Rattle.mpm_mount.specs.Directories.{Directory}
+use Rattle.mpm_drives.specs.Mounted.{StandEach}
+use Rattle.mpm_machine.specs.State.{State, Change, speaking, StandsFor, StandsWithDrives}
+use Rattle.mpm_machine.specs.declared.machine.Machine.{Machine}
+use Rattle.mpm_machine.specs.declared.machine.StepFault.{StepFault}
+use Rattle.mpm_machine.specs.Faults.{EndsBy}
 use Rattle.mpm_machine.specs.Ending.{ended}
 use Rattle.mpm_machine.specs.Serving.{asked, keeping, Served, reserving, releasing, creating, aborted, aborting_this, aborting, served, said_by, popped, replied, answering_call, with_entry, fulfilling, completing, returning, outcome_of, gate_step}
 use Rattle.mpm_residents.specs.Natives.{native_call, native_in}
@@ -193,15 +199,15 @@ unfolding after
 after_more n s = ap (λ m. after m s) (add-one n)
 
 -- a stop in the step after the first done ones
-pub ends_in_step : (trace : Bool) (written first : Option (List ℕ)) (s : State) (n done step : ℕ) → done < n → step ≡ s.system.steps + done + 1
-    → EndsBetween written first (rendered trace (after done s).outputs) (rendered trace (next (after done s)).outputs)
-    → EndsInStep trace written first s n step
-ends_in_step trace written first s n done step below e ends =
+pub ends_in_step : (fault : StepFault) (trace : Bool) (written first : Option (List ℕ)) (s : State) (n done step : ℕ) → done < n → step ≡ s.system.steps + done + 1
+    → EndsBy fault written first (rendered trace (after done s).outputs) (rendered trace (next (after done s)).outputs)
+    → EndsInStep fault trace written first s n step
+ends_in_step fault trace written first s n done step below e ends =
     let before : step - 1 - s.system.steps ≡ done = omega arith in
     let afterwards : step - s.system.steps ≡ done + 1 = omega arith in
-    let P : State → Type 0 = λ t. EndsBetween written first (rendered trace (after done s).outputs) (rendered trace t.outputs) in
-    let Q : ℕ → Type 0 = λ m. EndsBetween written first (rendered trace (after m s).outputs) (rendered trace (after (step - s.system.steps) s).outputs) in
-    let R : ℕ → Type 0 = λ m. EndsBetween written first (rendered trace (after done s).outputs) (rendered trace (after m s).outputs) in
+    let P : State → Type 0 = λ t. EndsBy fault written first (rendered trace (after done s).outputs) (rendered trace t.outputs) in
+    let Q : ℕ → Type 0 = λ m. EndsBy fault written first (rendered trace (after m s).outputs) (rendered trace (after (step - s.system.steps) s).outputs) in
+    let R : ℕ → Type 0 = λ m. EndsBy fault written first (rendered trace (after done s).outputs) (rendered trace (after m s).outputs) in
     record {
       later = omega arith;
       within = omega arith;
@@ -222,6 +228,25 @@ unfolding after next
 steps_after zero s = omega arith
 steps_after (suc n) s = step_steps (after n s).system ∙ omega (arith, steps_after n s)
 
+-- a step leaves the drives
+
+pub drives_next : (disks : Option Disks) (mounted : List Directory) (s : State) → StandEach disks mounted s.drives → StandEach disks mounted (next s).drives
+unfolding next
+drives_next disks mounted s stand = stand
+
+pub drives_after : (disks : Option Disks) (mounted : List Directory) (n : ℕ) (s : State) → StandEach disks mounted s.drives → StandEach disks mounted (after n s).drives
+unfolding after
+drives_after disks mounted zero s stand = stand
+drives_after disks mounted (suc n) s stand = drives_next disks mounted (after n s) (drives_after disks mounted n s stand)
+
+-- so do steps of the system alone
+pub ran_on : (old new : Machine) (kept : Kept) (written : Option (List ℕ)) (disks : Option Disks) (n : ℕ) (s : State) (first : Option (List ℕ)) → new.drives ≡ old.drives
+    → StandsFor new.system kept written (after n s) first → StandsWithDrives old kept written disks s first → StandsWithDrives new kept written disks (after n s) first
+ran_on old new kept written disks n s first same system stands = record {
+  system = system;
+  drives = subst (λ (mounted : List Directory). StandEach disks mounted (after n s).drives) (sym same) (drives_after disks old.drives n s stands.drives);
+}
+
 -- the system doesn't depend on the outputs
 
 pub same_system_after : (n : ℕ) (s : State) → (after n s).system ≡ system_after n s.system
@@ -236,25 +261,25 @@ system_after_nothing system = refl
 pub system_after_more : (n : ℕ) (system afterwards new : System) → afterwards ≡ system_after n system → new ≡ (step_of afterwards).system → new ≡ system_after (n + 1) system
 unfolding next
 system_after_more n system afterwards new is was =
-    was ∙ ap (λ s. (step_of s).system) is ∙ sym (ap (λ (s : State). s.system) (after_more n (record { system = system; outputs = [] })))
+    was ∙ ap (λ s. (step_of s).system) is ∙ sym (ap (λ (s : State). s.system) (after_more n (record { system = system; outputs = []; drives = [] })))
 
 pub system_after_both : (first more : ℕ) (system afterwards new : System) → afterwards ≡ system_after first system → new ≡ system_after more afterwards
     → new ≡ system_after (first + more) system
 system_after_both first more system afterwards new is was =
-    let start : State = record { system = system; outputs = [] } in
+    let start : State = record { system = system; outputs = []; drives = [] } in
     was ∙ ap (system_after more) is ∙ sym (same_system_after more (after first start)) ∙ sym (ap (λ (s : State). s.system) (after_both first more start))
 
 -- a stop in one of the later steps is one of all
-pub ends_later : (trace : Bool) (written first : Option (List ℕ)) (s : State) (n done step : ℕ) → done ≤ n
-    → EndsInStep trace written first (after done s) (n - done) step → EndsInStep trace written first s n step
-ends_later trace written first s n done step few ends =
+pub ends_later : (fault : StepFault) (trace : Bool) (written first : Option (List ℕ)) (s : State) (n done step : ℕ) → done ≤ n
+    → EndsInStep fault trace written first (after done s) (n - done) step → EndsInStep fault trace written first s n step
+ends_later fault trace written first s n done step few ends =
     let steps = steps_after done s in
     let before : after (step - 1 - (after done s).system.steps) (after done s) ≡ after (step - 1 - s.system.steps) s =
     sym (after_both done (step - 1 - (after done s).system.steps) s) ∙ ap (λ k. after k s) (omega (arith, steps, ends.later, few)) in
     let afterwards : after (step - (after done s).system.steps) (after done s) ≡ after (step - s.system.steps) s =
     sym (after_both done (step - (after done s).system.steps) s) ∙ ap (λ k. after k s) (omega (arith, steps, ends.later, few)) in
-    let P : State → Type 0 = λ t. EndsBetween written first (rendered trace t.outputs) (rendered trace (after (step - (after done s).system.steps) (after done s)).outputs) in
-    let Q : State → Type 0 = λ t. EndsBetween written first (rendered trace (after (step - 1 - s.system.steps) s).outputs) (rendered trace t.outputs) in
+    let P : State → Type 0 = λ t. EndsBy fault written first (rendered trace t.outputs) (rendered trace (after (step - (after done s).system.steps) (after done s)).outputs) in
+    let Q : State → Type 0 = λ t. EndsBy fault written first (rendered trace (after (step - 1 - s.system.steps) s).outputs) (rendered trace t.outputs) in
     record {
       later = omega (arith, steps, ends.later);
       within = omega (arith, steps, ends.within, few);

@@ -1,5 +1,6 @@
 pub mod Gates
 pub mod State
+pub mod Faults
 pub mod Opening
 pub mod Ending
 pub mod Serving

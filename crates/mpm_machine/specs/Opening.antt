@@ -122,6 +122,8 @@ program_file = record {
   segments = record { base = 0; pages = 192 } ∷ [];
   drives = [];
   script = None;
+  spool = false;
+  sched = false;
 }
 
 -- the system as a program begins: it is the process `PROGRAM ` in the one segment

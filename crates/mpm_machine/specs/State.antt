@@ -9,13 +9,17 @@ use Rattle.mpm_kernel.specs.Kernel.{Kernel, IsSound, CompletedLive, is_aborted}
 use Rattle.mpm_kernel.specs.Columns.{spoke}
 use Rattle.mpm_render.specs.Outputs.{Output}
 use Rattle.mpm_render.specs.Shown.{Kept, Shows}
+use Rattle.mpm_port.specs.Disks.{Disks}
+use Rattle.mpm_drives.specs.Mounted.{NumberedDrive, StandEach}
 use Rattle.mpm_machine.specs.declared.system.System.{System}
+use Rattle.mpm_machine.specs.declared.machine.Machine.{Machine}
 use Rattle.mpm_output.specs.Writing.{spoken}
 
--- the system, and all outputs so far, newest first
+-- the system, all outputs so far, newest first, and the drives by what is on them, in order of their numbers
 pub record State : Type 0 where
   pub system : System
   pub outputs : List Output
+  pub drives : List NumberedDrive
 
 -- what a part of a step makes of the system, and the outputs that it adds, newest first
 pub record Change : Type 0 where
@@ -31,10 +35,16 @@ unfoldable pub speaking : ℕ → List ℕ → System → Change
 speaking console bytes system =
     record { system = record system { kernel = spoke system.kernel console bytes }; emitted = spoken console bytes }
 
--- a machine, what its renderer keeps and what its sink was told stand for a state, behind a first text
+-- a system, what its renderer keeps and what its sink was told stand for a state's system and outputs, behind a first text
 pub record StandsFor (system : System) (kept : Kept) (written : Option (List ℕ)) (s : State) (first : Option (List ℕ)) : Type 0 where
   pub parts : system ≡ s.system
   pub shown : Shows kept written s.outputs first
+
+-- a machine, its renderer, its sink and its drives stand for a state: the directory in memory and the image of each mounted
+-- drive stand for the files on the state's drive
+pub record StandsWithDrives (machine : Machine) (kept : Kept) (written : Option (List ℕ)) (disks : Option Disks) (s : State) (first : Option (List ℕ)) : Type 0 where
+  pub system : StandsFor machine.system kept written s first
+  pub drives : StandEach disks machine.drives s.drives
 
 -- processes live in the segment
 abbrev pub IsOccupied : Memory → ℕ → Type 0

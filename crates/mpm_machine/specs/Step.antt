@@ -13,7 +13,6 @@ use Rattle.mpm_dispatcher.specs.Dispatch.{picked}
 use Rattle.mpm_kernel.specs.Events.{happened}
 use Rattle.mpm_kernel.specs.Consoling.{abort_taken}
 use Rattle.mpm_render.specs.Outputs.{Output, rendered}
-use Rattle.mpm_render.specs.Shown.{EndsBetween}
 use Rattle.mpm_processor.specs.Gates.{gate_of}
 use Rattle.mpm_processor.specs.declared.gate.Gate.{Gate}
 use Rattle.mpm_processor.specs.declared.gate.Gate.TheVariants.{End, Call, Return}
@@ -22,6 +21,8 @@ use Rattle.mpm_machine.specs.declared.system.System.{System}
 use Rattle.mpm_output.specs.Writing.{spoken}
 use Rattle.mpm_output.specs.Texts.{illegal_text}
 use Rattle.mpm_machine.specs.State.{State, Change, silent, speaking}
+use Rattle.mpm_machine.specs.declared.machine.StepFault.{StepFault}
+use Rattle.mpm_machine.specs.Faults.{EndsBy}
 use Rattle.mpm_machine.specs.Ending.{ended}
 use Rattle.mpm_machine.specs.Serving.{with_regs, aborted, gate_step, returning}
 use Rattle.mpm_residents.specs.Natives.{native_in}
@@ -177,7 +178,7 @@ step_of system =
 
 -- one step
 unfoldable pub next : State → State
-next s = record { system = (step_of s.system).system; outputs = (step_of s.system).emitted ++ s.outputs }
+next s = record s { system = (step_of s.system).system; outputs = (step_of s.system).emitted ++ s.outputs }
 
 -- n steps
 unfoldable pub after : ℕ → State → State
@@ -186,12 +187,12 @@ after (suc n) s = next (after n s)
 
 -- a system after n steps, whatever was written before them
 abbrev pub system_after : ℕ → System → System
-system_after n system = (after n (record { system = system; outputs = [] })).system
+system_after n system = (after n (record { system = system; outputs = []; drives = [] })).system
 
--- writing stopped in that step, one of the n steps after a state, which writes something: all of the steps before it was
--- written, and then a first part of what it writes, perhaps none
-pub record EndsInStep (trace : Bool) (written first : Option (List ℕ)) (s : State) (n step : ℕ) : Type 0 where
+-- it stopped in that step, one of the n steps after a state: all of the steps before it was written, and then, where the sink
+-- failed, a first part of what it writes, which isn't empty
+pub record EndsInStep (fault : StepFault) (trace : Bool) (written first : Option (List ℕ)) (s : State) (n step : ℕ) : Type 0 where
   pub later : s.system.steps < step
   pub within : step ≤ s.system.steps + n
-  pub text : EndsBetween written first (rendered trace (after (step - 1 - s.system.steps) s).outputs)
+  pub text : EndsBy fault written first (rendered trace (after (step - 1 - s.system.steps) s).outputs)
       (rendered trace (after (step - s.system.steps) s).outputs)

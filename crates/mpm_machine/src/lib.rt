@@ -1,4 +1,4 @@
-//! The machine: processes on a Z80 with banked memory, their consoles, and the kernel behind the gates.
+//! The machine: processes on a Z80 with banked memory, their consoles, the kernel behind the gates, and its drives.
 #![tactic(auto)]
 
 mod abort;
@@ -14,4 +14,5 @@ mod residing;
 mod scenes;
 mod system;
 
-pub use machine::{BootError, Machine, RunFault, StepFault};
+pub use machine::{Machine, RunFault, StepFault};
+pub use mpm_drives::BootError;

@@ -183,6 +183,8 @@ pub(crate) fn program_file(alloc: Global) -> Result<MachineFile, AllocError>
         segments: Segments::of(segments),
         drives: DriveSpecs::of(Vec::new(alloc)),
         script: None,
+        spool: false,
+        sched: false,
     })
 }
 

@@ -2,16 +2,20 @@
 ghost use Rattle.std.specs.Prelude.{ℕ, ◌≡◌, ◌<◌, ◌≤◌, ◌+◌, ◌*◌, [], OnOk, length, get_or};
 ghost use Rattle.std.specs.Bool.{OnTrue};
 ghost use Rattle.mpm_machine_file.specs.MachineFiles.{IsMachine};
+ghost use Rattle.mpm_port.specs.MemoryDisks.{size_of};
+ghost use Rattle.mpm_drives.specs.Mounted.{AreAttached};
 ghost use Rattle.mpm_machine.specs.State.{IsWhole};
 ghost use Rattle.mpm_machine.specs.Opening.{IsBare, MayPlace};
 
 use crate::Machine;
-use mpm_base::{Name8, Pid, Seg};
+use mpm_base::{Name8, Pid, Seg, Steps};
 use mpm_machine_file::{MachineFile, read_machine};
-use mpm_port::MemorySink;
+use mpm_port::{MemoryDrives, MemorySink};
 use mpm_render::Render;
 use mpm_script::read_script;
 use std::alloc::Global;
+use std::marker::Brand;
+use std::sync::ledger::{Blank, Ledger};
 use std::test::Fail;
 use z80_regs::Regs;
 
@@ -109,8 +113,12 @@ impl Scene<'_> {
         if 48512 < self.first.len() {
             return Err(Fail::from("the program is too long"));
         }
+        let mut drives = MemoryDrives::new(alloc);
         match Machine::boot_program(alloc, self.first) {
-            Ok(mut machine) => self.is_seen(alloc, &mut machine, true, look, apart),
+            Ok(mut machine) => {
+                let blank = Blank::new(1);
+                self.is_seen::<Brand>(alloc, &mut machine, &mut drives, blank, true, look, apart)
+            }
             Err(error) => Err(Fail::from(error)),
         }
     }
@@ -129,33 +137,50 @@ impl Scene<'_> {
             return Err(Fail::from("the script is too long"));
         }
         let script = read_script(alloc, self.script)?;
-        match Machine::boot_bare(alloc, file, script) {
+        let mut drives = MemoryDrives::new(alloc);
+        match Machine::boot_bare(alloc, file, script, &mut drives) {
             Ok(mut machine) => {
                 let placed = place_both(&mut machine, file, self.first, self.second);
-                self.is_seen(alloc, &mut machine, placed, look, apart)
+                let blank = Blank::new(1);
+                self.is_seen::<Brand>(alloc, &mut machine, &mut drives, blank, placed, look, apart)
             }
             Err(error) => Err(Fail::from(error)),
         }
     }
 
     /// Whether a machine that has done no step, with its programs placed or not, shows what is said of its run.
-    fn is_seen(
+    fn is_seen<L: Ledger>(
         &self,
         alloc: Global,
         machine: &mut Machine,
+        drives: &mut MemoryDrives,
+        blank: Blank,
         placed: bool,
         look: &Behind,
         apart: bool,
     ) -> Result<bool, Fail>
-        requires whole { IsWhole machine.old }
-        requires no_completions { machine.old.kernel.dispatcher.completed ≡ [] }
-        requires start { machine.old.steps ≡ 0 }
+        requires whole { IsWhole machine.old.system }
+        requires no_completions { machine.old.system.kernel.dispatcher.completed ≡ [] }
+        requires start { machine.old.system.steps ≡ 0 }
+        requires attached { AreAttached (size_of drives.old) machine.old.drives }
+        requires name { blank.name ≡ L.name }
+        requires parts { blank.parts ≡ L.parts }
+        requires some { 0 < L.parts }
     {
         let Behind(steps, text, sights) = *look;
+        let mut calls = Steps::<L>::new(blank);
         let mut render = Render::new(self.trace);
         let mut sink = MemorySink::new(alloc, 512)?;
-        go(machine, steps, apart, &mut render, &mut sink)?;
-        machine.settle(&mut render, &mut sink)?;
+        go(
+            machine,
+            steps,
+            apart,
+            drives,
+            &mut render,
+            &mut sink,
+            &mut calls,
+        )?;
+        machine.settle(drives, &mut render, &mut sink, &mut calls)?;
         for sight in sights {
             if !sees(machine, *sight) {
                 return Ok(false);
@@ -182,10 +207,11 @@ fn has_room(file: &MachineFile, seg: u8, program: &[u8]) -> bool
 /// it is empty.
 fn place_both(machine: &mut Machine, file: &MachineFile, first: &[u8], second: &[u8]) -> bool
     requires file { IsMachine file.now }
-    requires bare { IsBare machine.old }
+    requires bare { IsBare machine.old.system }
     requires free { (seg size : ℕ) → seg < length file.now.segments → size + 640 ≤ 256 * (get_or file.now.segments seg (record { base = 0; pages = 0 })).pages
-        → MayPlace machine.old seg 0 size }
-    ensures { IsBare machine.new }
+        → MayPlace machine.old.system seg 0 size }
+    ensures bare { IsBare machine.new.system }
+    ensures drives { machine.new.drives ≡ machine.old.drives }
 {
     if first.is_empty() {
         return true;
@@ -206,26 +232,30 @@ fn place_both(machine: &mut Machine, file: &MachineFile, first: &[u8], second: &
 }
 
 /// Does so many steps, at most 10,000, the last of them apart or not.
-fn go(
+fn go<L: Ledger>(
     machine: &mut Machine,
     steps: u64,
     apart: bool,
+    drives: &mut MemoryDrives,
     render: &mut Render,
     sink: &mut MemorySink,
+    calls: &mut Steps<L>,
 ) -> Result<(), Fail>
-    requires whole { IsWhole machine.old }
-    requires no_completions { machine.old.kernel.dispatcher.completed ≡ [] }
-    requires start { machine.old.steps ≡ 0 }
-    ensures { OnOk result (IsWhole machine.new) }
+    requires whole { IsWhole machine.old.system }
+    requires no_completions { machine.old.system.kernel.dispatcher.completed ≡ [] }
+    requires start { machine.old.system.steps ≡ 0 }
+    ensures whole { OnOk result (IsWhole machine.new.system) }
+    ensures drives { drives.new ≡ drives.old }
+    ensures mounted { machine.new.drives ≡ machine.old.drives }
 {
     if 10000 < steps {
         return Err(Fail::from("there are too many steps"));
     }
     if apart && 0 < steps {
-        machine.run(steps - 1, render, sink)?;
-        machine.step(render, sink)?;
+        machine.run(steps - 1, drives, render, sink, calls)?;
+        machine.step(drives, render, sink, calls)?;
     } else {
-        machine.run(steps, render, sink)?;
+        machine.run(steps, drives, render, sink, calls)?;
     }
     Ok(())
 }
@@ -233,7 +263,7 @@ fn go(
 /// Whether that is seen of a machine.
 #[tactic(auto, using(mpm_kernel::proofs::UnitLaws::has_first_console))]
 fn sees(machine: &Machine, sight: Sight) -> bool
-    requires { IsWhole machine.now }
+    requires { IsWhole machine.now.system }
 {
     match sight {
         Sight::Lives(p, lives) => p < 32 && machine.regs(Pid(p)).is_some() == lives,

@@ -1,15 +1,27 @@
 -- With what a machine file's bytes begin.
-use Rattle.std.proofs.Common.{◌≡◌, ◌∙◌, ℕ, List, [], Option, Some, None, ap, sym, subst, refl, IsSome, IfSome, Result, Ok, Err, IfOk, option_map, option_and_then}
+use Rattle.std.proofs.Common.{◌≡◌, ◌∙◌, ℕ, List, [], Option, Some, None, ◌∷◌, ap, sym, subst, refl, IsSome, IfSome, Result, Ok, Err, IfOk, option_map, option_and_then, inl, inr}
+use Rattle.std.specs.Option.{option_map_or}
+use Rattle.std.specs.Prelude.{MatchResult}
 use Rattle.mpm_script.specs.declared.event.Timed.{Timed}
 use Rattle.mpm_machine_file.specs.declared.machine_file.MachineFile.{MachineFile}
 use Rattle.mpm_machine_file.specs.MachineFiles.{machine_of_text}
 use Rattle.mpm_machine.specs.declared.system.System.{System}
-use Rattle.mpm_machine.specs.Opening.{opened}
+use Rattle.mpm_port.specs.Disks.{Disks}
+use Rattle.mpm_mount.specs.Directories.{Directory}
+use Rattle.mpm_machine.specs.declared.machine.Machine.{Machine}
+use Rattle.mpm_machine.specs.Opening.{opened, opening_system}
 use Rattle.mpm_top.specs.declared.words.Form.{Form}
 use Rattle.mpm_top.specs.declared.words.Form.TheVariants.{Program, Run}
 use Rattle.mpm_top.specs.declared.status.Status.{Status}
-use Rattle.mpm_top.specs.declared.status.Status.TheVariants.{Ran, Usage, MachineFault, ScriptFault, TooLong, ReadFault, WriteFault, OutOfMemory}
-use Rattle.mpm_top.specs.Runs.{Contents, system_of, script_name, input_of, Holds, Scripted, Begins, BeginsOf, Unread, EndsAfter, IsNoMachine}
+use Rattle.mpm_top.specs.declared.status.Status.TheVariants.{Ran, Usage, MachineFault, ScriptFault, ImageFault, TooLong, ReadFault, DiskFault, WriteFault, OutOfMemory}
+use Rattle.mpm_machine_file.specs.declared.lists.DriveSpec.{DriveSpec}
+use Rattle.mpm_drives.specs.declared.error.BootError.{BootError}
+use Rattle.mpm_drives.specs.declared.error.BootError.TheVariants.{Image, DiskFault as DriveFailed, OutOfMemory as NoMemory}
+use Rattle.mpm_drives.specs.Images.{Images}
+use Rattle.mpm_drives.specs.Mounted.{NumberedDrive, AreDrivesOf, drives_on}
+use Rattle.mpm_drives.proofs.Opening.{none_are}
+use Rattle.mpm_drives.specs.Stopping.{Failures, StopsAt, IsFirst, Stops}
+use Rattle.mpm_top.specs.Runs.{Host, Failed, system_of, script_name, drives_listed, begun, input_of, Holds, Scripted, Begins, BeginsOf, Unread, LacksDrive, EndsAfter, IsNoMachine, IsRefusal, IsEarly, status_of, UnlessDiskFault}
 
 pub no_system : (bytes : List ℕ) (events : List Timed) → machine_of_text bytes ≡ None → system_of Run bytes events ≡ None
 unfolding system_of
@@ -35,38 +47,103 @@ pub names_nothing : (bytes script : List ℕ) → machine_of_text bytes ≡ None
 names_nothing bytes script none named =
     let e : Some script ≡ None = sym named ∙ no_script bytes none in absurd (cc)
 
-pub begins_of_file : (contents : Contents) (bytes : List ℕ) (file : MachineFile) (events : List Timed) (system : System) → machine_of_text bytes ≡ Some file
-    → Scripted contents file.script events → system ≡ opened file events → BeginsOf contents Run (λ content. content ≡ bytes) system
-begins_of_file contents bytes file events system is scripted was = record {
+drives_of_file : (bytes : List ℕ) (file : MachineFile) → machine_of_text bytes ≡ Some file → drives_listed Run bytes ≡ file.drives
+unfolding drives_listed
+drives_of_file bytes file is = ap (λ (found : Option MachineFile). option_map_or (λ (f : MachineFile). f.drives) found []) is
+
+pub begins_of_file : (host : Host) (bytes : List ℕ) (file : MachineFile) (events : List Timed) (system : System) (drives : List NumberedDrive)
+    → machine_of_text bytes ≡ Some file → Scripted host.contents file.script events → system ≡ opened file events → AreDrivesOf host.images file.drives drives
+    → BeginsOf host Run (λ content. content ≡ bytes) (begun system drives)
+begins_of_file host bytes file events system drives is scripted was are = record {
   bytes = bytes;
   events = events;
   contents_are = refl;
-  scripted = subst (λ (script : Option (List ℕ)). Scripted contents script events) (sym (script_of_file bytes file is)) scripted;
+  scripted = subst (λ (script : Option (List ℕ)). Scripted host.contents script events) (sym (script_of_file bytes file is)) scripted;
   is = system_of_file bytes events file is ∙ ap Some (sym was);
+  drives = subst (λ (specs : List DriveSpec). AreDrivesOf host.images specs drives) (sym (drives_of_file bytes file is)) are;
+  outputs = refl;
 }
 
 -- the script that a machine file names wasn't read
 
-by_status : (contents : Contents) (bytes name : List ℕ) (old new : List (List ℕ)) (status : Status) → script_name Run bytes ≡ Some name
-    → Unread contents name old new status → EndsAfter contents Run (λ content. content ≡ bytes) old new status
-by_status contents bytes name old new Ran is unread = absurd unread
-by_status contents bytes name old new Usage is unread = absurd unread
-by_status contents bytes name old new MachineFault is unread = absurd unread
-by_status contents bytes name old new (ScriptFault line) is unread = record { bytes = bytes; contents_are = refl; script = name; named = is; unread = unread }
-by_status contents bytes name old new (TooLong what) is unread = record { bytes = bytes; contents_are = refl; script = name; named = is; unread = unread }
-by_status contents bytes name old new ReadFault is unread = record { bytes = bytes; contents_are = refl; script = name; named = is; unread = unread }
-by_status contents bytes name old new (WriteFault step) is unread = absurd unread
-by_status contents bytes name old new OutOfMemory is unread = unread
+by_status : (host : Host) (bytes name : List ℕ) (old new : Failed) (status : Status) → script_name Run bytes ≡ Some name
+    → Unread host.contents name old.files new.files status → EndsAfter host Run (λ content. content ≡ bytes) old new status
+by_status host bytes name old new Ran is unread = absurd unread
+by_status host bytes name old new Usage is unread = absurd unread
+by_status host bytes name old new MachineFault is unread = absurd unread
+by_status host bytes name old new (ScriptFault line) is unread = record { bytes = bytes; contents_are = refl; script = name; named = is; unread = unread }
+by_status host bytes name old new (ImageFault drive cause place) is unread = absurd unread
+by_status host bytes name old new (TooLong what) is unread = record { bytes = bytes; contents_are = refl; script = name; named = is; unread = unread }
+by_status host bytes name old new ReadFault is unread = record { bytes = bytes; contents_are = refl; script = name; named = is; unread = unread }
+by_status host bytes name old new (DiskFault step) is unread = absurd unread
+by_status host bytes name old new (WriteFault step) is unread = absurd unread
+by_status host bytes name old new OutOfMemory is unread = unread
 
-unread_after : (contents : Contents) (bytes : List ℕ) (script : Option (List ℕ)) (old new : List (List ℕ)) (status : Status) → script_name Run bytes ≡ script
-    → IsSome script → IfSome script (λ name. Unread contents name old new status) → EndsAfter contents Run (λ content. content ≡ bytes) old new status
-unread_after contents bytes None old new status is some unread = absurd (cc)
-unread_after contents bytes (Some name) old new status is some unread = by_status contents bytes name old new status is unread
+unread_after : (host : Host) (bytes : List ℕ) (script : Option (List ℕ)) (old new : Failed) (status : Status) → script_name Run bytes ≡ script
+    → IsSome script → IfSome script (λ name. Unread host.contents name old.files new.files status) → EndsAfter host Run (λ content. content ≡ bytes) old new status
+unread_after host bytes None old new status is some unread = absurd (cc)
+unread_after host bytes (Some name) old new status is some unread = by_status host bytes name old new status is unread
 
-pub ends_unread : (contents : Contents) (bytes : List ℕ) (file : MachineFile) (old new : List (List ℕ)) (status : Status) → machine_of_text bytes ≡ Some file
-    → IsSome file.script → IfSome file.script (λ name. Unread contents name old new status) → EndsAfter contents Run (λ content. content ≡ bytes) old new status
-ends_unread contents bytes file old new status is some unread =
-    unread_after contents bytes file.script old new status (script_of_file bytes file is) some unread
+pub ends_unread : (host : Host) (bytes : List ℕ) (file : MachineFile) (old new : Failed) (status : Status) → machine_of_text bytes ≡ Some file
+    → IsSome file.script → IfSome file.script (λ name. Unread host.contents name old.files new.files status) → EndsAfter host Run (λ content. content ≡ bytes) old new status
+ends_unread host bytes file old new status is some unread =
+    unread_after host bytes file.script old new status (script_of_file bytes file is) some unread
+
+-- its drives weren't mounted
+
+lacks_drive : (host : Host) (bytes : List ℕ) (file : MachineFile) (events : List Timed) (old new : Failed) (error : BootError) → machine_of_text bytes ≡ Some file
+    → Scripted host.contents file.script events → Stops host.images file.drives old.drives new.drives error
+    → LacksDrive host Run (λ content. content ≡ bytes) old new error
+lacks_drive host bytes file events old new error is scripted stops = record {
+  bytes = bytes;
+  events = events;
+  system = opened file events;
+  contents_are = refl;
+  scripted = subst (λ (script : Option (List ℕ)). Scripted host.contents script events) (sym (script_of_file bytes file is)) scripted;
+  is = system_of_file bytes events file is;
+  stops = subst (λ (specs : List DriveSpec). Stops host.images specs old.drives new.drives error) (sym (drives_of_file bytes file is)) stops;
+}
+
+ends_by : (host : Host) (bytes : List ℕ) (file : MachineFile) (events : List Timed) (old new : Failed) (error : BootError) → machine_of_text bytes ≡ Some file
+    → Scripted host.contents file.script events → Stops host.images file.drives old.drives new.drives error
+    → EndsAfter host Run (λ content. content ≡ bytes) old new (status_of error)
+ends_by host bytes file events old new (Image drive cause place) is scripted stops =
+    lacks_drive host bytes file events old new (Image drive cause place) is scripted stops
+ends_by host bytes file events old new DriveFailed is scripted stops = inl (refl, lacks_drive host bytes file events old new DriveFailed is scripted stops)
+ends_by host bytes file events old new NoMemory is scripted stops = tt
+
+pub ends_unmounted : (host : Host) (bytes : List ℕ) (file : MachineFile) (events : List Timed) (old new : Failed) (error : BootError) (status : Status)
+    → status ≡ status_of error → machine_of_text bytes ≡ Some file → Scripted host.contents file.script events
+    → Stops host.images file.drives old.drives new.drives error → EndsAfter host Run (λ content. content ≡ bytes) old new status
+ends_unmounted host bytes file events old new error status same is scripted stops =
+    subst (λ (s : Status). EndsAfter host Run (λ content. content ≡ bytes) old new s) (sym same) (ends_by host bytes file events old new error is scripted stops)
+
+early_error : (error : BootError) → IsEarly (status_of error)
+early_error (Image drive cause place) = tt
+early_error DriveFailed = refl
+early_error NoMemory = tt
+
+pub early : (error : BootError) (status : Status) → status ≡ status_of error → IsEarly status
+early error status same = subst IsEarly (sym same) (early_error error)
+
+-- where an image has a fault, no drive failed
+first_same : (images : Images) (specs : List DriveSpec) (old new : Failures) (drive cause place : ℕ)
+    → IsFirst images (λ spec. StopsAt images spec old new (Image drive cause place)) specs → new ≡ old
+unfolding IsFirst
+first_same images [] old new drive cause place first = absurd first
+first_same images (spec ∷ specs) old new drive cause place (inl stops) = stops.2
+first_same images (spec ∷ specs) old new drive cause place (inr later) = first_same images specs old new drive cause place later.1
+
+no_disk_fault : (images : Images) (specs : List DriveSpec) (old new : Failures) (error : BootError) (P : Type 0) → Stops images specs old new error → (new ≡ old → P)
+    → UnlessDiskFault (status_of error) P
+no_disk_fault images specs old new (Image drive cause place) P stops p = p (first_same images specs old new drive cause place stops)
+no_disk_fault images specs old new DriveFailed P stops p = tt
+no_disk_fault images specs old new NoMemory P stops p = p stops
+
+pub unless_disk : (images : Images) (specs : List DriveSpec) (old new : Failures) (error : BootError) (status : Status) (P : Type 0) → status ≡ status_of error
+    → Stops images specs old new error → (new ≡ old → P) → UnlessDiskFault status P
+unless_disk images specs old new error status P same stops p =
+    subst (λ (s : Status). UnlessDiskFault s P) (sym same) (no_disk_fault images specs old new error P stops p)
 
 -- a program's bytes name no script, and its machine is that of the file that holds them
 
@@ -75,15 +152,62 @@ unfolding script_name
 program_names_nothing Program bytes script is named = absurd (cc)
 program_names_nothing Run bytes script is named = absurd (cc)
 
-pub begins_with_contents : (contents : Contents) (form : Form) (name bytes : List ℕ) (result : Result System Status) → form ≡ Program
-    → Holds contents (input_of form) name bytes → IfOk result (λ machine. BeginsOf contents Program (λ content. content ≡ bytes) machine)
-    → IfOk result (λ machine. Begins contents form name machine)
-begins_with_contents contents Run name bytes result is from_file begins = absurd (cc)
-begins_with_contents contents Program name bytes (Err status) is from_file begins = begins
-begins_with_contents contents Program name bytes (Ok machine) is from_file begins = record {
+pub begins_with_contents : (host : Host) (form : Form) (name bytes : List ℕ) (disks : Option Disks) (result : Result Machine Status) → form ≡ Program
+    → Holds host.contents (input_of form) name bytes
+    → IfOk result (λ machine. BeginsOf host Program (λ content. content ≡ bytes) (begun machine.system (drives_on disks machine.drives)))
+    → IfOk result (λ machine. Begins host form name (begun machine.system (drives_on disks machine.drives)))
+begins_with_contents host Run name bytes disks result is from_file begins = absurd (cc)
+begins_with_contents host Program name bytes disks (Err status) is from_file begins = begins
+begins_with_contents host Program name bytes disks (Ok machine) is from_file begins = record {
   bytes = begins.bytes;
   events = begins.events;
-  contents_are = subst (Holds contents (input_of Program) name) (sym begins.contents_are) from_file;
+  contents_are = subst (Holds host.contents (input_of Program) name) (sym begins.contents_are) from_file;
   scripted = begins.scripted;
   is = begins.is;
+  drives = begins.drives;
+  outputs = begins.outputs;
 }
+
+-- a program's machine has no drive
+pub program_begins : (host : Host) (bytes : List ℕ) (disks : Option Disks) (system : System) (mounted : List Directory) → system ≡ opening_system bytes → mounted ≡ []
+    → BeginsOf host Program (λ content. content ≡ bytes) (begun system (drives_on disks mounted))
+unfolding system_of script_name drives_listed
+program_begins host bytes disks system mounted is none = record {
+  bytes = bytes;
+  events = [];
+  contents_are = refl;
+  scripted = refl;
+  is = ap Some (sym is);
+  drives = none_are disks host.images mounted none;
+  outputs = refl;
+}
+
+-- where no drive was called, that is so of each ending
+
+pub unless_disk_always : (status : Status) (P : Type 0) → P → UnlessDiskFault status P
+unless_disk_always Ran P p = p
+unless_disk_always Usage P p = p
+unless_disk_always MachineFault P p = p
+unless_disk_always (ScriptFault line) P p = p
+unless_disk_always (ImageFault drive cause place) P p = p
+unless_disk_always (TooLong what) P p = p
+unless_disk_always ReadFault P p = p
+unless_disk_always (DiskFault step) P p = tt
+unless_disk_always (WriteFault step) P p = p
+unless_disk_always OutOfMemory P p = p
+
+pub either_way : {M : Type 0} (result : Result M Status) (P : Type 0) → P → MatchResult result (λ _. P) (λ status. UnlessDiskFault status P)
+either_way (Ok machine) P p = p
+either_way (Err status) P p = unless_disk_always status P p
+
+pub refusal_early : (status : Status) → IsRefusal status → IsEarly status
+refusal_early Ran refusal = absurd refusal
+refusal_early Usage refusal = tt
+refusal_early MachineFault refusal = tt
+refusal_early (ScriptFault line) refusal = tt
+refusal_early (ImageFault drive cause place) refusal = tt
+refusal_early (TooLong what) refusal = tt
+refusal_early ReadFault refusal = tt
+refusal_early (DiskFault step) refusal = absurd refusal
+refusal_early (WriteFault step) refusal = absurd refusal
+refusal_early OutOfMemory refusal = tt

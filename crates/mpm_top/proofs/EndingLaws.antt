@@ -1,6 +1,6 @@
 -- Where files are told, a command ends as they say.
 use Rattle.std.proofs.Common.{◌≡◌, ◌∙◌, ℕ, ◌<◌, ◌≤◌, Bool, true, false, List, [], ◌∷◌, ◌++◌, Option, Some, None, IsSome, MatchOption, length, option_map, option_and_then, nat_lt, if◌then◌else◌, inl, inr, refl, sym, ap, subst, arith}
-use Rattle.std.specs.Prelude.{⊤}
+use Rattle.std.specs.Prelude.{⊤, Result, Ok, Err, IsOk}
 use Rattle.std.proofs.lemmas.Bool.Decides.{nat_tests}
 use Rattle.std.proofs.lemmas.List.{length-append}
 use Rattle.mpm_script.specs.declared.event.Timed.{Timed}
@@ -12,10 +12,20 @@ use Rattle.mpm_top.specs.declared.words.Form.{Form}
 use Rattle.mpm_top.specs.declared.words.Form.TheVariants.{Program, Run}
 use Rattle.mpm_top.specs.declared.status.Input.TheVariants.{ScriptText}
 use Rattle.mpm_top.specs.declared.status.Status.{Status}
-use Rattle.mpm_top.specs.declared.status.Status.TheVariants.{Ran, Usage, MachineFault, ScriptFault, TooLong, ReadFault, WriteFault, OutOfMemory}
+use Rattle.mpm_top.specs.declared.status.Status.TheVariants.{Ran, Usage, MachineFault, ScriptFault, ImageFault, TooLong, ReadFault, DiskFault, WriteFault, OutOfMemory}
 use Rattle.mpm_top.specs.declared.words.Asked.{Asked}
 use Rattle.mpm_top.specs.Words.{Command, IsAsked}
-use Rattle.mpm_top.specs.Runs.{Contents, command_on, input_of, room_for, system_of, script_name, Holds, Scripted, Begins, Unread, IsNoMachine, LacksScript, Ends, EndsAs, ending_read, ending_told, ending_scripted, ending_stood, ending_by_contents, ending}
+use Rattle.mpm_port.specs.Causes.{Rose}
+use Rattle.mpm_machine_file.specs.declared.lists.DriveSpec.{DriveSpec}
+use Rattle.mpm_mount.specs.declared.errors.ImageFault.{ImageFault as FaultOfImage}
+use Rattle.mpm_mount.specs.Drives.{Drive}
+use Rattle.mpm_mount.specs.Images.{files_of}
+use Rattle.mpm_drives.specs.declared.error.BootError.TheVariants.{Image, DiskFault as DriveFailed}
+use Rattle.mpm_drives.specs.Images.{ToldImage, Untold, Missing, Bytes, Images, HasFiles, IsFaultless, HasFault}
+use Rattle.mpm_drives.specs.Mounted.{NumberedDrive, AreDrivesOf, number_of}
+use Rattle.mpm_drives.specs.Stopping.{Failures, StopsAt, IsFirst}
+use Rattle.mpm_machine.specs.State.{State}
+use Rattle.mpm_top.specs.Runs.{Contents, Host, Failed, command_on, input_of, room_for, system_of, script_name, drives_listed, Holds, Scripted, Begins, Unread, IsNoMachine, LacksScript, LacksDrive, Ends, EndsAs, ending_mounted, ending_attached, ending_drives, ending_read, ending_told, ending_scripted, ending_stood, ending_by_contents, ending}
 
 -- a name that joins a list makes it longer
 nothing_joins : (names : List (List ℕ)) (name : List ℕ) → names ≡ names ++ (name ∷ []) → ⊥
@@ -45,34 +55,30 @@ beyond : (room size : ℕ) → room < size → nat_lt room size ≡ true
 beyond room size h = grind (arith, nat_tests)
 
 -- a file that fits ends by what it stands for
-ending_fits : (contents : Contents) (form : Form) (name bytes : List ℕ) → contents name ≡ Some bytes → length bytes ≤ room_for (input_of form)
-    → ending contents form name ≡ ending_stood contents (script_name form bytes) (system_of form bytes [])
+ending_fits : (host : Host) (form : Form) (name bytes : List ℕ) → host.contents name ≡ Some bytes → length bytes ≤ room_for (input_of form)
+    → ending host form name ≡ ending_stood host.contents (ending_drives host.images (drives_listed form bytes)) (script_name form bytes) (system_of form bytes [])
 unfolding ending
-ending_fits contents form name bytes told fits =
-    ap (option_and_then (ending_by_contents contents form)) told
+ending_fits host form name bytes told fits =
+    ap (option_and_then (ending_by_contents host form)) told
     ∙ when_false (nat_lt (room_for (input_of form)) (length bytes)) _ _ (within (room_for (input_of form)) (length bytes) fits)
 
-ending_long : (contents : Contents) (form : Form) (name bytes : List ℕ) → contents name ≡ Some bytes → room_for (input_of form) < length bytes
-    → ending contents form name ≡ Some (TooLong (input_of form))
+ending_long : (host : Host) (form : Form) (name bytes : List ℕ) → host.contents name ≡ Some bytes → room_for (input_of form) < length bytes
+    → ending host form name ≡ Some (TooLong (input_of form))
 unfolding ending
-ending_long contents form name bytes told long =
-    ap (option_and_then (ending_by_contents contents form)) told
+ending_long host form name bytes told long =
+    ap (option_and_then (ending_by_contents host form)) told
     ∙ when_true (nat_lt (room_for (input_of form)) (length bytes)) _ _ (beyond (room_for (input_of form)) (length bytes) long)
 
 -- where a command begins, or its file names a script, its file stands for a system
 
-stood : (contents : Contents) (script : Option (List ℕ)) (found : Option System) → IsSome found
-    → ending_stood contents script found ≡ ending_scripted contents script
-stood contents script None some = absurd (cc)
-stood contents script (Some system) some = refl
+stood : (contents : Contents) (drives : Option Status) (script : Option (List ℕ)) (found : Option System) → IsSome found
+    → ending_stood contents drives script found ≡ ending_scripted contents drives script
+stood contents drives script None some = absurd (cc)
+stood contents drives script (Some system) some = refl
 
 mapped_some : {A B : Type 0} (f g : A → B) (found : Option A) (b : B) → option_map f found ≡ Some b → IsSome (option_map g found)
 mapped_some f g None b e = absurd (cc)
 mapped_some f g (Some a) b e = refl
-
-some_of : {A B : Type 0} (found : Option A) (f : A → B) (b : B) → option_map f found ≡ Some b → IsSome found
-some_of None f b e = absurd (cc)
-some_of (Some a) f b e = refl
 
 then_some : {A B C : Type 0} (f : A → Option B) (g : A → C) (found : Option A) (b : B) → option_and_then f found ≡ Some b → IsSome (option_map g found)
 then_some f g None b e = absurd (cc)
@@ -91,21 +97,17 @@ names_some Run bytes script events e = then_some (λ file. file.script) (λ file
 
 -- how a told script ends
 
-script_fits : (contents : Contents) (script text : List ℕ) → contents script ≡ Some text → length text ≤ room_for ScriptText
-    → ending_scripted contents (Some script) ≡ Some (ending_read (script_of text))
-script_fits contents script text told fits =
-    ap (option_map ending_told) told
-    ∙ ap Some (when_false (nat_lt (room_for ScriptText) (length text)) (TooLong ScriptText) (ending_read (script_of text)) (within (room_for ScriptText) (length text) fits))
+script_fits : (contents : Contents) (drives : Option Status) (script text : List ℕ) → contents script ≡ Some text → length text ≤ room_for ScriptText
+    → ending_scripted contents drives (Some script) ≡ ending_read drives (script_of text)
+script_fits contents drives script text told fits =
+    ap (option_and_then (ending_told drives)) told
+    ∙ when_false (nat_lt (room_for ScriptText) (length text)) (Some (TooLong ScriptText)) (ending_read drives (script_of text)) (within (room_for ScriptText) (length text) fits)
 
-script_long : (contents : Contents) (script text : List ℕ) → contents script ≡ Some text → room_for ScriptText < length text
-    → ending_scripted contents (Some script) ≡ Some (TooLong ScriptText)
-script_long contents script text told long =
-    ap (option_map ending_told) told
-    ∙ ap Some (when_true (nat_lt (room_for ScriptText) (length text)) (TooLong ScriptText) (ending_read (script_of text)) (beyond (room_for ScriptText) (length text) long))
-
--- a script that the ending is told by is told
-script_told : (contents : Contents) (script : List ℕ) (status : Status) → ending_scripted contents (Some script) ≡ Some status → IsSome (contents script)
-script_told contents script status e = some_of (contents script) ending_told status e
+script_long : (contents : Contents) (drives : Option Status) (script text : List ℕ) → contents script ≡ Some text → room_for ScriptText < length text
+    → ending_scripted contents drives (Some script) ≡ Some (TooLong ScriptText)
+script_long contents drives script text told long =
+    ap (option_and_then (ending_told drives)) told
+    ∙ when_true (nat_lt (room_for ScriptText) (length text)) (Some (TooLong ScriptText)) (ending_read drives (script_of text)) (beyond (room_for ScriptText) (length text) long)
 
 some_given : {A : Type 0} (found : Option A) → IsSome found → (a : A) × (found ≡ Some a)
 some_given None some = absurd (cc)
@@ -115,105 +117,239 @@ was_some : {A B : Type 0} (found : Option A) (f : A → Option B) (b : B) → op
 was_some None f b e = absurd (cc)
 was_some (Some a) f b e = refl
 
--- with events there is none but `Ran`
-events_run : (contents : Contents) (script : Option (List ℕ)) (events : List Timed) (status : Status) → Scripted contents script events
-    → ending_scripted contents script ≡ Some status → status ≡ Ran
-events_run contents None events status from_file e = some_is status Ran (sym e)
-events_run contents (Some script) events status from_file e =
-    let found = some_given (contents script) (script_told contents script status e) in
+-- a script that the ending is told by is told
+script_told : (contents : Contents) (drives : Option Status) (script : List ℕ) (status : Status) → ending_scripted contents drives (Some script) ≡ Some status
+    → IsSome (contents script)
+script_told contents drives script status e = was_some (contents script) (ending_told drives) status e
+
+-- with events it ends by its drives
+events_read : (contents : Contents) (drives : Option Status) (script : Option (List ℕ)) (events : List Timed) (status : Status) → Scripted contents script events
+    → ending_scripted contents drives script ≡ Some status → drives ≡ Some status
+events_read contents drives None events status from_file e = e
+events_read contents drives (Some script) events status from_file e =
+    let found = some_given (contents script) (script_told contents drives script status e) in
     let same : from_file.text ≡ found.0 = known_contents (contents script) from_file.text found.0 found.1 from_file.contents_are.told in
     let fits : length found.0 ≤ room_for ScriptText = subst (λ (t : List ℕ). length t ≤ room_for ScriptText) same from_file.contents_are.fits in
-    let read : ending_read (script_of found.0) ≡ Ran = ap (λ t. ending_read (script_of t)) (sym same) ∙ ap ending_read from_file.read in
-    some_is status Ran (sym e ∙ script_fits contents script found.0 found.1 fits ∙ ap Some read)
+    let read : ending_read drives (script_of found.0) ≡ drives = ap (λ t. ending_read drives (script_of t)) (sym same) ∙ ap (ending_read drives) from_file.read in
+    sym read ∙ sym (script_fits contents drives script found.0 found.1 fits) ∙ e
+
+-- drives that stand for what their images stand for are no reason to end, and the first image with a fault is one
+
+attached_run : (spec : DriveSpec) (image : ToldImage) (files : Drive) (rest : Option Status) (status : Status) → HasFiles image spec.kind files
+    → ending_attached spec image rest ≡ Some status → rest ≡ Some status
+attached_run spec Untold files rest status has e = absurd (cc)
+attached_run spec Missing files rest status has e = absurd has
+attached_run spec (Bytes bytes) files rest status has e = sym (ap (λ (r : Result Drive FaultOfImage). ending_mounted spec r rest) has) ∙ e
+
+drives_run : (images : Images) (specs : List DriveSpec) (drives : List NumberedDrive) (status : Status) → AreDrivesOf images specs drives
+    → ending_drives images specs ≡ Some status → status ≡ Ran
+unfolding ending_drives
+drives_run images [] [] status are e = some_is status Ran (sym e)
+drives_run images [] (d ∷ drives) status are e = absurd are
+drives_run images (spec ∷ specs) [] status are e = absurd are
+drives_run images (spec ∷ specs) (d ∷ drives) status are e =
+    drives_run images specs drives status are.1 (attached_run spec (images spec.image) d.files (ending_drives images specs) status are.0.files e)
+
+mounted_later : (spec : DriveSpec) (found : Result Drive FaultOfImage) (rest : Option Status) (status : Status) → IsOk found
+    → ending_mounted spec found rest ≡ Some status → rest ≡ Some status
+mounted_later spec (Ok files) rest status ok e = e
+mounted_later spec (Err fault) rest status ok e = absurd (cc)
+
+attached_later : (spec : DriveSpec) (image : ToldImage) (rest : Option Status) (status : Status) → IsFaultless image spec.kind
+    → ending_attached spec image rest ≡ Some status → rest ≡ Some status
+attached_later spec Untold rest status sound e = absurd (cc)
+attached_later spec Missing rest status sound e = absurd sound
+attached_later spec (Bytes bytes) rest status sound e = mounted_later spec (files_of bytes spec.kind) rest status sound e
+
+attached_fault : (spec : DriveSpec) (image : ToldImage) (fault : FaultOfImage) (rest : Option Status) (status : Status) → HasFault image spec.kind fault
+    → ending_attached spec image rest ≡ Some status → ImageFault (number_of spec) fault.cause fault.place ≡ status
+attached_fault spec Untold fault rest status has e = absurd (cc)
+attached_fault spec Missing fault rest status has e = absurd has
+attached_fault spec (Bytes bytes) fault rest status has e =
+    some_is (ImageFault (number_of spec) fault.cause fault.place) status (sym (ap (λ (r : Result Drive FaultOfImage). ending_mounted spec r rest) has) ∙ e)
+
+first_fault_is : (images : Images) (specs : List DriveSpec) (old new : Failures) (drive cause place : ℕ) (status : Status)
+    → IsFirst images (λ spec. StopsAt images spec old new (Image drive cause place)) specs → ending_drives images specs ≡ Some status
+    → ImageFault drive cause place ≡ status
+unfolding ending_drives IsFirst
+first_fault_is images [] old new drive cause place status first e = absurd first
+first_fault_is images (spec ∷ specs) old new drive cause place status (inl stops) e =
+    ap (λ (d : ℕ). ImageFault d cause place) stops.0
+    ∙ attached_fault spec (images spec.image) (record { cause = cause; place = place }) (ending_drives images specs) status stops.1 e
+first_fault_is images (spec ∷ specs) old new drive cause place status (inr later) e =
+    first_fault_is images specs old new drive cause place status later.1
+    (attached_later spec (images spec.image) (ending_drives images specs) status later.0 e)
+
+-- no drive stops it where nothing fails
+first_never : (images : Images) (specs : List DriveSpec) (P : DriveSpec → Type 0) → ((spec : DriveSpec) → P spec → ⊥) → IsFirst images P specs → ⊥
+unfolding IsFirst
+first_never images [] P never first = absurd first
+first_never images (spec ∷ specs) P never (inl stops) = never spec stops
+first_never images (spec ∷ specs) P never (inr later) = first_never images specs P never later.1
+
+no_drive_stops : (images : Images) (spec : DriveSpec) (old new : Failures) → new.names ≡ old.names → (Rose old.faults new.faults → ⊥)
+    → StopsAt images spec old new DriveFailed → ⊥
+no_drive_stops images spec old new same sound (inl joined) = nothing_joins old.names spec.image (sym same ∙ joined.0)
+no_drive_stops images spec old new same sound (inr rose) = sound rose.1
 
 -- what a script that wasn't read says
-unread_says : (contents : Contents) (script : List ℕ) (old new : List (List ℕ)) (status result : Status) → Unread contents script old new result
-    → ending_scripted contents (Some script) ≡ Some status → new ≡ old → EndsAs status result
-unread_says contents script old new status Ran unread e same = absurd unread
-unread_says contents script old new status Usage unread e same = absurd unread
-unread_says contents script old new status MachineFault unread e same = absurd unread
-unread_says contents script old new status (ScriptFault line) unread e same =
-    let found = some_given (contents script) (script_told contents script status e) in
+unread_says : (contents : Contents) (drives : Option Status) (script : List ℕ) (old new : List (List ℕ)) (status result : Status) → Unread contents script old new result
+    → ending_scripted contents drives (Some script) ≡ Some status → new ≡ old → EndsAs status result
+unread_says contents drives script old new status Ran unread e same = absurd unread
+unread_says contents drives script old new status Usage unread e same = absurd unread
+unread_says contents drives script old new status MachineFault unread e same = absurd unread
+unread_says contents drives script old new status (ScriptFault line) unread e same =
+    let found = some_given (contents script) (script_told contents drives script status e) in
     let is : unread.text ≡ found.0 = known_contents (contents script) unread.text found.0 found.1 unread.contents_are.told in
     let fits : length found.0 ≤ room_for ScriptText = subst (λ (t : List ℕ). length t ≤ room_for ScriptText) is unread.contents_are.fits in
-    let read : ending_read (script_of found.0) ≡ ScriptFault line = ap (λ t. ending_read (script_of t)) (sym is) ∙ ap ending_read unread.bad in
-    inl (some_is (ScriptFault line) status (ap Some (sym read) ∙ sym (script_fits contents script found.0 found.1 fits) ∙ e))
-unread_says contents script old new status (TooLong what) unread e same =
-    let found = some_given (contents script) (script_told contents script status e) in
+    let read : ending_read drives (script_of found.0) ≡ Some (ScriptFault line) =
+    ap (λ t. ending_read drives (script_of t)) (sym is) ∙ ap (ending_read drives) unread.bad in
+    inl (some_is (ScriptFault line) status (sym read ∙ sym (script_fits contents drives script found.0 found.1 fits) ∙ e))
+unread_says contents drives script old new status (ImageFault drive cause place) unread e same = absurd unread
+unread_says contents drives script old new status (TooLong what) unread e same =
+    let found = some_given (contents script) (script_told contents drives script status e) in
     let long : room_for ScriptText < length found.0 = subst (λ (told : Option (List ℕ)). MatchOption told ⊤ (λ file. room_for ScriptText < length file)) found.1 unread.1 in
-    inl (some_is (TooLong what) status (ap (λ w. Some (TooLong w)) unread.0 ∙ sym (script_long contents script found.0 found.1 long) ∙ e))
-unread_says contents script old new status ReadFault unread e same = absurd (nothing_joins old script (sym same ∙ unread))
-unread_says contents script old new status (WriteFault step) unread e same = absurd unread
-unread_says contents script old new status OutOfMemory unread e same = inr refl
+    inl (some_is (TooLong what) status (ap (λ w. Some (TooLong w)) unread.0 ∙ sym (script_long contents drives script found.0 found.1 long) ∙ e))
+unread_says contents drives script old new status ReadFault unread e same = absurd (nothing_joins old script (sym same ∙ unread))
+unread_says contents drives script old new status (DiskFault step) unread e same = absurd unread
+unread_says contents drives script old new status (WriteFault step) unread e same = absurd unread
+unread_says contents drives script old new status OutOfMemory unread e same = inr refl
 
-lacks_says : (contents : Contents) (form : Form) (name file : List ℕ) (old new : List (List ℕ)) (status result : Status)
-    → LacksScript contents form (Holds contents (input_of form) name) old new result → contents name ≡ Some file
-    → ending contents form name ≡ Some status → new ≡ old → EndsAs status result
-lacks_says contents form name file old new status result lacks told e same =
-    let is : lacks.bytes ≡ file = known_contents (contents name) lacks.bytes file told lacks.contents_are.told in
+lacks_says : (host : Host) (form : Form) (name file : List ℕ) (old new : List (List ℕ)) (status result : Status)
+    → LacksScript host.contents form (Holds host.contents (input_of form) name) old new result → host.contents name ≡ Some file
+    → ending host form name ≡ Some status → new ≡ old → EndsAs status result
+lacks_says host form name file old new status result lacks told e same =
+    let is : lacks.bytes ≡ file = known_contents (host.contents name) lacks.bytes file told lacks.contents_are.told in
     let fits : length file ≤ room_for (input_of form) = subst (λ (b : List ℕ). length b ≤ room_for (input_of form)) is lacks.contents_are.fits in
     let named : script_name form file ≡ Some lacks.script = ap (script_name form) (sym is) ∙ lacks.named in
-    let whole : ending contents form name ≡ ending_scripted contents (Some lacks.script) =
-    ending_fits contents form name file told fits
-    ∙ stood contents (script_name form file) (system_of form file []) (names_some form file lacks.script [] named)
-    ∙ ap (ending_scripted contents) named in
-    unread_says contents lacks.script old new status result lacks.unread (sym whole ∙ e) same
+    let drives = ending_drives host.images (drives_listed form file) in
+    let whole : ending host form name ≡ ending_scripted host.contents drives (Some lacks.script) =
+    ending_fits host form name file told fits
+    ∙ stood host.contents drives (script_name form file) (system_of form file []) (names_some form file lacks.script [] named)
+    ∙ ap (ending_scripted host.contents drives) named in
+    unread_says host.contents drives lacks.script old new status result lacks.unread (sym whole ∙ e) same
 
-begins_says : (contents : Contents) (form : Form) (name file : List ℕ) (system : System) (status : Status) → Begins contents form name system
-    → contents name ≡ Some file → ending contents form name ≡ Some status → status ≡ Ran
-begins_says contents form name file system status begins told e =
-    let is : begins.bytes ≡ file = known_contents (contents name) begins.bytes file told begins.contents_are.told in
-    let fits : length file ≤ room_for (input_of form) = subst (λ (b : List ℕ). length b ≤ room_for (input_of form)) is begins.contents_are.fits in
-    let some = begins_some form file begins.events [] system (ap (λ b. system_of form b begins.events) (sym is) ∙ begins.is) in
-    let scripted : Scripted contents (script_name form file) begins.events =
-    subst (λ (b : List ℕ). Scripted contents (script_name form b) begins.events) is begins.scripted in
-    events_run contents (script_name form file) begins.events status scripted
-    (sym (ending_fits contents form name file told fits ∙ stood contents (script_name form file) (system_of form file []) some) ∙ e)
+-- where its files are read, it ends by its drives
+read_says : (host : Host) (form : Form) (name file bytes : List ℕ) (events : List Timed) (system : System) (status : Status)
+    → Holds host.contents (input_of form) name bytes → Scripted host.contents (script_name form bytes) events → system_of form bytes events ≡ Some system
+    → host.contents name ≡ Some file → ending host form name ≡ Some status → ending_drives host.images (drives_listed form bytes) ≡ Some status
+read_says host form name file bytes events system status holds scripted stands told e =
+    let is : bytes ≡ file = known_contents (host.contents name) bytes file told holds.told in
+    let told_bytes : host.contents name ≡ Some bytes = told ∙ ap (λ (b : List ℕ). Some b) (sym is) in
+    let drives = ending_drives host.images (drives_listed form bytes) in
+    let some = begins_some form bytes events [] system stands in
+    events_read host.contents drives (script_name form bytes) events status scripted
+    (sym (ending_fits host form name bytes told_bytes holds.fits ∙ stood host.contents drives (script_name form bytes) (system_of form bytes []) some) ∙ e)
 
-no_machine_says : (contents : Contents) (form : Form) (name file : List ℕ) (status : Status) → IsNoMachine form (Holds contents (input_of form) name)
-    → contents name ≡ Some file → ending contents form name ≡ Some status → status ≡ MachineFault
-no_machine_says contents form name file status fails told e =
-    let is : fails.bytes ≡ file = known_contents (contents name) fails.bytes file told fails.contents_are.told in
+begins_says : (host : Host) (form : Form) (name file : List ℕ) (s : State) (status : Status) → Begins host form name s
+    → host.contents name ≡ Some file → ending host form name ≡ Some status → status ≡ Ran
+begins_says host form name file s status begins told e =
+    drives_run host.images (drives_listed form begins.bytes) s.drives status begins.drives
+    (read_says host form name file begins.bytes begins.events s.system status begins.contents_are begins.scripted begins.is told e)
+
+image_says : (host : Host) (form : Form) (name file : List ℕ) (old new : Failed) (drive cause place : ℕ) (status : Status)
+    → LacksDrive host form (Holds host.contents (input_of form) name) old new (Image drive cause place) → host.contents name ≡ Some file
+    → ending host form name ≡ Some status → ImageFault drive cause place ≡ status
+image_says host form name file old new drive cause place status lacks told e =
+    first_fault_is host.images (drives_listed form lacks.bytes) old.drives new.drives drive cause place status lacks.stops
+    (read_says host form name file lacks.bytes lacks.events lacks.system status lacks.contents_are lacks.scripted lacks.is told e)
+
+no_machine_says : (host : Host) (form : Form) (name file : List ℕ) (status : Status) → IsNoMachine form (Holds host.contents (input_of form) name)
+    → host.contents name ≡ Some file → ending host form name ≡ Some status → status ≡ MachineFault
+no_machine_says host form name file status fails told e =
+    let is : fails.bytes ≡ file = known_contents (host.contents name) fails.bytes file told fails.contents_are.told in
     let fits : length file ≤ room_for (input_of form) = subst (λ (b : List ℕ). length b ≤ room_for (input_of form)) is fails.contents_are.fits in
     let none : system_of form file [] ≡ None = ap (λ b. system_of form b []) (sym is) ∙ fails.none in
-    some_is status MachineFault (sym e ∙ ending_fits contents form name file told fits ∙ ap (ending_stood contents (script_name form file)) none)
+    let drives = ending_drives host.images (drives_listed form file) in
+    some_is status MachineFault
+    (sym e ∙ ending_fits host form name file told fits ∙ ap (ending_stood host.contents drives (script_name form file)) none)
 
-file_told : (contents : Contents) (form : Form) (name : List ℕ) (status : Status) → ending contents form name ≡ Some status → IsSome (contents name)
+file_told : (host : Host) (form : Form) (name : List ℕ) (status : Status) → ending host form name ≡ Some status → IsSome (host.contents name)
 unfolding ending
-file_told contents form name status e = was_some (contents name) (ending_by_contents contents form) status e
+file_told host form name status e = was_some (host.contents name) (ending_by_contents host form) status e
 
--- an ending that has its reason is the one that the files tell
-pub told_ending : (contents : Contents) (form : Form) (name : List ℕ) (old new : List (List ℕ)) (status result : Status)
-    → Ends contents form name old new result → ending contents form name ≡ Some status → new ≡ old
-    → ((step : ℕ) → result ≡ WriteFault step → ⊥) → EndsAs status result
-told_ending contents form name old new status Ran (inl nothing) e same wrote = absurd nothing
-told_ending contents form name old new status Ran (inr begun) e same wrote =
-    let found = some_given (contents name) (file_told contents form name status e) in
-    inl (sym (begins_says contents form name found.0 begun.0 status begun.1 found.1 e))
-told_ending contents form name old new status Usage (inl nothing) e same wrote = absurd nothing
-told_ending contents form name old new status Usage (inr nothing) e same wrote = absurd nothing
-told_ending contents form name old new status MachineFault (inl nothing) e same wrote = absurd nothing
-told_ending contents form name old new status MachineFault (inr fails) e same wrote =
-    let found = some_given (contents name) (file_told contents form name status e) in
-    inl (sym (no_machine_says contents form name found.0 status fails found.1 e))
-told_ending contents form name old new status (ScriptFault line) (inl nothing) e same wrote = absurd nothing
-told_ending contents form name old new status (ScriptFault line) (inr lacks) e same wrote =
-    let found = some_given (contents name) (file_told contents form name status e) in
-    lacks_says contents form name found.0 old new status (ScriptFault line) lacks found.1 e same
-told_ending contents form name old new status (TooLong what) (inl long) e same wrote =
-    let found = some_given (contents name) (file_told contents form name status e) in
+-- an ending that has its reason is the one that files and images tell, where it is none by a device
+
+pub told_ending : (host : Host) (form : Form) (name : List ℕ) (old new : Failed) (status result : Status)
+    → Ends host form name old new result → ending host form name ≡ Some status → new.files ≡ old.files
+    → ((step : ℕ) → result ≡ DiskFault step → EndsAs status result) → ((step : ℕ) → result ≡ WriteFault step → EndsAs status result) → EndsAs status result
+told_ending host form name old new status Ran (inl nothing) e same disk write = absurd nothing
+told_ending host form name old new status Ran (inr begun) e same disk write =
+    let found = some_given (host.contents name) (file_told host form name status e) in
+    inl (sym (begins_says host form name found.0 begun.0 status begun.1 found.1 e))
+told_ending host form name old new status Usage (inl nothing) e same disk write = absurd nothing
+told_ending host form name old new status Usage (inr nothing) e same disk write = absurd nothing
+told_ending host form name old new status MachineFault (inl nothing) e same disk write = absurd nothing
+told_ending host form name old new status MachineFault (inr fails) e same disk write =
+    let found = some_given (host.contents name) (file_told host form name status e) in
+    inl (sym (no_machine_says host form name found.0 status fails found.1 e))
+told_ending host form name old new status (ScriptFault line) (inl nothing) e same disk write = absurd nothing
+told_ending host form name old new status (ScriptFault line) (inr lacks) e same disk write =
+    let found = some_given (host.contents name) (file_told host form name status e) in
+    lacks_says host form name found.0 old.files new.files status (ScriptFault line) lacks found.1 e same
+told_ending host form name old new status (ImageFault drive cause place) (inl nothing) e same disk write = absurd nothing
+told_ending host form name old new status (ImageFault drive cause place) (inr lacks) e same disk write =
+    let found = some_given (host.contents name) (file_told host form name status e) in
+    inl (image_says host form name found.0 old new drive cause place status lacks found.1 e)
+told_ending host form name old new status (TooLong what) (inl long) e same disk write =
+    let found = some_given (host.contents name) (file_told host form name status e) in
     let beyond : room_for (input_of form) < length found.0 =
     subst (λ (told : Option (List ℕ)). MatchOption told ⊤ (λ file. room_for (input_of form) < length file)) found.1 long.1 in
-    inl (some_is (TooLong what) status (ap (λ w. Some (TooLong w)) long.0 ∙ sym (ending_long contents form name found.0 found.1 beyond) ∙ e))
-told_ending contents form name old new status (TooLong what) (inr lacks) e same wrote =
-    let found = some_given (contents name) (file_told contents form name status e) in
-    lacks_says contents form name found.0 old new status (TooLong what) lacks found.1 e same
-told_ending contents form name old new status ReadFault (inl joined) e same wrote = absurd (nothing_joins old name (sym same ∙ joined))
-told_ending contents form name old new status ReadFault (inr lacks) e same wrote =
-    let found = some_given (contents name) (file_told contents form name status e) in
-    lacks_says contents form name found.0 old new status ReadFault lacks found.1 e same
-told_ending contents form name old new status (WriteFault step) ends e same wrote = absurd (wrote step refl)
-told_ending contents form name old new status OutOfMemory ends e same wrote = inr refl
+    inl (some_is (TooLong what) status (ap (λ w. Some (TooLong w)) long.0 ∙ sym (ending_long host form name found.0 found.1 beyond) ∙ e))
+told_ending host form name old new status (TooLong what) (inr lacks) e same disk write =
+    let found = some_given (host.contents name) (file_told host form name status e) in
+    lacks_says host form name found.0 old.files new.files status (TooLong what) lacks found.1 e same
+told_ending host form name old new status ReadFault (inl joined) e same disk write = absurd (nothing_joins old.files name (sym same ∙ joined))
+told_ending host form name old new status ReadFault (inr lacks) e same disk write =
+    let found = some_given (host.contents name) (file_told host form name status e) in
+    lacks_says host form name found.0 old.files new.files status ReadFault lacks found.1 e same
+told_ending host form name old new status (DiskFault step) ends e same disk write = disk step refl
+told_ending host form name old new status (WriteFault step) ends e same disk write = write step refl
+told_ending host form name old new status OutOfMemory ends e same disk write = inr refl
+
+-- a drive failed at an ending by one
+
+disk_failed : (host : Host) (form : Form) (name : List ℕ) (old new : Failed) (step : ℕ) → Ends host form name old new (DiskFault step)
+    → new.drives.names ≡ old.drives.names → (Rose old.drives.faults new.drives.faults → ⊥) → ⊥
+disk_failed host form name old new step (inl nothing) same sound = absurd nothing
+disk_failed host form name old new step (inr (inl lacks)) same sound =
+    first_never host.images (drives_listed form lacks.1.bytes) _ (λ spec. no_drive_stops host.images spec old.drives new.drives same sound) lacks.1.stops
+disk_failed host form name old new step (inr (inr loses)) same sound = sound loses.rose
+
+pub no_disk_fault : (host : Host) (form : Form) (name : List ℕ) (old new : Failed) (result : Status) (step : ℕ) → Ends host form name old new result
+    → result ≡ DiskFault step → new.drives.names ≡ old.drives.names → (Rose old.drives.faults new.drives.faults → ⊥) → ⊥
+no_disk_fault host form name old new result step ends is same sound =
+    disk_failed host form name old new step (subst (λ (s : Status). Ends host form name old new s) is ends) same sound
+
+-- where an image is missing, it doesn't begin
+
+zero_is : (step : ℕ) → step ≡ 0 → DiskFault step ≡ DiskFault 0
+zero_is step is = ap (λ (n : ℕ). DiskFault n) is
+
+pub missing_disk : (host : Host) (form : Form) (name : List ℕ) (old new : Failed) (step : ℕ) → Ends host form name old new (DiskFault step)
+    → ending host form name ≡ Some (DiskFault 0) → DiskFault step ≡ DiskFault 0
+missing_disk host form name old new step (inl nothing) e = absurd nothing
+missing_disk host form name old new step (inr (inl lacks)) e = zero_is step lacks.0
+missing_disk host form name old new step (inr (inr loses)) e =
+    let found = some_given (host.contents name) (file_told host form name (DiskFault 0) e) in
+    let none : DiskFault 0 ≡ Ran = begins_says host form name found.0 loses.start (DiskFault 0) loses.begins found.1 e in
+    absurd (cc)
+
+pub missing_write : (host : Host) (form : Form) (name : List ℕ) (old new : Failed) (step : ℕ) → Ends host form name old new (WriteFault step)
+    → ending host form name ≡ Some (DiskFault 0) → ⊥
+missing_write host form name old new step (inl nothing) e = absurd nothing
+missing_write host form name old new step (inr begun) e =
+    let found = some_given (host.contents name) (file_told host form name (DiskFault 0) e) in
+    let none : DiskFault 0 ≡ Ran = begins_says host form name found.0 begun.0 (DiskFault 0) begun.1 found.1 e in
+    absurd (cc)
+
+pub missing_image : (host : Host) (form : Form) (name : List ℕ) (old new : Failed) (result : Status) → Ends host form name old new result
+    → ending host form name ≡ Some (DiskFault 0) → new.files ≡ old.files → EndsAs (DiskFault 0) result
+missing_image host form name old new result ends e same =
+    let P : Status → Type 0 = λ s. Ends host form name old new s in
+    told_ending host form name old new (DiskFault 0) result ends e same
+    (λ step is. inl (is ∙ missing_disk host form name old new step (subst P is ends) e))
+    (λ step is. absurd (missing_write host form name old new step (subst P is ends) e))
 
 -- the command that is asked
 pub asked_command : (found : Option Command) (name spelled : List ℕ) (asked : Asked) (command : Command) → IsAsked found spelled asked → name ≡ spelled

@@ -1,27 +1,53 @@
 -- With what a command begins, and what it writes, by the machine's model.
 use Rattle.std.specs.Prelude.{◌≡◌, ℕ, ◌<◌, ◌≤◌, ◌⊎◌, Bool, List, [], ◌∷◌, ◌++◌, Option, Some, None, Result, Ok, Err, length, MatchOption, ⊤, option_map, option_and_then, nat_lt, if◌then◌else◌}
+use Rattle.std.specs.Option.{option_map_or}
+use Rattle.mpm_port.specs.Causes.{Rose}
+use Rattle.mpm_port.specs.Disks.{Disks}
 use Rattle.mpm_port.specs.Texts.{appended}
 use Rattle.mpm_render.specs.Outputs.{rendered, closed}
 use Rattle.mpm_render.specs.Shown.{EndsBetween}
 use Rattle.mpm_script.specs.declared.event.Timed.{Timed}
 use Rattle.mpm_script.specs.Scripts.{script_of}
+use Rattle.mpm_machine_file.specs.declared.lists.DriveSpec.{DriveSpec}
 use Rattle.mpm_machine_file.specs.MachineFiles.{machine_of_text}
+use Rattle.mpm_mount.specs.declared.errors.ImageFault.{ImageFault as FaultOfImage}
+use Rattle.mpm_mount.specs.Drives.{Drive}
+use Rattle.mpm_mount.specs.Images.{files_of}
+use Rattle.mpm_drives.specs.declared.error.BootError.{BootError}
+use Rattle.mpm_drives.specs.declared.error.BootError.TheVariants.{Image, DiskFault as DriveFailed, OutOfMemory as NoMemory}
+use Rattle.mpm_drives.specs.Images.{ToldImage, Untold, Missing, Bytes, Images, image_named}
+use Rattle.mpm_drives.specs.Mounted.{NumberedDrive, AreDrivesOf, number_of}
+use Rattle.mpm_drives.specs.Stopping.{Failures, Stops}
 use Rattle.mpm_machine.specs.declared.system.System.{System}
 use Rattle.mpm_machine.specs.State.{State}
 use Rattle.mpm_machine.specs.Opening.{opening_system, opened}
 use Rattle.mpm_machine.specs.Step.{after, EndsInStep}
+use Rattle.mpm_machine.specs.declared.machine.StepFault.{StepFault}
+use Rattle.mpm_machine.specs.declared.machine.StepFault.TheVariants.{WriteFault as SinkFailed, DiskFault as SyncFailed}
+use Rattle.mpm_machine.specs.declared.machine.RunFault.{RunFault}
+use Rattle.mpm_machine.specs.Faults.{Counts}
 use Rattle.mpm_top.specs.declared.words.Form.{Form}
 use Rattle.mpm_top.specs.declared.words.Form.TheVariants.{Program, Run}
 use Rattle.mpm_top.specs.declared.words.Asked.{Asked}
 use Rattle.mpm_top.specs.declared.status.Input.{Input}
 use Rattle.mpm_top.specs.declared.status.Input.TheVariants.{ProgramBytes, MachineText, ScriptText}
 use Rattle.mpm_top.specs.declared.status.Status.{Status}
-use Rattle.mpm_top.specs.declared.status.Status.TheVariants.{Ran, Usage, MachineFault, ScriptFault, TooLong, ReadFault, WriteFault, OutOfMemory}
+use Rattle.mpm_top.specs.declared.status.Status.TheVariants.{Ran, Usage, MachineFault, ScriptFault, ImageFault, TooLong, ReadFault, DiskFault, WriteFault, OutOfMemory}
 use Rattle.mpm_top.specs.Words.{Command}
 
 -- what files hold, by their names, where that is told
 abbrev pub Contents : Type 0
 Contents = List ℕ → Option (List ℕ)
+
+-- what a command finds: what files hold, and images
+pub record Host : Type 0 where
+  pub contents : Contents
+  pub images : Images
+
+-- what failed so far: the names of files that couldn't be fetched, oldest first, and the drives' failures
+pub record Failed : Type 0 where
+  pub files : List (List ℕ)
+  pub drives : Failures
 
 -- the input that the file of a command is
 abbrev pub input_of : Form → Input
@@ -33,6 +59,12 @@ abbrev pub room_for : Input → ℕ
 room_for ProgramBytes = 48512
 room_for MachineText = 65536
 room_for ScriptText = 1048576
+
+abbrev pub host : {F D : Type 0} → (F → Contents) → (D → Option Disks) → F → D → Host
+host contents disks files drives = record { contents = contents files; images = image_named (disks drives) }
+
+abbrev pub failed : {F D : Type 0} → (F → List (List ℕ)) → (D → ℕ) → (D → List (List ℕ)) → F → D → Failed
+failed of_files faults names files drives = record { files = of_files files; drives = record { faults = faults drives; names = names drives } }
 
 -- what is asked of a file of a name
 abbrev pub command_on : List ℕ → Asked → Command
@@ -49,9 +81,14 @@ unfoldable pub script_name : Form → List ℕ → Option (List ℕ)
 script_name Program bytes = None
 script_name Run bytes = option_and_then (λ file. file.script) (machine_of_text bytes)
 
--- the state of a system that begins: nothing is said yet
-abbrev pub begun : System → State
-begun system = record { system = system; outputs = [] }
+-- the drives that a machine file lists
+unfoldable pub drives_listed : Form → List ℕ → List DriveSpec
+drives_listed Program bytes = []
+drives_listed Run bytes = option_map_or (λ file. file.drives) (machine_of_text bytes) []
+
+-- the state of a system that begins with drives: nothing is said yet
+abbrev pub begun : System → List NumberedDrive → State
+begun system drives = record { system = system; outputs = []; drives = drives }
 
 -- a file holds these bytes, or, where it isn't told, it may have held them, and it isn't too long as that input
 pub record Holds (contents : Contents) (input : Input) (name bytes : List ℕ) : Type 0 where
@@ -69,35 +106,53 @@ abbrev pub Scripted : Contents → Option (List ℕ) → List Timed → Type 0
 Scripted contents None events = events ≡ []
 Scripted contents (Some script) events = HoldsEvents contents script events
 
--- a command of a form begins with that system, where its file holds bytes of which `Of` holds
-pub record BeginsOf (contents : Contents) (form : Form) (Of : List ℕ → Type 0) (system : System) : Type 0 where
+-- a command of a form begins with that state, where its file holds bytes of which `Of` holds: nothing is said yet, and on the
+-- drives is what their images stand for
+pub record BeginsOf (host : Host) (form : Form) (Of : List ℕ → Type 0) (s : State) : Type 0 where
   pub bytes : List ℕ
   pub events : List Timed
   pub contents_are : Of bytes
-  pub scripted : Scripted contents (script_name form bytes) events
-  pub is : system_of form bytes events ≡ Some system
+  pub scripted : Scripted host.contents (script_name form bytes) events
+  pub is : system_of form bytes events ≡ Some s.system
+  pub drives : AreDrivesOf host.images (drives_listed form bytes) s.drives
+  pub outputs : s.outputs ≡ []
 
--- a command of a form and a file begins with that system
-abbrev pub Begins : Contents → Form → List ℕ → System → Type 0
-Begins contents form name system = BeginsOf contents form (Holds contents (input_of form) name) system
+-- a command of a form and a file begins with that state
+abbrev pub Begins : Host → Form → List ℕ → State → Type 0
+Begins host form name s = BeginsOf host form (Holds host.contents (input_of form) name) s
 
--- behind the first text stands the closed text of the outputs of all steps, and nothing else
-pub record WritesAll (contents : Contents) (command : Command) (first written : Option (List ℕ)) : Type 0 where
-  pub system : System
-  pub begins : Begins contents command.form command.name system
-  pub text : written ≡ appended first (closed command.trace (after command.steps (begun system)).outputs)
+-- after the first text stands the closed text of the outputs of all steps, and nothing else, and the images stand for what is
+-- on the drives after these
+pub record WritesAll (host : Host) (images : Images) (command : Command) (first written : Option (List ℕ)) : Type 0 where
+  pub start : State
+  pub begins : Begins host command.form command.name start
+  pub text : written ≡ appended first (closed command.trace (after command.steps start).outputs)
+  pub drives : AreDrivesOf images (drives_listed command.form begins.bytes) (after command.steps start).drives
 
 -- writing stopped at a step of so many after a state, in the text of that step, or as the unfinished lines were closed
 abbrev pub StopsAt : Bool → State → ℕ → Option (List ℕ) → Option (List ℕ) → ℕ → Type 0
 StopsAt trace s steps first written step =
-    EndsInStep trace written first s steps step
+    EndsInStep SinkFailed trace written first s steps step
     ⊎ ((step ≡ steps) × EndsBetween written first (rendered trace (after steps s).outputs) (closed trace (after steps s).outputs))
 
 -- writing stopped at a step
-pub record WritesPart (contents : Contents) (command : Command) (first written : Option (List ℕ)) (step : ℕ) : Type 0 where
-  pub system : System
-  pub begins : Begins contents command.form command.name system
-  pub text : StopsAt command.trace (begun system) command.steps first written step
+pub record WritesPart (host : Host) (command : Command) (first written : Option (List ℕ)) (step : ℕ) : Type 0 where
+  pub start : State
+  pub begins : Begins host command.form command.name start
+  pub text : StopsAt command.trace start command.steps first written step
+
+-- all steps are done, and the unfinished lines were closed; or the sink failed besides, and a first part of that was written
+abbrev pub Closes : Bool → State → Option (List ℕ) → Option (List ℕ) → ℕ → ℕ → Type 0
+Closes trace s first written before now =
+    (written ≡ appended first (closed trace s.outputs))
+    ⊎ (Rose before now × EndsBetween written first (rendered trace s.outputs) (closed trace s.outputs))
+
+-- a drive failed as it was synced, after all steps
+pub record WritesClosed (host : Host) (command : Command) (first written : Option (List ℕ)) (before now step : ℕ) : Type 0 where
+  pub start : State
+  pub begins : Begins host command.form command.name start
+  pub last : step ≡ command.steps
+  pub text : Closes command.trace (after command.steps start) first written before now
 
 -- why a file wasn't fetched as an input: it is longer than it may be, its name joined the failed names, or there was no
 -- memory. A file that isn't told may have been longer
@@ -106,6 +161,8 @@ Unfetched contents input name old new Ran = ⊥
 Unfetched contents input name old new Usage = ⊥
 Unfetched contents input name old new MachineFault = ⊥
 Unfetched contents input name old new (ScriptFault line) = ⊥
+Unfetched contents input name old new (ImageFault drive cause place) = ⊥
+Unfetched contents input name old new (DiskFault step) = ⊥
 Unfetched contents input name old new (TooLong what) = (what ≡ input) × MatchOption (contents name) ⊤ (λ file. room_for input < length file)
 Unfetched contents input name old new ReadFault = new ≡ old ++ (name ∷ [])
 Unfetched contents input name old new (WriteFault step) = ⊥
@@ -123,6 +180,8 @@ Unread contents script old new Ran = ⊥
 Unread contents script old new Usage = ⊥
 Unread contents script old new MachineFault = ⊥
 Unread contents script old new (ScriptFault line) = HasBadLine contents script line
+Unread contents script old new (ImageFault drive cause place) = ⊥
+Unread contents script old new (DiskFault step) = ⊥
 Unread contents script old new (TooLong what) = Unfetched contents ScriptText script old new (TooLong what)
 Unread contents script old new ReadFault = Unfetched contents ScriptText script old new ReadFault
 Unread contents script old new (WriteFault step) = ⊥
@@ -142,71 +201,146 @@ pub record LacksScript (contents : Contents) (form : Form) (Of : List ℕ → Ty
   pub named : script_name form bytes ≡ Some script
   pub unread : Unread contents script old new status
 
+-- they are a machine file, and its script, if it names one, was read; but its drives weren't mounted
+pub record LacksDrive (host : Host) (form : Form) (Of : List ℕ → Type 0) (old new : Failed) (error : BootError) : Type 0 where
+  pub bytes : List ℕ
+  pub events : List Timed
+  pub system : System
+  pub contents_are : Of bytes
+  pub scripted : Scripted host.contents (script_name form bytes) events
+  pub is : system_of form bytes events ≡ Some system
+  pub stops : Stops host.images (drives_listed form bytes) old.drives new.drives error
+
+-- it began, and one of its drives failed later
+pub record LosesDrive (host : Host) (form : Form) (Of : List ℕ → Type 0) (old new : Failed) : Type 0 where
+  pub start : State
+  pub begins : BeginsOf host form Of start
+  pub some : 0 < length start.drives
+  pub rose : Rose old.drives.faults new.drives.faults
+
 -- how such a command ends
-abbrev pub EndsAfter : Contents → Form → (List ℕ → Type 0) → List (List ℕ) → List (List ℕ) → Status → Type 0
-EndsAfter contents form Of old new Ran = (system : System) × BeginsOf contents form Of system
-EndsAfter contents form Of old new Usage = ⊥
-EndsAfter contents form Of old new MachineFault = IsNoMachine form Of
-EndsAfter contents form Of old new (ScriptFault line) = LacksScript contents form Of old new (ScriptFault line)
-EndsAfter contents form Of old new (TooLong what) = LacksScript contents form Of old new (TooLong what)
-EndsAfter contents form Of old new ReadFault = LacksScript contents form Of old new ReadFault
-EndsAfter contents form Of old new (WriteFault step) = (system : System) × BeginsOf contents form Of system
-EndsAfter contents form Of old new OutOfMemory = Unit {0}
+abbrev pub EndsAfter : Host → Form → (List ℕ → Type 0) → Failed → Failed → Status → Type 0
+EndsAfter host form Of old new Ran = (s : State) × BeginsOf host form Of s
+EndsAfter host form Of old new Usage = ⊥
+EndsAfter host form Of old new MachineFault = IsNoMachine form Of
+EndsAfter host form Of old new (ScriptFault line) = LacksScript host.contents form Of old.files new.files (ScriptFault line)
+EndsAfter host form Of old new (ImageFault drive cause place) = LacksDrive host form Of old new (Image drive cause place)
+EndsAfter host form Of old new (TooLong what) = LacksScript host.contents form Of old.files new.files (TooLong what)
+EndsAfter host form Of old new ReadFault = LacksScript host.contents form Of old.files new.files ReadFault
+EndsAfter host form Of old new (DiskFault step) = ((step ≡ 0) × LacksDrive host form Of old new DriveFailed) ⊎ LosesDrive host form Of old new
+EndsAfter host form Of old new (WriteFault step) = (s : State) × BeginsOf host form Of s
+EndsAfter host form Of old new OutOfMemory = Unit {0}
 
 -- how a command of a form and a file ends: the file wasn't fetched, or it was, and then by its bytes
-abbrev pub Ends : Contents → Form → List ℕ → List (List ℕ) → List (List ℕ) → Status → Type 0
-Ends contents form name old new status =
-    Unfetched contents (input_of form) name old new status
-    ⊎ EndsAfter contents form (Holds contents (input_of form) name) old new status
+abbrev pub Ends : Host → Form → List ℕ → Failed → Failed → Status → Type 0
+Ends host form name old new status =
+    Unfetched host.contents (input_of form) name old.files new.files status
+    ⊎ EndsAfter host form (Holds host.contents (input_of form) name) old new status
 
--- how a command ends whose files are told, if nothing fails and there is memory. The order is that of the refusals
+-- how a command ends whose files and images are told, if nothing fails and there is memory. The order is that of the refusals
+
+-- by what an image stands for, and how it ends if that is no fault
+abbrev pub ending_mounted : DriveSpec → Result Drive FaultOfImage → Option Status → Option Status
+ending_mounted spec (Ok files) rest = rest
+ending_mounted spec (Err fault) rest = Some (ImageFault (number_of spec) fault.cause fault.place)
+
+abbrev pub ending_attached : DriveSpec → ToldImage → Option Status → Option Status
+ending_attached spec Untold rest = None
+ending_attached spec Missing rest = Some (DiskFault 0)
+ending_attached spec (Bytes image) rest = ending_mounted spec (files_of image spec.kind) rest
+
+-- by its drives, in order of their letters
+unfoldable pub ending_drives : Images → List DriveSpec → Option Status
+ending_drives images [] = Some Ran
+ending_drives images (spec ∷ specs) = ending_attached spec (images spec.image) (ending_drives images specs)
 
 -- by what its script holds
-abbrev pub ending_read : Result (List Timed) ℕ → Status
-ending_read (Ok events) = Ran
-ending_read (Err line) = ScriptFault line
+abbrev pub ending_read : Option Status → Result (List Timed) ℕ → Option Status
+ending_read drives (Ok events) = drives
+ending_read drives (Err line) = Some (ScriptFault line)
 
-abbrev pub ending_told : List ℕ → Status
-ending_told text = if nat_lt (room_for ScriptText) (length text) then TooLong ScriptText else ending_read (script_of text)
+abbrev pub ending_told : Option Status → List ℕ → Option Status
+ending_told drives text = if nat_lt (room_for ScriptText) (length text) then Some (TooLong ScriptText) else ending_read drives (script_of text)
 
 -- by the script that is named
-abbrev pub ending_scripted : Contents → Option (List ℕ) → Option Status
-ending_scripted contents None = Some Ran
-ending_scripted contents (Some script) = option_map ending_told (contents script)
+abbrev pub ending_scripted : Contents → Option Status → Option (List ℕ) → Option Status
+ending_scripted contents drives None = drives
+ending_scripted contents drives (Some script) = option_and_then (ending_told drives) (contents script)
 
 -- by what its file stands for
-abbrev pub ending_stood : Contents → Option (List ℕ) → Option System → Option Status
-ending_stood contents script None = Some MachineFault
-ending_stood contents script (Some system) = ending_scripted contents script
+abbrev pub ending_stood : Contents → Option Status → Option (List ℕ) → Option System → Option Status
+ending_stood contents drives script None = Some MachineFault
+ending_stood contents drives script (Some system) = ending_scripted contents drives script
 
 -- by what its file holds
-abbrev pub ending_by_contents : Contents → Form → List ℕ → Option Status
-ending_by_contents contents form bytes =
+abbrev pub ending_by_contents : Host → Form → List ℕ → Option Status
+ending_by_contents host form bytes =
     if nat_lt (room_for (input_of form)) (length bytes) then Some (TooLong (input_of form))
-    else ending_stood contents (script_name form bytes) (system_of form bytes [])
+    else ending_stood host.contents (ending_drives host.images (drives_listed form bytes)) (script_name form bytes) (system_of form bytes [])
 
-unfoldable pub ending : Contents → Form → List ℕ → Option Status
-ending contents form name = option_and_then (ending_by_contents contents form) (contents name)
+unfoldable pub ending : Host → Form → List ℕ → Option Status
+ending host form name = option_and_then (ending_by_contents host form) (host.contents name)
 
--- the program ended before the first step: nothing is written then
+-- the program ended before the first step, and no drive failed: nothing is written then
 abbrev pub IsRefusal : Status → Type 0
 IsRefusal Ran = ⊥
 IsRefusal Usage = Unit {0}
 IsRefusal MachineFault = Unit {0}
 IsRefusal (ScriptFault line) = Unit {0}
+IsRefusal (ImageFault drive cause place) = Unit {0}
 IsRefusal (TooLong what) = Unit {0}
 IsRefusal ReadFault = Unit {0}
+IsRefusal (DiskFault step) = ⊥
 IsRefusal (WriteFault step) = ⊥
 IsRefusal OutOfMemory = Unit {0}
 
--- what holds of every ending but a fault of the sink
+-- the program ended before the first step
+abbrev pub IsEarly : Status → Type 0
+IsEarly Ran = ⊥
+IsEarly Usage = Unit {0}
+IsEarly MachineFault = Unit {0}
+IsEarly (ScriptFault line) = Unit {0}
+IsEarly (ImageFault drive cause place) = Unit {0}
+IsEarly (TooLong what) = Unit {0}
+IsEarly ReadFault = Unit {0}
+IsEarly (DiskFault step) = step ≡ 0
+IsEarly (WriteFault step) = ⊥
+IsEarly OutOfMemory = Unit {0}
+
+-- how a command ends whose machine isn't booted
+abbrev pub status_of : BootError → Status
+status_of (Image drive cause place) = ImageFault drive cause place
+status_of DriveFailed = DiskFault 0
+status_of NoMemory = OutOfMemory
+
+-- how a command ends whose run stopped
+abbrev pub ended_by : StepFault → ℕ → Status
+ended_by SinkFailed step = WriteFault step
+ended_by SyncFailed step = DiskFault step
+
+abbrev pub stopped_by : RunFault → Status
+stopped_by error = ended_by error.fault error.step
+
+-- what was written where a run stopped
+abbrev pub StopsRun : StepFault → Bool → State → ℕ → Option (List ℕ) → Option (List ℕ) → ℕ → ℕ → ℕ → Type 0
+StopsRun SinkFailed trace s steps first written before now step = StopsAt trace s steps first written step
+StopsRun SyncFailed trace s steps first written before now step = (step ≡ steps) × Closes trace (after steps s) first written before now
+
+-- which count rose where a run stopped
+abbrev pub Causes : StepFault → Counts → Counts → Type 0
+Causes SinkFailed old new = Rose old.sink new.sink × (new.drives ≡ old.drives)
+Causes SyncFailed old new = Rose old.drives new.drives
+
+-- what holds of every ending at which the sink can't have failed
 abbrev pub UnlessWriteFault : Status → Type 0 → Type 0
 UnlessWriteFault Ran P = P
 UnlessWriteFault Usage P = P
 UnlessWriteFault MachineFault P = P
 UnlessWriteFault (ScriptFault line) P = P
+UnlessWriteFault (ImageFault drive cause place) P = P
 UnlessWriteFault (TooLong what) P = P
 UnlessWriteFault ReadFault P = P
+UnlessWriteFault (DiskFault step) P = Unit {0}
 UnlessWriteFault (WriteFault step) P = Unit {0}
 UnlessWriteFault OutOfMemory P = P
 
@@ -216,10 +350,25 @@ UnlessReadFault Ran P = P
 UnlessReadFault Usage P = P
 UnlessReadFault MachineFault P = P
 UnlessReadFault (ScriptFault line) P = P
+UnlessReadFault (ImageFault drive cause place) P = P
 UnlessReadFault (TooLong what) P = P
 UnlessReadFault ReadFault P = Unit {0}
+UnlessReadFault (DiskFault step) P = P
 UnlessReadFault (WriteFault step) P = P
 UnlessReadFault OutOfMemory P = P
+
+-- what holds of every ending but a fault of a drive
+abbrev pub UnlessDiskFault : Status → Type 0 → Type 0
+UnlessDiskFault Ran P = P
+UnlessDiskFault Usage P = P
+UnlessDiskFault MachineFault P = P
+UnlessDiskFault (ScriptFault line) P = P
+UnlessDiskFault (ImageFault drive cause place) P = P
+UnlessDiskFault (TooLong what) P = P
+UnlessDiskFault ReadFault P = P
+UnlessDiskFault (DiskFault step) P = Unit {0}
+UnlessDiskFault (WriteFault step) P = P
+UnlessDiskFault OutOfMemory P = P
 
 -- an ending of one kind, unless memory was wanted
 abbrev pub EndsAs : Status → Status → Type 0

@@ -1,12 +1,15 @@
-ghost use Rattle.std.specs.Prelude.{[], ◌≡◌, ◌≤◌, ◌↔◌, ℕ, List, Some, IsSome, IfSome, IfOk, IfErr, MatchResult, length};
+ghost use Rattle.std.specs.Prelude.{[], ◌≡◌, ◌≤◌, ◌↔◌, ℕ, List, Option, Some, IsSome, IfSome, IfOk, IfErr, MatchResult, length};
+ghost use Rattle.mpm_port.specs.Disks.{Disks};
+ghost use Rattle.mpm_drives.specs.Images.{image_named};
+ghost use Rattle.mpm_drives.specs.Mounted.{AreAttached, StandEach, drives_on};
 ghost use Rattle.mpm_machine.specs.State.{IsWhole};
-ghost use Rattle.mpm_top.specs.Runs.{input_of as input_said, room_for, script_name, Contents, Holds, HoldsEvents, Begins, BeginsOf, Scripted, Unfetched, Unread, Ends, EndsAfter, IsRefusal, UnlessReadFault, EndsAs};
+ghost use Rattle.mpm_top.specs.Runs.{input_of as input_said, room_for, script_name, Host, host, failed, begun, status_of, Holds, HoldsEvents, Begins, BeginsOf, Scripted, Unfetched, Unread, Ends, EndsAfter, IsRefusal, IsEarly, UnlessReadFault, UnlessDiskFault, EndsAs};
 
 use crate::status::{Input, Status};
 use crate::words::Form;
 use mpm_machine::{BootError, Machine};
 use mpm_machine_file::{MachineError, MachineFile, Text, read_machine};
-use mpm_port::{FetchError, Fetched, Files};
+use mpm_port::{Drives, FetchError, Fetched, Files};
 use mpm_script::{Script, ScriptError, read_script};
 use std::alloc::Global;
 
@@ -23,24 +26,35 @@ impl Form {
 }
 
 /// The machine with which a command of a form and a file begins, or how the command ends without one.
-pub(crate) fn boot<F: Files>(
+pub(crate) fn boot<F: Files, D: Drives>(
     alloc: Global,
     name: &str,
     form: Form,
     files: &mut F,
+    drives: &mut D,
 ) -> Result<Machine, Status>
-    ensures begins { IfOk result (λ machine. Begins (F.contents files.old) form name.now machine) }
-    ensures whole { IfOk result (λ machine. IsWhole machine) }
-    ensures no_completions { IfOk result (λ machine. machine.kernel.dispatcher.completed ≡ []) }
-    ensures start { IfOk result (λ machine. machine.steps ≡ 0) }
-    ensures refusal { IfErr result (λ status. IsRefusal status) }
-    ensures reason { IfErr result (λ status. Ends (F.contents files.old) form name.now (F.failed_names files.old) (F.failed_names files.new) status) }
+    ensures begins { IfOk result (λ machine. Begins (host F.contents D.disks files.old drives.old) form name.now (begun machine.system (drives_on (D.disks drives.new) machine.drives))) }
+    ensures stand { IfOk result (λ machine. StandEach (D.disks drives.new) machine.drives (drives_on (D.disks drives.new) machine.drives)) }
+    ensures attached { IfOk result (λ machine. AreAttached (D.attached drives.new) machine.drives) }
+    ensures whole { IfOk result (λ machine. IsWhole machine.system) }
+    ensures no_completions { IfOk result (λ machine. machine.system.kernel.dispatcher.completed ≡ []) }
+    ensures start { IfOk result (λ machine. machine.system.steps ≡ 0) }
+    ensures early { IfErr result (λ status. IsEarly status) }
+    ensures reason { IfErr result (λ status. Ends (host F.contents D.disks files.old drives.old) form name.now
+        (failed F.failed_names D.faults D.failed_names files.old drives.old) (failed F.failed_names D.faults D.failed_names files.new drives.new) status) }
     ensures names { MatchResult result (λ _. F.failed_names files.new ≡ F.failed_names files.old)
         (λ status. UnlessReadFault status (F.failed_names files.new ≡ F.failed_names files.old)) }
     ensures missing { F.missing files.old name.now → MatchResult result (λ _. ⊥) (λ status. EndsAs Status.ReadFault status) }
     ensures missing_script { (bytes script : List ℕ) → F.contents files.old name.now ≡ Some bytes → length bytes ≤ room_for (input_said form)
         → script_name form bytes ≡ Some script → F.missing files.old script → MatchResult result (λ _. ⊥) (λ status. EndsAs Status.ReadFault status) }
     ensures files { (other : List ℕ) → F.contents files.new other ≡ F.contents files.old other }
+    ensures drive_names { MatchResult result (λ _. D.failed_names drives.new ≡ D.failed_names drives.old)
+        (λ status. UnlessDiskFault status (D.failed_names drives.new ≡ D.failed_names drives.old)) }
+    ensures drive_faults { MatchResult result (λ _. D.faults drives.new ≡ D.faults drives.old)
+        (λ status. UnlessDiskFault status (D.faults drives.new ≡ D.faults drives.old)) }
+    ensures images { (image : List ℕ) → image_named (D.disks drives.new) image ≡ image_named (D.disks drives.old) image }
+    ensures program { form ≡ Form.Program → drives.new ≡ drives.old }
+    ensures no_drive { form ≡ Form.Program → IfOk result (λ machine. machine.drives ≡ []) }
 {
     let bytes = match fetch(alloc, name, form.input(), files) {
         Ok(bytes) => bytes,
@@ -48,7 +62,7 @@ pub(crate) fn boot<F: Files>(
     };
     match form {
         Form::Program => boot_program(alloc, bytes.as_slice()),
-        Form::Run => boot_machine(alloc, bytes.as_slice(), files),
+        Form::Run => boot_machine(alloc, bytes.as_slice(), files, drives),
     }
 }
 
@@ -78,34 +92,51 @@ fn fetch<F: Files>(
 }
 
 /// The machine of a program's bytes.
-#[tactic(auto, unfolding(crate::specs::Runs::system_of, crate::specs::Runs::script_name))]
 fn boot_program(alloc: Global, bytes: &[u8]) -> Result<Machine, Status>
     requires { length bytes.now ≤ 48512 }
-    ensures begins { (contents : Contents) → IfOk result (λ machine. BeginsOf contents Form.Program (λ content. content ≡ bytes.now) machine) }
-    ensures whole { IfOk result (λ machine. IsWhole machine) }
-    ensures no_completions { IfOk result (λ machine. machine.kernel.dispatcher.completed ≡ []) }
-    ensures start { IfOk result (λ machine. machine.steps ≡ 0) }
+    ensures begins { (host : Host) (disks : Option Disks)
+        → IfOk result (λ machine. BeginsOf host Form.Program (λ content. content ≡ bytes.now) (begun machine.system (drives_on disks machine.drives))) }
+    ensures stand { (disks : Option Disks) → IfOk result (λ machine. StandEach disks machine.drives (drives_on disks machine.drives)) }
+    ensures attached { (attached : ℕ → Option ℕ) → IfOk result (λ machine. AreAttached attached machine.drives) }
+    ensures drives { IfOk result (λ machine. machine.drives ≡ []) }
+    ensures whole { IfOk result (λ machine. IsWhole machine.system) }
+    ensures no_completions { IfOk result (λ machine. machine.system.kernel.dispatcher.completed ≡ []) }
+    ensures start { IfOk result (λ machine. machine.system.steps ≡ 0) }
     ensures memory { IfErr result (λ status. status ≡ Status.OutOfMemory) }
 {
     match Machine::boot_program(alloc, bytes) {
         Ok(machine) => Ok(machine),
-        Err(BootError::OutOfMemory) => Err(Status::OutOfMemory),
+        Err(_) => Err(Status::OutOfMemory),
     }
 }
 
 /// The machine of a machine file's bytes and of the script that it names, or how the command ends without one.
-fn boot_machine<F: Files>(alloc: Global, bytes: &[u8], files: &mut F) -> Result<Machine, Status>
-    ensures begins { IfOk result (λ machine. BeginsOf (F.contents files.old) Form.Run (λ content. content ≡ bytes.now) machine) }
-    ensures whole { IfOk result (λ machine. IsWhole machine) }
-    ensures no_completions { IfOk result (λ machine. machine.kernel.dispatcher.completed ≡ []) }
-    ensures start { IfOk result (λ machine. machine.steps ≡ 0) }
-    ensures refusal { IfErr result (λ status. IsRefusal status) }
-    ensures reason { IfErr result (λ status. EndsAfter (F.contents files.old) Form.Run (λ content. content ≡ bytes.now) (F.failed_names files.old) (F.failed_names files.new) status) }
+fn boot_machine<F: Files, D: Drives>(
+    alloc: Global,
+    bytes: &[u8],
+    files: &mut F,
+    drives: &mut D,
+) -> Result<Machine, Status>
+    ensures begins { IfOk result (λ machine. BeginsOf (host F.contents D.disks files.old drives.old) Form.Run (λ content. content ≡ bytes.now)
+        (begun machine.system (drives_on (D.disks drives.new) machine.drives))) }
+    ensures stand { IfOk result (λ machine. StandEach (D.disks drives.new) machine.drives (drives_on (D.disks drives.new) machine.drives)) }
+    ensures attached { IfOk result (λ machine. AreAttached (D.attached drives.new) machine.drives) }
+    ensures whole { IfOk result (λ machine. IsWhole machine.system) }
+    ensures no_completions { IfOk result (λ machine. machine.system.kernel.dispatcher.completed ≡ []) }
+    ensures start { IfOk result (λ machine. machine.system.steps ≡ 0) }
+    ensures early { IfErr result (λ status. IsEarly status) }
+    ensures reason { IfErr result (λ status. EndsAfter (host F.contents D.disks files.old drives.old) Form.Run (λ content. content ≡ bytes.now)
+        (failed F.failed_names D.faults D.failed_names files.old drives.old) (failed F.failed_names D.faults D.failed_names files.new drives.new) status) }
     ensures names { MatchResult result (λ _. F.failed_names files.new ≡ F.failed_names files.old)
         (λ status. UnlessReadFault status (F.failed_names files.new ≡ F.failed_names files.old)) }
     ensures missing { (script : List ℕ) → script_name Form.Run bytes.now ≡ Some script → F.missing files.old script
         → MatchResult result (λ _. ⊥) (λ status. EndsAs Status.ReadFault status) }
     ensures files { (other : List ℕ) → F.contents files.new other ≡ F.contents files.old other }
+    ensures drive_names { MatchResult result (λ _. D.failed_names drives.new ≡ D.failed_names drives.old)
+        (λ status. UnlessDiskFault status (D.failed_names drives.new ≡ D.failed_names drives.old)) }
+    ensures drive_faults { MatchResult result (λ _. D.faults drives.new ≡ D.faults drives.old)
+        (λ status. UnlessDiskFault status (D.faults drives.new ≡ D.faults drives.old)) }
+    ensures images { (image : List ℕ) → image_named (D.disks drives.new) image ≡ image_named (D.disks drives.old) image }
 {
     let file = match read_machine(alloc, bytes) {
         Ok(file) => file,
@@ -116,9 +147,28 @@ fn boot_machine<F: Files>(alloc: Global, bytes: &[u8], files: &mut F) -> Result<
         Ok(script) => script,
         Err(status) => return Err(status),
     };
-    match Machine::boot(alloc, &file, script) {
+    match Machine::boot(alloc, &file, script, drives) {
         Ok(machine) => Ok(machine),
-        Err(BootError::OutOfMemory) => Err(Status::OutOfMemory),
+        Err(error) => Err(refusal(error)),
+    }
+}
+
+/// How a command ends whose machine isn't booted.
+fn refusal(error: BootError) -> Status
+    ensures { result ≡ status_of error }
+{
+    match error {
+        BootError::Image {
+            drive,
+            cause,
+            place,
+        } => Status::ImageFault {
+            drive,
+            cause,
+            place,
+        },
+        BootError::DiskFault => Status::DiskFault { step: 0 },
+        BootError::OutOfMemory => Status::OutOfMemory,
     }
 }
 

@@ -10,4 +10,6 @@ pub use run::run_words;
 pub use status::{Input, Status};
 
 #[cfg(test)]
+mod drive_tests;
+#[cfg(test)]
 mod tests;

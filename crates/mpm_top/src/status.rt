@@ -20,10 +20,16 @@ pub enum Status {
     MachineFault,
     /// That line of the script, counted from 1, is the first that has none of a script's forms.
     ScriptFault { line: u32 },
+    /// The image of a drive, numbered from 0 for A, has that first fault: its cause, as in `mpm_mount::ImageFault`, and the slot
+    /// of the directory entry, or 0 for a size. No drive of an earlier letter has one.
+    ImageFault { drive: u8, cause: u8, place: u32 },
     /// An input is longer than it may be.
     TooLong { what: Input },
     /// A file that the words or the machine file name could not be read.
     ReadFault,
+    /// A drive couldn't be attached to its image, or failed, in this step: 0 as the drives were mounted, the last one as they
+    /// were synced.
+    DiskFault { step: u64 },
     /// The output failed in this step, or after the last one as the unfinished lines were closed.
     WriteFault { step: u64 },
     /// There was no memory to read and boot.

@@ -1,6 +1,7 @@
 //! Whole runs over files in memory: what each command writes, and how it ends.
 use crate::{Input, Status, run_words};
 use mpm_port::{MemoryDrives, MemoryFiles, MemorySink};
+use std::alloc::Global;
 use std::test::Fail;
 
 /// Says `Hi` by function 9 and ends by function 0.
@@ -11,6 +12,9 @@ const LETTER: &[u8] = b"\x0E\x02\x1E\x41\xCD\x05\x00\x0E\x00\xCD\x05\x00";
 
 /// Says the sum of 06h and 3Bh, an `A`, by function 2 and ends by function 0.
 const SUM: &[u8] = b"\x3E\x06\xC6\x3B\x5F\x0E\x02\xCD\x05\x00\x0E\x00\xCD\x05\x00";
+
+/// Says 40h and one more, an `A`, by function 2: LD IXH,40h; INC IXH; LD E,IXH.
+const HALF: &[u8] = b"\xDD\x26\x40\xDD\x24\xDD\x5C\x0E\x02\xCD\x05\x00";
 
 /// Says a string with a tab at column 2 by function 9.
 const TAB_IN_STRING: &[u8] = b"\x0E\x09\x11\x08\x01\xCD\x05\x00ab\tc$";
@@ -55,6 +59,17 @@ fn strings(rt: &HostRuntime, words: &[&str]) -> Result<Vec<String>, Fail> {
     Ok(strings)
 }
 
+/// How words end. Who asks is told no more of it than the ending.
+pub(crate) fn ended(
+    alloc: Global,
+    words: &[String],
+    files: &mut MemoryFiles,
+    drives: &mut MemoryDrives,
+    sink: &mut MemorySink,
+) -> Status {
+    run_words(alloc, words, files, drives, sink)
+}
+
 /// The calls of files and of a sink that are to fail, by their numbers; 0 is none.
 #[derive(Clone, Copy)]
 struct Failing {
@@ -80,7 +95,7 @@ fn ends(
     let mut drives = MemoryDrives::new(rt.alloc());
     let mut sink = MemorySink::new(rt.alloc(), 1024)?;
     sink.fail_at(failing.put)?;
-    let status = run_words(
+    let status = ended(
         rt.alloc(),
         strings.as_slice(),
         &mut files,
@@ -92,13 +107,15 @@ fn ends(
 
 #[test]
 fn programs_write_their_text(rt: HostRuntime) -> Result<(), Fail> {
-    let rows: [(&[u8], &str, &[u8]); 11] = [
+    let rows: [(&[u8], &str, &[u8]); 13] = [
         (HI, "4000000000", b"c0 Hi\\r\n"),
         (HI, "9", b"c0 Hi\\r\n"),
         (HI, "5", b"c0 Hi\\r\n"),
         (HI, "4", b""),
         (HI, "0", b""),
-        (b"\xDD\x24", "3", b"c0 Illegal instruction at 0100\\r\n"),
+        (b"\xDD\x24", "3", b""),
+        (HALF, "7", b"c0 A\\\n"),
+        (b"\xED\x00", "3", b"c0 Illegal instruction at 0100\\r\n"),
         (b"", "50000", b""),
         (LETTER, "9", b"c0 A\\\n"),
         (SUM, "11", b"c0 A\\\n"),
@@ -196,6 +213,38 @@ fn machine_files_boot_or_are_refused(rt: HostRuntime) -> Result<(), Fail> {
     Ok(())
 }
 
+/// Whether a machine file of a version, with so many segments, ends so in ten steps, and just this text is written.
+fn segments_end(
+    rt: &HostRuntime,
+    version: &[u8],
+    segments: usize,
+    ending: Status,
+    written: &[u8],
+) -> Result<bool, Fail> {
+    let mut text = Vec::new(rt.alloc());
+    text.extend_from_slice(version)?;
+    text.extend_from_slice(b"\nconsoles = 1\n")?;
+    for _ in 0..segments {
+        text.extend_from_slice(b"[[segment]]\nbase = 64\npages = 4\n")?;
+    }
+    let words = ["run", "file", "10"];
+    ends(rt, &words, text.as_slice(), NOTHING_FAILS, ending, written)
+}
+
+#[test]
+fn each_version_has_its_most_segments(rt: HostRuntime) -> Result<(), Fail> {
+    let rows: [(&[u8], usize, Status, &[u8]); 4] = [
+        (b"version = 1", 8, Status::Ran, b"c0 0A>\\\n"),
+        (b"version = 1", 9, Status::MachineFault, b""),
+        (b"version = 2", 16, Status::Ran, b"c0 0A>\\\n"),
+        (b"version = 2", 17, Status::MachineFault, b""),
+    ];
+    for (version, segments, ending, written) in rows {
+        assert!(rt; segments_end(&rt, version, segments, ending, written)?);
+    }
+    Ok(())
+}
+
 /// A machine of two consoles with a script of the name `keys`.
 const TWO_CONSOLES: &[u8] =
     b"version = 1\nconsoles = 2\nscript = 'keys'\n[[segment]]\nbase = 0\npages = 192\n";
@@ -214,7 +263,7 @@ fn script_writes(
     files.add("keys", script)?;
     let mut drives = MemoryDrives::new(rt.alloc());
     let mut sink = MemorySink::new(rt.alloc(), 1024)?;
-    let status = run_words(
+    let status = ended(
         rt.alloc(),
         strings.as_slice(),
         &mut files,
@@ -260,7 +309,7 @@ fn script_ends(rt: &HostRuntime, script: &[u8], ending: Status) -> Result<bool, 
     files.add("keys", script)?;
     let mut drives = MemoryDrives::new(rt.alloc());
     let mut sink = MemorySink::new(rt.alloc(), 64)?;
-    let status = run_words(
+    let status = ended(
         rt.alloc(),
         strings.as_slice(),
         &mut files,

@@ -12,7 +12,7 @@ place-q-requires c =
     let last = length c.as_slice.result.now - 1 in
     let size = length c.args.second.now in
     subst (λ (system : System). MayPlace system last 0 size) (sym c.place-p.ensures.system)
-    (may_place_again c.args.machine.now c.place-p.result 0 _ 200 0 _ last 0 size
+    (may_place_again c.args.machine.now.system c.place-p.result 0 _ 200 0 _ last 0 size
     (c.requires.free 0 (length c.args.first.now) c.if-not-has_room.ensures.there c.if-not-has_room.ensures.room)
     c.place-p.ensures.slot (λ same. omega (arith, same, c.if-last-eq0.false))
     (c.requires.free last size c.if-not-has_room-2.ensures.there c.if-not-has_room-2.ensures.room))

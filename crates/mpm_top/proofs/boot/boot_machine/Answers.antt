@@ -1,5 +1,10 @@
-use Rattle.std.proofs.Common.{◌∙◌, Err, sym, ap}
-use Rattle.mpm_top.proofs.BootLaws.{no_machine, names_nothing, script_of_file, begins_of_file, ends_unread}
+use Rattle.std.proofs.Common.{◌∙◌, Err, sym, ap, refl}
+use Rattle.mpm_drives.specs.Images.{image_named}
+use Rattle.mpm_drives.specs.Mounted.{drives_on}
+use Rattle.mpm_drives.specs.Stopping.{Failures}
+use Rattle.mpm_drives.proofs.Opening.{drives_stand, drives_are, are_attached}
+use Rattle.mpm_top.specs.Runs.{host, failed}
+use Rattle.mpm_top.proofs.BootLaws.{no_machine, names_nothing, script_of_file, begins_of_file, ends_unread, ends_unmounted, unless_disk, unless_disk_always, refusal_early}
 use Rattle.mpm_top.proofs.boot.boot_machine.Goals as goal
 
 pub returns-in-Err-Fault-clause-reason : goal.returns-in-Err-Fault-clause-reason
@@ -10,17 +15,63 @@ returns-in-Err-Fault-clause-missing g c script named missing = absurd (names_not
 
 pub returns-in-Err-clause-reason : goal.returns-in-Err-clause-reason
 returns-in-Err-clause-reason g c =
-    ends_unread _ c.args.bytes.now c.in-Ok.file _ _ c.in-Err.status c.in-Ok.ensures.ok c.in-Err.ensures.named c.in-Err.ensures.reason
+    ends_unread (host g.F.Files.contents g.D.Drives.disks c.args.files.now c.args.drives.now) c.args.bytes.now c.in-Ok.file
+    (failed g.F.Files.failed_names g.D.Drives.faults g.D.Drives.failed_names c.args.files.now c.args.drives.now)
+    (failed g.F.Files.failed_names g.D.Drives.faults g.D.Drives.failed_names c.read_script_of.new.files c.args.drives.now)
+    c.in-Err.status c.in-Ok.ensures.ok c.in-Err.ensures.named c.in-Err.ensures.reason
 
 pub returns-in-Err-clause-missing : goal.returns-in-Err-clause-missing
 returns-in-Err-clause-missing g c script named missing =
     c.in-Err.ensures.missing script (sym (script_of_file c.args.bytes.now c.in-Ok.file c.in-Ok.ensures.ok) ∙ named) missing
 
+pub returns-in-Err-clause-early : goal.returns-in-Err-clause-early
+returns-in-Err-clause-early g c = refusal_early c.in-Err.status c.in-Err.ensures.refusal
+
+pub returns-in-Err-clause-drive_names : goal.returns-in-Err-clause-drive_names
+returns-in-Err-clause-drive_names g c = unless_disk_always c.in-Err.status _ refl
+
+pub returns-in-Err-clause-drive_faults : goal.returns-in-Err-clause-drive_faults
+returns-in-Err-clause-drive_faults g c = unless_disk_always c.in-Err.status _ refl
+
 pub returns-in-Ok-boot-clause-begins : goal.returns-in-Ok-boot-clause-begins
 returns-in-Ok-boot-clause-begins g c =
-    begins_of_file _ c.args.bytes.now c.in-Ok.file c.in-Ok-read_script_of.script c.in-Ok-boot.machine c.in-Ok.ensures.ok
+    let disks = g.D.Drives.disks c.boot.new.drives in
+    begins_of_file (host g.F.Files.contents g.D.Drives.disks c.args.files.now c.args.drives.now) c.args.bytes.now c.in-Ok.file c.in-Ok-read_script_of.script
+    c.in-Ok-boot.machine.system (drives_on disks c.in-Ok-boot.machine.drives) c.in-Ok.ensures.ok
     c.in-Ok-read_script_of.ensures.scripted c.in-Ok-boot.ensures.opening
+    (drives_are (g.D.Drives.attached c.boot.new.drives) disks _ c.in-Ok.file.drives c.in-Ok-boot.machine.drives c.in-Ok-boot.ensures.mounted)
+
+pub returns-in-Ok-boot-clause-stand : goal.returns-in-Ok-boot-clause-stand
+returns-in-Ok-boot-clause-stand g c =
+    drives_stand (g.D.Drives.attached c.boot.new.drives) (g.D.Drives.disks c.boot.new.drives) (image_named (g.D.Drives.disks c.args.drives.now)) c.in-Ok.file.drives
+    c.in-Ok-boot.machine.drives c.in-Ok-boot.ensures.mounted
+
+pub returns-in-Ok-boot-clause-attached : goal.returns-in-Ok-boot-clause-attached
+returns-in-Ok-boot-clause-attached g c =
+    are_attached (g.D.Drives.attached c.boot.new.drives) (g.D.Drives.disks c.boot.new.drives) (image_named (g.D.Drives.disks c.args.drives.now)) c.in-Ok.file.drives
+    c.in-Ok-boot.machine.drives c.in-Ok-boot.ensures.mounted
 
 pub returns-in-Ok-boot-clause-missing : goal.returns-in-Ok-boot-clause-missing
 returns-in-Ok-boot-clause-missing g c script named missing =
     c.in-Ok-read_script_of.ensures.missing script (sym (script_of_file c.args.bytes.now c.in-Ok.file c.in-Ok.ensures.ok) ∙ named) missing
+
+pub returns-clause-reason : goal.returns-clause-reason
+returns-clause-reason g c =
+    ends_unmounted (host g.F.Files.contents g.D.Drives.disks c.args.files.now c.args.drives.now) c.args.bytes.now c.in-Ok.file c.in-Ok-read_script_of.script
+    (failed g.F.Files.failed_names g.D.Drives.faults g.D.Drives.failed_names c.args.files.now c.args.drives.now)
+    (failed g.F.Files.failed_names g.D.Drives.faults g.D.Drives.failed_names c.read_script_of.new.files c.boot.new.drives)
+    c.in-Err-boot.error c.refusal.result c.refusal.ensures c.in-Ok.ensures.ok c.in-Ok-read_script_of.ensures.scripted c.in-Err-boot.ensures.err
+
+pub returns-clause-missing : goal.returns-clause-missing
+returns-clause-missing g c script named missing =
+    absurd (c.in-Ok-read_script_of.ensures.missing script (sym (script_of_file c.args.bytes.now c.in-Ok.file c.in-Ok.ensures.ok) ∙ named) missing)
+
+pub returns-clause-drive_names : goal.returns-clause-drive_names
+returns-clause-drive_names g c =
+    unless_disk (image_named (g.D.Drives.disks c.args.drives.now)) c.in-Ok.file.drives _ _ c.in-Err-boot.error c.refusal.result _ c.refusal.ensures c.in-Err-boot.ensures.err
+    (λ same. ap (λ (f : Failures). f.names) same)
+
+pub returns-clause-drive_faults : goal.returns-clause-drive_faults
+returns-clause-drive_faults g c =
+    unless_disk (image_named (g.D.Drives.disks c.args.drives.now)) c.in-Ok.file.drives _ _ c.in-Err-boot.error c.refusal.result _ c.refusal.ensures c.in-Err-boot.ensures.err
+    (λ same. ap (λ (f : Failures). f.faults) same)

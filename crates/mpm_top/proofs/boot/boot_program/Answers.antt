@@ -1,8 +1,13 @@
-use Rattle.std.proofs.Common.{[], refl, sym, ap, Some}
-use Rattle.mpm_top.specs.Runs.{system_of, script_name}
+use Rattle.mpm_drives.proofs.Opening.{none_stand, none_attached}
+use Rattle.mpm_top.proofs.BootLaws.{program_begins}
 use Rattle.mpm_top.proofs.boot.boot_program.Goals as goal
 
 pub returns-in-Ok-clause-begins : goal.returns-in-Ok-clause-begins
-unfolding system_of script_name
-returns-in-Ok-clause-begins c contents =
-    record { bytes = c.args.bytes.now; events = []; contents_are = refl; scripted = refl; is = ap Some (sym c.in-Ok.ensures.opening) }
+returns-in-Ok-clause-begins c host disks =
+    program_begins host c.args.bytes.now disks c.in-Ok.machine.system c.in-Ok.machine.drives c.in-Ok.ensures.opening c.in-Ok.ensures.drives
+
+pub returns-in-Ok-clause-stand : goal.returns-in-Ok-clause-stand
+returns-in-Ok-clause-stand c disks = none_stand disks c.in-Ok.machine.drives c.in-Ok.ensures.drives
+
+pub returns-in-Ok-clause-attached : goal.returns-in-Ok-clause-attached
+returns-in-Ok-clause-attached c attached = none_attached attached c.in-Ok.machine.drives c.in-Ok.ensures.drives

@@ -1,10 +1,7 @@
-use Rattle.std.proofs.Common.{◌∙◌, ◌+◌, ℕ, ap, subst}
-use Rattle.mpm_machine.specs.declared.system.System.{System}
+use Rattle.std.proofs.Common.{refl}
 use Rattle.mpm_output.specs.Outside.{seen}
-use Rattle.mpm_output.specs.Writing.{Wrote, Stopped}
-use Rattle.mpm_output.proofs.WritingLaws.{wrote_cause, stopped_cause}
-use Rattle.mpm_machine.specs.Step.{step_of}
-use Rattle.mpm_machine.proofs.StepLaws.{step_stands, step_stops}
+use Rattle.mpm_machine.proofs.StepLaws.{step_stands, step_stops, drives_next}
+use Rattle.mpm_machine.proofs.FaultLaws.{wrote_causes, stopped_causes}
 use Rattle.mpm_machine.proofs.NobodyDueLaws.{nobody_due_stepped}
 use Rattle.mpm_machine.proofs.Containment.{is_contained}
 use Rattle.mpm_machine.proofs.ServedLaws.{served_by_value}
@@ -12,44 +9,29 @@ use Rattle.mpm_machine.proofs.InstructedLaws.{instructs_only}
 use Rattle.mpm_machine.proofs.machine.Machine.step.Goals as goal
 
 pub returns-in-Err-clause-err : goal.returns-in-Err-clause-err
-returns-in-Err-clause-err g c s first stands =
-    let P : System → Type 0 = λ system. Stopped (seen g.S.Sink.written g.S.Sink.faults c.args.render.now c.args.sink.now)
-    (seen g.S.Sink.written g.S.Sink.faults c.step.new.render c.step.new.sink) (step_of system).emitted in
-    step_stops c.args.self.now _ _ s first (subst P c.self.view_is c.in-Err.ensures.wrote.err) stands
+returns-in-Err-clause-err g c s first stands = step_stops c.args.self.now.system _ _ s first c.in-Err.ensures.wrote.err stands.system
 
 pub returns-in-Err-clause-cause : goal.returns-in-Err-clause-cause
-returns-in-Err-clause-cause g c = stopped_cause _ _ _ _ c.in-Err.ensures.wrote.err
+returns-in-Err-clause-cause g c = stopped_causes _ _ _ _ c.in-Err.ensures.wrote.err
 
-pub returns-clause-ok : goal.returns-clause-ok
-returns-clause-ok g c s first stands =
-    let P : System → Type 0 = λ system. Wrote (seen g.S.Sink.written g.S.Sink.faults c.args.render.now c.args.sink.now)
-    (seen g.S.Sink.written g.S.Sink.faults c.step.new.render c.step.new.sink) (step_of system).emitted in
-    step_stands c.args.self.now c.step.new.self _ _ s first (c.in_default.ensures.system ∙ ap (λ system. (step_of system).system) c.self.view_is)
-    (subst P c.self.view_is c.in_default.ensures.wrote.ok) stands
+pub returns-in-Ok-clause-ok : goal.returns-in-Ok-clause-ok
+returns-in-Ok-clause-ok g c s first stands = record {
+  system = step_stands c.args.self.now.system c.step.new.self _ _ s first c.in-Ok.ensures.system c.in-Ok.ensures.wrote.ok stands.system;
+  drives = drives_next (g.D.Drives.disks c.args.drives.now) c.args.self.now.drives s stands.drives;
+}
 
-pub returns-clause-cause : goal.returns-clause-cause
-returns-clause-cause g c = wrote_cause _ _ _ _ c.in_default.ensures.wrote.ok
+pub returns-in-Ok-clause-cause : goal.returns-in-Ok-clause-cause
+returns-in-Ok-clause-cause g c = wrote_causes _ _ _ _ _ c.in-Ok.ensures.wrote.ok
 
-pub returns-clause-system : goal.returns-clause-system
-returns-clause-system g c = c.in_default.ensures.system ∙ ap (λ system. (step_of system).system) c.self.view_is
+pub returns-in-Ok-clause-contained : goal.returns-in-Ok-clause-contained
+returns-in-Ok-clause-contained g c = is_contained c.args.self.now.system c.step.new.self c.requires.whole c.in-Ok.ensures.system
 
-pub returns-clause-contained : goal.returns-clause-contained
-returns-clause-contained g c =
-    is_contained c.args.self.now c.step.new.self c.requires.whole (c.in_default.ensures.system ∙ ap (λ system. (step_of system).system) c.self.view_is)
+pub returns-in-Ok-clause-due : goal.returns-in-Ok-clause-due
+returns-in-Ok-clause-due g c = nobody_due_stepped c.args.self.now.system c.step.new.self c.requires.whole c.in-Ok.ensures.system
 
-pub returns-clause-due : goal.returns-clause-due
-returns-clause-due g c =
-    nobody_due_stepped c.args.self.now c.step.new.self c.requires.whole (c.in_default.ensures.system ∙ ap (λ system. (step_of system).system) c.self.view_is)
+pub returns-in-Ok-clause-instruction : goal.returns-in-Ok-clause-instruction
+returns-in-Ok-clause-instruction g c p seg instructs =
+    instructs_only c.args.self.now.system c.step.new.self p seg instructs c.requires.no_completions c.in-Ok.ensures.system
 
-pub returns-clause-instruction : goal.returns-clause-instruction
-returns-clause-instruction g c p seg stands =
-    instructs_only c.args.self.now c.step.new.self p seg stands c.requires.no_completions (c.in_default.ensures.system ∙ ap (λ system. (step_of system).system) c.self.view_is)
-
-pub returns-clause-calls : goal.returns-clause-calls
-returns-clause-calls g c p seg calls =
-    served_by_value c.args.self.now c.step.new.self p seg calls (c.in_default.ensures.system ∙ ap (λ system. (step_of system).system) c.self.view_is)
-
-pub returns-clause-count : goal.returns-clause-count
-returns-clause-count g c =
-    let steps : System → ℕ = λ system. system.steps + 1 in
-    c.in_default.ensures.count ∙ ap steps c.self.view_is
+pub returns-in-Ok-clause-calls : goal.returns-in-Ok-clause-calls
+returns-in-Ok-clause-calls g c p seg calls = served_by_value c.args.self.now.system c.step.new.self p seg calls c.in-Ok.ensures.system

@@ -1,0 +1,3 @@
+pub mod Telling
+pub mod Mounting
+pub mod Opening

@@ -1,0 +1,44 @@
+use Rattle.std.proofs.Common.{rules, ◌≡◌, ◌∙◌, ◌+◌, ◌++◌, ◌∷◌, [], ℕ, List, take, drop, sym, subst, arith}
+use Rattle.std.proofs.lemmas.Grind.{common_steps}
+use Rattle.std.proofs.lemmas.List.Elements.{recursion_from_All}
+use Rattle.mpm_machine_file.specs.declared.lists.DriveSpec.{DriveSpec}
+use Rattle.mpm_machine_file.specs.MachineFiles.{IsDrive}
+use Rattle.mpm_mount.specs.Directories.{Directory}
+use Rattle.mpm_drives.specs.Images.{image_named}
+use Rattle.mpm_drives.specs.Mounted.{number_of, AreMounted}
+use Rattle.mpm_drives.proofs.Mounting.{others_differ, mounted_kept, mounted_more, mounted_by, stops_from, stops_at, failures_same, taken_more, parted}
+use Rattle.mpm_drives.proofs.mounted.MountedDrives.mount.Goals as goal
+
+pub returns-in-Err-clause-err : goal.returns-in-Err-clause-err
+returns-in-Err-clause-err g c =
+    let i = c.loop-spec.spec-index in
+    let specs = c.args.specs.now in
+    let spec = c.spec-item.result in
+    stops_at _ _ (image_named (g.D.Drives.disks c.args.drives.now)) specs (take i specs) c.loop-spec.items.items spec (drop (i + 1) specs) _ _ c.in-Err.error
+    (parted specs i spec (omega arith) c.spec-item.is) c.loop-spec.invariant.mounted
+    (stops_from (image_named (g.D.Drives.disks c.loop-spec.drives)) (image_named (g.D.Drives.disks c.args.drives.now)) spec _ _ _ c.in-Err.error (c.loop-spec.invariant.images spec.image)
+    (failures_same _ _ _ _ c.loop-spec.invariant.count c.loop-spec.invariant.names) c.in-Err.ensures.err)
+
+pub loop-spec-preserved : goal.loop-spec-preserved
+loop-spec-preserved g c =
+    let i = c.loop-spec.spec-index in
+    let specs = c.args.specs.now in
+    let spec = c.spec-item.result in
+    let items = c.loop-spec.items.items in
+    let a = g.D.Drives.attached c.mount_drive.new.drives in
+    let x = g.D.Drives.disks c.mount_drive.new.drives in
+    let images = image_named (g.D.Drives.disks c.args.drives.now) in
+    let parts = parted specs i spec (omega arith) c.spec-item.is in
+    let apart = others_differ specs (take i specs) spec (drop (i + 1) specs) parts (recursion_from_All IsDrive specs c.requires.each) c.requires.apart in
+    let before = mounted_kept (number_of spec) _ a _ x images (take i specs) items c.in-Ok.ensures.only apart c.loop-spec.invariant.mounted in
+    let here = mounted_by a x (image_named (g.D.Drives.disks c.loop-spec.drives)) images spec c.in-Ok.mounted (c.loop-spec.invariant.images spec.image) c.in-Ok.ensures.mounted in
+    let pushed : c.push.new.self.items ≡ items ++ (c.in-Ok.mounted ∷ []) = first_of (search rules, grind (arith, common_steps)) in
+    let P : List DriveSpec → Type 0 = λ front. AreMounted a x images front c.push.new.self.items in
+    let Q : List Directory → Type 0 = λ ds. AreMounted a x images (take i specs ++ (spec ∷ [])) ds in
+    record {
+      mounted = subst P (sym (taken_more specs i spec (omega arith) c.spec-item.is)) (subst Q (sym pushed) (mounted_more a x images (take i specs) items spec c.in-Ok.mounted before here));
+      none = λ nothing. absurd (omega (arith, nothing));
+      count = c.in-Ok.ensures.count ∙ c.loop-spec.invariant.count;
+      names = c.in-Ok.ensures.names ∙ c.loop-spec.invariant.names;
+      images = λ name. c.in-Ok.ensures.only.images name ∙ c.loop-spec.invariant.images name;
+    }

@@ -1,0 +1,13 @@
+use Rattle.std.proofs.Common.{◌≡◌, ℕ, List, take}
+use Rattle.mpm_drives.specs.Images.{image_named}
+use Rattle.mpm_drives.specs.Mounted.{AreMounted}
+use Rattle.mpm_drives.proofs.mounted.MountedDrives.mount.Given as goal
+
+abbrev pub invariant-loop-spec : goal.invariant-loop-spec
+invariant-loop-spec g l = record {
+  mounted : AreMounted (g.D.Drives.attached l.drives) (g.D.Drives.disks l.drives) (image_named (g.D.Drives.disks l.initial.drives)) (take l.spec-index l.specs) l.items.items;
+  none : l.spec-index ≡ 0 → l.drives ≡ l.initial.drives;
+  count : g.D.Drives.faults l.drives ≡ g.D.Drives.faults l.initial.drives;
+  names : g.D.Drives.failed_names l.drives ≡ g.D.Drives.failed_names l.initial.drives;
+  images : (name : List ℕ) → image_named (g.D.Drives.disks l.drives) name ≡ image_named (g.D.Drives.disks l.initial.drives) name;
+}

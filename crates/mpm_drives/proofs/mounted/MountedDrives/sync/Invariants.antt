@@ -1,0 +1,11 @@
+use Rattle.std.proofs.Common.{◌≡◌, ◌+◌}
+use Rattle.mpm_mount.specs.Mounting.{SameDrives}
+use Rattle.mpm_drives.proofs.mounted.MountedDrives.sync.Given as goal
+
+abbrev pub invariant-loop-mounted : goal.invariant-loop-mounted
+invariant-loop-mounted g l = record {
+  count : g.D.Drives.faults l.drives ≡ g.D.Drives.faults l.initial.drives;
+  same : SameDrives g.D.Drives.attached g.D.Drives.disks g.D.Drives.failed_names l.initial.drives l.drives;
+  none : l.mounted-index ≡ 0 → l.drives ≡ l.initial.drives;
+  calls : l.steps ≡ l.initial.steps + l.mounted-index;
+}

@@ -1,0 +1,3 @@
+pub mod Images
+pub mod Mounted
+pub mod Stopping

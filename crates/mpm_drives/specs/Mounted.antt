@@ -1,0 +1,83 @@
+-- The drives of a machine: as its machine file lists them, as they are mounted, and by what is on them.
+use Rattle.std.specs.Prelude.{◌≡◌, ◌≢◌, ℕ, ◌-◌, List, [], Option, Some, None, IsSome, IfSome, map, ⊤}
+use Rattle.std.specs.List.{All, AllZip}
+use Rattle.mpm_base.specs.declared.kind.Kind.{Kind}
+use Rattle.mpm_port.specs.Disks.{Disks, Told}
+use Rattle.mpm_machine_file.specs.declared.lists.DriveSpec.{DriveSpec}
+use Rattle.mpm_mount.specs.Drives.{Drive}
+use Rattle.mpm_mount.specs.Directories.{Directory, Stands}
+use Rattle.mpm_blocks.specs.Sectors.{told_image}
+use Rattle.mpm_mount.specs.Mounting.{drive_in, IsMounted}
+use Rattle.mpm_drives.specs.Images.{ToldImage, Untold, Missing, Bytes, Images, image_named, HasFiles}
+
+-- a drive by its number, from 0 for A, and the files on it
+pub record NumberedDrive : Type 0 where
+  pub number : ℕ
+  pub files : Drive
+
+-- the number of a drive of a machine file
+abbrev pub number_of : DriveSpec → ℕ
+number_of spec = spec.letter - 65
+
+-- the image of a drive is that of a name
+abbrev pub IsImageOf : ToldImage → Option (List ℕ) → Type 0
+IsImageOf Untold told = told ≡ None
+IsImageOf Missing told = ⊥
+IsImageOf (Bytes image) told = told ≡ Some image
+
+-- a directory in memory is that of an image
+abbrev pub HasDirectory : ToldImage → Kind → Directory → Type 0
+HasDirectory Untold kind d = ⊤
+HasDirectory Missing kind d = ⊥
+HasDirectory (Bytes image) kind d = IsMounted image kind d
+
+-- a drive of a machine file is attached to the image of its name, and that is mounted
+pub record IsMountedAs (attached : ℕ → Option ℕ) (disks : Option Disks) (images : Images) (spec : DriveSpec) (d : Directory) : Type 0 where
+  pub number : d.drive ≡ number_of spec
+  pub kind : d.kind ≡ spec.kind
+  pub is_attached : IsSome (attached d.drive)
+  pub image : IsImageOf (images spec.image) (told_image disks d.drive)
+  pub directory : HasDirectory (images spec.image) spec.kind d
+
+-- so is each drive of a machine file, in order
+abbrev pub AreMounted : (ℕ → Option ℕ) → Option Disks → Images → List DriveSpec → List Directory → Type 0
+AreMounted attached disks images specs mounted = AllZip (IsMountedAs attached disks images) specs mounted
+
+-- the drives are attached
+abbrev pub AreAttached : (ℕ → Option ℕ) → List Directory → Type 0
+AreAttached attached mounted = All (λ d. IsSome (attached d.drive)) mounted
+
+-- a mounted drive, its image, where it is told, and its directory in memory, stand for the files on a drive of that number
+pub record StandsOn (disks : Option Disks) (d : Directory) (drive : NumberedDrive) : Type 0 where
+  pub number : d.drive ≡ drive.number
+  pub stands : IfSome (told_image disks d.drive) (λ image. Stands image d drive.files)
+
+-- so does each of them, in order
+abbrev pub StandEach : Option Disks → List Directory → List NumberedDrive → Type 0
+StandEach disks mounted drives = AllZip (StandsOn disks) mounted drives
+
+-- what is on a drive of a machine file is what its image stands for
+pub record IsDriveOf (images : Images) (spec : DriveSpec) (drive : NumberedDrive) : Type 0 where
+  pub number : drive.number ≡ number_of spec
+  pub files : HasFiles (images spec.image) spec.kind drive.files
+
+-- so it is of each of them, in order
+abbrev pub AreDrivesOf : Images → List DriveSpec → List NumberedDrive → Type 0
+AreDrivesOf images specs drives = AllZip (IsDriveOf images) specs drives
+
+-- the files on mounted drives, by their directories and images. Where an image isn't told nothing is said of them
+abbrev pub bytes_if : Option (List ℕ) → List ℕ
+bytes_if None = []
+bytes_if (Some image) = image
+
+abbrev pub on_drive : Option Disks → Directory → NumberedDrive
+on_drive disks d = record { number = d.drive; files = drive_in (bytes_if (told_image disks d.drive)) d }
+
+unfoldable pub drives_on : Option Disks → List Directory → List NumberedDrive
+drives_on disks mounted = map (on_drive disks) mounted
+
+-- a drive is attached anew: the images, and the other drives with theirs, are as they were
+pub record OnlyDrive (number : ℕ) (attached attached' : ℕ → Option ℕ) (disks disks' : Option Disks) : Type 0 where
+  pub images : (name : List ℕ) → image_named disks' name ≡ image_named disks name
+  pub told : (other : ℕ) → other ≢ number → told_image disks' other ≡ told_image disks other
+  pub others : (other : ℕ) → other ≢ number → attached' other ≡ attached other

@@ -1,0 +1,135 @@
+ghost use Rattle.std.specs.Prelude.{◌≡◌, ◌<◌, ◌≤◌, ◌+◌, true, [], ℕ, List, All, IfOk, IfErr, OnOk, OnErr, length};
+ghost use Rattle.mpm_port.specs.Causes.{HasCause};
+ghost use Rattle.mpm_machine_file.specs.Drives.{all_differ};
+ghost use Rattle.mpm_machine_file.specs.MachineFiles.{IsDrive};
+ghost use Rattle.mpm_mount.specs.Mounting.{SameDrives};
+ghost use Rattle.mpm_drives.specs.Images.{image_named};
+ghost use Rattle.mpm_drives.specs.Mounted.{number_of, IsMountedAs, AreMounted, AreAttached, OnlyDrive};
+ghost use Rattle.mpm_drives.specs.Stopping.{StopsAt, Stops};
+
+use crate::error::BootError;
+use mpm_base::Steps;
+use mpm_machine_file::DriveSpec;
+use mpm_mount::{MountError, Mounted, mount};
+use mpm_port::{Drives, Failed, FetchError};
+use std::alloc::Global;
+use std::marker::Model;
+use std::sync::ledger::Ledger;
+
+/// The mounted drives of a machine, in order of their letters. Contracts see the list of their directories.
+#[derive(Drop)]
+pub struct MountedDrives {
+    items: Vec<Mounted>,
+}
+
+impl Model for MountedDrives {
+    ghost use Rattle.std.specs.Prelude.{List};
+    ghost use Rattle.mpm_mount.specs.Directories.{Directory};
+
+    ghost Value = { List Directory };
+
+    ghost view = { λ drives. drives.items.items };
+}
+
+impl MountedDrives {
+    /// No drive.
+    pub fn none(alloc: Global) -> MountedDrives
+        ensures { result ≡ [] }
+    {
+        MountedDrives {
+            items: Vec::new(alloc),
+        }
+    }
+
+    /// Attaches and mounts the drives of a machine file, one after another in order of their letters, up to the first that
+    /// can't be. No image changes.
+    ///
+    /// # Errors
+    /// `BootError::Image` comes exactly where that drive is the first whose image has a fault, `BootError::DiskFault` only
+    /// where the drives' count rose or the drive's image name joined their failed names.
+    pub fn mount<D: Drives>(
+        alloc: Global,
+        specs: &[DriveSpec],
+        drives: &mut D,
+    ) -> Result<MountedDrives, BootError>
+        requires apart { all_differ specs.now ≡ true }
+        requires each { All IsDrive specs.now }
+        ensures mounted { IfOk result (λ mounted. AreMounted (D.attached drives.new) (D.disks drives.new) (image_named (D.disks drives.old)) specs.now mounted) }
+        ensures count { OnOk result (D.faults drives.new ≡ D.faults drives.old) }
+        ensures names { OnOk result (D.failed_names drives.new ≡ D.failed_names drives.old) }
+        ensures err { IfErr result (λ error. Stops (image_named (D.disks drives.old)) specs.now
+            (record { faults = D.faults drives.old; names = D.failed_names drives.old })
+            (record { faults = D.faults drives.new; names = D.failed_names drives.new }) error) }
+        ensures images { (name : List ℕ) → image_named (D.disks drives.new) name ≡ image_named (D.disks drives.old) name }
+        ensures none { specs.now ≡ [] → drives.new ≡ drives.old }
+    {
+        let mut items = Vec::new(alloc);
+        for spec in specs {
+            match mount_drive(alloc, spec, drives) {
+                Ok(mounted) => match items.push(mounted) {
+                    Ok(()) => {}
+                    Err(_) => return Err(BootError::OutOfMemory),
+                },
+                Err(error) => return Err(error),
+            }
+        }
+        Ok(MountedDrives { items })
+    }
+
+    /// Brings what was written to the drives to where it stays, one drive after another in order of their letters, up to the
+    /// first that fails. `steps` counts the calls.
+    pub fn sync<D: Drives, L: Ledger>(
+        &self,
+        drives: &mut D,
+        steps: &mut Steps<L>,
+    ) -> Result<(), Failed>
+        requires { AreAttached (D.attached drives.old) self.now }
+        ensures cause { HasCause (D.faults drives.old) (D.faults drives.new) result }
+        ensures same { SameDrives D.attached D.disks D.failed_names drives.old drives.new }
+        ensures calls { steps.new ≤ steps.old + length self.now }
+        ensures all { OnOk result (steps.new ≡ steps.old + length self.now) }
+        ensures some { OnErr result (0 < length self.now) }
+        ensures none { self.now ≡ [] → drives.new ≡ drives.old }
+    {
+        for mounted in self.items.as_slice() {
+            steps.tick();
+            if let Err(Failed) = drives.sync(mounted.drive()) {
+                return Err(Failed);
+            }
+        }
+        Ok(())
+    }
+}
+
+/// Attaches a drive of a machine file to its image, and mounts it.
+fn mount_drive<D: Drives>(
+    alloc: Global,
+    spec: &DriveSpec,
+    drives: &mut D,
+) -> Result<Mounted, BootError>
+    requires { IsDrive spec.now }
+    ensures mounted { IfOk result (λ mounted. IsMountedAs (D.attached drives.new) (D.disks drives.new) (image_named (D.disks drives.old)) spec.now mounted) }
+    ensures count { OnOk result (D.faults drives.new ≡ D.faults drives.old) }
+    ensures names { OnOk result (D.failed_names drives.new ≡ D.failed_names drives.old) }
+    ensures err { IfErr result (λ error. StopsAt (image_named (D.disks drives.old)) spec.now
+        (record { faults = D.faults drives.old; names = D.failed_names drives.old })
+        (record { faults = D.faults drives.new; names = D.failed_names drives.new }) error) }
+    ensures only { OnlyDrive (number_of spec.now) (D.attached drives.old) (D.attached drives.new) (D.disks drives.old) (D.disks drives.new) }
+{
+    let drive = spec.letter - b'A';
+    match drives.attach(drive, spec.image.as_str()) {
+        Ok(()) => {}
+        Err(FetchError::Failed) => return Err(BootError::DiskFault),
+        Err(FetchError::OutOfMemory) => return Err(BootError::OutOfMemory),
+    }
+    match mount(alloc, drives, drive, spec.kind) {
+        Ok(mounted) => Ok(mounted),
+        Err(MountError::Image { cause, place }) => Err(BootError::Image {
+            drive,
+            cause,
+            place,
+        }),
+        Err(MountError::DiskFault) => Err(BootError::DiskFault),
+        Err(MountError::OutOfMemory) => Err(BootError::OutOfMemory),
+    }
+}
