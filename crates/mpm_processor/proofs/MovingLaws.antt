@@ -1,10 +1,14 @@
 -- Views after instructions, one after another.
-use Rattle.std.proofs.Common.{◌≡◌, ◌∙◌, ℕ, zero, suc, ◌+◌, ◌<◌, ◌≤◌, Bool, false, ◌==◌, Option, Some, None, IsSome, IsNone, is_some, inl, inr, refl, sym, ap, subst, arith, add-one}
+use Rattle.std.proofs.Common.{◌≡◌, ◌∙◌, ℕ, zero, suc, ◌+◌, ◌<◌, ◌≤◌, Bool, false, ◌==◌, List, Option, Some, None, IsSome, IsNone, is_some, inl, inr, refl, sym, ap, subst, arith, add-one}
 use Rattle.std.proofs.lemmas.Bool.{cases_eq}
 use Rattle.z80_regs.specs.Outcome.{Outcome}
 use Rattle.z80_ext.specs.Instruction.{registers_after, actions_of}
 use Rattle.z80_ext.specs.declared.stepped.Stepped.{Stepped}
 use Rattle.z80_ext.specs.declared.stepped.Stepped.TheVariants.{Ran, Illegal}
+use Rattle.z80_regs.specs.declared.regs.Regs.{Regs}
+use Rattle.mpm_base.specs.declared.devices.Devices.{Devices}
+use Rattle.mpm_base.specs.declared.segment.SegmentSpec.{SegmentSpec}
+use Rattle.mpm_banks.specs.Sides.{alone}
 use Rattle.mpm_banks.specs.Actions.{memory_after, devices_after}
 use Rattle.mpm_processor.specs.declared.gate.Gate.{Gate}
 use Rattle.mpm_processor.specs.Gates.{gate_of}
@@ -13,6 +17,17 @@ use Rattle.mpm_processor.specs.Moving.{View, instruction_in, moved, moves, CanMo
 pub view_is : (a b : View) → a.regs ≡ b.regs → a.memory ≡ b.memory → a.devices ≡ b.devices → a ≡ b
 view_is a b regs memory devices =
     ap (λ r. record a { regs = r }) regs ∙ ap (λ m. record b { memory = m; devices = a.devices }) memory ∙ ap (λ d. record b { devices = d }) devices
+
+-- the view of registers, devices and the bytes of both sides; what leaves those as they were leaves the view so
+abbrev pub view_of : SegmentSpec → Regs → List ℕ → List ℕ → Devices → View
+view_of spec regs segment common devices = record { regs = regs; memory = alone spec segment common; devices = devices }
+
+pub same_view : (spec : SegmentSpec) (regs : Regs) (segment common : List ℕ) (devices : Devices) (segment2 common2 : List ℕ) (devices2 : Devices)
+    → segment2 ≡ segment → common2 ≡ common → devices2 ≡ devices
+    → view_of spec regs segment2 common2 devices2 ≡ view_of spec regs segment common devices
+same_view spec regs segment common devices segment2 common2 devices2 same_segment same_common same_devices =
+    view_is (view_of spec regs segment2 common2 devices2) (view_of spec regs segment common devices) refl
+    (ap (λ bytes. alone spec bytes common2) same_segment ∙ ap (λ bytes. alone spec segment bytes) same_common) same_devices
 
 -- none, and one more
 

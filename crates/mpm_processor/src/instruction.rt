@@ -1,28 +1,83 @@
-ghost use Rattle.std.specs.Prelude.{◌≡◌, ◌↔◌, ◌<◌, ◌≤◌, None, IsNone, IsSome, IfSome, MatchOption, is_some};
-ghost use Rattle.z80_ext.specs.Instruction.{IsPrefixAt, instruction, registers_after, actions_of};
+ghost use Rattle.std.specs.Prelude.{◌≡◌, ◌↔◌, ◌<◌, ◌≤◌, ◌+◌, ◌-◌, ◌*◌, ℕ, List, true, None, IsNone, IsSome, IfSome, MatchOption, is_none, is_some};
+ghost use Rattle.z80_regs.specs.declared.regs.Regs.{Regs};
+ghost use Rattle.z80_ext.specs.Instruction.{IsPrefixAt, IsLoadUpAt, instruction, registers_after, actions_of};
+ghost use Rattle.mpm_banks.specs.Allocations.{FitsBelowCommon};
 ghost use Rattle.mpm_banks.specs.Memory.{byte_at};
 ghost use Rattle.mpm_banks.specs.Sides.{alone};
 ghost use Rattle.mpm_banks.specs.Ports.{port_byte};
 ghost use Rattle.mpm_banks.specs.Actions.{memory_after, devices_after};
-ghost use Rattle.mpm_processor.specs.Gates.{IsHome, gate_of};
+ghost use Rattle.mpm_processor.specs.Gates.{IsHome, gate_in, gate_of};
 ghost use Rattle.mpm_processor.specs.Moving.{CanMove, Moves};
 
 use crate::gate::is_gate;
 use mpm_banks::{Banks, Burst, SliceBus, last_page};
 use mpm_base::{Devices, Seg, SegmentSpec};
-use z80_ext::{Stepped, step_prefixed, step_unprefixed};
-use z80_regs::Regs;
+use z80_ext::{Stepped, step_load_up, step_opcode, step_prefixed};
+use z80_regs::{Bus, Regs};
 
-/// One instruction of a process with these registers, whose segment lies there, but where a prefix stands at PC: that is
-/// answered then, and nothing has changed.
+/// The opcode at an address of a segment below its last page, in which the gates are. Most instructions stand there, so that
+/// one comparison tells that the byte is there and that no gate is.
+#[inline(always)]
+#[tactic(auto, unfolding(mpm_banks::specs::Memory::place_of, mpm_banks::specs::Memory::byte_at))]
+fn opcode_below_gates(spec: SegmentSpec, address: u16, segment: &[u8]) -> Option<u8>
+    requires { FitsBelowCommon spec }
+    ensures byte { (common : List ℕ) → IfSome result (λ opcode. opcode ≡ byte_at (alone spec segment.now common) 0 address) }
+    ensures below { IsSome result → address < 256 * (spec.base + spec.pages - 1) }
+{
+    let first = 256 * usize::from(spec.base);
+    let size = (256 * usize::from(spec.pages - 1)).min(segment.len());
+    let index = usize::from(address).wrapping_sub(first);
+    if index < size {
+        return Some(segment[index]);
+    }
+    None
+}
+
+/// The opcode at an address, None where a gate is for a process in a resident procedure (`inside`) or in none.
+#[inline(always)]
+#[tactic(auto, using(crate::proofs::GateLaws::none_below, crate::proofs::MovingLaws::no_gate_at))]
+fn fetch(
+    inside: bool,
+    spec: SegmentSpec,
+    address: u16,
+    segment: &mut [u8],
+    common: &mut [u8],
+    devices: &mut Devices,
+) -> Option<u8>
+    requires { FitsBelowCommon spec }
+    ensures byte { IfSome result (λ opcode. opcode ≡ byte_at (alone spec segment.old common.old) 0 address) }
+    ensures gate { is_none result ≡ is_some (gate_in inside (spec.base + spec.pages - 1) address) }
+    ensures segment { segment.new ≡ segment.old }
+    ensures common { common.new ≡ common.old }
+    ensures devices { devices.new ≡ devices.old }
+{
+    if let Some(opcode) = opcode_below_gates(spec, address, segment) {
+        return Some(opcode);
+    }
+    if is_gate(inside, last_page(spec), address) {
+        return None;
+    }
+    let bus = SliceBus {
+        spec,
+        segment,
+        common,
+        devices,
+    };
+    Some(bus.read(address))
+}
+
+/// One instruction of a process with these registers, whose segment lies there and whose opcode is read, but where that is
+/// a prefix: it is answered then, and nothing has changed.
 #[inline(always)]
 fn execute_unprefixed(
+    opcode: u8,
     spec: SegmentSpec,
     regs: &mut Regs,
     segment: &mut [u8],
     common: &mut [u8],
     devices: &mut Devices,
 ) -> Option<u8>
+    requires { opcode ≡ byte_at (alone spec segment.old common.old) 0 regs.old.pc }
     ensures prefix { IfSome result (λ prefix. IsPrefixAt prefix regs.old (byte_at (alone spec segment.old common.old) 0)) }
     ensures listed { IsNone result → IsSome (instruction regs.old (byte_at (alone spec segment.old common.old) 0) (port_byte devices.old)) }
     ensures registers { MatchOption result (regs.new ≡ registers_after (instruction regs.old (byte_at (alone spec segment.old common.old) 0) (port_byte devices.old)) regs.old) (λ prefix. regs.new ≡ regs.old) }
@@ -35,7 +90,7 @@ fn execute_unprefixed(
         common,
         devices,
     };
-    step_unprefixed(regs, &mut bus)
+    step_opcode(opcode, regs, &mut bus)
 }
 
 /// One instruction of a process that stands at a prefix, with these registers.
@@ -63,24 +118,70 @@ fn execute_prefixed(
     step_prefixed(prefix, regs, &mut bus)
 }
 
+/// Whether LDIR is at PC, where a prefix is, with its second byte below the last page of the segment.
+#[inline(always)]
+fn is_load(prefix: u8, spec: SegmentSpec, pc: u16, segment: &[u8]) -> bool
+    requires { FitsBelowCommon spec }
+    ensures { (regs : Regs) (common : List ℕ) → regs.pc ≡ pc → IsPrefixAt prefix regs (byte_at (alone spec segment.now common) 0) → result ≡ true
+        → IsLoadUpAt regs (byte_at (alone spec segment.now common) 0) }
+{
+    match opcode_below_gates(spec, pc.wrapping_add(1), segment) {
+        Some(opcode) => u16::from_le_bytes([prefix, opcode]) == 0xB0ED,
+        None => false,
+    }
+}
+
+/// One transfer of LDIR, which is at PC. It is code of its own, so that its bus stays in registers.
+#[inline(never)]
+fn execute_load(
+    spec: SegmentSpec,
+    regs: &mut Regs,
+    segment: &mut [u8],
+    common: &mut [u8],
+    devices: &mut Devices,
+)
+    requires { IsLoadUpAt regs.old (byte_at (alone spec segment.old common.old) 0) }
+    ensures listed { IsSome (instruction regs.old (byte_at (alone spec segment.old common.old) 0) (port_byte devices.old)) }
+    ensures registers { regs.new ≡ registers_after (instruction regs.old (byte_at (alone spec segment.old common.old) 0) (port_byte devices.old)) regs.old }
+    ensures memory { alone spec segment.new common.new ≡ memory_after (actions_of (instruction regs.old (byte_at (alone spec segment.old common.old) 0) (port_byte devices.old))) 0 (alone spec segment.old common.old) }
+    ensures devices { devices.new ≡ devices_after (actions_of (instruction regs.old (byte_at (alone spec segment.old common.old) 0) (port_byte devices.old))) devices.old }
+{
+    let mut bus = SliceBus {
+        spec,
+        segment,
+        common,
+        devices,
+    };
+    step_load_up(regs, &mut bus);
+}
+
 /// One instruction of a process, with these registers. Where it has a prefix, it goes over a bus of its own, so that the
 /// bus of all others needs no memory.
 #[inline(always)]
 fn advance(
+    opcode: u8,
     spec: SegmentSpec,
     regs: &mut Regs,
     segment: &mut [u8],
     common: &mut [u8],
     devices: &mut Devices,
 ) -> Stepped
+    requires fits { FitsBelowCommon spec }
+    requires opcode { opcode ≡ byte_at (alone spec segment.old common.old) 0 regs.old.pc }
     ensures illegal { (result ≡ Stepped.Illegal) ↔ IsNone (instruction regs.old (byte_at (alone spec segment.old common.old) 0) (port_byte devices.old)) }
     ensures registers { regs.new ≡ registers_after (instruction regs.old (byte_at (alone spec segment.old common.old) 0) (port_byte devices.old)) regs.old }
     ensures memory { alone spec segment.new common.new ≡ memory_after (actions_of (instruction regs.old (byte_at (alone spec segment.old common.old) 0) (port_byte devices.old))) 0 (alone spec segment.old common.old) }
     ensures devices { devices.new ≡ devices_after (actions_of (instruction regs.old (byte_at (alone spec segment.old common.old) 0) (port_byte devices.old))) devices.old }
 {
-    match execute_unprefixed(spec, regs, segment, common, devices) {
+    match execute_unprefixed(opcode, spec, regs, segment, common, devices) {
         None => Stepped::Ran,
-        Some(prefix) => execute_prefixed(prefix, spec, regs, segment, common, devices),
+        Some(prefix) => {
+            if is_load(prefix, spec, regs.pc, segment) {
+                execute_load(spec, regs, segment, common, devices);
+                return Stepped::Ran;
+            }
+            execute_prefixed(prefix, spec, regs, segment, common, devices)
+        }
     }
 }
 
@@ -107,14 +208,14 @@ impl Burst for Instructions {
         common: &mut [u8],
         devices: &mut Devices,
     ) -> u64 {
-        let page = last_page(spec);
         let inside = self.inside;
         let most = self.most;
         for done in 0..most {
-            if is_gate(inside, page, regs.pc) {
-                return done;
-            }
-            match advance(spec, regs, segment, common, devices) {
+            let opcode = match fetch(inside, spec, regs.pc, segment, common, devices) {
+                None => return done,
+                Some(opcode) => opcode,
+            };
+            match advance(opcode, spec, regs, segment, common, devices) {
                 Stepped::Ran => {}
                 Stepped::Illegal => return done,
             }

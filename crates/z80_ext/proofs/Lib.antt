@@ -2,3 +2,4 @@ pub mod Examples
 pub mod PageRanges
 pub mod Ranges
 pub mod Next
+pub mod LoadUp

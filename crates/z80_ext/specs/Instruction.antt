@@ -66,3 +66,9 @@ pub record IsPrefixAt (prefix : ℕ) (regs : Regs) (memory : ℕ → ℕ) : Type
   pub runs : regs.halted ≡ false
   pub here : prefix ≡ memory regs.pc
   pub none : IsNone (form_of prefix)
+
+-- the processor is about to do LDIR, EDh B0h
+pub record IsLoadUpAt (regs : Regs) (memory : ℕ → ℕ) : Type 0 where
+  pub runs : regs.halted ≡ false
+  pub prefix : memory regs.pc ≡ 237
+  pub opcode : memory (onward regs.pc 1) ≡ 176

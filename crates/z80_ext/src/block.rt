@@ -82,8 +82,9 @@ fn step_load(direction: Direction, regs: &mut Regs)
 }
 
 /// LDI, LDD, LDIR and LDDR.
+#[inline(always)]
 #[tactic(auto, unfolding(z80_regs::specs::Outcome::Leaves))]
-fn load_block<B: Bus>(direction: Direction, repeats: bool, regs: &mut Regs, bus: &mut B)
+pub fn load_block<B: Bus>(direction: Direction, repeats: bool, regs: &mut Regs, bus: &mut B)
     ensures registers { regs.new ≡ (block_loaded direction repeats regs.old (B.byte bus.old)).registers }
     ensures bus { Leaves B.wrote B.took (block_loaded direction repeats regs.old (B.byte bus.old)).actions
         bus.old bus.new }

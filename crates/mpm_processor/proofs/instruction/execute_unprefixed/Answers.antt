@@ -4,12 +4,12 @@ use Rattle.mpm_processor.proofs.instruction.execute_unprefixed.Goals as goal
 
 pub returns-clause-memory : goal.returns-clause-memory
 returns-clause-memory c =
-    let acted = leaves_acted_unless _ _ _ _ c.step_unprefixed.ensures.bus in
+    let acted = leaves_acted_unless _ _ _ _ c.step_opcode.ensures.bus in
     let memory = acted.memory in
     search rules
 
 pub returns-clause-devices : goal.returns-clause-devices
 returns-clause-devices c =
-    let acted = leaves_acted_unless _ _ _ _ c.step_unprefixed.ensures.bus in
+    let acted = leaves_acted_unless _ _ _ _ c.step_opcode.ensures.bus in
     let devices = acted.devices in
     search rules
