@@ -216,13 +216,14 @@ def first_fault(kind, image):
 
 
 def name_text(name):
-    letters = (chr(c) if 0x21 <= c < 0x7F and c not in b"\\/" else f"\\x{c:02X}" for c in name.rstrip(b" "))
+    letters = (chr(c) if 0x21 <= c < 0x7F and c not in b"\\/." else f"\\x{c:02X}" for c in name.rstrip(b" "))
     return "".join(letters)
 
 
 def file_text(name):
+    """A name and its type as a file of the host may be called, no two alike, and one of spaces alone too."""
     kind = name_text(name[8:])
-    return name_text(name[:8]) + ("." + kind if kind else "")
+    return name_text(name[:8]) + ("." + kind if kind else "") or "\\x20"
 
 
 def extent_lines(kind, image, file):
@@ -329,6 +330,9 @@ def slots(kind, path):
 
 def free(kind, path, texts):
     freed = [checked_slot(kind, text) for text in texts]
+    if len(read_image(kind, path)) != kind.size:
+        print(Fault(1, 0))
+        return 4
     with open(path, "r+b") as file:
         for slot in freed:
             file.seek(slot_place(kind, slot))

@@ -1,14 +1,16 @@
 -- The drives that are mounted, one after another.
-use Rattle.std.proofs.Common.{◌≡◌, ◌≢◌, ◌∙◌, ℕ, ◌-◌, ◌+◌, ◌<◌, ◌≤◌, List, [], ◌∷◌, ◌++◌, length, take, drop, get_or, append_assoc, Option, Some, None, IsSome, true, refl, sym, ap, subst, inl, inr, arith}
+use Rattle.std.proofs.Common.{◌≡◌, ◌≢◌, ◌∙◌, ℕ, ◌+◌, ◌<◌, List, [], ◌∷◌, ◌++◌, length, take, drop, get_or, append_assoc, Option, Some, true, sym, ap, subst, inl, inr, arith}
 use Rattle.std.specs.Prelude.{IfSome, Err}
 use Rattle.std.proofs.lemmas.List.{take_more, take-append-drop}
-use Rattle.std.specs.List.{AllByRecursion, AllZip}
+use Rattle.std.proofs.lemmas.List.Elements.{recursion_from_All}
+use Rattle.std.specs.List.{All, AllByRecursion}
 use Rattle.mpm_port.specs.Disks.{Disks, Attaches, SameDisks, Told}
 use Rattle.mpm_machine_file.specs.declared.lists.DriveSpec.{DriveSpec}
 use Rattle.mpm_machine_file.specs.Drives.{all_differ}
 use Rattle.mpm_machine_file.specs.MachineFiles.{IsDrive}
 use Rattle.mpm_machine_file.proofs.OrderLaws.{IsApart, AreApart, letters_differ, apart_from_differ}
-use Rattle.mpm_mount.specs.Directories.{Directory}
+use Rattle.mpm_blocks.specs.Geometries.{geometry_of}
+use Rattle.mpm_mount.specs.Directories.{Directory, IsDirectory}
 use Rattle.mpm_drives.specs.declared.error.BootError.{BootError}
 use Rattle.mpm_drives.specs.declared.error.BootError.TheVariants.{Image, DiskFault, OutOfMemory}
 use Rattle.mpm_mount.specs.declared.errors.MountError.{MountError}
@@ -17,7 +19,7 @@ use Rattle.mpm_blocks.specs.Sectors.{told_image}
 use Rattle.mpm_mount.specs.Mounting.{IsMounted, IsImageFault, Counts}
 use Rattle.mpm_blocks.proofs.ToldImages.{told_image_same}
 use Rattle.mpm_drives.specs.Images.{ToldImage, Images, image_named, HasFault}
-use Rattle.mpm_drives.specs.Mounted.{number_of, IsImageOf, HasDirectory, IsMountedAs, AreMounted, OnlyDrive}
+use Rattle.mpm_drives.specs.Mounted.{number_of, IsImageOf, HasDirectory, IsMountedAs, AreMounted, OnlyDrive, SameBeside}
 use Rattle.mpm_drives.specs.Stopping.{Failures, StopsAt, IsFirst, Stops}
 use Rattle.mpm_drives.proofs.Telling.{attached_image, attached_only, same_only, only_over, directory_told, fault_told, faultless_told}
 
@@ -52,7 +54,7 @@ kept number a a' x x' images spec d only apart mounted =
     record {
       number = mounted.number;
       kind = mounted.kind;
-      is_attached = subst (λ (size : Option ℕ). IsSome size) (sym (only.others d.drive other)) mounted.is_attached;
+      size = only.others d.drive other ∙ mounted.size;
       image = subst (IsImageOf (images spec.image)) (sym (only.told d.drive other)) mounted.image;
       directory = mounted.directory;
     }
@@ -72,6 +74,20 @@ mounted_more a x images [] (e ∷ ds) spec d mounted here = absurd mounted
 mounted_more a x images (first ∷ specs) [] spec d mounted here = absurd mounted
 mounted_more a x images (first ∷ specs) (e ∷ ds) spec d mounted here = (mounted.0, mounted_more a x images specs ds spec d mounted.1 here)
 
+-- and so do drives that none of them is
+
+pub beside_more : (specs front : List DriveSpec) (spec : DriveSpec) (rest : List DriveSpec) (a b c : ℕ → Option ℕ) (x y z : Option Disks) → specs ≡ front ++ (spec ∷ rest)
+    → SameBeside specs a b x y → OnlyDrive (number_of spec) b c y z → SameBeside specs a c x z
+beside_more specs front spec rest a b c x y z is beside only =
+    let other : (number : ℕ) → All (λ s. number_of s ≢ number) specs → number ≢ number_of spec =
+    λ number apart. λ same.
+    each_at (λ s. number_of s ≢ number) front spec rest
+    (subst (AllByRecursion (λ s. number_of s ≢ number)) is (recursion_from_All (λ s. number_of s ≢ number) specs apart)) (sym same) in
+    record {
+      drives = λ number apart. only.others number (other number apart) ∙ beside.drives number apart;
+      images = λ number apart. only.told number (other number apart) ∙ beside.images number apart;
+    }
+
 -- by what was told before
 
 pub mounted_by : (a : ℕ → Option ℕ) (x : Option Disks) (one other : Images) (spec : DriveSpec) (d : Directory) → one spec.image ≡ other spec.image
@@ -79,7 +95,7 @@ pub mounted_by : (a : ℕ → Option ℕ) (x : Option Disks) (one other : Images
 mounted_by a x one other spec d same mounted = record {
   number = mounted.number;
   kind = mounted.kind;
-  is_attached = mounted.is_attached;
+  size = mounted.size;
   image = subst (λ (t : ToldImage). IsImageOf t (told_image x d.drive)) same mounted.image;
   directory = subst (λ (t : ToldImage). HasDirectory t spec.kind d) same mounted.directory;
 }
@@ -104,10 +120,10 @@ stops_from one other spec before old new error same is stops =
 -- one drive, as it was attached and mounted
 
 pub mounted_as : (a a' : ℕ → Option ℕ) (x y z : Option Disks) (spec : DriveSpec) (name : List ℕ) (size : Option ℕ) (d : Directory) → name ≡ spec.image
-    → Told (Attaches (number_of spec) name size) x y → IsSome (a (number_of spec)) → ((other : ℕ) → a' other ≡ a other) → Told SameDisks y z
-    → d.drive ≡ number_of spec → d.kind ≡ spec.kind → IfSome (told_image y (number_of spec)) (λ image. IsMounted image spec.kind d)
-    → IsMountedAs a' z (image_named x) spec d
-mounted_as a a' x y z spec name size d is attaches here drives same number kind mounted =
+    → Told (Attaches (number_of spec) name size) x y → a (number_of spec) ≡ Some (geometry_of spec.kind).bytes → ((other : ℕ) → a' other ≡ a other)
+    → Told SameDisks y z → d.drive ≡ number_of spec → d.kind ≡ spec.kind → IsDirectory spec.kind d.entries
+    → IfSome (told_image y (number_of spec)) (λ image. IsMounted image spec.kind d) → IsMountedAs a' z (image_named x) spec d
+mounted_as a a' x y z spec name size d is attaches bytes drives same number kind without mounted =
     let P : List ℕ → Type 0 = λ n. IsImageOf (image_named x n) (told_image y (number_of spec)) in
     let image : IsImageOf (image_named x spec.image) (told_image y (number_of spec)) = subst P is (attached_image x y (number_of spec) name size attaches) in
     let told : told_image y (number_of spec) ≡ told_image z d.drive =
@@ -115,9 +131,9 @@ mounted_as a a' x y z spec name size d is attaches here drives same number kind 
     record {
       number = number;
       kind = kind;
-      is_attached = subst (λ (size : Option ℕ). IsSome size) (sym (drives (number_of spec)) ∙ ap a' (sym number)) here;
+      size = ap a' number ∙ drives (number_of spec) ∙ bytes;
       image = subst (IsImageOf (image_named x spec.image)) told image;
-      directory = directory_told (image_named x spec.image) (told_image y (number_of spec)) spec.kind d image mounted;
+      directory = directory_told (image_named x spec.image) (told_image y (number_of spec)) spec.kind d image without mounted;
     }
 
 pub fault_as : (x y : Option Disks) (spec : DriveSpec) (name : List ℕ) (size : Option ℕ) (error : MountError) (cause place : ℕ) → name ≡ spec.image

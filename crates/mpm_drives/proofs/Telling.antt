@@ -1,10 +1,10 @@
 -- What attaching a drive and mounting it leave of what is told of images.
-use Rattle.std.proofs.Common.{◌≡◌, ◌≢◌, ◌∙◌, ℕ, List, Option, Some, None, IsSome, refl, sym, ap, subst}
+use Rattle.std.proofs.Common.{◌≡◌, ◌≢◌, ◌∙◌, ℕ, List, Option, Some, None, refl, ap, subst}
 use Rattle.std.specs.Prelude.{IfSome, IsSomeAnd, IsOk, Result, Err, Ok, option_and_then}
 use Rattle.mpm_base.specs.declared.kind.Kind.{Kind}
 use Rattle.mpm_port.specs.Disks.{Disks, SameDisks, Attaches, Told, image_of}
 use Rattle.mpm_mount.specs.declared.errors.ImageFault.{ImageFault}
-use Rattle.mpm_mount.specs.Directories.{Directory}
+use Rattle.mpm_mount.specs.Directories.{Directory, IsDirectory}
 use Rattle.mpm_mount.specs.Images.{files_of}
 use Rattle.mpm_blocks.specs.Sectors.{told_image}
 use Rattle.mpm_mount.specs.Mounting.{IsMounted}
@@ -87,12 +87,12 @@ only_over number a b c x y z one two = record {
 
 -- what is so of the image of an attached drive is so of the image of that name
 
-pub directory_told : (image : ToldImage) (told : Option (List ℕ)) (kind : Kind) (d : Directory) → IsImageOf image told → IfSome told (λ bytes. IsMounted bytes kind d)
-    → HasDirectory image kind d
-directory_told Untold told kind d is mounted = tt
-directory_told Missing told kind d is mounted = absurd is
-directory_told (Bytes bytes) None kind d is mounted = absurd (cc)
-directory_told (Bytes bytes) (Some other) kind d is mounted =
+pub directory_told : (image : ToldImage) (told : Option (List ℕ)) (kind : Kind) (d : Directory) → IsImageOf image told → IsDirectory kind d.entries
+    → IfSome told (λ bytes. IsMounted bytes kind d) → HasDirectory image kind d
+directory_told Untold told kind d is without mounted = without
+directory_told Missing told kind d is without mounted = absurd is
+directory_told (Bytes bytes) None kind d is without mounted = absurd (cc)
+directory_told (Bytes bytes) (Some other) kind d is without mounted =
     let same : other ≡ bytes = cc in
     subst (λ (b : List ℕ). IsMounted b kind d) same mounted
 

@@ -5,6 +5,7 @@ use Rattle.mpm_port.specs.Disks.{Disks}
 use Rattle.mpm_mount.specs.declared.errors.ImageFault.{ImageFault}
 use Rattle.mpm_mount.specs.Drives.{Drive}
 use Rattle.mpm_mount.specs.Images.{files_of}
+use Rattle.mpm_mount.specs.Mounting.{AreOfDirectory}
 
 -- what is told of the image of a name: nothing, that there is none, or its bytes
 pub data ToldImage : Type 0 where
@@ -24,9 +25,10 @@ image_named (Some disks) name = found (disks.image name)
 abbrev pub Images : Type 0
 Images = List ℕ → ToldImage
 
--- the image stands for these files. One that is missing stands for none, and one that isn't told may stand for any
+-- the image stands for these files. One that is missing stands for none, and one that isn't told may stand for all that a
+-- directory without a fault can have
 abbrev pub HasFiles : ToldImage → Kind → Drive → Type 0
-HasFiles Untold kind files = ⊤
+HasFiles Untold kind files = AreOfDirectory kind files
 HasFiles Missing kind files = ⊥
 HasFiles (Bytes image) kind files = files_of image kind ≡ Ok files
 

@@ -1,11 +1,12 @@
 -- The drives of a machine: as its machine file lists them, as they are mounted, and by what is on them.
-use Rattle.std.specs.Prelude.{◌≡◌, ◌≢◌, ℕ, ◌-◌, List, [], Option, Some, None, IsSome, IfSome, map, ⊤}
+use Rattle.std.specs.Prelude.{◌≡◌, ◌≢◌, ℕ, ◌-◌, List, [], Option, Some, None, IsSome, IfSome, map}
 use Rattle.std.specs.List.{All, AllZip}
 use Rattle.mpm_base.specs.declared.kind.Kind.{Kind}
-use Rattle.mpm_port.specs.Disks.{Disks, Told}
+use Rattle.mpm_port.specs.Disks.{Disks}
 use Rattle.mpm_machine_file.specs.declared.lists.DriveSpec.{DriveSpec}
 use Rattle.mpm_mount.specs.Drives.{Drive}
-use Rattle.mpm_mount.specs.Directories.{Directory, Stands}
+use Rattle.mpm_mount.specs.Directories.{Directory, IsDirectory, Stands}
+use Rattle.mpm_blocks.specs.Geometries.{geometry_of}
 use Rattle.mpm_blocks.specs.Sectors.{told_image}
 use Rattle.mpm_mount.specs.Mounting.{drive_in, IsMounted}
 use Rattle.mpm_drives.specs.Images.{ToldImage, Untold, Missing, Bytes, Images, image_named, HasFiles}
@@ -25,17 +26,17 @@ IsImageOf Untold told = told ≡ None
 IsImageOf Missing told = ⊥
 IsImageOf (Bytes image) told = told ≡ Some image
 
--- a directory in memory is that of an image
+-- a directory in memory is that of an image. Of one that isn't told it is one without a fault
 abbrev pub HasDirectory : ToldImage → Kind → Directory → Type 0
-HasDirectory Untold kind d = ⊤
+HasDirectory Untold kind d = IsDirectory kind d.entries
 HasDirectory Missing kind d = ⊥
 HasDirectory (Bytes image) kind d = IsMounted image kind d
 
--- a drive of a machine file is attached to the image of its name, and that is mounted
+-- a drive of a machine file is attached to the image of its name, which has its kind's size, and that is mounted
 pub record IsMountedAs (attached : ℕ → Option ℕ) (disks : Option Disks) (images : Images) (spec : DriveSpec) (d : Directory) : Type 0 where
   pub number : d.drive ≡ number_of spec
   pub kind : d.kind ≡ spec.kind
-  pub is_attached : IsSome (attached d.drive)
+  pub size : attached d.drive ≡ Some (geometry_of spec.kind).bytes
   pub image : IsImageOf (images spec.image) (told_image disks d.drive)
   pub directory : HasDirectory (images spec.image) spec.kind d
 
@@ -81,3 +82,8 @@ pub record OnlyDrive (number : ℕ) (attached attached' : ℕ → Option ℕ) (d
   pub images : (name : List ℕ) → image_named disks' name ≡ image_named disks name
   pub told : (other : ℕ) → other ≢ number → told_image disks' other ≡ told_image disks other
   pub others : (other : ℕ) → other ≢ number → attached' other ≡ attached other
+
+-- a drive that none of a machine file's is, and its image, are as they were
+pub record SameBeside (specs : List DriveSpec) (attached attached' : ℕ → Option ℕ) (disks disks' : Option Disks) : Type 0 where
+  pub drives : (number : ℕ) → All (λ spec. number_of spec ≢ number) specs → attached' number ≡ attached number
+  pub images : (number : ℕ) → All (λ spec. number_of spec ≢ number) specs → told_image disks' number ≡ told_image disks number

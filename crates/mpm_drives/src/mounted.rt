@@ -4,7 +4,7 @@ ghost use Rattle.mpm_machine_file.specs.Drives.{all_differ};
 ghost use Rattle.mpm_machine_file.specs.MachineFiles.{IsDrive};
 ghost use Rattle.mpm_mount.specs.Mounting.{SameDrives};
 ghost use Rattle.mpm_drives.specs.Images.{image_named};
-ghost use Rattle.mpm_drives.specs.Mounted.{number_of, IsMountedAs, AreMounted, AreAttached, OnlyDrive};
+ghost use Rattle.mpm_drives.specs.Mounted.{number_of, IsMountedAs, AreMounted, AreAttached, OnlyDrive, SameBeside};
 ghost use Rattle.mpm_drives.specs.Stopping.{StopsAt, Stops};
 
 use crate::error::BootError;
@@ -41,8 +41,8 @@ impl MountedDrives {
         }
     }
 
-    /// Attaches and mounts the drives of a machine file, one after another in order of their letters, up to the first that
-    /// can't be. No image changes.
+    /// Attaches and mounts the drives that a machine file lists, one after another up to the first that can't be; they are
+    /// listed by letter. No image changes, and no other drive.
     ///
     /// # Errors
     /// `BootError::Image` comes exactly where that drive is the first whose image has a fault, `BootError::DiskFault` only
@@ -61,6 +61,7 @@ impl MountedDrives {
             (record { faults = D.faults drives.old; names = D.failed_names drives.old })
             (record { faults = D.faults drives.new; names = D.failed_names drives.new }) error) }
         ensures images { (name : List ℕ) → image_named (D.disks drives.new) name ≡ image_named (D.disks drives.old) name }
+        ensures beside { SameBeside specs.now (D.attached drives.old) (D.attached drives.new) (D.disks drives.old) (D.disks drives.new) }
         ensures none { specs.now ≡ [] → drives.new ≡ drives.old }
     {
         let mut items = Vec::new(alloc);

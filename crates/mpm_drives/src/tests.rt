@@ -1,13 +1,12 @@
-//! Two drives in memory that are mounted and synced, while each of their calls fails in turn.
+//! Two drives that are mounted and synced, while each of their calls fails in turn, and in their order.
 ghost use Rattle.std.specs.Prelude.{◌≡◌, ◌<◌};
-ghost use Rattle.mpm_port.specs.MemoryDisks.{size_of};
 ghost use Rattle.mpm_machine_file.specs.MachineFiles.{IsMachine};
 ghost use Rattle.mpm_drives.specs.Mounted.{AreAttached};
 
 use crate::{BootError, MountedDrives};
 use mpm_base::Steps;
 use mpm_machine_file::{MachineFile, read_machine};
-use mpm_port::MemoryDrives;
+use mpm_port::{Drives, Failed, FetchError, MemoryDrives};
 use std::alloc::Global;
 use std::marker::Brand;
 use std::sync::ledger::{Blank, Ledger};
@@ -75,8 +74,8 @@ fn fault(drive: u8, cause: u8) -> Ending {
 }
 
 /// Syncs mounted drives, with a count of the calls.
-fn sync<L: Ledger>(mounted: &MountedDrives, drives: &mut MemoryDrives, blank: Blank) -> Ending
-    requires attached { AreAttached (size_of drives.old) mounted.now }
+fn sync<D: Drives, L: Ledger>(mounted: &MountedDrives, drives: &mut D, blank: Blank) -> Ending
+    requires attached { AreAttached (D.attached drives.old) mounted.now }
     requires name { blank.name ≡ L.name }
     requires parts { blank.parts ≡ L.parts }
     requires some { 0 < L.parts }
@@ -89,11 +88,11 @@ fn sync<L: Ledger>(mounted: &MountedDrives, drives: &mut MemoryDrives, blank: Bl
 }
 
 /// Mounts and syncs the drives of a machine file.
-fn mount(alloc: Global, file: &MachineFile, drives: &mut MemoryDrives) -> Ending
+fn mount<D: Drives>(alloc: Global, file: &MachineFile, drives: &mut D) -> Ending
     requires { IsMachine file.now }
 {
     match MountedDrives::mount(alloc, file.drives.as_slice(), drives) {
-        Ok(mounted) => sync::<Brand>(&mounted, drives, Blank::new(1)),
+        Ok(mounted) => sync::<D, Brand>(&mounted, drives, Blank::new(1)),
         Err(error) => Ending::Refused(error),
     }
 }
@@ -149,5 +148,65 @@ fn the_first_drive_that_cannot_be_mounted_is_told(rt: HostRuntime) -> Result<(),
     for (a, c, expected) in rows {
         assert_eq!(rt; ends(rt.alloc(), a, c, 0)?, expected);
     }
+    Ok(())
+}
+
+/// Drives of empty disks that never fail, and note the first four that are synced.
+#[derive(Clone, Copy)]
+struct Noting {
+    synced: [u8; 4],
+    count: usize,
+}
+
+impl Drives for Noting {
+    ghost use Rattle.std.specs.Prelude.{◌≡◌, ℕ, List, [], Option, Some, None, IfSome};
+    ghost use Rattle.std.proofs.Common.{subst};
+    ghost use Rattle.mpm_port.specs.Disks.{Disks};
+
+    ghost attached = { λ _ _. Some 256256 };
+
+    ghost disks = { λ _. None };
+
+    ghost faults = { λ _. 0 };
+
+    ghost failed_names = { λ _. [] };
+
+    ghost sizes = { λ _ _ _ _ told size. absurd (subst (λ (disks : Option Disks). IfSome disks (λ _. ⊥)) told tt) };
+
+    fn attach(&mut self, _drive: u8, _name: &str) -> Result<(), FetchError> {
+        Ok(())
+    }
+
+    fn size(&mut self, _drive: u8) -> Result<u64, Failed> {
+        Ok(256_256)
+    }
+
+    fn read(&mut self, _drive: u8, _sector: u32, out: &mut [u8; 128]) -> Result<(), Failed> {
+        *out = [0xE5; 128];
+        Ok(())
+    }
+
+    fn write(&mut self, _drive: u8, _sector: u32, _bytes: &[u8; 128]) -> Result<(), Failed> {
+        Ok(())
+    }
+
+    fn sync(&mut self, drive: u8) -> Result<(), Failed> {
+        if self.count < 4 {
+            self.synced[self.count] = drive;
+            self.count += 1;
+        }
+        Ok(())
+    }
+}
+
+#[test]
+fn each_drive_is_synced_once_by_letter(rt: HostRuntime) -> Result<(), Fail> {
+    let file = read_machine(rt.alloc(), TWO_DRIVES)?;
+    let mut drives = Noting {
+        synced: [0xFF; 4],
+        count: 0,
+    };
+    assert_eq!(rt; mount(rt.alloc(), &file, &mut drives), Ending::Synced);
+    assert_eq!(rt; drives.synced, [0, 2, 0xFF, 0xFF]);
     Ok(())
 }

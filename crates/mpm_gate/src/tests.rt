@@ -193,336 +193,283 @@ fn ranges(
     Ok(bytes)
 }
 
+/// What a call of a function takes, with a parameter, a DMA address and a multi-sector count of at most 16.
+fn called(banks: &Banks, seg: Seg, row: (u8, u16, u16, u8)) -> Call {
+    let (function, word, dma, multi) = row;
+    let mut call = Call::new();
+    if multi <= 16 {
+        call_of(&calling(function, word), banks, seg, dma, multi, &mut call);
+    }
+    call
+}
+
+/// Whether a call of a function with a parameter takes just these bytes.
+fn takes(banks: &Banks, function: u8, word: u16, bytes: &[u8]) -> bool {
+    called(banks, SEG, (function, word, DMA, 1)).taken() == bytes
+}
+
+/// How many bytes a call of a function with a parameter takes.
+fn length_taken(banks: &Banks, function: u8, word: u16) -> usize {
+    called(banks, SEG, (function, word, DMA, 1)).taken().len()
+}
+
+/// Whether a call is that of a function, with the parameter and the DMA address of the rows, these bytes and this file control
+/// block.
+fn is_call(call: &Call, function: u8, bytes: &[u8], block: &[u8]) -> bool {
+    call.function == function
+        && call.word == PARAMETER
+        && call.dma == DMA
+        && call.taken() == bytes
+        && call.fcb.as_slice() == block
+}
+
+/// Whether a function reads what its row names, over that memory, in which this is the file control block.
+fn is_read_by(
+    alloc: Global,
+    banks: &Banks,
+    row: (u8, bool, u16, u16, u16, u16),
+    block: &[u8],
+) -> Result<bool, AllocError> {
+    let (function, reads_block, first, size, second, count) = row;
+    let expected = ranges(alloc, banks, first, size, second, count)?;
+    let call = called(banks, SEG, (function, PARAMETER, DMA, 3));
+    let none: &[u8] = &[0; 36];
+    let read = if reads_block { block } else { none };
+    Ok(is_call(&call, function, expected.as_slice(), read))
+}
+
+/// The first function, if any, that reads something else than its row names.
+fn first_otherwise(alloc: Global, banks: &Banks) -> Result<Option<u8>, AllocError> {
+    let block = ranges(alloc, banks, PARAMETER, 36, 0, 0)?;
+    for row in ROWS {
+        if !is_read_by(alloc, banks, row, block.as_slice())? {
+            return Ok(Some(row.0));
+        }
+    }
+    Ok(None)
+}
+
+/// Whether a function that has no row reads nothing.
+fn reads_nothing(banks: &Banks, function: u8) -> bool {
+    let call = called(banks, SEG, (function, PARAMETER, DMA, 16));
+    is_call(&call, function, b"", &[0; 36])
+}
+
+/// Whether a function has a row.
+fn has_row(function: u8) -> bool {
+    ROWS.iter().any(|row| row.0 == function)
+}
+
+/// The first function, if any, that has no row and reads something.
+fn first_that_reads(banks: &Banks) -> Option<u8> {
+    for function in 0..=255u8 {
+        if !has_row(function) && !reads_nothing(banks, function) {
+            return Some(function);
+        }
+    }
+    None
+}
+
 #[test]
 fn each_function_reads_what_its_row_names(rt: HostRuntime) -> Result<(), AllocError> {
     let banks = patterned(rt.alloc())?;
-    let block = ranges(rt.alloc(), &banks, PARAMETER, 36, 0, 0)?;
-    let mut call = Call::new();
-    for (function, reads_block, first, size, second, count) in ROWS {
-        let regs = calling(function, PARAMETER);
-        call_of(&regs, &banks, SEG, DMA, 3, &mut call);
-        let expected = ranges(rt.alloc(), &banks, first, size, second, count)?;
-        assert_eq!(rt; call.function, function);
-        assert_eq!(rt; call.word, PARAMETER);
-        assert_eq!(rt; call.dma, DMA);
-        assert_eq!(rt; call.taken(), expected.as_slice(), "function {function}");
-        if reads_block {
-            assert_eq!(rt;
-                call.fcb.as_slice(),
-                block.as_slice(),
-                "function {function}"
-            );
-        } else {
-            assert_eq!(rt; call.fcb, [0; 36], "function {function}");
-        }
-    }
+    let first = first_otherwise(rt.alloc(), &banks)?;
+    let other = first_that_reads(&banks);
+    assert_eq!(rt; (first, other), (None, None));
     Ok(())
 }
 
-#[test]
-fn every_other_function_reads_nothing(rt: HostRuntime) -> Result<(), AllocError> {
-    let banks = patterned(rt.alloc())?;
-    let mut call = Call::new();
-    for function in 0..=255u8 {
-        if !ROWS.iter().any(|row| row.0 == function) {
-            call_of(
-                &calling(function, PARAMETER),
-                &banks,
-                SEG,
-                DMA,
-                16,
-                &mut call,
-            );
-            assert_eq!(rt; call.function, function);
-            assert_eq!(rt; call.taken().len(), 0, "function {function}");
-            assert_eq!(rt; call.fcb, [0; 36], "function {function}");
-        }
-    }
-    Ok(())
+/// Whether strings are taken up to a dollar sign, of at most 4096 bytes in a call.
+fn takes_strings(banks: &mut Banks) -> bool {
+    poke(banks, 0x0300, b"Hi$there$");
+    takes(banks, functions::PRINT_STRING, 0x0300, b"Hi")
+        && takes(banks, functions::PRINT_STRING, 0x0302, b"")
+        && length_taken(banks, functions::PRINT_STRING, 0x0309) == 4096
+        && length_taken(banks, functions::PRINT_STRING, 0xFFFF) == 0x0303
+}
+
+/// Whether a command ends at 00h or at CR, and has at most 128 bytes.
+fn takes_commands(banks: &mut Banks) -> bool {
+    poke(banks, PARAMETER, b"\x21\x01dir b:\rx");
+    poke(banks, DMA, b"ed x.y\0\r");
+    let sent = takes(
+        banks,
+        functions::SEND_CLI_COMMAND,
+        PARAMETER,
+        b"\x21\x01dir b:",
+    );
+    let chained = takes(banks, functions::CHAIN_TO_PROGRAM, PARAMETER, b"ed x.y");
+    poke(banks, DMA, &[b'$'; 200]);
+    let cut = takes(banks, functions::CHAIN_TO_PROGRAM, PARAMETER, &[b'$'; 128]);
+    sent && chained && cut
+}
+
+/// Whether descriptors are taken one behind the other with their names, at most 32 of them.
+fn takes_descriptors(banks: &mut Banks) -> bool {
+    poke(banks, 0x0500, b"\x00\x06\x00\xC8\xF0\x10Reader  \x01\x00");
+    poke(banks, 0x0600, b"\x00\x00\x00\xC9\xF8\x10Writer  \x02\x00");
+    poke(banks, 0x10F0, &[0x00, 0x07, 0, 0, 0, 0, 0, 0, 0x80, 0x07]);
+    let two = takes(
+        banks,
+        functions::CREATE_PROCESS,
+        0x0500,
+        b"\x00\x06\x00\xC8\xF0\x10Reader  \x01\x00\x00\x07\x00\x00\x00\xC9\xF8\x10Writer  \x02\x00\x80\x07",
+    );
+    poke(banks, 0x0500, b"\x00\x05");
+    two && length_taken(banks, functions::CREATE_PROCESS, 0x0500) == 32 * 18
 }
 
 #[test]
-fn a_string_has_at_most_4096_bytes_in_a_call(rt: HostRuntime) -> Result<(), AllocError> {
+fn what_ends_somewhere_is_taken_so_far(rt: HostRuntime) -> Result<(), AllocError> {
     let mut banks = memory(rt.alloc(), 0, 192)?;
-    let mut call = Call::new();
-    poke(&mut banks, 0x0300, b"Hi$there$");
-    call_of(
-        &calling(functions::PRINT_STRING, 0x0300),
-        &banks,
-        SEG,
-        DMA,
-        1,
-        &mut call,
-    );
-    assert_eq!(rt; call.taken(), b"Hi".as_slice());
-    call_of(
-        &calling(functions::PRINT_STRING, 0x0302),
-        &banks,
-        SEG,
-        DMA,
-        1,
-        &mut call,
-    );
-    assert_eq!(rt; call.taken().len(), 0);
-    call_of(
-        &calling(functions::PRINT_STRING, 0x0309),
-        &banks,
-        SEG,
-        DMA,
-        1,
-        &mut call,
-    );
-    assert_eq!(rt; call.taken().len(), 4096);
+    let strings = takes_strings(&mut banks);
+    let commands = takes_commands(&mut banks);
+    let descriptors = takes_descriptors(&mut banks);
+    assert_eq!(rt; (strings, commands, descriptors), (true, true, true));
     Ok(())
 }
 
-#[test]
-fn a_command_ends_at_00h_or_at_cr(rt: HostRuntime) -> Result<(), AllocError> {
-    let mut banks = memory(rt.alloc(), 0, 192)?;
-    let mut call = Call::new();
-    poke(&mut banks, PARAMETER, b"\x21\x01dir b:\rx");
-    call_of(
-        &calling(functions::SEND_CLI_COMMAND, PARAMETER),
-        &banks,
-        SEG,
-        DMA,
-        1,
-        &mut call,
-    );
-    assert_eq!(rt; call.taken(), b"\x21\x01dir b:".as_slice());
-    poke(&mut banks, DMA, b"ed x.y\0\r");
-    call_of(
-        &calling(functions::CHAIN_TO_PROGRAM, PARAMETER),
-        &banks,
-        SEG,
-        DMA,
-        1,
-        &mut call,
-    );
-    assert_eq!(rt; call.taken(), b"ed x.y".as_slice());
-    poke(&mut banks, DMA, &[b'$'; 200]);
-    call_of(
-        &calling(functions::CHAIN_TO_PROGRAM, PARAMETER),
-        &banks,
-        SEG,
-        DMA,
-        1,
-        &mut call,
-    );
-    assert_eq!(rt; call.taken(), [b'$'; 128].as_slice());
-    Ok(())
+/// Whether addresses go on from FFFFh to 0000h, for what is read and for the return address.
+fn goes_round(banks: &mut Banks) -> bool {
+    poke(banks, 0xFFFE, &[0x12, 0x34, 0x56, 0x78]);
+    let mut regs = calling(functions::RETURN_VERSION_NUMBER, 0);
+    regs.sp = 0xFFFF;
+    take_return(banks, SEG, &mut regs);
+    takes(
+        banks,
+        functions::SET_DATE_AND_TIME,
+        0xFFFE,
+        &[0x12, 0x34, 0x56, 0x78],
+    ) && banks.byte(SEG, 0x0001) == 0x78
+        && regs.pc == 0x5634
+        && regs.sp == 0x0001
 }
 
 #[test]
 fn addresses_go_on_from_the_last_to_the_first(rt: HostRuntime) -> Result<(), AllocError> {
     let mut banks = memory(rt.alloc(), 0, 192)?;
-    let mut call = Call::new();
-    poke(&mut banks, 0xFFFE, &[0x12, 0x34, 0x56, 0x78]);
-    call_of(
-        &calling(functions::SET_DATE_AND_TIME, 0xFFFE),
-        &banks,
-        SEG,
-        DMA,
-        1,
-        &mut call,
-    );
-    assert_eq!(rt; call.taken(), [0x12, 0x34, 0x56, 0x78].as_slice());
-    assert_eq!(rt; banks.byte(SEG, 0x0001), 0x78);
-    call_of(
-        &calling(functions::PRINT_STRING, 0xFFFF),
-        &banks,
-        SEG,
-        DMA,
-        1,
-        &mut call,
-    );
-    assert_eq!(rt; call.taken().len(), 4096);
-    let mut regs = calling(functions::RETURN_VERSION_NUMBER, 0);
-    regs.sp = 0xFFFF;
-    take_return(&banks, SEG, &mut regs);
-    assert_eq!(rt; (regs.pc, regs.sp), (0x5634, 0x0001));
+    let round = goes_round(&mut banks);
+    assert!(rt; round);
     Ok(())
 }
 
-#[test]
-fn an_address_without_memory_reads_ffh(rt: HostRuntime) -> Result<(), AllocError> {
-    let mut banks = memory(rt.alloc(), 0x40, 16)?;
-    let mut call = Call::new();
-    poke(&mut banks, 0x3FFE, &[1, 2, 3, 4]);
-    call_of(
-        &calling(functions::ABSOLUTE_MEMORY_REQUEST, 0x3FFE),
-        &banks,
-        SEG,
-        DMA,
-        1,
-        &mut call,
-    );
-    assert_eq!(rt; call.taken(), [0xFF, 0xFF, 3, 4].as_slice());
-    call_of(
-        &calling(functions::ABSOLUTE_MEMORY_REQUEST, 0x4FFF),
-        &banks,
-        SEG,
-        DMA,
-        1,
-        &mut call,
-    );
-    assert_eq!(rt; call.taken(), [0, 0xFF, 0xFF, 0xFF].as_slice());
-    call_of(
-        &calling(functions::SET_DEFAULT_PASSWORD, 0x4000),
-        &banks,
+/// Whether each address without memory reads FFh, before a segment, behind it, and in none.
+fn reads_ffh(banks: &mut Banks) -> bool {
+    poke(banks, 0x3FFE, &[1, 2, 3, 4]);
+    let password = called(
+        banks,
         Seg(1),
-        DMA,
-        1,
-        &mut call,
+        (functions::SET_DEFAULT_PASSWORD, 0x4000, DMA, 1),
     );
-    assert_eq!(rt; call.taken(), [0xFF; 8].as_slice());
-    Ok(())
+    takes(
+        banks,
+        functions::ABSOLUTE_MEMORY_REQUEST,
+        0x3FFE,
+        &[0xFF, 0xFF, 3, 4],
+    ) && takes(
+        banks,
+        functions::ABSOLUTE_MEMORY_REQUEST,
+        0x4FFF,
+        &[0, 0xFF, 0xFF, 0xFF],
+    ) && password.taken() == [0xFF; 8].as_slice()
+}
+
+/// Whether bytes that are placed where no memory is are lost, and the others are placed.
+fn loses_bytes(banks: &mut Banks) -> bool {
+    let mut regs = calling(functions::GET_DATE_TIME_AND_SECOND, 0x3FFF);
+    let mut reply = Reply::new();
+    reply.answer_with(0, 0x4FFF, &[7, 2, 3]);
+    put_reply(&reply, 0x4FFF, banks, SEG, &mut regs);
+    let last = (banks.byte(SEG, 0x4FFF), banks.byte(SEG, 0x5000));
+    reply.answer_with(0, 0xFFFF, &[7, 8]);
+    put_reply(&reply, 0x3FFF, banks, SEG, &mut regs);
+    let round = (banks.byte(SEG, 0xFFFF), banks.byte(SEG, 0x0000));
+    last == (7, 0xFF) && round == (7, 0xFF)
 }
 
 #[test]
-fn a_chain_of_two_descriptors(rt: HostRuntime) -> Result<(), AllocError> {
-    let mut banks = memory(rt.alloc(), 0, 192)?;
-    let mut call = Call::new();
-    poke(
-        &mut banks,
-        0x0500,
-        b"\x00\x06\x00\xC8\xF0\x10Reader  \x01\x00",
-    );
-    poke(
-        &mut banks,
-        0x0600,
-        b"\x00\x00\x00\xC9\xF8\x10Writer  \x02\x00",
-    );
-    poke(
-        &mut banks,
-        0x10F0,
-        &[0x00, 0x07, 0, 0, 0, 0, 0, 0, 0x80, 0x07],
-    );
-    call_of(
-        &calling(functions::CREATE_PROCESS, 0x0500),
-        &banks,
-        SEG,
-        DMA,
-        1,
-        &mut call,
-    );
-    assert_eq!(rt;
-        call.taken(),
-        b"\x00\x06\x00\xC8\xF0\x10Reader  \x01\x00\x00\x07\x00\x00\x00\xC9\xF8\x10Writer  \x02\x00\x80\x07".as_slice()
-    );
+fn an_address_without_memory_reads_ffh_and_keeps_nothing(
+    rt: HostRuntime,
+) -> Result<(), AllocError> {
+    let mut banks = memory(rt.alloc(), 0x40, 16)?;
+    let read = reads_ffh(&mut banks);
+    let lost = loses_bytes(&mut banks);
+    assert_eq!(rt; (read, lost), (true, true));
     Ok(())
 }
 
-#[test]
-fn a_chain_that_never_ends_gives_32_descriptors(rt: HostRuntime) -> Result<(), AllocError> {
-    let mut banks = memory(rt.alloc(), 0, 192)?;
-    let mut call = Call::new();
-    poke(
-        &mut banks,
-        0x0500,
-        b"\x00\x05\x00\xC8\xF0\x10Reader  \x01\x00",
-    );
-    call_of(
-        &calling(functions::CREATE_PROCESS, 0x0500),
-        &banks,
-        SEG,
-        DMA,
-        1,
-        &mut call,
-    );
-    assert_eq!(rt; call.taken().len(), 32 * 18);
-    Ok(())
+/// Whether a file control block and a record that overlap are both taken whole.
+fn takes_both(alloc: Global, banks: &Banks) -> Result<bool, AllocError> {
+    let block = ranges(alloc, banks, 0x1000, 36, 0, 0)?;
+    let record = ranges(alloc, banks, 0x1010, 128, 0, 0)?;
+    let call = called(banks, SEG, (functions::WRITE_SEQUENTIAL, 0x1000, 0x1010, 1));
+    Ok(call.fcb.as_slice() == block.as_slice() && call.taken() == record.as_slice())
 }
 
 #[test]
 fn a_block_and_a_record_that_overlap(rt: HostRuntime) -> Result<(), AllocError> {
     let banks = patterned(rt.alloc())?;
-    let mut call = Call::new();
-    call_of(
-        &calling(functions::WRITE_SEQUENTIAL, 0x1000),
-        &banks,
-        SEG,
-        0x1010,
-        1,
-        &mut call,
-    );
-    let block = ranges(rt.alloc(), &banks, 0x1000, 36, 0, 0)?;
-    let record = ranges(rt.alloc(), &banks, 0x1010, 128, 0, 0)?;
-    assert_eq!(rt; call.fcb.as_slice(), block.as_slice());
-    assert_eq!(rt; call.taken(), record.as_slice());
+    let both = takes_both(rt.alloc(), &banks)?;
+    assert!(rt; both);
     Ok(())
 }
 
-#[test]
-fn the_return_address_comes_from_the_stack(rt: HostRuntime) -> Result<(), AllocError> {
-    let mut banks = memory(rt.alloc(), 0, 192)?;
-    poke(&mut banks, 0xBFFE, &[0x34, 0x12]);
+/// Whether the return address comes from the stack.
+fn returns(banks: &mut Banks) -> bool {
+    poke(banks, 0xBFFE, &[0x34, 0x12]);
     let mut regs = calling(functions::RETURN_VERSION_NUMBER, 0x0777);
-    take_return(&banks, SEG, &mut regs);
-    assert_eq!(rt;
-        regs,
-        Regs {
-            pc: 0x1234,
-            sp: 0xC000,
-            shadow: false,
-            ..calling(functions::RETURN_VERSION_NUMBER, 0x0777)
-        }
-    );
-    Ok(())
+    take_return(banks, SEG, &mut regs);
+    let expected = Regs {
+        pc: 0x1234,
+        sp: 0xC000,
+        shadow: false,
+        ..calling(functions::RETURN_VERSION_NUMBER, 0x0777)
+    };
+    regs == expected
 }
 
-#[test]
-fn an_answer_is_in_hl_a_and_b(rt: HostRuntime) -> Result<(), AllocError> {
-    let mut banks = memory(rt.alloc(), 0, 192)?;
+/// Whether an answer is in HL, A and B, and nothing else is changed.
+fn answers(banks: &mut Banks) -> bool {
     let mut regs = calling(functions::RETURN_VERSION_NUMBER, 0x0777);
     let mut reply = Reply::new();
     reply.answer(0x0130);
-    put_reply(&reply, 0x0777, &mut banks, SEG, &mut regs);
-    assert_eq!(rt;
-        regs,
-        Regs {
-            h: 0x01,
-            l: 0x30,
-            a: 0x30,
-            b: 0x01,
-            ..calling(functions::RETURN_VERSION_NUMBER, 0x0777)
-        }
-    );
-    assert_eq!(rt; banks.byte(SEG, 0x0777), 0);
-    Ok(())
+    put_reply(&reply, 0x0777, banks, SEG, &mut regs);
+    let expected = Regs {
+        h: 0x01,
+        l: 0x30,
+        a: 0x30,
+        b: 0x01,
+        ..calling(functions::RETURN_VERSION_NUMBER, 0x0777)
+    };
+    regs == expected && banks.byte(SEG, 0x0777) == 0
 }
 
-#[test]
-fn bytes_stand_over_the_block(rt: HostRuntime) -> Result<(), AllocError> {
-    let mut banks = memory(rt.alloc(), 0, 192)?;
+/// Places a block of EEh at 0200h and bytes over it.
+fn place_both(banks: &mut Banks) {
     let mut regs = calling(functions::READ_SEQUENTIAL, 0x0200);
     let mut reply = Reply::new();
     reply.answer_with(0, 0x0220, &[1, 2, 3, 4, 5, 6]);
     reply.has_fcb = true;
     reply.fcb = [0xEE; 36];
-    put_reply(&reply, 0x0200, &mut banks, SEG, &mut regs);
-    let written = ranges(rt.alloc(), &banks, 0x01FF, 41, 0, 0)?;
+    put_reply(&reply, 0x0200, banks, SEG, &mut regs);
+}
+
+/// Whether bytes stand over the block.
+fn stand_over(alloc: Global, banks: &Banks) -> Result<bool, AllocError> {
+    let written = ranges(alloc, banks, 0x01FF, 41, 0, 0)?;
     let mut expected = [0xEE; 41];
     expected[0] = 0;
     expected[33..].copy_from_slice(&[1, 2, 3, 4, 5, 6, 0, 0]);
-    assert_eq!(rt; written.as_slice(), expected.as_slice());
-    Ok(())
+    Ok(written.as_slice() == expected.as_slice())
 }
 
 #[test]
-fn bytes_without_memory_are_lost(rt: HostRuntime) -> Result<(), AllocError> {
-    let mut banks = memory(rt.alloc(), 0x40, 16)?;
-    let mut regs = calling(functions::GET_DATE_TIME_AND_SECOND, 0x3FFF);
-    let mut reply = Reply::new();
-    reply.answer_with(0, 0x3FFF, &[1, 2, 3]);
-    put_reply(&reply, 0x3FFF, &mut banks, SEG, &mut regs);
-    assert_eq!(rt; banks.byte(SEG, 0x3FFF), 0xFF);
-    assert_eq!(rt; (banks.byte(SEG, 0x4000), banks.byte(SEG, 0x4001)), (2, 3));
-    reply.answer_with(0, 0xFFFF, &[7, 8]);
-    put_reply(&reply, 0x3FFF, &mut banks, SEG, &mut regs);
-    assert_eq!(rt;
-        (banks.byte(SEG, 0xFFFF), banks.byte(SEG, 0x0000)),
-        (7, 0xFF)
-    );
+fn a_reply_is_placed(rt: HostRuntime) -> Result<(), AllocError> {
+    let mut banks = memory(rt.alloc(), 0, 192)?;
+    let returned = returns(&mut banks);
+    let answered = answers(&mut banks);
+    place_both(&mut banks);
+    let over = stand_over(rt.alloc(), &banks)?;
+    assert_eq!(rt; (returned, answered, over), (true, true, true));
     Ok(())
 }

@@ -19,6 +19,3 @@ pub use kernel::Kernel;
 pub use mpm_line_input::Echo;
 pub use mpm_procs::NoSlot;
 pub use std::alloc::AllocError as OutOfMemory;
-
-#[cfg(test)]
-mod tests;

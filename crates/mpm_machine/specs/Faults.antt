@@ -40,3 +40,8 @@ EndsBy DiskFault written first from to = written ≡ appended first from
 abbrev pub OnDiskFault : StepFault → Type 0 → Type 0
 OnDiskFault WriteFault P = ⊤
 OnDiskFault DiskFault P = P
+
+-- what is so where the sink failed
+abbrev pub OnWriteFault : StepFault → Type 0 → Type 0
+OnWriteFault WriteFault P = P
+OnWriteFault DiskFault P = ⊤

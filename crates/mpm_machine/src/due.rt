@@ -119,6 +119,3 @@ impl System {
         false
     }
 }
-
-#[cfg(test)]
-mod tests;

@@ -130,6 +130,3 @@ impl System {
         }
     }
 }
-
-#[cfg(test)]
-mod tests;

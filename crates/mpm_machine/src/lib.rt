@@ -10,8 +10,6 @@ mod machine;
 mod opening;
 mod procedures;
 mod residing;
-#[cfg(test)]
-mod scenes;
 mod system;
 
 pub use machine::{Machine, RunFault, StepFault};

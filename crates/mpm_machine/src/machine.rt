@@ -52,10 +52,10 @@ impl Machine {
     ghost use Rattle.mpm_machine_file.specs.MachineFiles.{IsMachine};
     ghost use Rattle.mpm_mount.specs.Mounting.{SameDrives};
     ghost use Rattle.mpm_drives.specs.Images.{image_named};
-    ghost use Rattle.mpm_drives.specs.Mounted.{AreMounted, AreAttached};
+    ghost use Rattle.mpm_drives.specs.Mounted.{AreMounted, AreAttached, SameBeside};
     ghost use Rattle.mpm_drives.specs.Stopping.{Stops};
     ghost use Rattle.mpm_machine.specs.State.{State, StandsFor, StandsWithDrives, IsWhole};
-    ghost use Rattle.mpm_machine.specs.Faults.{counts, HaveCause, itself, of_run, EndsBy, OnDiskFault};
+    ghost use Rattle.mpm_machine.specs.Faults.{counts, HaveCause, itself, of_run, EndsBy, OnDiskFault, OnWriteFault};
     ghost use Rattle.mpm_machine.specs.Due.{NobodyDue};
     ghost use Rattle.mpm_machine.specs.Slots.{HasResidents};
     ghost use Rattle.mpm_machine.specs.Opening.{booted, opened, IsBare, MayPlace, with_placed, opening_system, command_queue, with_residents};
@@ -66,7 +66,7 @@ impl Machine {
 
     /// The machine of a machine file, and of its script's events, as it is run: the command queue, the command line
     /// interpreter, and a terminal message processor for each console. Its drives are attached to their images and mounted,
-    /// one after another in order of their letters; no image changes.
+    /// one after another in order of their letters; no image changes, and no other drive.
     ///
     /// # Errors
     /// `BootError::Image` comes exactly where that drive is the first whose image has a fault, `BootError::DiskFault` only
@@ -90,6 +90,7 @@ impl Machine {
             (record { faults = D.faults drives.old; names = D.failed_names drives.old })
             (record { faults = D.faults drives.new; names = D.failed_names drives.new }) error) }
         ensures images { (name : List ℕ) → image_named (D.disks drives.new) name ≡ image_named (D.disks drives.old) name }
+        ensures beside { SameBeside file.now.drives (D.attached drives.old) (D.attached drives.new) (D.disks drives.old) (D.disks drives.new) }
         ensures none { file.now.drives ≡ [] → drives.new ≡ drives.old }
     {
         let mut machine = match Machine::boot_bare(alloc, file, script, drives) {
@@ -142,6 +143,7 @@ impl Machine {
             (record { faults = D.faults drives.old; names = D.failed_names drives.old })
             (record { faults = D.faults drives.new; names = D.failed_names drives.new }) error) }
         ensures images { (name : List ℕ) → image_named (D.disks drives.new) name ≡ image_named (D.disks drives.old) name }
+        ensures beside { SameBeside file.now.drives (D.attached drives.old) (D.attached drives.new) (D.disks drives.old) (D.disks drives.new) }
         ensures none { file.now.drives ≡ [] → drives.new ≡ drives.old }
     {
         let mounted = match MountedDrives::mount(alloc, file.drives.as_slice(), drives) {
@@ -430,8 +432,10 @@ impl Machine {
         ensures unwritten { IfErr result (λ fault. OnDiskFault fault ((render.new ≡ render.old) × (sink.new ≡ sink.old))) }
         ensures some { IfErr result (λ fault. OnDiskFault fault (0 < length self.old.drives)) }
 
-        // Each drive is called once at most, and its image stays as it was.
+        // Each drive is called once, or up to the first that fails, and its image stays as it was.
         ensures device_calls { steps.new ≤ steps.old + length self.old.drives }
+        ensures synced { OnOk result (steps.new ≡ steps.old + length self.old.drives) }
+        ensures synced_first { IfErr result (λ fault. OnWriteFault fault (steps.new ≡ steps.old + length self.old.drives)) }
         ensures drives { SameDrives D.attached D.disks D.failed_names drives.old drives.new }
         ensures none { self.old.drives ≡ [] → drives.new ≡ drives.old }
     {
@@ -444,6 +448,3 @@ impl Machine {
         }
     }
 }
-
-#[cfg(test)]
-mod tests;

@@ -268,6 +268,3 @@ pub(crate) fn begin(kernel: &mut Kernel, new: NewProcess) -> Pid
         Err(NoSlot) => unreachable!(),
     }
 }
-
-#[cfg(test)]
-mod tests;

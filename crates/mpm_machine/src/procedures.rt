@@ -63,6 +63,3 @@ fn is_entry(call: &Call, reply: &Reply) -> bool
 {
     call.function == functions::CALL_RESIDENT_SYSTEM_PROCEDURE && reply.hl == 0
 }
-
-#[cfg(test)]
-mod tests;

@@ -111,6 +111,3 @@ impl System {
         self.speak_byte(p, render, sink)
     }
 }
-
-#[cfg(test)]
-mod tests;

@@ -106,7 +106,7 @@ first_step : {X : Type 0} (b : Bool) (y x : X) (rest : List X) (o : Option X) �
 first_step true y x rest o is so = (rest, ap (λ z. z ∷ rest) (same_Some y x is))
 first_step false y x rest o is so = so is
 
-first_filtered : {X : Type 0} (p : X → Bool) (xs : List X) (x : X) → lists.find p xs ≡ Some x → (more : List X) × (filter p xs ≡ x ∷ more)
+pub first_filtered : {X : Type 0} (p : X → Bool) (xs : List X) (x : X) → lists.find p xs ≡ Some x → (more : List X) × (filter p xs ≡ x ∷ more)
 first_filtered p [] x is = absurd (false≢true (ap is_some is))
 first_filtered p (y ∷ ys) x is = first_step (p y) y x (filter p ys) (lists.find p ys) is (first_filtered p ys x)
 
@@ -114,12 +114,12 @@ none_step : {X : Type 0} (b : Bool) (y : X) (rest : List X) (o : Option X) → c
 none_step true y rest o is so = absurd (true≢false (ap is_some is))
 none_step false y rest o is so = so is
 
-none_filtered : {X : Type 0} (p : X → Bool) (xs : List X) → lists.find p xs ≡ None → filter p xs ≡ []
+pub none_filtered : {X : Type 0} (p : X → Bool) (xs : List X) → lists.find p xs ≡ None → filter p xs ≡ []
 none_filtered p [] is = refl
 none_filtered p (y ∷ ys) is = none_step (p y) y (filter p ys) (lists.find p ys) is (none_filtered p ys)
 
 -- the entries of a file are those that a search for its name seeks
-extents_sought : (image : List ℕ) (d : Directory) (files : Drive) (user : ℕ) (pattern : List ℕ) → Stands image d files → IsUnambiguous pattern
+pub extents_sought : (image : List ℕ) (d : Directory) (files : Drive) (user : ℕ) (pattern : List ℕ) → Stands image d files → IsUnambiguous pattern
     → filter (is_sought_pair (search_of d.kind user pattern None)) (entries files.extents) ≡ extents_of files (record { user = user; name = plain pattern })
 unfolding extents_of is_entry_of
 extents_sought image d files user pattern stands one =

@@ -71,6 +71,12 @@ free_entries_in d = count_by is_free d.entries
 abbrev pub others : {X : Type 0} → List X → ℕ → List X
 others entries slot = take slot entries ++ drop (suc slot) entries
 
+-- a directory of a kind: all slots, no fault, and entries that can be written
+pub record IsDirectory (kind : Kind) (entries : List Entry) : Type 0 where
+  pub full : length entries ≡ (geometry_of kind).drm + 1
+  pub faultless : first_fault kind entries ≡ None
+  pub proper : All (IsProper (geometry_of kind).wide) entries
+
 -- what a directory keeps of itself: all slots, no fault, entries that can be written, and which blocks are used
 pub record IsKept (kind : Kind) (entries : List Entry) (blocks : Blocks) : Type 0 where
   pub full : length entries ≡ (geometry_of kind).drm + 1

@@ -2,7 +2,7 @@
 use Rattle.std.specs.Prelude.{◌≡◌, ℕ, ◌+◌, ◌*◌, ◌<◌, List, Option, Some, Result, Ok, Err, ⊤}
 use Rattle.mpm_base.specs.declared.kind.Kind.{Kind}
 use Rattle.mpm_blocks.specs.Geometries.{geometry_of}
-use Rattle.mpm_blocks.specs.Sectors.{sectors_of}
+use Rattle.mpm_blocks.specs.Sectors.{Sectors, sectors_of}
 use Rattle.mpm_dirent.specs.declared.kinds.Entry.{Entry}
 use Rattle.mpm_port.specs.Causes.{Rose}
 use Rattle.mpm_port.specs.Disks.{Disks, SameDisks, Told}
@@ -11,7 +11,7 @@ use Rattle.mpm_mount.specs.declared.errors.MountError.TheVariants.{Image, DiskFa
 use Rattle.mpm_mount.specs.Drives.{Drive}
 use Rattle.mpm_mount.specs.Faults.{first_fault}
 use Rattle.mpm_mount.specs.Images.{drive_of, files_of}
-use Rattle.mpm_mount.specs.Directories.{Directory, Stands}
+use Rattle.mpm_mount.specs.Directories.{Directory, IsDirectory, Stands}
 
 -- the device is as it was, but for its count
 pub record SameDrives {D : Type 0} (attached : D → ℕ → Option ℕ) (disks : D → Option Disks) (names : D → List (List ℕ)) (old new : D) : Type 0 where
@@ -38,6 +38,12 @@ IsImageFault image kind (Image cause place) = files_of image kind ≡ Err (recor
 IsImageFault image kind DiskFault = ⊤
 IsImageFault image kind OutOfMemory = ⊤
 
+-- an image is of another size than its kind's
+abbrev pub IsOfOtherSize : MountError → Type 0
+IsOfOtherSize (Image cause place) = (cause ≡ 1) × (place ≡ 0)
+IsOfOtherSize DiskFault = ⊤
+IsOfOtherSize OutOfMemory = ⊤
+
 -- the drive that a directory in memory and an image stand for
 abbrev pub drive_in : List ℕ → Directory → Drive
 drive_in image d = drive_of (sectors_of image d.kind) d.kind d.entries
@@ -46,6 +52,13 @@ drive_in image d = drive_of (sectors_of image d.kind) d.kind d.entries
 pub record IsMounted (image : List ℕ) (kind : Kind) (d : Directory) : Type 0 where
   pub stands : Stands image d (drive_in image d)
   pub files : files_of image kind ≡ Ok (drive_in image d)
+
+-- files that some directory of a kind has, without a fault, by what some sectors hold
+pub record AreOfDirectory (kind : Kind) (files : Drive) : Type 0 where
+  pub sectors : Sectors
+  pub entries : List Entry
+  pub directory : IsDirectory kind entries
+  pub are : files ≡ drive_of sectors kind entries
 
 -- no fault of an image
 abbrev pub IsDevice : MountError → Type 0

@@ -3,8 +3,9 @@ ghost use Rattle.std.specs.List.{All};
 ghost use Rattle.mpm_blocks.specs.Geometries.{geometry_of};
 ghost use Rattle.mpm_blocks.specs.Sectors.{told_image};
 ghost use Rattle.mpm_dirent.specs.Proper.{IsProper};
+ghost use Rattle.mpm_mount.specs.Directories.{IsDirectory};
 ghost use Rattle.mpm_mount.specs.Faults as faults;
-ghost use Rattle.mpm_mount.specs.Mounting.{SameDrives, Counts, IsFault, IsImageFault, IsMounted};
+ghost use Rattle.mpm_mount.specs.Mounting.{SameDrives, Counts, IsFault, IsImageFault, IsOfOtherSize, IsMounted};
 
 use crate::directory::Mounted;
 use crate::errors::MountError;
@@ -30,6 +31,9 @@ pub fn mount<D: Drives>(
     ensures ok { IfOk result (λ mounted. IfSome (told_image (D.disks drives.old) drive) (λ image. IsMounted image kind mounted)) }
     ensures drive { IfOk result (λ mounted. mounted.drive ≡ drive) }
     ensures kind { IfOk result (λ mounted. mounted.kind ≡ kind) }
+    ensures directory { IfOk result (λ mounted. IsDirectory kind mounted.entries) }
+    ensures size { OnOk result (D.attached drives.old drive ≡ Some (geometry_of kind).bytes) }
+    ensures other_size { (D.attached drives.old drive ≡ Some (geometry_of kind).bytes → ⊥) → IfErr result IsOfOtherSize }
     ensures err { IfErr result (λ error. IfSome (told_image (D.disks drives.old) drive) (λ image. IsImageFault image kind error)) }
     ensures count { Counts (D.faults drives.old) (D.faults drives.new) result }
     ensures same { SameDrives D.attached D.disks D.failed_names drives.old drives.new }
@@ -48,6 +52,7 @@ pub fn mount<D: Drives>(
 fn check_size<D: Drives>(drives: &mut D, drive: u8, kind: Kind) -> Result<(), MountError>
     requires { IsSome (D.attached drives.old drive) }
     ensures size { OnOk result (D.attached drives.old drive ≡ Some (geometry_of kind).bytes) }
+    ensures other_size { IfErr result IsOfOtherSize }
     ensures err { IfErr result (λ error. IfSome (told_image (D.disks drives.old) drive) (λ image. IsImageFault image kind error)) }
     ensures count { Counts (D.faults drives.old) (D.faults drives.new) result }
     ensures same { SameDrives D.attached D.disks D.failed_names drives.old drives.new }
@@ -65,6 +70,7 @@ fn checked(alloc: Global, drive: u8, kind: Kind, entries: Vec<Entry>) -> Result<
     requires proper { All (IsProper (geometry_of kind).wide) entries.items }
     ensures ok { IfOk result (λ mounted. mounted ≡ record { drive = drive; kind = kind; entries = entries.items }) }
     ensures faultless { OnOk result (faults.first_fault kind entries.items ≡ None) }
+    ensures directory { IfOk result (λ mounted. IsDirectory kind mounted.entries) }
     ensures err { IfErr result (IsFault kind entries.items) }
 {
     let mut blocks = match BlockMap::new(alloc, kind) {

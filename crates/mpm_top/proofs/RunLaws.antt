@@ -105,16 +105,17 @@ same_after attached disks names a b c same drives = subst (λ d. SameDrives atta
 
 ends_stopped : (host : Host) (form : Form) (name : List ℕ) (s : State) (old new : Failed) (fault : StepFault) (step sink sink' : ℕ) → Begins host form name s
     → OnDiskFault fault (0 < length s.drives) → Causes fault (record { sink = sink; drives = old.drives.faults }) (record { sink = sink'; drives = new.drives.faults })
-    → Ends host form name old new (ended_by fault step)
-ends_stopped host form name s old new SinkFailed step sink sink' begins some causes = inr (s, begins)
-ends_stopped host form name s old new SyncFailed step sink sink' begins some causes =
-    inr (inr (record { start = s; begins = begins; some = some; rose = causes }))
+    → new.drives.names ≡ old.drives.names → Ends host form name old new (ended_by fault step)
+ends_stopped host form name s old new SinkFailed step sink sink' begins some causes names = inr (s, begins)
+ends_stopped host form name s old new SyncFailed step sink sink' begins some causes names =
+    inr (inr (record { start = s; begins = begins; some = some; rose = causes; names = names }))
 
 pub ends_by_fault : (host : Host) (form : Form) (name : List ℕ) (s : State) (old new : Failed) (fault : StepFault) (step sink sink' : ℕ) (status : Status)
     → status ≡ ended_by fault step → Begins host form name s → OnDiskFault fault (0 < length s.drives)
-    → Causes fault (record { sink = sink; drives = old.drives.faults }) (record { sink = sink'; drives = new.drives.faults }) → Ends host form name old new status
-ends_by_fault host form name s old new fault step sink sink' status is begins some causes =
-    subst (λ (t : Status). Ends host form name old new t) (sym is) (ends_stopped host form name s old new fault step sink sink' begins some causes)
+    → Causes fault (record { sink = sink; drives = old.drives.faults }) (record { sink = sink'; drives = new.drives.faults })
+    → new.drives.names ≡ old.drives.names → Ends host form name old new status
+ends_by_fault host form name s old new fault step sink sink' status is begins some causes names =
+    subst (λ (t : Status). Ends host form name old new t) (sym is) (ends_stopped host form name s old new fault step sink sink' begins some causes names)
 
 -- its text
 

@@ -211,12 +211,13 @@ pub record LacksDrive (host : Host) (form : Form) (Of : List ℕ → Type 0) (ol
   pub is : system_of form bytes events ≡ Some system
   pub stops : Stops host.images (drives_listed form bytes) old.drives new.drives error
 
--- it began, and one of its drives failed later
+-- it began, and one of its drives failed later, which adds no failed name
 pub record LosesDrive (host : Host) (form : Form) (Of : List ℕ → Type 0) (old new : Failed) : Type 0 where
   pub start : State
   pub begins : BeginsOf host form Of start
   pub some : 0 < length start.drives
   pub rose : Rose old.drives.faults new.drives.faults
+  pub names : new.drives.names ≡ old.drives.names
 
 -- how such a command ends
 abbrev pub EndsAfter : Host → Form → (List ℕ → Type 0) → Failed → Failed → Status → Type 0

@@ -8,8 +8,3 @@ mod words;
 
 pub use run::run_words;
 pub use status::{Input, Status};
-
-#[cfg(test)]
-mod drive_tests;
-#[cfg(test)]
-mod tests;

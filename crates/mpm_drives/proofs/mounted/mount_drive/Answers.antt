@@ -7,8 +7,8 @@ use Rattle.mpm_drives.proofs.mounted.mount_drive.Goals as goal
 pub returns-in-Ok-mount-clause-mounted : goal.returns-in-Ok-mount-clause-mounted
 returns-in-Ok-mount-clause-mounted g c =
     mounted_as (g.D.Drives.attached c.attach.new.self) _ _ _ _ c.args.spec.now c.as_str.result.now _ c.in-Ok-mount.mounted c.as_str.ensures
-    c.in-Ok.ensures.disks c.in-Ok.ensures.here c.in-Ok-mount.ensures.same.drives c.in-Ok-mount.ensures.same.images
-    c.in-Ok-mount.ensures.drive c.in-Ok-mount.ensures.kind c.in-Ok-mount.ensures.ok
+    c.in-Ok.ensures.disks c.in-Ok-mount.ensures.size c.in-Ok-mount.ensures.same.drives c.in-Ok-mount.ensures.same.images
+    c.in-Ok-mount.ensures.drive c.in-Ok-mount.ensures.kind c.in-Ok-mount.ensures.directory c.in-Ok-mount.ensures.ok
 
 pub returns-in-Ok-mount-clause-only : goal.returns-in-Ok-mount-clause-only
 returns-in-Ok-mount-clause-only g c =

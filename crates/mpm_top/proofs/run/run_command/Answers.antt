@@ -38,6 +38,7 @@ returns-in-Ok-clause-reason g c =
     fault c.in-Err-run_to_end.error.step (g.S.Sink.faults c.args.sink.now) (g.S.Sink.faults c.run_to_end.new.sink) c.stopped.result c.stopped.ensures
     c.in-Ok.ensures.begins (subst P (sym (length_drives_on disks c.in-Ok.machine.drives)) c.in-Err-run_to_end.ensures.some)
     (subst Q c.in-Ok.ensures.drive_faults c.in-Err-run_to_end.ensures.cause)
+    (c.in-Err-run_to_end.ensures.drives.failed ∙ c.in-Ok.ensures.drive_names)
 
 pub returns-in-Ok-clause-disk_text : goal.returns-in-Ok-clause-disk_text
 returns-in-Ok-clause-disk_text g c step is =

@@ -1,4 +1,4 @@
-use Rattle.std.proofs.Common.{rules, ◌≡◌, ◌∙◌, ◌+◌, ◌++◌, ◌∷◌, [], ℕ, List, take, drop, sym, subst, arith}
+use Rattle.std.proofs.Common.{rules, ◌≡◌, ◌∙◌, ◌+◌, ◌++◌, ◌∷◌, [], List, take, drop, sym, subst, arith}
 use Rattle.std.proofs.lemmas.Grind.{common_steps}
 use Rattle.std.proofs.lemmas.List.Elements.{recursion_from_All}
 use Rattle.mpm_machine_file.specs.declared.lists.DriveSpec.{DriveSpec}
@@ -6,7 +6,7 @@ use Rattle.mpm_machine_file.specs.MachineFiles.{IsDrive}
 use Rattle.mpm_mount.specs.Directories.{Directory}
 use Rattle.mpm_drives.specs.Images.{image_named}
 use Rattle.mpm_drives.specs.Mounted.{number_of, AreMounted}
-use Rattle.mpm_drives.proofs.Mounting.{others_differ, mounted_kept, mounted_more, mounted_by, stops_from, stops_at, failures_same, taken_more, parted}
+use Rattle.mpm_drives.proofs.Mounting.{beside_more, others_differ, mounted_kept, mounted_more, mounted_by, stops_from, stops_at, failures_same, taken_more, parted}
 use Rattle.mpm_drives.proofs.mounted.MountedDrives.mount.Goals as goal
 
 pub returns-in-Err-clause-err : goal.returns-in-Err-clause-err
@@ -36,6 +36,7 @@ loop-spec-preserved g c =
     let P : List DriveSpec → Type 0 = λ front. AreMounted a x images front c.push.new.self.items in
     let Q : List Directory → Type 0 = λ ds. AreMounted a x images (take i specs ++ (spec ∷ [])) ds in
     record {
+      beside = beside_more specs (take i specs) spec (drop (i + 1) specs) _ _ a _ _ x parts c.loop-spec.invariant.beside c.in-Ok.ensures.only;
       mounted = subst P (sym (taken_more specs i spec (omega arith) c.spec-item.is)) (subst Q (sym pushed) (mounted_more a x images (take i specs) items spec c.in-Ok.mounted before here));
       none = λ nothing. absurd (omega (arith, nothing));
       count = c.in-Ok.ensures.count ∙ c.loop-spec.invariant.count;

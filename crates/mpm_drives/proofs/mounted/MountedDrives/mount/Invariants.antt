@@ -1,11 +1,12 @@
 use Rattle.std.proofs.Common.{◌≡◌, ℕ, List, take}
 use Rattle.mpm_drives.specs.Images.{image_named}
-use Rattle.mpm_drives.specs.Mounted.{AreMounted}
+use Rattle.mpm_drives.specs.Mounted.{AreMounted, SameBeside}
 use Rattle.mpm_drives.proofs.mounted.MountedDrives.mount.Given as goal
 
 abbrev pub invariant-loop-spec : goal.invariant-loop-spec
 invariant-loop-spec g l = record {
   mounted : AreMounted (g.D.Drives.attached l.drives) (g.D.Drives.disks l.drives) (image_named (g.D.Drives.disks l.initial.drives)) (take l.spec-index l.specs) l.items.items;
+  beside : SameBeside l.specs (g.D.Drives.attached l.initial.drives) (g.D.Drives.attached l.drives) (g.D.Drives.disks l.initial.drives) (g.D.Drives.disks l.drives);
   none : l.spec-index ≡ 0 → l.drives ≡ l.initial.drives;
   count : g.D.Drives.faults l.drives ≡ g.D.Drives.faults l.initial.drives;
   names : g.D.Drives.failed_names l.drives ≡ g.D.Drives.failed_names l.initial.drives;
