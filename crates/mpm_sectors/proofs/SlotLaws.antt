@@ -56,3 +56,24 @@ over_back wide old bytes (Xfcb x) h k is back proper =
 over_back wide old bytes (Label l) h k is back proper =
     let sort : get_or bytes 0 0 ≡ 32 = ap (λ b. get_or b 0 0) is in
     ap (λ b. entry_of (with_reserved old b) wide) (sym is) ∙ label_kept wide (is_extended (slice_index old 0)) old bytes h k sort ∙ back
+
+-- and it has as many bytes
+two_long : (old bytes : List ℕ) → length old ≡ 32 → length bytes ≡ 32 → length (kept_two old bytes) ≡ 32
+two_long old bytes h k =
+    let P : List ℕ → List ℕ → Type 0 = λ o b. length (kept_two o b) ≡ 32 in
+    subst (λ o. P o bytes) (spread_is old 32 h) (subst (λ b. P (spread old 32) b) (spread_is bytes 32 k) refl)
+
+freed_long : (old : List ℕ) → length old ≡ 32 → length (229 ∷ drop 1 old) ≡ 32
+freed_long old h = subst (λ o. length (229 ∷ drop 1 o) ≡ 32) (spread_is old 32 h) refl
+
+reserved_long : (b : Bool) (old bytes : List ℕ) → length old ≡ 32 → length bytes ≡ 32 → length (if b then kept_two old bytes else bytes) ≡ 32
+reserved_long true old bytes h k = two_long old bytes h k
+reserved_long false old bytes h k = k
+
+pub over_long : (wide : Bool) (old bytes : List ℕ) (entry : Entry) → length old ≡ 32 → length bytes ≡ 32 → bytes ≡ bytes_of entry wide → length (bytes_over wide old entry) ≡ 32
+unfolding bytes_over
+over_long wide old bytes Free h k is = freed_long old h
+over_long wide old bytes (File f) h k is = ap length (sym is) ∙ k
+over_long wide old bytes (Kept kept) h k is = ap length (sym is) ∙ k
+over_long wide old bytes (Xfcb x) h k is = reserved_long (is_extended (slice_index old 0)) old (bytes_of (Xfcb x) wide) h (ap length (sym is) ∙ k)
+over_long wide old bytes (Label l) h k is = reserved_long (is_extended (slice_index old 0)) old (bytes_of (Label l) wide) h (ap length (sym is) ∙ k)

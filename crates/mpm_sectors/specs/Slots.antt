@@ -1,6 +1,6 @@
 -- Directory entries in the sectors of the directory, four in each. (MP/M II Programmer's Guide, "Directory Entries" and
 -- "Extended File Control Blocks".)
-use Rattle.std.specs.Prelude.{ℕ, ◌+◌, ◌*◌, ◌/◌, ◌%◌, ◌&&◌, Bool, List, ◌∷◌, ◌++◌, nat_le, take, drop, slice_index, if◌then◌else◌}
+use Rattle.std.specs.Prelude.{ℕ, ◌*◌, ◌/◌, ◌%◌, ◌&&◌, Bool, List, ◌∷◌, ◌++◌, nat_le, take, drop, slice_index, if◌then◌else◌}
 use Rattle.mpm_base.specs.declared.kind.Kind.{Kind}
 use Rattle.mpm_blocks.specs.Geometries.{geometry_of}
 use Rattle.mpm_dirent.specs.declared.kinds.Entry.{Entry}

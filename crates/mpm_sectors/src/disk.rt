@@ -174,6 +174,7 @@ impl Disk {
             → Puts self.now.drive self.now.kind (slot_write self.now.kind image slot entry.now ∷ []) (D.disks drives.old) (D.disks drives.new) result }
         ensures back { (old : List ℕ) → length old ≡ 32
             → entry_of (bytes_over (geometry_of self.now.kind).wide old entry.now) (geometry_of self.now.kind).wide ≡ entry.now }
+        ensures long { (old : List ℕ) → length old ≡ 32 → length (bytes_over (geometry_of self.now.kind).wide old entry.now) ≡ 32 }
         ensures calls { OnOk result (steps.new ≡ (if is_some (cached_at cache.old self.now.drive (place_of self.now.kind (slot / 4))) then steps.old else steps.old + 1) + 1) }
         ensures most { steps.new ≤ steps.old + 2 }
         ensures leaves { Leaves D.attached D.disks D.failed_names self.now.drive cache.old cache.new drives.old drives.new }
@@ -212,8 +213,10 @@ impl Disk {
             → Puts self.now.drive self.now.kind (slots_write self.now.kind image slot entry.now other_slot other.now ∷ []) (D.disks drives.old) (D.disks drives.new) result }
         ensures back { (old : List ℕ) → length old ≡ 32
             → entry_of (bytes_over (geometry_of self.now.kind).wide old entry.now) (geometry_of self.now.kind).wide ≡ entry.now }
+        ensures long { (old : List ℕ) → length old ≡ 32 → length (bytes_over (geometry_of self.now.kind).wide old entry.now) ≡ 32 }
         ensures other_back { (old : List ℕ) → length old ≡ 32
             → entry_of (bytes_over (geometry_of self.now.kind).wide old other.now) (geometry_of self.now.kind).wide ≡ other.now }
+        ensures other_long { (old : List ℕ) → length old ≡ 32 → length (bytes_over (geometry_of self.now.kind).wide old other.now) ≡ 32 }
         ensures calls { OnOk result (steps.new ≡ (if is_some (cached_at cache.old self.now.drive (place_of self.now.kind (slot / 4))) then steps.old else steps.old + 1) + 1) }
         ensures most { steps.new ≤ steps.old + 2 }
         ensures leaves { Leaves D.attached D.disks D.failed_names self.now.drive cache.old cache.new drives.old drives.new }

@@ -5,11 +5,12 @@ ghost use Rattle.mpm_sectors.specs.Slots.{with_reserved, bytes_over, with_entry}
 
 use mpm_dirent::{Entry, write_entry};
 
-/// The bytes of an entry. Whatever bytes it is put over, it is read back.
+/// The bytes of an entry. Whatever bytes it is put over, it is read back, and they stay as many.
 pub(crate) fn entry_bytes(entry: &Entry, wide: bool) -> [u8; 32]
     requires { IsProper wide entry.now }
     ensures bytes { result ≡ bytes_of entry.now wide }
     ensures back { (old : List ℕ) → length old ≡ 32 → entry_of (bytes_over wide old entry.now) wide ≡ entry.now }
+    ensures long { (old : List ℕ) → length old ≡ 32 → length (bytes_over wide old entry.now) ≡ 32 }
 {
     let mut bytes = [0; 32];
     bytes.copy_from_slice(&write_entry(entry, wide));

@@ -1,0 +1,53 @@
+-- A turn of a job in service.
+use Rattle.std.proofs.Common.{ℕ, suc, ◌+◌, ◌≤◌, ◌<◌, Option, length, sym, ap, subst, ◌∙◌, arith}
+use Rattle.mpm_port.specs.Disks.{Disks}
+use Rattle.mpm_mount.specs.Drives.{Drive}
+use Rattle.mpm_mount.specs.Directories.{Directory, Stands}
+use Rattle.mpm_files.specs.declared.jobs.Job.{Job}
+use Rattle.mpm_files.specs.declared.work.Work.{Work}
+use Rattle.mpm_files.specs.Units.{stages}
+use Rattle.mpm_files.specs.Plans.{file_of_job, plan_of, turns_of, unit_at, needs_entry}
+use Rattle.mpm_files.specs.Serving.{units_done, turns_in, IsServing}
+use Rattle.mpm_files.specs.Standing.{StandsOn}
+use Rattle.mpm_files.specs.Containment.{IsContained}
+use Rattle.mpm_files.specs.Turning.{InService, Contained, one_ended}
+use Rattle.mpm_files.proofs.Contained.{turn_contained}
+use Rattle.mpm_files.proofs.StandingLaws.{among_all}
+use Rattle.mpm_files.proofs.Served.{serves_idly, done_idly}
+
+-- the turns of a job in service are counted by its units
+pub in_time : (before : Drive) (job : Job) (j : ℕ) (work : Work) → IsServing before job j work → j < turns_of before job → work.ended < turns_in work
+in_time before job j work serving h = omega (arith, h, serving.ended, serving.units)
+
+pub next_there : (before : Drive) (job : Job) (j : ℕ) (work : Work) → IsServing before job j work → work.ended < work.units → j < length (plan_of before job).units
+next_there before job j work serving h = omega (arith, h, serving.ended, serving.units)
+
+pub none_there : (before : Drive) (job : Job) (j : ℕ) (work : Work) → IsServing before job j work → work.units ≤ work.ended → length (plan_of before job).units ≤ j
+none_there before job j work serving h = omega (arith, h, serving.ended, serving.units)
+
+-- a job without units has one turn, in which nothing is done
+pub idle_turn : (disks : Option Disks) (d : Directory) (before : Drive) (job : Job) (j : ℕ) (work : Work) → InService disks d before job j work → j < turns_of before job → work.units ≤ work.ended
+    → InService disks d before job (suc j) (one_ended work)
+idle_turn disks d before job j work service turn over =
+    let serving = service.service.serving in
+    let none = none_there before job j work serving over in
+    record {
+      image = service.image;
+      told = service.told;
+      service = record {
+        stands = subst (Stands service.image d) (sym (done_idly before job j turn none)) service.service.stands;
+        serving = serves_idly before job j work serving turn none;
+        cleared = service.service.cleared;
+        entered = λ some. ap (λ (drive : Drive). needs_entry drive (file_of_job work.job) (work.job.first + work.moved)) (done_idly before job j turn none) ∙ service.service.entered some;
+      };
+    }
+
+-- the image of a drive stands for what the units of its job that were done have made of it
+pub service_stands : (disks : Option Disks) (d : Directory) (before : Drive) (job : Job) (j : ℕ) (work : Work) → InService disks d before job j work → StandsOn disks d (units_done before job j)
+service_stands disks d before job j work service = record { image = service.image; told = service.told; stands = service.service.stands }
+
+-- where the device failed in a turn, from turn j on, the image stands for a drive that the job contains
+pub failure_contained : (disks : Option Disks) (drive : ℕ) (before : Drive) (job : Job) (j : ℕ) (stopped : Contained disks drive before job j) → IsContained before job j stopped.within.files
+failure_contained disks drive before job j stopped =
+    among_all (IsContained before job j) (units_done before job stopped.turn) (stages (unit_at before job stopped.turn) (units_done before job stopped.turn)) stopped.within.files
+    (turn_contained before job j stopped.turn stopped.since) stopped.within.among

@@ -1,0 +1,32 @@
+use Rattle.std.proofs.Common.{None, refl, sym, subst, ◌∙◌}
+use Rattle.mpm_dirent.specs.declared.kinds.Entry.TheVariants.{Free}
+use Rattle.mpm_mount.specs.Searching.{search_of, IsNext}
+use Rattle.mpm_files.proofs.NextDone.{put_does, never_next, found_within}
+use Rattle.mpm_files.proofs.DeleteTurns.{entry_deleted, xfcb_deleted, due_within, deletion_goes_on}
+use Rattle.mpm_files.proofs.changing.delete_next.Goals as goal
+
+pub put_entry-requires-clause-slot : goal.put_entry-requires-clause-slot
+put_entry-requires-clause-slot g c = due_within c.args.mounted.now c.args.work.now c.in-Some.slot c.kind-kind.ensures.full (sym c.xfcb_due-due.ensures ∙ c.in-Some.is)
+
+pub put_entry-requires-in-Some-next-clause-slot : goal.put_entry-requires-in-Some-next-clause-slot
+put_entry-requires-in-Some-next-clause-slot g c =
+    found_within c.args.mounted.now c.args.work.now.job.user c.args.work.now.job.name None c.in-Some-next.found c.next.result c.kind-kind.ensures.full c.in-Some-next.is c.next.ensures
+
+pub returns-in-Some-clause-delete : goal.returns-in-Some-clause-delete
+returns-in-Some-clause-delete g c = λ kind.
+    put_does (g.D.Drives.disks c.args.drives.now) (g.D.Drives.disks c.put_entry.new.drives) c.args.mounted.now c.put_entry.new.mounted c.args.work.now _ c.in-Some.slot Free c.put_entry.result
+    refl c.put_entry.ensures.puts (λ image before job j suits stands serving h.
+    xfcb_deleted image c.args.mounted.now before job j c.args.work.now c.in-Some.slot stands serving kind h (sym c.xfcb_due-due.ensures ∙ c.in-Some.is))
+
+pub returns-in-Some-next-clause-delete : goal.returns-in-Some-next-clause-delete
+returns-in-Some-next-clause-delete g c = λ kind.
+    put_does (g.D.Drives.disks c.args.drives.now) (g.D.Drives.disks c.put_entry-in-Some-next.new.drives) c.args.mounted.now c.put_entry-in-Some-next.new.mounted c.args.work.now _
+    c.in-Some-next.found.slot Free c.put_entry-in-Some-next.result refl c.put_entry-in-Some-next.ensures.puts (λ image before job j suits stands serving h.
+    entry_deleted image c.args.mounted.now before job j c.args.work.now c.in-Some-next.found stands serving kind h (sym c.xfcb_due-due.ensures ∙ c.in-None.is)
+    (subst (IsNext c.args.mounted.now.kind (search_of c.args.mounted.now.kind c.args.work.now.job.user c.args.work.now.job.name None) c.args.mounted.now.entries) c.in-Some-next.is c.next.ensures))
+
+pub returns-in-None-next-clause-delete : goal.returns-in-None-next-clause-delete
+returns-in-None-next-clause-delete g c = λ kind.
+    never_next (g.D.Drives.disks c.args.drives.now) (g.D.Drives.disks c.args.drives.now) c.args.mounted.now c.args.mounted.now c.args.work.now _ _ (λ image before job j suits service h.
+    deletion_goes_on image c.args.mounted.now before job j c.args.work.now service.stands service.serving kind h (sym c.xfcb_due-due.ensures ∙ c.in-None.is)
+    (subst (IsNext c.args.mounted.now.kind (search_of c.args.mounted.now.kind c.args.work.now.job.user c.args.work.now.job.name None) c.args.mounted.now.entries) c.in-None-next.is c.next.ensures))

@@ -1,0 +1,29 @@
+use Rattle.std.proofs.Common.{sym, subst, ◌∙◌}
+use Rattle.std.proofs.lemmas.Bool.{false≢true}
+use Rattle.mpm_blocks.specs.Geometries.{geometry_of}
+use Rattle.mpm_dirent.specs.Proper.{IsProper}
+use Rattle.mpm_files.specs.Plans.{file_of_job}
+use Rattle.mpm_files.proofs.FoundEntries.{entry_found, entry_is_file}
+use Rattle.mpm_files.proofs.lookups.find_entry.Goals as goal
+
+pub returns-in-File-clause-found : goal.returns-in-File-clause-found
+returns-in-File-clause-found c =
+    let is = sym c.entry.ensures.entry ∙ c.in-File.is in
+    entry_found c.args.mounted.now (file_of_job c.args.job.now) c.args.n c.in-Some.slot c.in-File.file c.kind-kind.ensures.full c.kind-kind.ensures.faultless
+    (sym c.slot_of.ensures ∙ c.in-Some.is) is (subst (IsProper (geometry_of c.args.mounted.now.kind).wide) c.in-File.is c.entry.ensures.proper)
+
+pub returns-in-Free-clause-missing : goal.returns-in-Free-clause-missing
+returns-in-Free-clause-missing c =
+    absurd (false≢true (entry_is_file c.args.mounted.now (file_of_job c.args.job.now) c.args.n c.in-Some.slot _ (sym c.slot_of.ensures ∙ c.in-Some.is) (sym c.entry.ensures.entry ∙ c.in-Free.is)))
+
+pub returns-in-Xfcb-clause-missing : goal.returns-in-Xfcb-clause-missing
+returns-in-Xfcb-clause-missing c =
+    absurd (false≢true (entry_is_file c.args.mounted.now (file_of_job c.args.job.now) c.args.n c.in-Some.slot _ (sym c.slot_of.ensures ∙ c.in-Some.is) (sym c.entry.ensures.entry ∙ c.in-Xfcb.is)))
+
+pub returns-in-Label-clause-missing : goal.returns-in-Label-clause-missing
+returns-in-Label-clause-missing c =
+    absurd (false≢true (entry_is_file c.args.mounted.now (file_of_job c.args.job.now) c.args.n c.in-Some.slot _ (sym c.slot_of.ensures ∙ c.in-Some.is) (sym c.entry.ensures.entry ∙ c.in-Label.is)))
+
+pub returns-in-Kept-clause-missing : goal.returns-in-Kept-clause-missing
+returns-in-Kept-clause-missing c =
+    absurd (false≢true (entry_is_file c.args.mounted.now (file_of_job c.args.job.now) c.args.n c.in-Some.slot _ (sym c.slot_of.ensures ∙ c.in-Some.is) (sym c.entry.ensures.entry ∙ c.in-Kept.is)))

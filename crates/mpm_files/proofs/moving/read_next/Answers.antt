@@ -1,0 +1,54 @@
+use Rattle.std.proofs.Common.{◌≡◌, sym, subst, ap, ◌∙◌, arith}
+use Rattle.mpm_mount.specs.Drives.{visible_of}
+use Rattle.mpm_files.specs.declared.work.Work.{Work}
+use Rattle.mpm_files.specs.Units.{ReadsRecord}
+use Rattle.mpm_files.specs.Plans.{file_of_job, read_error}
+use Rattle.mpm_files.specs.Serving.{units_done}
+use Rattle.mpm_files.specs.Lookups.{IsRecordCached}
+use Rattle.mpm_files.proofs.Tied.{read_error_same}
+use Rattle.mpm_files.proofs.NextDone.{IsDone, does_as, does_next, never_next}
+use Rattle.mpm_files.proofs.ReadTurns.{read_now, read_small, few_read, record_there, record_was_read, reading_failed}
+use Rattle.mpm_files.proofs.moving.read_next.Goals as goal
+
+pub returns-then-n-gt-LAST-clause-read : goal.returns-then-n-gt-LAST-clause-read
+returns-then-n-gt-LAST-clause-read g c = λ kind.
+    never_next (g.D.Drives.disks c.args.drives.now) (g.D.Drives.disks c.args.drives.now) c.args.mounted.now c.args.mounted.now c.args.work.now _ _ (λ image before job j suits service h.
+    omega (arith, read_small before job j c.args.work.now service.serving kind h suits, c.if-n-gt-LAST.true, c.saturating_add-n.ensures))
+
+pub returns-then-work-gt31-clause-read : goal.returns-then-work-gt31-clause-read
+returns-then-work-gt31-clause-read g c = λ kind.
+    never_next (g.D.Drives.disks c.args.drives.now) (g.D.Drives.disks c.args.drives.now) c.args.mounted.now c.args.mounted.now c.args.work.now _ _ (λ image before job j suits service h.
+    omega (arith, few_read before job j c.args.work.now service.serving kind h suits, c.if-work-gt31.true))
+
+pub returns-in-Ok-clause-read : goal.returns-in-Ok-clause-read
+returns-in-Ok-clause-read g c = λ kind.
+    does_next (g.D.Drives.disks c.args.drives.now) (g.D.Drives.disks c.read_record.new.drives) c.args.mounted.now c.args.mounted.now c.args.work.now _ _
+    (ap (λ (w : Work). w.cleared) c.keep.ensures.kept)
+    (λ image before job j told suits service h.
+    let n : c.saturating_add-n.result ≡ read_now c.args.work.now = omega (arith, c.if-n-gt-LAST.false, c.saturating_add-n.ensures) in
+    let seen = c.in-Ok.ensures.visible image (units_done before job j) told service.stands
+    (sym (read_error_same image c.args.mounted.now (units_done before job j) (file_of_job c.args.work.now.job) c.saturating_add-n.result service.stands)
+    ∙ ap (read_error (units_done before job j) (file_of_job c.args.work.now.job)) n ∙ record_there before job j c.args.work.now service.serving kind h) in (
+      ReadsRecord (file_of_job c.args.work.now.job) (read_now c.args.work.now),
+      (
+        subst (λ (w : Work). IsDone before job j w (ReadsRecord (file_of_job c.args.work.now.job) (read_now c.args.work.now))) (sym c.keep.ensures.kept)
+            (record_was_read before job j c.args.work.now _ service.serving kind h suits.size c.keep.ensures.size (omega (arith, c.if-work-gt31.false))
+            (ap (visible_of (units_done before job j) (file_of_job c.args.work.now.job)) (sym n) ∙ seen)),
+        does_as (g.D.Drives.disks c.read_record.new.drives) c.args.mounted.now.drive c.args.mounted.now (units_done before job j) _ _ _ (ap (ReadsRecord (file_of_job c.args.work.now.job)) n)
+            (c.in-Ok.ensures.does image (units_done before job j) told service.stands),
+      ),
+    ))
+
+pub returns-in-Err-clause-read : goal.returns-in-Err-clause-read
+returns-in-Err-clause-read g c = λ kind.
+    reading_failed (g.D.Drives.disks c.args.drives.now) (g.D.Drives.disks c.read_record.new.drives) c.args.mounted.now c.args.work.now _ c.in-Err.failed c.read_record.ensures.disks
+
+pub returns-in-Ok-clause-cached : goal.returns-in-Ok-clause-cached
+returns-in-Ok-clause-cached g c = λ cached.
+    c.in-Ok.ensures.cached
+    (subst (IsRecordCached c.args.cache.now c.args.mounted.now (file_of_job c.args.work.now.job)) (omega (arith, c.if-n-gt-LAST.false, c.saturating_add-n.ensures)) cached)
+
+pub returns-in-Err-clause-cached : goal.returns-in-Err-clause-cached
+returns-in-Err-clause-cached g c = λ cached.
+    c.in-Err.ensures.cached
+    (subst (IsRecordCached c.args.cache.now c.args.mounted.now (file_of_job c.args.work.now.job)) (omega (arith, c.if-n-gt-LAST.false, c.saturating_add-n.ensures)) cached)

@@ -1,0 +1,31 @@
+use Rattle.mpm_cache.proofs.CoherentLaws.{same_told}
+use Rattle.mpm_files.specs.Plans.{file_of_job}
+use Rattle.mpm_files.proofs.RecordReads.{reads, read_inside, reads_visible, reads_only}
+use Rattle.mpm_files.proofs.reading.read_record.Goals as goal
+
+pub returns-in-None-clause-does : goal.returns-in-None-clause-does
+returns-in-None-clause-does g c = λ image files told stands.
+    reads_only image c.args.mounted.now files (file_of_job c.args.job.now) c.args.n (g.D.Drives.disks c.args.drives.now) (g.D.Drives.disks c.args.drives.now) _ told stands (same_told (g.D.Drives.disks c.args.drives.now))
+
+pub returns-in-None-held_sector-clause-does : goal.returns-in-None-held_sector-clause-does
+returns-in-None-held_sector-clause-does g c = λ image files told stands.
+    reads_only image c.args.mounted.now files (file_of_job c.args.job.now) c.args.n (g.D.Drives.disks c.args.drives.now) (g.D.Drives.disks c.args.drives.now) _ told stands (same_told (g.D.Drives.disks c.args.drives.now))
+
+pub read-requires-clause-within : goal.read-requires-clause-within
+read-requires-clause-within g c =
+    read_inside c.args.mounted.now (file_of_job c.args.job.now) c.args.n c.in-Some.found.slot c.in-Some-held_sector.sector c.in-Some.found.file c.disk_of.result c.disk_of.ensures.disk c.in-Some.ensures.found c.in-Some-held_sector.ensures.held
+
+pub returns-clause-record : goal.returns-clause-record
+returns-clause-record g c = λ image files told stands lacks.
+    reads image c.args.mounted.now files (file_of_job c.args.job.now) c.args.n c.in-Some.found.slot c.in-Some-held_sector.sector c.in-Some.found.file c.read.new.out c.disk_of.result (g.D.Drives.disks c.args.drives.now) c.read.result
+    c.disk_of.ensures.disk c.in-Some.ensures.found c.in-Some-held_sector.ensures.held told stands c.read.ensures.bytes
+
+pub returns-clause-visible : goal.returns-clause-visible
+returns-clause-visible g c = λ image files told stands none.
+    reads_visible image c.args.mounted.now files (file_of_job c.args.job.now) c.args.n c.read.new.out c.read.result stands none
+    (reads image c.args.mounted.now files (file_of_job c.args.job.now) c.args.n c.in-Some.found.slot c.in-Some-held_sector.sector c.in-Some.found.file c.read.new.out c.disk_of.result (g.D.Drives.disks c.args.drives.now) c.read.result
+    c.disk_of.ensures.disk c.in-Some.ensures.found c.in-Some-held_sector.ensures.held told stands c.read.ensures.bytes)
+
+pub returns-clause-does : goal.returns-clause-does
+returns-clause-does g c = λ image files told stands.
+    reads_only image c.args.mounted.now files (file_of_job c.args.job.now) c.args.n (g.D.Drives.disks c.args.drives.now) (g.D.Drives.disks c.read.new.drives) c.read.result told stands c.read.ensures.disks

@@ -1,0 +1,9 @@
+pub mod Units
+pub mod Plans
+pub mod Serving
+pub mod Containment
+pub mod Counting
+pub mod Lookups
+pub mod Standing
+pub mod Turning
+pub mod Stepping

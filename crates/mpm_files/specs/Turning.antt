@@ -1,0 +1,139 @@
+-- What a turn leaves of a job in service, on the attached image of its drive.
+use Rattle.std.specs.Prelude.{◌≡◌, ℕ, suc, ◌+◌, ◌*◌, ◌<◌, ◌≤◌, ◌==◌, not, false, List, ◌++◌, take, drop, Option, Some, None, is_some, if◌then◌else◌, length, Result, OnOk, OnErr}
+use Rattle.std.specs.List.{list_any}
+use Rattle.std.specs.FinMap.{get}
+use Rattle.mpm_port.specs.Disks.{Disks}
+use Rattle.mpm_blocks.specs.Sectors.{told_image}
+use Rattle.mpm_blocks.specs.Geometries.{geometry_of}
+use Rattle.mpm_cache.specs.declared.cache.Place.{Place}
+use Rattle.mpm_dirent.specs.declared.kinds.Entry.TheVariants.{File}
+use Rattle.mpm_dirent.specs.declared.kinds.FileEntry.{FileEntry}
+use Rattle.mpm_dirent.specs.Proper.{IsProper}
+use Rattle.mpm_dirent.specs.declared.kinds.XfcbEntry.{XfcbEntry}
+use Rattle.mpm_dirent.specs.declared.kinds.LabelEntry.{LabelEntry}
+use Rattle.mpm_mount.specs.declared.searching.Found.{Found}
+use Rattle.mpm_mount.specs.Drives.{Drive, free_entries}
+use Rattle.mpm_mount.specs.Faults.{plain}
+use Rattle.mpm_mount.specs.Directories.{Directory, entry_in, xfcb_slot}
+use Rattle.mpm_mount.specs.Searching.{IsUnambiguous}
+use Rattle.mpm_files.specs.declared.jobs.JobKind.{JobKind}
+use Rattle.mpm_files.specs.declared.jobs.JobKind.TheVariants.{Read, Write, TestWrite, Make, Delete, Rename, Attributes, Label, Xfcb, Nothing}
+use Rattle.mpm_files.specs.declared.jobs.Job.{Job}
+use Rattle.mpm_files.specs.declared.work.Work.{Work}
+use Rattle.mpm_files.specs.Plans.{plan_of, file_of_job, new_file_of_job, is_same_file, has_file, protection_in, unit_at}
+use Rattle.mpm_files.specs.Counting.{bit, file_in, is_part_of}
+use Rattle.mpm_files.specs.Serving.{units_done, IsInService}
+use Rattle.mpm_files.specs.Lookups.{IsSound, IsRecordCached}
+use Rattle.mpm_files.specs.Standing.{StandsWithin}
+
+-- records are written up to the last that a file may have
+pub record MayWrite (job : Job) : Type 0 where
+  pub name : IsUnambiguous job.name
+  pub last : job.first + job.count ≤ 262144
+
+-- a file that is made isn't there, and there is a free entry for it, and one for its XFCB where that is to come
+pub record MayMake (drive : Drive) (job : Job) : Type 0 where
+  pub name : IsUnambiguous job.name
+  pub none : has_file drive (file_of_job job) ≡ false
+  pub room : suc (bit (not (job.count == 0))) ≤ free_entries drive
+
+-- a file is renamed to another name, of which no file is there
+pub record MayRename (drive : Drive) (job : Job) : Type 0 where
+  pub name : IsUnambiguous job.name
+  pub other : is_same_file (new_file_of_job job) (file_of_job job) ≡ false
+  pub none : has_file drive (new_file_of_job job) ≡ false
+
+-- what is asked of a drive by the sort of a job: of a name that entries are sought by, that it fits one name alone; of an XFCB or a
+-- label that comes, a free entry
+abbrev pub SuitsKind : Drive → Job → JobKind → Type 0
+SuitsKind drive job Read = Unit {0}
+SuitsKind drive job Write = MayWrite job
+SuitsKind drive job TestWrite = Unit {0}
+SuitsKind drive job Make = MayMake drive job
+SuitsKind drive job Delete = Unit {0}
+SuitsKind drive job Rename = MayRename drive job
+SuitsKind drive job Attributes = IsUnambiguous job.name
+SuitsKind drive job Label = bit (not (is_some drive.label)) ≤ free_entries drive
+SuitsKind drive job Xfcb = bit (not (is_some (get drive.xfcbs (file_of_job job)))) ≤ free_entries drive
+SuitsKind drive job Nothing = Unit {0}
+
+-- the slot of the XFCB that goes next in a deletion: that of the file whose last entry went
+abbrev pub xfcb_due_by : Directory → ℕ → Option Found → Option ℕ
+xfcb_due_by d user None = None
+xfcb_due_by d user (Some found) =
+    if list_any (is_part_of (file_in user found.name)) d.entries then None else xfcb_slot d (file_in user found.name)
+
+abbrev pub xfcb_due : Directory → Work → Option ℕ
+xfcb_due d work = xfcb_due_by d work.job.user work.last
+
+-- the last entry that was changed, by the name of the job
+abbrev pub last_named : List ℕ → Option Found → Option Found
+last_named name None = None
+last_named name (Some found) = Some (record found { name = name })
+
+abbrev pub last_of_job : Work → Option Found
+last_of_job work = last_named work.job.name work.last
+
+-- the entries of a job's XFCB, and of its label
+abbrev pub xfcb_of_job : Job → XfcbEntry
+xfcb_of_job job =
+    let protection = protection_in job in
+    record { user = job.user; name = plain job.name; mode = protection.mode; decode = protection.decode; password = protection.password; first = protection.first; second = protection.second }
+
+abbrev pub label_of_job : Job → LabelEntry
+label_of_job job =
+    let protection = protection_in job in
+    record { name = job.new_name; mode = protection.mode; decode = protection.decode; password = protection.password; first = protection.first; second = protection.second }
+
+-- a file's entry is in a slot
+pub record IsFileAt (d : Directory) (slot : ℕ) (f : FileEntry) : Type 0 where
+  pub sound : IsSound d
+  pub entry : entry_in d slot ≡ File f
+  pub proper : IsProper (geometry_of d.kind).wide (File f)
+
+-- the attributes F1' to F4' and T1' to T3' of a name, and F5' to F8' of another
+abbrev pub marks_set : List ℕ → List ℕ → List ℕ
+marks_set wanted old = take 4 wanted ++ (take 4 (drop 4 old) ++ drop 8 wanted)
+
+-- a record more was read
+abbrev pub with_record_read : Work → List ℕ → Work
+with_record_read work bytes = record work {
+  job = record work.job { bytes = take (128 * work.moved) work.job.bytes ++ (bytes ++ drop (128 * (work.moved + 1)) work.job.bytes) };
+  moved = work.moved + 1;
+}
+
+-- the sector of the record that is read next is cached
+abbrev pub IsNextCached : List (Place × List ℕ) → Directory → Work → Type 0
+IsNextCached cached d work = IsRecordCached cached d (file_of_job work.job) (work.job.first + work.ended)
+
+-- a job that a drive may be asked for
+pub record Suits (drive : Drive) (job : Job) : Type 0 where
+  pub user : job.user < 16
+  pub first : job.first ≤ 262271
+  pub count : job.count ≤ 16
+  pub size : length job.bytes ≡ 4096
+  pub kind : SuitsKind drive job job.kind
+
+-- a job is in service on the attached image of a directory's drive, with j turns ended
+pub record InService (disks : Option Disks) (d : Directory) (before : Drive) (job : Job) (j : ℕ) (work : Work) : Type 0 where
+  pub image : List ℕ
+  pub told : told_image disks d.drive ≡ Some image
+  pub service : IsInService image d before job j work
+
+-- a device failed in some turn of a job, from turn j on
+pub record Contained (disks : Option Disks) (drive : ℕ) (before : Drive) (job : Job) (j : ℕ) : Type 0 where
+  pub turn : ℕ
+  pub since : j ≤ turn
+  pub within : StandsWithin disks drive (units_done before job turn) (unit_at before job turn)
+
+-- one turn more has ended
+abbrev pub one_ended : Work → Work
+one_ended work = record work { ended = work.ended + 1 }
+
+-- a job that is in service was to do its next unit: after a success it is in service with one turn more, after a failure the image
+-- stands within the unit
+pub record DoesNext {A E : Type 0} (disks now : Option Disks) (d e : Directory) (old new : Work) (result : Result A E) : Type 0 where
+  pub ok : (before : Drive) (job : Job) (j : ℕ) → Suits before job → InService disks d before job j old → j < length (plan_of before job).units
+      → OnOk result (InService now e before job (suc j) (one_ended new))
+  pub err : (before : Drive) (job : Job) (j : ℕ) → Suits before job → InService disks d before job j old → j < length (plan_of before job).units
+      → OnErr result (Contained now d.drive before job j)

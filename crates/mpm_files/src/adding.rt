@@ -1,0 +1,100 @@
+ghost use Rattle.std.specs.Prelude.{◌≡◌, ◌≢◌, ◌+◌, ◌/◌, ◌%◌, ◌<◌, ◌≤◌, ℕ, List, Some, None, map, nat_le, replicate};
+ghost use Rattle.std.specs.FinMap.{get};
+ghost use Rattle.mpm_port.specs.Causes.{HasCause};
+ghost use Rattle.mpm_blocks.specs.Geometries.{geometry_of};
+ghost use Rattle.mpm_blocks.specs.Sectors.{told_image};
+ghost use Rattle.mpm_mount.specs.Drives.{Drive, entry_name, extents_of, free_entries};
+ghost use Rattle.mpm_mount.specs.Directories.{Stands};
+ghost use Rattle.mpm_cache.specs.Coherent.{IsCoherent, HasNoAlias};
+ghost use Rattle.mpm_sectors.specs.Disks.{Leaves};
+ghost use Rattle.mpm_files.specs.Standing.{Does};
+ghost use Rattle.mpm_mount.specs.Faults.{plain};
+ghost use Rattle.mpm_mount.specs.Searching.{IsUnambiguous};
+ghost use Rattle.mpm_files.specs.Units.{AddsEntry, attributes_of};
+ghost use Rattle.mpm_files.specs.Plans.{file_of_job};
+
+use crate::entries::put_entry;
+use crate::jobs::Job;
+use crate::marking::marked;
+use crate::renaming::file_at;
+use mpm_base::Steps;
+use mpm_cache::Cache;
+use mpm_dirent::{Entry, FileEntry};
+use mpm_mount::Mounted;
+use mpm_port::{Drives, Failed};
+use std::sync::ledger::Ledger;
+
+/// A name with the attributes of a job's file, which are those of its lowest entry.
+fn attributes(mounted: &Mounted, job: &Job) -> [u8; 11]
+    ensures { (image : List ℕ) (files : Drive) → Stands image mounted.now files → IsUnambiguous job.now.name
+        → map (nat_le 128) result ≡ attributes_of (extents_of files (file_of_job job.now)) }
+{
+    let _kind = mounted.kind();
+    match mounted.next(job.user, &job.name, None) {
+        Some(found) => match file_at(mounted, found.slot) {
+            Some(file) => file.name,
+            None => [0; 11],
+        },
+        None => [0; 11],
+    }
+}
+
+/// A new directory entry of a job's file, for an extent: it holds no block.
+fn new_entry(mounted: &Mounted, job: &Job, extent: u16) -> FileEntry
+    requires { extent ≤ 2047 }
+    ensures user { result.user ≡ job.now.user }
+    ensures name { plain result.name ≡ plain job.now.name }
+    ensures attributes { (image : List ℕ) (files : Drive) → Stands image mounted.now files → IsUnambiguous job.now.name
+        → map (nat_le 128) result.name ≡ attributes_of (extents_of files (file_of_job job.now)) }
+    ensures low { result.ex ≡ extent % 32 }
+    ensures high { result.s2 ≡ extent / 32 }
+    ensures count { result.rc ≡ 0 }
+    ensures blocks { result.blocks ≡ replicate 16 0 }
+{
+    FileEntry {
+        user: job.user,
+        name: marked(&job.name, &attributes(mounted, job)),
+        ex: (extent % 32) as u8,
+        s1: 0,
+        s2: (extent / 32) as u8,
+        rc: 0,
+        blocks: [0; 16],
+    }
+}
+
+/// Adds a directory entry for an extent of a job's file, with the attributes of the file.
+pub(crate) fn add_entry<D: Drives, L: Ledger>(
+    mounted: &mut Mounted,
+    cache: &mut Cache,
+    drives: &mut D,
+    job: &Job,
+    extent: u16,
+    steps: &mut Steps<L>,
+) -> Result<(), Failed>
+    requires size { D.attached drives.old mounted.old.drive ≡ Some (geometry_of mounted.old.kind).bytes }
+    requires coherent { IsCoherent cache.old (D.disks drives.old) }
+    requires apart { HasNoAlias cache.old (D.disks drives.old) mounted.old.drive }
+    ensures does { (image : List ℕ) (files : Drive) → told_image (D.disks drives.old) mounted.old.drive ≡ Some image → Stands image mounted.old files
+        → job.now.user < 16 → extent ≤ 2047 → IsUnambiguous job.now.name → get files.extents (entry_name files.kind (file_of_job job.now) extent) ≡ None
+        → free_entries files ≢ 0 → Does (D.disks drives.new) mounted.old.drive mounted.new files (AddsEntry (file_of_job job.now) extent) result }
+    ensures drive { mounted.new.drive ≡ mounted.old.drive }
+    ensures kind { mounted.new.kind ≡ mounted.old.kind }
+    ensures calls { steps.new ≤ steps.old + 2 }
+    ensures leaves { Leaves D.attached D.disks D.failed_names mounted.old.drive cache.old cache.new drives.old drives.new }
+    ensures cause { HasCause (D.faults drives.old) (D.faults drives.new) result }
+{
+    let _kind = mounted.kind();
+    if job.user > 15 || extent > 2047 {
+        return Ok(());
+    }
+    if mounted.extent(job.user, &job.name, extent).is_some() {
+        return Ok(());
+    }
+    match mounted.free_slot() {
+        Some(slot) => {
+            let file = new_entry(mounted, job, extent);
+            put_entry(mounted, cache, drives, slot, &Entry::File { file }, steps)
+        }
+        None => Ok(()),
+    }
+}

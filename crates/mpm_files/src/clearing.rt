@@ -1,0 +1,85 @@
+ghost use Rattle.std.specs.Prelude.{◌≡◌, ◌+◌, ◌≤◌, ℕ, List, Some, None, IfOk, if◌then◌else◌, true};
+ghost use Rattle.mpm_port.specs.Causes.{HasCause};
+ghost use Rattle.mpm_blocks.specs.Geometries.{geometry_of};
+ghost use Rattle.mpm_blocks.specs.Sectors.{told_image};
+ghost use Rattle.mpm_mount.specs.Drives.{FileName, Drive};
+ghost use Rattle.mpm_mount.specs.Directories.{Stands, free_block};
+ghost use Rattle.mpm_cache.specs.Coherent.{IsCoherent, HasNoAlias};
+ghost use Rattle.mpm_sectors.specs.Disks.{Leaves};
+ghost use Rattle.mpm_sectors.specs.Writes.{Puts, zeros_from, block_sector};
+ghost use Rattle.mpm_files.specs.Units.{ClearsBlock};
+ghost use Rattle.mpm_files.specs.Plans as plans;
+ghost use Rattle.mpm_files.specs.Standing.{Does, StandsCleared};
+
+use crate::entries::disk_of;
+use crate::records::block_records;
+use mpm_base::{Kind, Steps};
+use mpm_blocks::geometry;
+use mpm_cache::Cache;
+use mpm_mount::Mounted;
+use mpm_port::{Drives, Failed};
+use std::sync::ledger::Ledger;
+
+/// How many sectors of a block are cleared before its record comes.
+pub(crate) const CLEARED: u8 = 18;
+
+/// Whether a block is cleared in a turn of its own.
+pub(crate) fn clears_blocks(kind: Kind) -> bool
+    ensures { result ≡ plans.clears_blocks kind }
+{
+    geometry(kind).mask != 0
+}
+
+/// Clears the first sectors of the lowest free block, where a block is cleared in a turn of its own. Says which one it is.
+pub(crate) fn clear_block<D: Drives, L: Ledger>(
+    mounted: &Mounted,
+    cache: &mut Cache,
+    drives: &mut D,
+    steps: &mut Steps<L>,
+) -> Result<Option<u16>, Failed>
+    requires size { D.attached drives.old mounted.now.drive ≡ Some (geometry_of mounted.now.kind).bytes }
+    requires coherent { IsCoherent cache.old (D.disks drives.old) }
+    requires apart { HasNoAlias cache.old (D.disks drives.old) mounted.now.drive }
+    ensures block { IfOk result (λ block. block ≡ (if plans.clears_blocks mounted.now.kind then free_block mounted.now else None)) }
+    ensures does { (image : List ℕ) (files : Drive) (file : FileName) (n : ℕ) → told_image (D.disks drives.old) mounted.now.drive ≡ Some image
+        → Stands image mounted.now files → Does (D.disks drives.new) mounted.now.drive mounted.now files (ClearsBlock file n) result }
+    ensures cleared { (image : List ℕ) (files : Drive) → told_image (D.disks drives.old) mounted.now.drive ≡ Some image → Stands image mounted.now files
+        → IfOk result (λ block. StandsCleared (D.disks drives.new) mounted.now files block) }
+    ensures calls { steps.new ≤ steps.old + 18 }
+    ensures leaves { Leaves D.attached D.disks D.failed_names mounted.now.drive cache.old cache.new drives.old drives.new }
+    ensures cause { HasCause (D.faults drives.old) (D.faults drives.new) result }
+{
+    if !clears_blocks(mounted.kind()) {
+        return Ok(None);
+    }
+    let block = match mounted.free_block() {
+        Some(block) => block,
+        None => return Ok(None),
+    };
+    match clear_first(mounted, cache, drives, block, steps) {
+        Ok(()) => Ok(Some(block)),
+        Err(failed) => Err(failed),
+    }
+}
+
+/// Clears the first sectors of a free block, where a block is cleared in a turn of its own.
+fn clear_first<D: Drives, L: Ledger>(
+    mounted: &Mounted,
+    cache: &mut Cache,
+    drives: &mut D,
+    block: u16,
+    steps: &mut Steps<L>,
+) -> Result<(), Failed>
+    requires size { D.attached drives.old mounted.now.drive ≡ Some (geometry_of mounted.now.kind).bytes }
+    requires coherent { IsCoherent cache.old (D.disks drives.old) }
+    requires apart { HasNoAlias cache.old (D.disks drives.old) mounted.now.drive }
+    requires clears { plans.clears_blocks mounted.now.kind ≡ true }
+    requires free { free_block mounted.now ≡ Some block }
+    ensures puts { Puts mounted.now.drive mounted.now.kind (zeros_from (block_sector mounted.now.kind block) 18) (D.disks drives.old) (D.disks drives.new) result }
+    ensures calls { steps.new ≤ steps.old + 18 }
+    ensures leaves { Leaves D.attached D.disks D.failed_names mounted.now.drive cache.old cache.new drives.old drives.new }
+    ensures cause { HasCause (D.faults drives.old) (D.faults drives.new) result }
+{
+    let first = u32::from(block) * block_records(mounted.kind());
+    disk_of(mounted).clear(cache, drives, first, u32::from(CLEARED), steps)
+}

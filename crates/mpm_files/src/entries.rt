@@ -1,0 +1,111 @@
+ghost use Rattle.std.specs.Prelude.{◌≡◌, ◌+◌, ◌/◌, ◌≤◌, ℕ, List, [], ◌∷◌, Some, None, OnOk, OnErr};
+ghost use Rattle.mpm_port.specs.Causes.{HasCause};
+ghost use Rattle.mpm_blocks.specs.Geometries.{geometry_of};
+ghost use Rattle.mpm_blocks.specs.Sectors.{Sectors, told_image, sectors_of};
+ghost use Rattle.mpm_dirent.specs.Proper.{IsProper};
+ghost use Rattle.mpm_mount.specs.Drives.{Drive};
+ghost use Rattle.mpm_mount.specs.Faults.{cause_of};
+ghost use Rattle.mpm_mount.specs.Changes.{exchanged};
+ghost use Rattle.mpm_mount.specs.Directories.{Stands, others, entry_in, with_entry};
+ghost use Rattle.mpm_cache.specs.Coherent.{IsCoherent, HasNoAlias};
+ghost use Rattle.mpm_sectors.specs.Disks.{Leaves};
+ghost use Rattle.mpm_files.specs.Lookups.{IsSound};
+ghost use Rattle.mpm_files.specs.Standing.{GoesThrough};
+
+use mpm_base::Steps;
+use mpm_cache::Cache;
+use mpm_dirent::Entry;
+use mpm_mount::Mounted;
+use mpm_port::{Drives, Failed};
+use mpm_sectors::Disk;
+use std::sync::ledger::Ledger;
+
+/// The disk of a mounted drive.
+pub(crate) fn disk_of(mounted: &Mounted) -> Disk
+    ensures disk { result ≡ record { drive = mounted.now.drive; kind = mounted.now.kind } }
+    ensures sound { IsSound mounted.now }
+{
+    Disk {
+        drive: mounted.drive(),
+        kind: mounted.kind(),
+    }
+}
+
+/// Puts a directory entry in the place of another: on the disk, and where that went well in the directory in memory.
+pub(crate) fn put_entry<D: Drives, L: Ledger>(
+    mounted: &mut Mounted,
+    cache: &mut Cache,
+    drives: &mut D,
+    slot: u16,
+    entry: &Entry,
+    steps: &mut Steps<L>,
+) -> Result<(), Failed>
+    requires size { D.attached drives.old mounted.old.drive ≡ Some (geometry_of mounted.old.kind).bytes }
+    requires coherent { IsCoherent cache.old (D.disks drives.old) }
+    requires apart { HasNoAlias cache.old (D.disks drives.old) mounted.old.drive }
+    requires slot { slot ≤ (geometry_of mounted.old.kind).drm }
+    requires proper { IsProper (geometry_of mounted.old.kind).wide entry.now }
+    requires faultless { cause_of mounted.old.kind (others mounted.old.entries slot) entry.now ≡ None }
+    ensures puts { (image : List ℕ) (files : Drive) → told_image (D.disks drives.old) mounted.old.drive ≡ Some image → Stands image mounted.old files
+        → GoesThrough (D.disks drives.new) mounted.old.drive mounted.new files
+        (exchanged (sectors_of image mounted.old.kind) files (entry_in mounted.old slot) entry.now ∷ []) result }
+    ensures placed { OnOk result (mounted.new ≡ with_entry mounted.old slot entry.now) }
+    ensures kept { OnErr result (mounted.new ≡ mounted.old) }
+    ensures drive { mounted.new.drive ≡ mounted.old.drive }
+    ensures kind { mounted.new.kind ≡ mounted.old.kind }
+    ensures calls { steps.new ≤ steps.old + 2 }
+    ensures leaves { Leaves D.attached D.disks D.failed_names mounted.old.drive cache.old cache.new drives.old drives.new }
+    ensures cause { HasCause (D.faults drives.old) (D.faults drives.new) result }
+{
+    let disk = disk_of(mounted);
+    match disk.put_slot(cache, drives, slot, entry, steps) {
+        Ok(()) => {
+            mounted.put(slot, *entry);
+            Ok(())
+        }
+        Err(failed) => Err(failed),
+    }
+}
+
+/// Puts two directory entries of one sector in the place of others, by one write.
+pub(crate) fn put_entries<D: Drives, L: Ledger>(
+    mounted: &mut Mounted,
+    cache: &mut Cache,
+    drives: &mut D,
+    slot: u16,
+    entry: &Entry,
+    other_slot: u16,
+    other: &Entry,
+    steps: &mut Steps<L>,
+) -> Result<(), Failed>
+    requires size { D.attached drives.old mounted.old.drive ≡ Some (geometry_of mounted.old.kind).bytes }
+    requires coherent { IsCoherent cache.old (D.disks drives.old) }
+    requires apart { HasNoAlias cache.old (D.disks drives.old) mounted.old.drive }
+    requires slot { slot ≤ (geometry_of mounted.old.kind).drm }
+    requires other_slot { other_slot ≤ (geometry_of mounted.old.kind).drm }
+    requires same { other_slot / 4 ≡ slot / 4 }
+    requires proper { IsProper (geometry_of mounted.old.kind).wide entry.now }
+    requires other_proper { IsProper (geometry_of mounted.old.kind).wide other.now }
+    requires faultless { cause_of mounted.old.kind (others mounted.old.entries slot) entry.now ≡ None }
+    requires other_faultless { cause_of mounted.old.kind (others (with_entry mounted.old slot entry.now).entries other_slot) other.now ≡ None }
+    ensures puts { (image : List ℕ) (files last : Drive) → told_image (D.disks drives.old) mounted.old.drive ≡ Some image → Stands image mounted.old files
+        → ((sectors : Sectors) → exchanged sectors (exchanged (sectors_of image mounted.old.kind) files (entry_in mounted.old slot) entry.now)
+        (entry_in (with_entry mounted.old slot entry.now) other_slot) other.now ≡ last)
+        → GoesThrough (D.disks drives.new) mounted.old.drive mounted.new files
+        (exchanged (sectors_of image mounted.old.kind) files (entry_in mounted.old slot) entry.now ∷ last ∷ []) result }
+    ensures drive { mounted.new.drive ≡ mounted.old.drive }
+    ensures kind { mounted.new.kind ≡ mounted.old.kind }
+    ensures calls { steps.new ≤ steps.old + 2 }
+    ensures leaves { Leaves D.attached D.disks D.failed_names mounted.old.drive cache.old cache.new drives.old drives.new }
+    ensures cause { HasCause (D.faults drives.old) (D.faults drives.new) result }
+{
+    let disk = disk_of(mounted);
+    match disk.put_slots(cache, drives, slot, entry, other_slot, other, steps) {
+        Ok(()) => {
+            mounted.put(slot, *entry);
+            mounted.put(other_slot, *other);
+            Ok(())
+        }
+        Err(failed) => Err(failed),
+    }
+}

@@ -1,0 +1,41 @@
+//! A file call on one drive: its units, which are the single changes that it makes of the drive, how many turns they take,
+//! and each turn upon the attached image. (MP/M II Programmer's Guide, "BDOS Function Calls".)
+#![tactic(auto)]
+
+mod adding;
+mod changing;
+mod clearing;
+mod counting;
+mod entries;
+mod errors;
+mod jobs;
+mod lookups;
+mod marking;
+mod moving;
+mod planning;
+mod protecting;
+mod reading;
+mod records;
+mod renaming;
+mod searching;
+mod setting;
+mod stamps;
+mod turning;
+mod work;
+mod writing;
+
+pub use errors::RecordError;
+pub use jobs::{Job, JobKind};
+pub use planning::{plan, turns};
+pub use records::read_error;
+pub use turning::{Progress, turn};
+pub use work::Work;
+
+#[cfg(test)]
+mod calls;
+#[cfg(test)]
+mod failures;
+#[cfg(test)]
+mod sequences;
+#[cfg(test)]
+mod tests;

@@ -1,0 +1,251 @@
+ghost use Rattle.mpm_files.specs.declared.moving.Step.TheVariants as steps_of;
+ghost use Rattle.mpm_files.specs.Stepping as stepping;
+ghost use Rattle.std.specs.Prelude.{length, ◌≡◌, ◌+◌, ◌*◌, ◌<◌, ◌≤◌, Some, None, if◌then◌else◌};
+ghost use Rattle.mpm_port.specs.Causes.{HasCause};
+ghost use Rattle.mpm_blocks.specs.Geometries.{geometry_of};
+ghost use Rattle.mpm_cache.specs.Coherent.{IsCoherent, HasNoAlias};
+ghost use Rattle.mpm_sectors.specs.Disks.{Leaves};
+ghost use Rattle.mpm_files.specs.declared.jobs.JobKind.TheVariants as kinds;
+ghost use Rattle.mpm_files.specs.Turning.{DoesNext};
+ghost use Rattle.mpm_files.specs.Plans.{record_at};
+ghost use Rattle.mpm_files.specs.Serving.{stamp_left};
+ghost use Rattle.mpm_files.specs.Turning as turning;
+
+use crate::adding::add_entry;
+use crate::clearing::{clear_block, clears_blocks};
+use crate::jobs::Job;
+use crate::reading::read_record;
+use crate::records::{lacks_block, lacks_entry};
+use crate::work::Work;
+use crate::writing::{Record, put_fresh, put_held};
+use mpm_base::Steps;
+use mpm_cache::Cache;
+use mpm_mount::Mounted;
+use mpm_port::{Drives, Failed};
+use std::sync::ledger::Ledger;
+
+/// The highest number of a record that a job may have.
+const LAST: u32 = 262_286;
+
+/// The bytes of a record among those of a job.
+fn bytes_at(job: &Job, place: u32) -> [u8; 128]
+    requires { place < 32 }
+    ensures { result ≡ record_at job.now.bytes place }
+{
+    let from = 128 * place as usize;
+    let mut bytes = [0; 128];
+    bytes.copy_from_slice(&job.bytes[from..from + 128]);
+    bytes
+}
+
+/// The stamp that comes with a record, where so many are done.
+fn stamp(job: &Job, done: u32) -> Option<[u8; 4]>
+    ensures { result ≡ stamp_left job.now.stamp done }
+{
+    if done == 0 { job.stamp } else { None }
+}
+
+/// Puts a record that was read behind those that were read before it.
+fn keep(work: &mut Work, record: &[u8; 128])
+    requires { work.old.moved < 32 }
+    ensures kept { work.new ≡ turning.with_record_read work.old record.now }
+    ensures size { length work.old.job.bytes ≡ 4096 }
+{
+    let from = 128 * usize::from(work.moved);
+    work.job.bytes[from..from + 128].copy_from_slice(record);
+    work.moved += 1;
+}
+
+/// Reads the next record of a job.
+pub(crate) fn read_next<D: Drives, L: Ledger>(
+    mounted: &mut Mounted,
+    cache: &mut Cache,
+    drives: &mut D,
+    work: &mut Work,
+    steps: &mut Steps<L>,
+) -> Result<(), Failed>
+    requires size { D.attached drives.old mounted.old.drive ≡ Some (geometry_of mounted.old.kind).bytes }
+    requires coherent { IsCoherent cache.old (D.disks drives.old) }
+    requires apart { HasNoAlias cache.old (D.disks drives.old) mounted.old.drive }
+    ensures read { work.old.job.kind ≡ kinds.Read → DoesNext (D.disks drives.old) (D.disks drives.new) mounted.old mounted.new work.old work.new result }
+    ensures ended { work.new.ended ≡ work.old.ended }
+    ensures units { work.new.units ≡ work.old.units }
+    ensures drive { mounted.new.drive ≡ mounted.old.drive }
+    ensures kind { mounted.new.kind ≡ mounted.old.kind }
+    ensures calls { steps.new ≤ steps.old + 1 }
+    ensures cached { turning.IsNextCached cache.old mounted.old work.old → steps.new ≡ steps.old }
+    ensures leaves { Leaves D.attached D.disks D.failed_names mounted.old.drive cache.old cache.new drives.old drives.new }
+    ensures cause { HasCause (D.faults drives.old) (D.faults drives.new) result }
+{
+    work.cleared = None;
+    let n = work.job.first.saturating_add(work.ended);
+    if n > LAST {
+        return Ok(());
+    }
+    if work.moved > 31 {
+        return Ok(());
+    }
+    let mut record = [0; 128];
+    match read_record(mounted, cache, drives, &work.job, n, &mut record, steps) {
+        Ok(()) => {
+            keep(work, &record);
+            Ok(())
+        }
+        Err(failed) => Err(failed),
+    }
+}
+
+/// What comes next of a record that is written.
+#[derive(Clone, Copy, Debug, PartialEq, Eq)]
+enum Step {
+    /// Its directory entry.
+    Entry,
+    /// The clearing of its block.
+    Block,
+    /// The record.
+    Record,
+}
+
+/// What comes next of a record of a job that writes.
+fn next_step(mounted: &Mounted, work: &Work, n: u32) -> Step
+    requires { n ≤ 262286 }
+    ensures { result ≡ stepping.step_of mounted.now work.now n }
+{
+    if lacks_entry(mounted, &work.job, n) {
+        Step::Entry
+    } else if clears_blocks(mounted.kind())
+        && lacks_block(mounted, &work.job, n)
+        && work.cleared.is_none()
+    {
+        Step::Block
+    } else {
+        Step::Record
+    }
+}
+
+/// Writes the next record of a job, into the block that is held for it or a fresh one.
+fn write_record<D: Drives, L: Ledger>(
+    mounted: &mut Mounted,
+    cache: &mut Cache,
+    drives: &mut D,
+    work: &mut Work,
+    steps: &mut Steps<L>,
+) -> Result<(), Failed>
+    requires size { D.attached drives.old mounted.old.drive ≡ Some (geometry_of mounted.old.kind).bytes }
+    requires coherent { IsCoherent cache.old (D.disks drives.old) }
+    requires apart { HasNoAlias cache.old (D.disks drives.old) mounted.old.drive }
+    ensures write { work.old.job.kind ≡ kinds.Write → stepping.step_of mounted.old work.old (stepping.record_next work.old) ≡ steps_of.Record
+        → DoesNext (D.disks drives.old) (D.disks drives.new) mounted.old mounted.new work.old work.new result }
+    ensures ended { work.new.ended ≡ work.old.ended }
+    ensures units { work.new.units ≡ work.old.units }
+    ensures drive { mounted.new.drive ≡ mounted.old.drive }
+    ensures kind { mounted.new.kind ≡ mounted.old.kind }
+    ensures calls { steps.new ≤ steps.old + 20 }
+    ensures leaves { Leaves D.attached D.disks D.failed_names mounted.old.drive cache.old cache.new drives.old drives.new }
+    ensures cause { HasCause (D.faults drives.old) (D.faults drives.new) result }
+{
+    let n = work.job.first.saturating_add(u32::from(work.moved));
+    if n > LAST {
+        return Ok(());
+    }
+    if work.moved > 31 {
+        return Ok(());
+    }
+    let record = Record {
+        number: n,
+        bytes: bytes_at(&work.job, u32::from(work.moved)),
+        moment: stamp(&work.job, u32::from(work.moved)),
+    };
+    let cleared = work.cleared;
+    work.cleared = None;
+    work.moved += 1;
+    if lacks_block(mounted, &work.job, n) {
+        put_fresh(mounted, cache, drives, &work.job, &record, cleared, steps)
+    } else {
+        put_held(mounted, cache, drives, &work.job, &record, steps)
+    }
+}
+
+/// Does the next unit of a job that writes: the directory entry of a record, the clearing of its block, or the record.
+pub(crate) fn write_next<D: Drives, L: Ledger>(
+    mounted: &mut Mounted,
+    cache: &mut Cache,
+    drives: &mut D,
+    work: &mut Work,
+    steps: &mut Steps<L>,
+) -> Result<(), Failed>
+    requires size { D.attached drives.old mounted.old.drive ≡ Some (geometry_of mounted.old.kind).bytes }
+    requires coherent { IsCoherent cache.old (D.disks drives.old) }
+    requires apart { HasNoAlias cache.old (D.disks drives.old) mounted.old.drive }
+    ensures write { work.old.job.kind ≡ kinds.Write → DoesNext (D.disks drives.old) (D.disks drives.new) mounted.old mounted.new work.old work.new result }
+    ensures ended { work.new.ended ≡ work.old.ended }
+    ensures units { work.new.units ≡ work.old.units }
+    ensures drive { mounted.new.drive ≡ mounted.old.drive }
+    ensures kind { mounted.new.kind ≡ mounted.old.kind }
+    ensures calls { steps.new ≤ steps.old + 20 }
+    ensures leaves { Leaves D.attached D.disks D.failed_names mounted.old.drive cache.old cache.new drives.old drives.new }
+    ensures cause { HasCause (D.faults drives.old) (D.faults drives.new) result }
+{
+    let n = work.job.first.saturating_add(u32::from(work.moved));
+    if n > LAST {
+        return Ok(());
+    }
+    match next_step(mounted, work, n) {
+        Step::Entry => {
+            work.cleared = None;
+            add_entry(mounted, cache, drives, &work.job, (n / 128) as u16, steps)
+        }
+        Step::Block => match clear_block(mounted, cache, drives, steps) {
+            Ok(block) => {
+                work.cleared = block;
+                Ok(())
+            }
+            Err(failed) => Err(failed),
+        },
+        Step::Record => write_record(mounted, cache, drives, work, steps),
+    }
+}
+
+/// Reads the next record of a job, and where it has the bytes that are named, writes it.
+pub(crate) fn test_next<D: Drives, L: Ledger>(
+    mounted: &mut Mounted,
+    cache: &mut Cache,
+    drives: &mut D,
+    work: &mut Work,
+    steps: &mut Steps<L>,
+) -> Result<(), Failed>
+    requires size { D.attached drives.old mounted.old.drive ≡ Some (geometry_of mounted.old.kind).bytes }
+    requires coherent { IsCoherent cache.old (D.disks drives.old) }
+    requires apart { HasNoAlias cache.old (D.disks drives.old) mounted.old.drive }
+    ensures testwrite { work.old.job.kind ≡ kinds.TestWrite → DoesNext (D.disks drives.old) (D.disks drives.new) mounted.old mounted.new work.old work.new result }
+    ensures ended { work.new.ended ≡ work.old.ended }
+    ensures units { work.new.units ≡ work.old.units }
+    ensures drive { mounted.new.drive ≡ mounted.old.drive }
+    ensures kind { mounted.new.kind ≡ mounted.old.kind }
+    ensures calls { steps.new ≤ steps.old + 6 }
+    ensures leaves { Leaves D.attached D.disks D.failed_names mounted.old.drive cache.old cache.new drives.old drives.new }
+    ensures cause { HasCause (D.faults drives.old) (D.faults drives.new) result }
+{
+    work.cleared = None;
+    let n = work.job.first.saturating_add(work.ended);
+    let count = u32::from(work.job.count);
+    if work.has_missed || n > LAST || count > 16 || work.ended >= count {
+        return Ok(());
+    }
+    let mut there = [0; 128];
+    match read_record(mounted, cache, drives, &work.job, n, &mut there, steps) {
+        Ok(()) => {}
+        Err(failed) => return Err(failed),
+    }
+    if there != bytes_at(&work.job, work.ended) {
+        work.has_missed = true;
+        return Ok(());
+    }
+    let record = Record {
+        number: n,
+        bytes: bytes_at(&work.job, count + work.ended),
+        moment: stamp(&work.job, work.ended),
+    };
+    work.moved = work.moved.saturating_add(1);
+    put_held(mounted, cache, drives, &work.job, &record, steps)
+}

@@ -1,0 +1,130 @@
+ghost use Rattle.std.specs.Prelude.{◌≡◌, ◌+◌, ◌<◌, ◌≤◌, ℕ, List, Some, None, not, is_some, slice_range};
+ghost use Rattle.std.specs.FinMap.{get};
+ghost use Rattle.mpm_port.specs.Causes.{HasCause};
+ghost use Rattle.mpm_blocks.specs.Geometries.{geometry_of};
+ghost use Rattle.mpm_blocks.specs.Sectors.{told_image};
+ghost use Rattle.mpm_mount.specs.Drives.{Drive, free_entries};
+ghost use Rattle.mpm_mount.specs.Directories.{Stands};
+ghost use Rattle.mpm_cache.specs.Coherent.{IsCoherent, HasNoAlias};
+ghost use Rattle.mpm_sectors.specs.Disks.{Leaves};
+ghost use Rattle.mpm_files.specs.Standing.{Does};
+ghost use Rattle.mpm_files.specs.Units.{PutsXfcb, PutsLabel};
+ghost use Rattle.mpm_files.specs.Plans.{file_of_job, protection_in};
+ghost use Rattle.mpm_files.specs.Counting.{bit};
+ghost use Rattle.mpm_files.specs.Turning.{xfcb_of_job, label_of_job};
+
+use crate::entries::put_entry;
+use crate::jobs::Job;
+use crate::searching::plain;
+use mpm_base::Steps;
+use mpm_cache::Cache;
+use mpm_dirent::{Entry, LabelEntry, XfcbEntry};
+use mpm_mount::Mounted;
+use mpm_port::{Drives, Failed};
+use std::sync::ledger::Ledger;
+
+/// Some bytes of a job, from a place on.
+fn bytes_at<const N: usize>(job: &Job, from: usize) -> [u8; N]
+    requires { from + N ≤ 4096 }
+    ensures { result ≡ slice_range job.now.bytes from (from + N) }
+{
+    let mut bytes = [0; N];
+    bytes.copy_from_slice(&job.bytes[from..from + N]);
+    bytes
+}
+
+/// The XFCB of a job.
+fn xfcb_of(job: &Job) -> XfcbEntry
+    ensures { result ≡ xfcb_of_job job.now }
+{
+    XfcbEntry {
+        user: job.user,
+        name: plain(&job.name),
+        mode: job.bytes[0],
+        decode: job.bytes[1],
+        password: bytes_at(job, 2),
+        first: bytes_at(job, 10),
+        second: bytes_at(job, 14),
+    }
+}
+
+/// The directory label of a job.
+fn label_of(job: &Job) -> LabelEntry
+    ensures { result ≡ label_of_job job.now }
+{
+    LabelEntry {
+        name: job.new_name,
+        mode: job.bytes[0],
+        decode: job.bytes[1],
+        password: bytes_at(job, 2),
+        first: bytes_at(job, 10),
+        second: bytes_at(job, 14),
+    }
+}
+
+/// Puts the XFCB of a job: in the place of the one that its file has, or into a free slot.
+pub(crate) fn put_xfcb<D: Drives, L: Ledger>(
+    mounted: &mut Mounted,
+    cache: &mut Cache,
+    drives: &mut D,
+    job: &Job,
+    steps: &mut Steps<L>,
+) -> Result<(), Failed>
+    requires size { D.attached drives.old mounted.old.drive ≡ Some (geometry_of mounted.old.kind).bytes }
+    requires coherent { IsCoherent cache.old (D.disks drives.old) }
+    requires apart { HasNoAlias cache.old (D.disks drives.old) mounted.old.drive }
+    ensures does { (image : List ℕ) (files : Drive) → told_image (D.disks drives.old) mounted.old.drive ≡ Some image → Stands image mounted.old files
+        → job.now.user < 16 → bit (not (is_some (get files.xfcbs (file_of_job job.now)))) ≤ free_entries files
+        → Does (D.disks drives.new) mounted.old.drive mounted.new files (PutsXfcb (file_of_job job.now) (protection_in job.now)) result }
+    ensures drive { mounted.new.drive ≡ mounted.old.drive }
+    ensures kind { mounted.new.kind ≡ mounted.old.kind }
+    ensures calls { steps.new ≤ steps.old + 2 }
+    ensures leaves { Leaves D.attached D.disks D.failed_names mounted.old.drive cache.old cache.new drives.old drives.new }
+    ensures cause { HasCause (D.faults drives.old) (D.faults drives.new) result }
+{
+    let _kind = mounted.kind();
+    if job.user > 15 {
+        return Ok(());
+    }
+    let entry = Entry::Xfcb { xfcb: xfcb_of(job) };
+    match mounted.xfcb(job.user, &job.name) {
+        Some(slot) => put_entry(mounted, cache, drives, slot, &entry, steps),
+        None => match mounted.free_slot() {
+            Some(slot) => put_entry(mounted, cache, drives, slot, &entry, steps),
+            None => Ok(()),
+        },
+    }
+}
+
+/// Puts the directory label of a job: in the place of the one that there is, or into a free slot.
+pub(crate) fn put_label<D: Drives, L: Ledger>(
+    mounted: &mut Mounted,
+    cache: &mut Cache,
+    drives: &mut D,
+    job: &Job,
+    steps: &mut Steps<L>,
+) -> Result<(), Failed>
+    requires size { D.attached drives.old mounted.old.drive ≡ Some (geometry_of mounted.old.kind).bytes }
+    requires coherent { IsCoherent cache.old (D.disks drives.old) }
+    requires apart { HasNoAlias cache.old (D.disks drives.old) mounted.old.drive }
+    ensures does { (image : List ℕ) (files : Drive) → told_image (D.disks drives.old) mounted.old.drive ≡ Some image → Stands image mounted.old files
+        → bit (not (is_some files.label)) ≤ free_entries files
+        → Does (D.disks drives.new) mounted.old.drive mounted.new files (PutsLabel (record { name = job.now.new_name; protection = protection_in job.now })) result }
+    ensures drive { mounted.new.drive ≡ mounted.old.drive }
+    ensures kind { mounted.new.kind ≡ mounted.old.kind }
+    ensures calls { steps.new ≤ steps.old + 2 }
+    ensures leaves { Leaves D.attached D.disks D.failed_names mounted.old.drive cache.old cache.new drives.old drives.new }
+    ensures cause { HasCause (D.faults drives.old) (D.faults drives.new) result }
+{
+    let _kind = mounted.kind();
+    let entry = Entry::Label {
+        label: label_of(job),
+    };
+    match mounted.label() {
+        Some(slot) => put_entry(mounted, cache, drives, slot, &entry, steps),
+        None => match mounted.free_slot() {
+            Some(slot) => put_entry(mounted, cache, drives, slot, &entry, steps),
+            None => Ok(()),
+        },
+    }
+}

@@ -1,0 +1,60 @@
+ghost use Rattle.std.specs.Prelude.{◌≡◌, ◌+◌, ◌≤◌, ℕ, List, Some, None, OnOk, false};
+ghost use Rattle.mpm_port.specs.Causes.{HasCause};
+ghost use Rattle.mpm_port.specs.Disks.{SameDisks, Told};
+ghost use Rattle.mpm_blocks.specs.Geometries.{geometry_of};
+ghost use Rattle.mpm_blocks.specs.Sectors.{told_image};
+ghost use Rattle.mpm_mount.specs.Drives.{Drive, record_of, visible_of};
+ghost use Rattle.mpm_mount.specs.Directories.{Stands};
+ghost use Rattle.mpm_cache.specs.Coherent.{IsCoherent};
+ghost use Rattle.mpm_sectors.specs.Disks.{Leaves};
+ghost use Rattle.mpm_files.specs.Units.{ReadsRecord};
+ghost use Rattle.mpm_files.specs.Plans.{file_of_job};
+ghost use Rattle.mpm_files.specs.Counting.{lacks_block, record_error};
+ghost use Rattle.mpm_files.specs.Lookups.{IsRecordCached};
+ghost use Rattle.mpm_files.specs.Standing.{Does};
+
+use crate::entries::disk_of;
+use crate::jobs::Job;
+use crate::lookups::{find_entry, held_sector};
+use mpm_base::Steps;
+use mpm_cache::Cache;
+use mpm_mount::Mounted;
+use mpm_port::{Drives, Failed};
+use std::sync::ledger::Ledger;
+
+/// Reads a record of a job's file, visible or not, where its block is held: by one call of the drives, or by none where its
+/// sector is cached.
+pub(crate) fn read_record<D: Drives, L: Ledger>(
+    mounted: &Mounted,
+    cache: &mut Cache,
+    drives: &mut D,
+    job: &Job,
+    n: u32,
+    out: &mut [u8; 128],
+    steps: &mut Steps<L>,
+) -> Result<(), Failed>
+    requires number { n ≤ 262286 }
+    requires size { D.attached drives.old mounted.now.drive ≡ Some (geometry_of mounted.now.kind).bytes }
+    requires coherent { IsCoherent cache.old (D.disks drives.old) }
+    ensures record { (image : List ℕ) (files : Drive) → told_image (D.disks drives.old) mounted.now.drive ≡ Some image → Stands image mounted.now files
+        → lacks_block mounted.now (file_of_job job.now) n ≡ false → OnOk result (record_of files (file_of_job job.now) n ≡ Some out.new) }
+    ensures visible { (image : List ℕ) (files : Drive) → told_image (D.disks drives.old) mounted.now.drive ≡ Some image → Stands image mounted.now files
+        → record_error mounted.now (file_of_job job.now) n ≡ None → OnOk result (visible_of files (file_of_job job.now) n ≡ Some out.new) }
+    ensures does { (image : List ℕ) (files : Drive) → told_image (D.disks drives.old) mounted.now.drive ≡ Some image → Stands image mounted.now files
+        → Does (D.disks drives.new) mounted.now.drive mounted.now files (ReadsRecord (file_of_job job.now) n) result }
+    ensures calls { steps.new ≤ steps.old + 1 }
+    ensures cached { IsRecordCached cache.old mounted.now (file_of_job job.now) n → steps.new ≡ steps.old }
+    ensures disks { Told SameDisks (D.disks drives.old) (D.disks drives.new) }
+    ensures leaves { Leaves D.attached D.disks D.failed_names mounted.now.drive cache.old cache.new drives.old drives.new }
+    ensures cause { HasCause (D.faults drives.old) (D.faults drives.new) result }
+{
+    let found = match find_entry(mounted, job, n) {
+        Some(found) => found,
+        None => return Ok(()),
+    };
+    let sector = match held_sector(mounted, &found.file, n) {
+        Some(sector) => sector,
+        None => return Ok(()),
+    };
+    disk_of(mounted).read(cache, drives, sector, out, steps)
+}

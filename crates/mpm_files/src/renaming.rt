@@ -1,0 +1,160 @@
+ghost use Rattle.std.specs.Prelude.{◌≡◌, ◌+◌, ◌≤◌, ℕ, List, Some, None, IsSome, IfSome};
+ghost use Rattle.std.specs.FinMap.{get};
+ghost use Rattle.mpm_port.specs.Causes.{HasCause};
+ghost use Rattle.mpm_blocks.specs.Geometries.{geometry_of};
+ghost use Rattle.mpm_blocks.specs.Sectors.{told_image};
+ghost use Rattle.mpm_mount.specs.Drives.{Drive};
+ghost use Rattle.mpm_mount.specs.Directories.{Stands, entry_in, xfcb_slot};
+ghost use Rattle.mpm_cache.specs.Coherent.{IsCoherent, HasNoAlias};
+ghost use Rattle.mpm_sectors.specs.Disks.{Leaves};
+ghost use Rattle.mpm_files.specs.Standing.{Does};
+ghost use Rattle.mpm_dirent.specs.declared.kinds.Entry.TheVariants.{File};
+ghost use Rattle.mpm_dirent.specs.declared.kinds.FileEntry.{FileEntry};
+ghost use Rattle.mpm_mount.specs.Faults.{extent_of, name_of};
+ghost use Rattle.mpm_files.specs.Units.{SetsAttributes, RenamesEntry, RenamesXfcb};
+ghost use Rattle.mpm_files.specs.Plans.{file_of_job, new_file_of_job, attributes_in};
+ghost use Rattle.mpm_files.specs.Counting.{file_in};
+ghost use Rattle.mpm_files.specs.Turning.{IsFileAt};
+
+use crate::entries::put_entry;
+use crate::jobs::Job;
+use crate::lookups::find_xfcb;
+use crate::marking::{attributes_over, marked};
+use crate::searching::plain;
+use mpm_base::Steps;
+use mpm_cache::Cache;
+use mpm_dirent::{Entry, FileEntry, XfcbEntry};
+use mpm_mount::Mounted;
+use mpm_port::{Drives, Failed};
+use std::sync::ledger::Ledger;
+
+/// The file's entry in a slot.
+pub(crate) fn file_at(mounted: &Mounted, slot: u16) -> Option<FileEntry>
+    requires { slot ≤ (geometry_of mounted.now.kind).drm }
+    ensures found { IfSome result (λ file. IsFileAt mounted.now slot file) }
+    ensures missing { (f : FileEntry) → entry_in mounted.now slot ≡ File f → IsSome result }
+{
+    let _kind = mounted.kind();
+    match mounted.entry(slot) {
+        Entry::File { file } => Some(*file),
+        _ => None,
+    }
+}
+
+/// The last extent of a directory entry.
+fn last_extent(file: &FileEntry) -> u16
+    ensures { result ≡ extent_of file.now }
+{
+    32 * u16::from(file.s2) + u16::from(file.ex)
+}
+
+/// Gives the entry in a slot the attributes of a job.
+pub(crate) fn set_attributes<D: Drives, L: Ledger>(
+    mounted: &mut Mounted,
+    cache: &mut Cache,
+    drives: &mut D,
+    slot: u16,
+    job: &Job,
+    steps: &mut Steps<L>,
+) -> Result<(), Failed>
+    requires size { D.attached drives.old mounted.old.drive ≡ Some (geometry_of mounted.old.kind).bytes }
+    requires coherent { IsCoherent cache.old (D.disks drives.old) }
+    requires apart { HasNoAlias cache.old (D.disks drives.old) mounted.old.drive }
+    requires slot { slot ≤ (geometry_of mounted.old.kind).drm }
+    ensures does { (image : List ℕ) (files : Drive) (f : FileEntry) → told_image (D.disks drives.old) mounted.old.drive ≡ Some image → Stands image mounted.old files
+        → entry_in mounted.old slot ≡ File f
+        → Does (D.disks drives.new) mounted.old.drive mounted.new files (SetsAttributes (file_in f.user f.name) (name_of files.kind f).number (attributes_in job.now.name)) result }
+    ensures drive { mounted.new.drive ≡ mounted.old.drive }
+    ensures kind { mounted.new.kind ≡ mounted.old.kind }
+    ensures calls { steps.new ≤ steps.old + 2 }
+    ensures leaves { Leaves D.attached D.disks D.failed_names mounted.old.drive cache.old cache.new drives.old drives.new }
+    ensures cause { HasCause (D.faults drives.old) (D.faults drives.new) result }
+{
+    let Some(file) = file_at(mounted, slot) else {
+        return Ok(());
+    };
+    let file = FileEntry {
+        name: marked(&file.name, &attributes_over(&job.name, &file.name)),
+        ..file
+    };
+    put_entry(mounted, cache, drives, slot, &Entry::File { file }, steps)
+}
+
+/// Gives the entry in a slot the new name of a job, where that has no such entry. Attributes stay.
+pub(crate) fn rename_entry<D: Drives, L: Ledger>(
+    mounted: &mut Mounted,
+    cache: &mut Cache,
+    drives: &mut D,
+    slot: u16,
+    job: &Job,
+    steps: &mut Steps<L>,
+) -> Result<(), Failed>
+    requires size { D.attached drives.old mounted.old.drive ≡ Some (geometry_of mounted.old.kind).bytes }
+    requires coherent { IsCoherent cache.old (D.disks drives.old) }
+    requires apart { HasNoAlias cache.old (D.disks drives.old) mounted.old.drive }
+    requires slot { slot ≤ (geometry_of mounted.old.kind).drm }
+    ensures does { (image : List ℕ) (files : Drive) (f : FileEntry) → told_image (D.disks drives.old) mounted.old.drive ≡ Some image → Stands image mounted.old files
+        → entry_in mounted.old slot ≡ File f → f.user ≡ job.now.user
+        → get files.extents (record { user = job.now.user; name = (new_file_of_job job.now).name; number = (name_of files.kind f).number }) ≡ None
+        → Does (D.disks drives.new) mounted.old.drive mounted.new files (RenamesEntry (file_in f.user f.name) (name_of files.kind f).number (new_file_of_job job.now)) result }
+    ensures drive { mounted.new.drive ≡ mounted.old.drive }
+    ensures kind { mounted.new.kind ≡ mounted.old.kind }
+    ensures calls { steps.new ≤ steps.old + 2 }
+    ensures leaves { Leaves D.attached D.disks D.failed_names mounted.old.drive cache.old cache.new drives.old drives.new }
+    ensures cause { HasCause (D.faults drives.old) (D.faults drives.new) result }
+{
+    let _kind = mounted.kind();
+    let Some(file) = file_at(mounted, slot) else {
+        return Ok(());
+    };
+    let file = FileEntry {
+        name: marked(&job.new_name, &file.name),
+        ..file
+    };
+    match mounted.extent(file.user, &file.name, last_extent(&file)) {
+        Some(_) => Ok(()),
+        None => put_entry(mounted, cache, drives, slot, &Entry::File { file }, steps),
+    }
+}
+
+/// Gives the XFCB of a job's file the new name, where that has none.
+pub(crate) fn rename_xfcb<D: Drives, L: Ledger>(
+    mounted: &mut Mounted,
+    cache: &mut Cache,
+    drives: &mut D,
+    job: &Job,
+    steps: &mut Steps<L>,
+) -> Result<(), Failed>
+    requires size { D.attached drives.old mounted.old.drive ≡ Some (geometry_of mounted.old.kind).bytes }
+    requires coherent { IsCoherent cache.old (D.disks drives.old) }
+    requires apart { HasNoAlias cache.old (D.disks drives.old) mounted.old.drive }
+    ensures does { (image : List ℕ) (files : Drive) → told_image (D.disks drives.old) mounted.old.drive ≡ Some image → Stands image mounted.old files
+        → get files.xfcbs (new_file_of_job job.now) ≡ None
+        → Does (D.disks drives.new) mounted.old.drive mounted.new files (RenamesXfcb (file_of_job job.now) (new_file_of_job job.now)) result }
+    ensures drive { mounted.new.drive ≡ mounted.old.drive }
+    ensures kind { mounted.new.kind ≡ mounted.old.kind }
+    ensures calls { steps.new ≤ steps.old + 2 }
+    ensures leaves { Leaves D.attached D.disks D.failed_names mounted.old.drive cache.old cache.new drives.old drives.new }
+    ensures cause { HasCause (D.faults drives.old) (D.faults drives.new) result }
+{
+    let Some(found) = find_xfcb(mounted, job) else {
+        return Ok(());
+    };
+    match mounted.xfcb(job.user, &job.new_name) {
+        Some(_) => Ok(()),
+        None => {
+            let xfcb = XfcbEntry {
+                name: plain(&job.new_name),
+                ..found.xfcb
+            };
+            put_entry(
+                mounted,
+                cache,
+                drives,
+                found.slot,
+                &Entry::Xfcb { xfcb },
+                steps,
+            )
+        }
+    }
+}

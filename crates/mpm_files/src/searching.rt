@@ -1,0 +1,108 @@
+ghost use Rattle.std.specs.Prelude.{◌≡◌, ◌≤◌, count_by, bytes_eq};
+ghost use Rattle.std.specs.List.{list_any};
+ghost use Rattle.mpm_mount.specs.Faults as faults;
+ghost use Rattle.mpm_mount.specs.Directories as directory;
+ghost use Rattle.mpm_files.specs.Plans as plans;
+ghost use Rattle.mpm_files.specs.Counting as spec;
+
+use crate::jobs::Job;
+use mpm_blocks::geometry;
+use mpm_dirent::Entry;
+use mpm_mount::Mounted;
+use mpm_names::matches;
+
+/// Which directory entries are counted.
+#[derive(Clone, Copy, Debug, PartialEq, Eq)]
+pub(crate) enum Sought {
+    /// Those of the job's file.
+    OfFile,
+    /// Those that the job deletes: of the files that fit, and the XFCBs of such that are there.
+    Deleted,
+}
+
+/// A name without the attributes in bit 7.
+#[tactic(auto, using(mpm_mount::proofs::Ranges::plain_all))]
+pub(crate) fn plain(name: &[u8; 11]) -> [u8; 11]
+    ensures { result ≡ faults.plain name.now }
+{
+    let mut plain = *name;
+    for place in 0..11 {
+        plain[place] = name[place] % 128;
+    }
+    plain
+}
+
+/// Whether two names are one without the attributes in bit 7.
+fn is_same_name(a: &[u8; 11], b: &[u8; 11]) -> bool
+    ensures { result ≡ bytes_eq (faults.plain a.now) (faults.plain b.now) }
+{
+    plain(a) == plain(b)
+}
+
+/// Whether an entry is of a user's file.
+fn is_part_of(user: u8, name: &[u8; 11], entry: &Entry) -> bool
+    ensures { result ≡ spec.is_part_of (spec.file_in user name.now) entry.now }
+{
+    match entry {
+        Entry::File { file } => user == file.user && is_same_name(name, &file.name),
+        _ => false,
+    }
+}
+
+/// Whether a user's file fits the name of a job.
+fn is_fitting(job: &Job, user: u8, name: &[u8; 11]) -> bool
+    ensures { result ≡ plans.is_fitting job.now.user job.now.name (spec.file_in user name.now) }
+{
+    user == job.user && matches(&job.name, &plain(name))
+}
+
+/// Whether a user's file is there.
+#[tactic(auto, using(crate::proofs::EntryCounts::any_more, crate::proofs::EntryCounts::any_found, crate::proofs::EntryCounts::taken_whole))]
+pub(crate) fn has_file(mounted: &Mounted, user: u8, name: &[u8; 11]) -> bool
+    ensures { result ≡ list_any (spec.is_part_of (spec.file_in user name.now)) mounted.now.entries }
+{
+    let kind = mounted.kind();
+    for slot in 0..geometry(kind).drm + 1 {
+        if is_part_of(user, name, mounted.entry(slot)) {
+            return true;
+        }
+    }
+    false
+}
+
+/// Whether a job deletes an entry.
+fn is_deleted(mounted: &Mounted, job: &Job, entry: &Entry) -> bool
+    ensures { result ≡ spec.is_deleted mounted.now job.now.user job.now.name entry.now }
+{
+    match entry {
+        Entry::File { file } => is_fitting(job, file.user, &file.name),
+        Entry::Xfcb { xfcb } => {
+            is_fitting(job, xfcb.user, &xfcb.name) && has_file(mounted, xfcb.user, &xfcb.name)
+        }
+        _ => false,
+    }
+}
+
+/// Whether an entry is among those that are counted.
+fn is_sought(mounted: &Mounted, job: &Job, sought: Sought, entry: &Entry) -> bool
+    ensures { result ≡ spec.is_sought mounted.now job.now sought entry.now }
+{
+    match sought {
+        Sought::OfFile => is_part_of(job.user, &job.name, entry),
+        Sought::Deleted => is_deleted(mounted, job, entry),
+    }
+}
+
+/// How many directory entries are such.
+#[tactic(auto, using(crate::proofs::EntryCounts::count_more, crate::proofs::EntryCounts::taken_whole))]
+pub(crate) fn count_entries(mounted: &Mounted, job: &Job, sought: Sought) -> u32
+    ensures count { result ≡ count_by (spec.is_sought mounted.now job.now sought) mounted.now.entries }
+    ensures few { result ≤ 512 }
+{
+    let kind = mounted.kind();
+    let mut count = 0;
+    for slot in 0..geometry(kind).drm + 1 {
+        count += u32::from(is_sought(mounted, job, sought, mounted.entry(slot)));
+    }
+    count
+}

@@ -1,0 +1,61 @@
+ghost use Rattle.std.specs.Prelude.{◌≡◌, ◌+◌, ◌≤◌, Some, None};
+ghost use Rattle.mpm_port.specs.Causes.{HasCause};
+ghost use Rattle.mpm_blocks.specs.Geometries.{geometry_of};
+ghost use Rattle.mpm_cache.specs.Coherent.{IsCoherent, HasNoAlias};
+ghost use Rattle.mpm_sectors.specs.Disks.{Leaves};
+ghost use Rattle.mpm_files.specs.declared.jobs.JobKind.TheVariants as kinds;
+ghost use Rattle.mpm_files.specs.Turning.{DoesNext};
+ghost use Rattle.mpm_files.specs.Turning as turning;
+
+use crate::renaming::set_attributes;
+use crate::work::Work;
+use mpm_base::Steps;
+use mpm_cache::Cache;
+use mpm_mount::{Found, Mounted};
+use mpm_port::{Drives, Failed};
+use std::sync::ledger::Ledger;
+
+/// The last entry that was changed, by the name of the job.
+fn last_of_job(work: &Work) -> Option<Found>
+    ensures { result ≡ turning.last_of_job work.now }
+{
+    match work.last {
+        Some(found) => Some(Found {
+            name: work.job.name,
+            ..found
+        }),
+        None => None,
+    }
+}
+
+/// Sets the attributes of the first entry of a job's file above the last that has them.
+pub(crate) fn set_next<D: Drives, L: Ledger>(
+    mounted: &mut Mounted,
+    cache: &mut Cache,
+    drives: &mut D,
+    work: &mut Work,
+    steps: &mut Steps<L>,
+) -> Result<(), Failed>
+    requires size { D.attached drives.old mounted.old.drive ≡ Some (geometry_of mounted.old.kind).bytes }
+    requires coherent { IsCoherent cache.old (D.disks drives.old) }
+    requires apart { HasNoAlias cache.old (D.disks drives.old) mounted.old.drive }
+    ensures attributes { work.old.job.kind ≡ kinds.Attributes → DoesNext (D.disks drives.old) (D.disks drives.new) mounted.old mounted.new work.old work.new result }
+    ensures ended { work.new.ended ≡ work.old.ended }
+    ensures units { work.new.units ≡ work.old.units }
+    ensures drive { mounted.new.drive ≡ mounted.old.drive }
+    ensures kind { mounted.new.kind ≡ mounted.old.kind }
+    ensures calls { steps.new ≤ steps.old + 2 }
+    ensures leaves { Leaves D.attached D.disks D.failed_names mounted.old.drive cache.old cache.new drives.old drives.new }
+    ensures cause { HasCause (D.faults drives.old) (D.faults drives.new) result }
+{
+    let _kind = mounted.kind();
+    let last = last_of_job(work);
+    work.cleared = None;
+    match mounted.next(work.job.user, &work.job.name, last) {
+        Some(found) => {
+            work.last = Some(found);
+            set_attributes(mounted, cache, drives, found.slot, &work.job, steps)
+        }
+        None => Ok(()),
+    }
+}

@@ -1,0 +1,362 @@
+ghost use Rattle.std.specs.Prelude.{◌≡◌, ◌+◌, ◌<◌, ◌≤◌, ℕ, List, [], ◌∷◌, length, slice_set, ◌/◌, ◌%◌, Some, None, true, false};
+ghost use Rattle.mpm_port.specs.Causes.{HasCause};
+ghost use Rattle.mpm_blocks.specs.Geometries as geometries;
+ghost use Rattle.mpm_blocks.specs.Geometries.{geometry_of};
+ghost use Rattle.mpm_blocks.specs.Sectors.{told_image, sectors_of};
+ghost use Rattle.mpm_mount.specs.Drives.{Drive, with_extent};
+ghost use Rattle.mpm_mount.specs.Faults.{name_of};
+ghost use Rattle.mpm_mount.specs.Images.{contents_of, extent_in};
+ghost use Rattle.mpm_mount.specs.Directories.{Stands, free_block};
+ghost use Rattle.mpm_cache.specs.Coherent.{IsCoherent, HasNoAlias};
+ghost use Rattle.mpm_sectors.specs.Disks.{Leaves};
+ghost use Rattle.mpm_sectors.specs.Writes.{Puts, block_writes, block_calls};
+ghost use Rattle.mpm_files.specs.Units.{WritesRecord, with_stamp};
+ghost use Rattle.mpm_files.specs.Plans as plans;
+ghost use Rattle.mpm_files.specs.Plans.{file_of_job};
+ghost use Rattle.mpm_files.specs.Counting.{lacks_entry, lacks_block};
+ghost use Rattle.mpm_files.specs.Lookups.{HasEntry, IsHeldAt};
+ghost use Rattle.mpm_files.specs.Lookups as entries;
+ghost use Rattle.mpm_files.specs.Standing as spec;
+ghost use Rattle.mpm_files.specs.Standing.{Does, GoesThrough, HasFreshBlock};
+
+use crate::clearing::{CLEARED, clears_blocks};
+use crate::entries::disk_of;
+use crate::jobs::Job;
+use crate::lookups::{FoundEntry, find_entry, held_sector, index_in};
+use crate::records::block_place;
+use crate::stamps::{Stamp, put_stamp, put_stamped};
+use mpm_base::Steps;
+use mpm_cache::Cache;
+use mpm_dirent::FileEntry;
+use mpm_mount::Mounted;
+use mpm_port::{Drives, Failed};
+use std::sync::ledger::Ledger;
+
+/// A record that is written, and the moment of the stamp that comes with it.
+#[derive(Clone, Copy)]
+pub(crate) struct Record {
+    /// Its number in its file, from 0.
+    pub(crate) number: u32,
+    pub(crate) bytes: [u8; 128],
+    pub(crate) moment: Option<[u8; 4]>,
+}
+
+/// Whether a record lies above the last extent of an entry, or above the record count of that.
+fn is_above(file: &FileEntry, n: u32) -> bool
+    ensures { result ≡ entries.is_above n file.now }
+{
+    let last = 32 * u32::from(file.s2) + u32::from(file.ex);
+    last < n / 128 || (n / 128 == last && u32::from(file.rc) <= n % 128)
+}
+
+/// A file's entry with the last extent and the record count that a record gives it.
+fn raised(file: &FileEntry, n: u32) -> FileEntry
+    requires { n ≤ 262143 }
+    ensures { result ≡ entries.raised_entry n file.now }
+{
+    if is_above(file, n) {
+        FileEntry {
+            ex: (n / 128 % 32) as u8,
+            s2: (n / 128 / 32) as u8,
+            rc: (n % 128 + 1) as u8,
+            ..*file
+        }
+    } else {
+        *file
+    }
+}
+
+/// The blocks of an entry with another one at a place.
+fn with_block(blocks: &[u16; 16], place: usize, block: u16) -> [u16; 16]
+    requires { place ≤ 15 }
+    ensures blocks { result ≡ slice_set blocks.now place block }
+    ensures size { length blocks.now ≡ 16 }
+{
+    let mut blocks = *blocks;
+    blocks[place] = block;
+    blocks
+}
+
+/// A file's entry with a block for a record, and with the last extent and the record count that the record gives it.
+fn taken(mounted: &Mounted, file: &FileEntry, n: u32, block: u16) -> FileEntry
+    requires { n ≤ 262143 }
+    ensures file { result ≡ entries.taken_entry mounted.now.kind n block file.now }
+    ensures size { length file.now.blocks ≡ 16 }
+{
+    let blocks = with_block(&file.blocks, block_place(mounted.kind(), n), block);
+    raised(&FileEntry { blocks, ..*file }, n)
+}
+
+/// How many sectors of a fresh block are cleared before its record comes, where it may be taken.
+fn cleared_of(mounted: &Mounted, cleared: Option<u16>, block: u16) -> Option<u8>
+    ensures { result ≡ spec.cleared_of (plans.clears_blocks mounted.now.kind) cleared block }
+{
+    if !clears_blocks(mounted.kind()) {
+        return Some(0);
+    }
+    match cleared {
+        Some(cleared) if cleared == block => Some(CLEARED),
+        _ => None,
+    }
+}
+
+/// Writes a record of a job's file into its block, where that is held: then last extent and record count of its directory
+/// entry, where they rise, and the second stamp.
+pub(crate) fn put_held<D: Drives, L: Ledger>(
+    mounted: &mut Mounted,
+    cache: &mut Cache,
+    drives: &mut D,
+    job: &Job,
+    record: &Record,
+    steps: &mut Steps<L>,
+) -> Result<(), Failed>
+    requires number { record.now.number ≤ 262286 }
+    requires size { D.attached drives.old mounted.old.drive ≡ Some (geometry_of mounted.old.kind).bytes }
+    requires coherent { IsCoherent cache.old (D.disks drives.old) }
+    requires apart { HasNoAlias cache.old (D.disks drives.old) mounted.old.drive }
+    ensures does { (image : List ℕ) (files : Drive) → told_image (D.disks drives.old) mounted.old.drive ≡ Some image → Stands image mounted.old files
+        → lacks_block mounted.old (file_of_job job.now) record.now.number ≡ false
+        → Does (D.disks drives.new) mounted.old.drive mounted.new files
+        (WritesRecord (file_of_job job.now) record.now.number record.now.bytes record.now.moment) result }
+    ensures drive { mounted.new.drive ≡ mounted.old.drive }
+    ensures kind { mounted.new.kind ≡ mounted.old.kind }
+    ensures calls { steps.new ≤ steps.old + 5 }
+    ensures leaves { Leaves D.attached D.disks D.failed_names mounted.old.drive cache.old cache.new drives.old drives.new }
+    ensures cause { HasCause (D.faults drives.old) (D.faults drives.new) result }
+{
+    let found = match find_entry(mounted, job, record.number) {
+        Some(found) => found,
+        None => return Ok(()),
+    };
+    let sector = match held_sector(mounted, &found.file, record.number) {
+        Some(sector) => sector,
+        None => return Ok(()),
+    };
+    match put_in_block(mounted, cache, drives, job, record, &found, sector, steps) {
+        Ok(()) => put_raised(mounted, cache, drives, job, record, &found, steps),
+        Err(failed) => Err(failed),
+    }
+}
+
+/// Writes a record of a job's file with a fresh block, where the file has an entry for the record: zeros into the block's
+/// other sectors, the record, its directory entry with the block, and the second stamp. The block is the lowest free one;
+/// where a block is cleared in a turn of its own, it is to be the one that was cleared.
+pub(crate) fn put_fresh<D: Drives, L: Ledger>(
+    mounted: &mut Mounted,
+    cache: &mut Cache,
+    drives: &mut D,
+    job: &Job,
+    record: &Record,
+    cleared: Option<u16>,
+    steps: &mut Steps<L>,
+) -> Result<(), Failed>
+    requires number { record.now.number ≤ 262286 }
+    requires size { D.attached drives.old mounted.old.drive ≡ Some (geometry_of mounted.old.kind).bytes }
+    requires coherent { IsCoherent cache.old (D.disks drives.old) }
+    requires apart { HasNoAlias cache.old (D.disks drives.old) mounted.old.drive }
+    ensures does { (image : List ℕ) (files : Drive) → told_image (D.disks drives.old) mounted.old.drive ≡ Some image → Stands image mounted.old files
+        → lacks_entry mounted.old (file_of_job job.now) record.now.number ≡ false
+        → lacks_block mounted.old (file_of_job job.now) record.now.number ≡ true
+        → HasFreshBlock (plans.clears_blocks mounted.old.kind) (sectors_of image mounted.old.kind) mounted.old cleared
+        → Does (D.disks drives.new) mounted.old.drive mounted.new files
+        (WritesRecord (file_of_job job.now) record.now.number record.now.bytes record.now.moment) result }
+    ensures drive { mounted.new.drive ≡ mounted.old.drive }
+    ensures kind { mounted.new.kind ≡ mounted.old.kind }
+    ensures calls { steps.new ≤ steps.old + 20 }
+    ensures leaves { Leaves D.attached D.disks D.failed_names mounted.old.drive cache.old cache.new drives.old drives.new }
+    ensures cause { HasCause (D.faults drives.old) (D.faults drives.new) result }
+{
+    let found = match find_entry(mounted, job, record.number) {
+        Some(found) => found,
+        None => return Ok(()),
+    };
+    let block = match mounted.free_block() {
+        Some(block) => block,
+        None => return Ok(()),
+    };
+    let clear = match cleared_of(mounted, cleared, block) {
+        Some(clear) => clear,
+        None => return Ok(()),
+    };
+    let index = index_in(mounted, record.number);
+    match put_with_block(
+        mounted,
+        cache,
+        drives,
+        block,
+        clear,
+        index,
+        &record.bytes,
+        steps,
+    ) {
+        Ok(()) => put_taken(mounted, cache, drives, job, record, &found, block, steps),
+        Err(failed) => Err(failed),
+    }
+}
+
+/// Writes a sector of a mounted drive.
+fn put_sector<D: Drives, L: Ledger>(
+    mounted: &Mounted,
+    cache: &mut Cache,
+    drives: &mut D,
+    sector: u32,
+    bytes: &[u8; 128],
+    steps: &mut Steps<L>,
+) -> Result<(), Failed>
+    requires size { D.attached drives.old mounted.now.drive ≡ Some (geometry_of mounted.now.kind).bytes }
+    requires within { sector < geometries.logical_sectors mounted.now.kind }
+    requires coherent { IsCoherent cache.old (D.disks drives.old) }
+    requires apart { HasNoAlias cache.old (D.disks drives.old) mounted.now.drive }
+    ensures puts { Puts mounted.now.drive mounted.now.kind (record { sector = sector; bytes = bytes.now } ∷ []) (D.disks drives.old) (D.disks drives.new) result }
+    ensures long { length bytes.now ≡ 128 }
+    ensures calls { steps.new ≤ steps.old + 1 }
+    ensures leaves { Leaves D.attached D.disks D.failed_names mounted.now.drive cache.old cache.new drives.old drives.new }
+    ensures cause { HasCause (D.faults drives.old) (D.faults drives.new) result }
+{
+    disk_of(mounted).put(cache, drives, sector, bytes, steps)
+}
+
+/// Writes a record into its block, which its directory entry holds.
+fn put_in_block<D: Drives, L: Ledger>(
+    mounted: &Mounted,
+    cache: &mut Cache,
+    drives: &mut D,
+    job: &Job,
+    record: &Record,
+    found: &FoundEntry,
+    sector: u32,
+    steps: &mut Steps<L>,
+) -> Result<(), Failed>
+    requires size { D.attached drives.old mounted.now.drive ≡ Some (geometry_of mounted.now.kind).bytes }
+    requires coherent { IsCoherent cache.old (D.disks drives.old) }
+    requires apart { HasNoAlias cache.old (D.disks drives.old) mounted.now.drive }
+    requires entry { HasEntry mounted.now (file_of_job job.now) record.now.number found.now.slot found.now.file }
+    requires held { IsHeldAt mounted.now.kind found.now.file record.now.number sector }
+    ensures puts { (image : List ℕ) (files : Drive) → told_image (D.disks drives.old) mounted.now.drive ≡ Some image → Stands image mounted.now files
+        → GoesThrough (D.disks drives.new) mounted.now.drive mounted.now files
+        (with_extent files (name_of mounted.now.kind found.now.file)
+        (spec.with_record mounted.now.kind record.now.number record.now.bytes (extent_in (sectors_of image mounted.now.kind) mounted.now.kind found.now.file)) ∷ []) result }
+    ensures calls { steps.new ≤ steps.old + 1 }
+    ensures leaves { Leaves D.attached D.disks D.failed_names mounted.now.drive cache.old cache.new drives.old drives.new }
+    ensures cause { HasCause (D.faults drives.old) (D.faults drives.new) result }
+{
+    put_sector(mounted, cache, drives, sector, &record.bytes, steps)
+}
+
+/// Puts last extent and record count of the directory entry of a record that is there, where they rise, and the second stamp.
+fn put_raised<D: Drives, L: Ledger>(
+    mounted: &mut Mounted,
+    cache: &mut Cache,
+    drives: &mut D,
+    job: &Job,
+    record: &Record,
+    found: &FoundEntry,
+    steps: &mut Steps<L>,
+) -> Result<(), Failed>
+    requires size { D.attached drives.old mounted.old.drive ≡ Some (geometry_of mounted.old.kind).bytes }
+    requires coherent { IsCoherent cache.old (D.disks drives.old) }
+    requires apart { HasNoAlias cache.old (D.disks drives.old) mounted.old.drive }
+    requires entry { HasEntry mounted.old (file_of_job job.now) record.now.number found.now.slot found.now.file }
+    ensures puts { (image : List ℕ) (files : Drive) → told_image (D.disks drives.old) mounted.old.drive ≡ Some image → Stands image mounted.old files
+        → GoesThrough (D.disks drives.new) mounted.old.drive mounted.new files
+        (with_stamp (file_of_job job.now) record.now.moment files
+        (spec.raises mounted.old.kind record.now.number found.now.file files (extent_in (sectors_of image mounted.old.kind) mounted.old.kind found.now.file))) result }
+    ensures drive { mounted.new.drive ≡ mounted.old.drive }
+    ensures kind { mounted.new.kind ≡ mounted.old.kind }
+    ensures calls { steps.new ≤ steps.old + 4 }
+    ensures leaves { Leaves D.attached D.disks D.failed_names mounted.old.drive cache.old cache.new drives.old drives.new }
+    ensures cause { HasCause (D.faults drives.old) (D.faults drives.new) result }
+{
+    if is_above(&found.file, record.number) {
+        let raised = raised(&found.file, record.number);
+        put_stamped(
+            mounted,
+            cache,
+            drives,
+            found.slot,
+            &raised,
+            job,
+            record.moment,
+            steps,
+        )
+    } else {
+        put_stamp(
+            mounted,
+            cache,
+            drives,
+            job,
+            Stamp::Second,
+            record.moment,
+            steps,
+        )
+    }
+}
+
+/// Writes a record into a free block, behind zeros in the block's other sectors, of which some are zeros already.
+fn put_with_block<D: Drives, L: Ledger>(
+    mounted: &Mounted,
+    cache: &mut Cache,
+    drives: &mut D,
+    block: u16,
+    clear: u8,
+    index: u8,
+    bytes: &[u8; 128],
+    steps: &mut Steps<L>,
+) -> Result<(), Failed>
+    requires size { D.attached drives.old mounted.now.drive ≡ Some (geometry_of mounted.now.kind).bytes }
+    requires coherent { IsCoherent cache.old (D.disks drives.old) }
+    requires apart { HasNoAlias cache.old (D.disks drives.old) mounted.now.drive }
+    requires free { free_block mounted.now ≡ Some block }
+    requires clear { clear ≤ geometries.block_records mounted.now.kind }
+    requires index { index < geometries.block_records mounted.now.kind }
+    requires few { block_calls mounted.now.kind clear index ≤ 16 }
+    ensures puts { Puts mounted.now.drive mounted.now.kind
+        (block_writes mounted.now.kind block clear index bytes.now) (D.disks drives.old) (D.disks drives.new) result }
+    ensures long { length bytes.now ≡ 128 }
+    ensures calls { steps.new ≤ steps.old + 16 }
+    ensures leaves { Leaves D.attached D.disks D.failed_names mounted.now.drive cache.old cache.new drives.old drives.new }
+    ensures cause { HasCause (D.faults drives.old) (D.faults drives.new) result }
+{
+    disk_of(mounted).put_block(cache, drives, block, clear, index, bytes, steps)
+}
+
+/// Puts a directory entry with a free block for a record, and the second stamp.
+fn put_taken<D: Drives, L: Ledger>(
+    mounted: &mut Mounted,
+    cache: &mut Cache,
+    drives: &mut D,
+    job: &Job,
+    record: &Record,
+    found: &FoundEntry,
+    block: u16,
+    steps: &mut Steps<L>,
+) -> Result<(), Failed>
+    requires size { D.attached drives.old mounted.old.drive ≡ Some (geometry_of mounted.old.kind).bytes }
+    requires coherent { IsCoherent cache.old (D.disks drives.old) }
+    requires apart { HasNoAlias cache.old (D.disks drives.old) mounted.old.drive }
+    requires entry { HasEntry mounted.old (file_of_job job.now) record.now.number found.now.slot found.now.file }
+    requires free { free_block mounted.old ≡ Some block }
+    ensures puts { (image : List ℕ) (files : Drive) → told_image (D.disks drives.old) mounted.old.drive ≡ Some image → Stands image mounted.old files
+        → GoesThrough (D.disks drives.new) mounted.old.drive mounted.new files
+        (with_stamp (file_of_job job.now) record.now.moment files
+        (with_extent files (name_of mounted.old.kind found.now.file)
+        (spec.with_taken mounted.old.kind record.now.number (contents_of (sectors_of image mounted.old.kind) mounted.old.kind block)
+        (extent_in (sectors_of image mounted.old.kind) mounted.old.kind found.now.file)) ∷ [])) result }
+    ensures drive { mounted.new.drive ≡ mounted.old.drive }
+    ensures kind { mounted.new.kind ≡ mounted.old.kind }
+    ensures calls { steps.new ≤ steps.old + 4 }
+    ensures leaves { Leaves D.attached D.disks D.failed_names mounted.old.drive cache.old cache.new drives.old drives.new }
+    ensures cause { HasCause (D.faults drives.old) (D.faults drives.new) result }
+{
+    let taken = taken(mounted, &found.file, record.number, block);
+    put_stamped(
+        mounted,
+        cache,
+        drives,
+        found.slot,
+        &taken,
+        job,
+        record.moment,
+        steps,
+    )
+}

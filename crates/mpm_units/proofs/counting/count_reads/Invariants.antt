@@ -1,7 +1,0 @@
-use Rattle.mpm_units.specs.Plans as plans
-use Rattle.mpm_units.specs.Counting as spec
-use Rattle.mpm_units.proofs.ReadCounts.{ReadTo}
-use Rattle.mpm_units.proofs.counting.count_reads.Given as goal
-
-abbrev pub invariant-loop-k : goal.invariant-loop-k
-invariant-loop-k l = ReadTo (spec.record_error l.mounted (plans.file_of_job l.job)) l.job.first l.job.count l.k
