@@ -1,0 +1,109 @@
+-- What a call that isn't refused makes of drives, open files, marks, protection and searches, by what its turns have come to.
+use Rattle.std.specs.Prelude.{ℕ, ◌==◌, ◌&&◌, not, Bool, true, false, List, Option, Some, None, option_map, map, replicate, slice_index_or, slice_set, if◌then◌else◌}
+use Rattle.std.specs.List.{list_any, range_with_len}
+use Rattle.mpm_mount.specs.Drives.{FileName, Drive}
+use Rattle.mpm_mount.specs.Faults.{plain}
+use Rattle.mpm_opens.specs.declared.kinds.FileKey.{FileKey}
+use Rattle.mpm_opens.specs.declared.kinds.Mode.TheVariants.{Unlocked}
+use Rattle.mpm_opens.specs.Kinds.{is_same_mode, is_file}
+use Rattle.mpm_opens.specs.Opens.{OpenFiles, added, given_back, closed, written}
+use Rattle.mpm_fcb.specs.Names.{has_f5}
+use Rattle.mpm_files.specs.declared.jobs.Job.{Job}
+use Rattle.mpm_files.specs.Plans.{is_same_file}
+use Rattle.mpm_bdos.specs.declared.functions.FileFunction.{FileFunction}
+use Rattle.mpm_bdos.specs.declared.functions.FileFunction.TheVariants.{ResetDisks, OpenFile, CloseFile, SearchNext, DeleteFile, WriteSequential, MakeFile, RenameFile, ProtectDisk, WriteRandom, ResetDrives, AccessDrives, FreeDrives, TestAndWrite, LockRecord, UnlockRecord}
+use Rattle.mpm_bdos.specs.Marks.{is_bit, with_marks, without_marks}
+use Rattle.mpm_bdos.specs.Filing.{LastSearch, Filing, Situation, block}
+use Rattle.mpm_bdos.specs.Subjects.{last_search, drive_number, drive_at, is_mounted, open_mode, subject_key, file_of, first_record, mode_by, found, deleted_files, names_drive}
+use Rattle.mpm_bdos.specs.Records.{Locking, locking, unlocking}
+use Rattle.mpm_bdos.specs.Jobs.{Turned, job_of}
+
+-- records are locked by way of a file that is open in unlocked mode; in others nothing is done
+unfoldable pub locking_of : Situation → Locking
+locking_of s =
+    if is_same_mode (open_mode s) Unlocked
+    then locking (drive_at s) s.filing.opens s.caller.process (subject_key s) (first_record s) s.caller.multi
+    else (record { opens = s.filing.opens; moved = 0; end = None })
+
+-- a file that is deleted
+abbrev pub is_deleted : Situation → FileKey → Bool
+is_deleted s key = (key.drive == drive_number s) && list_any (is_same_file (file_of key)) (deleted_files s)
+
+-- what is open
+abbrev pub written_where : Situation → ℕ → OpenFiles
+written_where s moved = if moved == 0 then s.filing.opens else (written s.filing.opens s.caller.process (subject_key s))
+
+unfoldable pub opens_by : Situation → Turned → FileFunction → OpenFiles
+opens_by s t OpenFile = added s.filing.opens s.caller.process (subject_key s) (mode_by s OpenFile)
+opens_by s t MakeFile = added s.filing.opens s.caller.process (subject_key s) (mode_by s MakeFile)
+opens_by s t CloseFile = if has_f5 (block s) then s.filing.opens else (closed s.filing.opens s.caller.process (subject_key s))
+opens_by s t DeleteFile = given_back s.filing.opens s.caller.process (is_deleted s)
+opens_by s t RenameFile = given_back s.filing.opens s.caller.process (is_file (subject_key s))
+opens_by s t FreeDrives = given_back s.filing.opens s.caller.process (λ key. names_drive s FreeDrives key.drive)
+opens_by s t WriteSequential = written_where s t.moved
+opens_by s t WriteRandom = written_where s t.moved
+opens_by s t TestAndWrite = written_where s t.moved
+opens_by s t LockRecord = (locking_of s).opens
+opens_by s t UnlockRecord = unlocking s.filing.opens s.caller.process (subject_key s) (first_record s) s.caller.multi
+opens_by s t function = s.filing.opens
+
+-- the marks
+unfoldable pub marks_by : Situation → FileFunction → List ℕ
+marks_by s AccessDrives = with_marks s.filing.marks s.caller.process s.call.word
+marks_by s FreeDrives = without_marks s.filing.marks s.caller.process s.call.word
+marks_by s function = s.filing.marks
+
+-- the drives that are protected: none, those but the drives of a mask, and one more
+unfoldable pub none_protected : List Bool
+none_protected = replicate 16 false
+
+abbrev pub is_still_protected : List Bool → ℕ → ℕ → Bool
+is_still_protected protected mask drive = slice_index_or protected drive false && not (is_bit mask drive)
+
+unfoldable pub unprotected : List Bool → ℕ → List Bool
+unprotected protected mask = map (is_still_protected protected mask) (range_with_len 0 16)
+
+abbrev pub with_protected : List Bool → ℕ → List Bool
+with_protected protected drive = slice_set protected drive true
+
+abbrev pub protected_by : Situation → FileFunction → List Bool
+protected_by s ResetDisks = none_protected
+protected_by s ResetDrives = unprotected s.filing.protected s.call.word
+protected_by s ProtectDisk = if is_mounted s.filing s.caller.drive then with_protected s.filing.protected s.caller.drive else s.filing.protected
+protected_by s function = s.filing.protected
+
+unfoldable pub protected_then : Situation → List Bool
+protected_then s = protected_by s s.function
+
+-- the caller's search, where it found something
+abbrev pub finding : FileName × ℕ → LastSearch → LastSearch
+finding entry search = record search { found = entry }
+
+abbrev pub search_by : Situation → FileName × ℕ → FileFunction → Option LastSearch
+search_by s entry SearchNext = option_map (finding entry) (last_search s)
+search_by s entry function = Some (record {
+  drive = drive_number s;
+  user = s.caller.user;
+  pattern = plain (block s).name;
+  extent = (block s).ex;
+  found = entry;
+})
+
+abbrev pub searches_by : Situation → Option (FileName × ℕ) → List (Option LastSearch)
+searches_by s None = s.filing.searches
+searches_by s (Some entry) = slice_set s.filing.searches s.caller.process (search_by s entry s.function)
+
+-- the drives: that of the job is what its turns have come to
+abbrev pub drives_by : Situation → Drive → Option Job → List (Option Drive)
+drives_by s drive None = s.filing.drives
+drives_by s drive (Some job) = slice_set s.filing.drives (drive_number s) (Some drive)
+
+-- all of it
+unfoldable pub filing_after : Situation → Turned → Filing
+filing_after s t = record {
+  drives = drives_by s t.drive (job_of s);
+  protected = protected_then s;
+  opens = opens_by s t s.function;
+  marks = marks_by s s.function;
+  searches = searches_by s (found s);
+}

@@ -1,0 +1,15 @@
+pub mod Functions
+pub mod Marks
+pub mod Filing
+pub mod Searches
+pub mod Subjects
+pub mod Refusals
+pub mod Order
+pub mod Records
+pub mod Jobs
+pub mod Changes
+pub mod Replies
+pub mod Outcomes
+pub mod Direct
+pub mod Serving
+pub mod Looking

@@ -1,0 +1,4 @@
+pub mod Back
+pub mod Handles
+pub mod Attributes
+pub mod Examples
