@@ -22,6 +22,3 @@ pub use window::Window;
 
 /// No memory was found: the allocator's own error.
 pub use std::alloc::AllocError as OutOfMemory;
-
-#[cfg(test)]
-mod tests;

@@ -17,6 +17,3 @@ pub use number::{Name8, Pid, Seg};
 pub use segment::SegmentSpec;
 pub use steps::Steps;
 pub use tabs::tab_width;
-
-#[cfg(test)]
-mod tests;

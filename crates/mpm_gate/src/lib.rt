@@ -9,6 +9,3 @@ mod take;
 pub use reads::{Reads, reads_of};
 pub use reply::{put_bytes, put_reply, take_return};
 pub use take::{TextEnd, call_of};
-
-#[cfg(test)]
-mod tests;

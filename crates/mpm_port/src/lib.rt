@@ -28,6 +28,3 @@ pub use std::alloc::AllocError as OutOfMemory;
 /// A device failed.
 #[derive(Clone, Copy, Debug, PartialEq, Eq)]
 pub struct Failed;
-
-#[cfg(test)]
-mod tests;

@@ -13,6 +13,3 @@ mod unit;
 pub use render::Render;
 pub use text::hex_word;
 pub use unit::Unit2;
-
-#[cfg(test)]
-mod tests;

@@ -16,6 +16,3 @@ pub use line::GREATEST_STEP;
 pub use numbers::number;
 pub use reading::read_script;
 pub use script::Script;
-
-#[cfg(test)]
-mod tests;

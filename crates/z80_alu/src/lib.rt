@@ -19,6 +19,3 @@ pub use single::{
     bit_flags, block_compare_flags, block_load_flags, block_port_flags, complement_carry_flags,
     complement_flags, load_flags, set_carry_flags, value_flags,
 };
-
-#[cfg(test)]
-mod tests;

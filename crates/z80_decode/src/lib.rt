@@ -16,6 +16,3 @@ pub use instr::{Instr, Page};
 pub use opcodes::{is_prefix, main_form};
 pub use page_forms::{BitChange, BitForm, Direction, ExtendedForm, IndexForm, Shift, Transfer};
 pub use page_opcodes::{bit_form, extended_form, index_form, indexed_bit_form};
-
-#[cfg(test)]
-mod tests;

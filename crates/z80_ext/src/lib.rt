@@ -136,6 +136,3 @@ pub fn step<B: Bus>(regs: &mut Regs, bus: &mut B) -> Stepped
         Some(prefix) => step_prefixed(prefix, regs, bus),
     }
 }
-
-#[cfg(test)]
-mod tests;

@@ -1,9 +1,10 @@
+//! What a kernel call reads as it is taken, and its reply as it is placed.
 ghost use Rattle.std.specs.Prelude.{All};
 ghost use Rattle.mpm_banks.specs.Allocations.{FitsBelowCommon};
 
-use super::*;
 use mpm_banks::{Banks, OutOfMemory};
 use mpm_base::{Call, Reply, Seg, SegmentSpec, functions};
+use mpm_gate::{call_of, put_reply, take_return};
 use std::alloc::{AllocError, Global};
 use z80_regs::Regs;
 

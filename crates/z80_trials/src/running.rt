@@ -1,3 +1,4 @@
+//! What one step leaves of registers and memory, one case a line, and some programs of a few steps.
 mod cases;
 mod page_cases;
 
@@ -5,9 +6,8 @@ ghost use Rattle.std.specs.Prelude.{◌≡◌, ◌<◌, ℕ, set, slice_index, n
 ghost use Rattle.std.proofs.Common.{rules};
 ghost use Rattle.std.proofs.lemmas.Grind.{common_steps};
 
-use super::*;
-use crate::tests::cases::{CALCULATIONS, EDGES, HIGH_QUARTER, LOW_QUARTER, MOVES, OTHERWISE};
-use crate::tests::page_cases::{
+use crate::running::cases::{CALCULATIONS, EDGES, HIGH_QUARTER, LOW_QUARTER, MOVES, OTHERWISE};
+use crate::running::page_cases::{
     BITS_IX, BITS_IY, EXTENDED, HIGH_RESETS, HIGH_SETS, HIGH_TESTS, INDEX_IX, INDEX_IY, LOW_RESETS,
     LOW_SETS, LOW_TESTS, PAGE_EDGES, SHIFTS,
 };
@@ -15,6 +15,8 @@ use std::alloc::{AllocError, Global};
 use std::test::Fail;
 use z80_decode::{Instr, Page};
 use z80_exec::main_page;
+use z80_ext::{Stepped, step};
+use z80_regs::{Bus, Regs};
 
 /// A memory of 65,536 bytes, which keeps what is written below a limit. A port reads its own number.
 #[derive(Drop)]

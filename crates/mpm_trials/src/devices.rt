@@ -1,5 +1,5 @@
 //! Each device on its happy path, a listed failure of each, and the refusals that are no want of memory.
-use crate::{
+use mpm_port::{
     Drives, Failed, FetchError, Fetched, Files, MemoryDrives, MemoryFiles, MemorySink, Sink,
 };
 use std::alloc::Global;
@@ -15,9 +15,16 @@ fn puts(sink: &mut MemorySink, texts: &[(&[u8], bool)], written: &[u8]) -> bool 
     sink.written() == written
 }
 
+/// A sink with room for five bytes, whose call of that number fails.
+fn sink_of_five(alloc: Global, call: u64) -> Result<MemorySink, Fail> {
+    let mut sink = MemorySink::new(alloc, 5)?;
+    sink.fail_at(call)?;
+    Ok(sink)
+}
+
 #[test]
 fn a_sink_keeps_what_was_put_and_refuses_one_byte_too_many(rt: HostRuntime) -> Result<(), Fail> {
-    let mut sink = MemorySink::new(rt.alloc(), 5)?;
+    let mut sink = sink_of_five(rt.alloc(), 0)?;
     let texts = [
         (b"ab".as_slice(), true),
         (b"cdef".as_slice(), false),
@@ -30,8 +37,7 @@ fn a_sink_keeps_what_was_put_and_refuses_one_byte_too_many(rt: HostRuntime) -> R
 
 #[test]
 fn a_sink_fails_at_a_listed_call(rt: HostRuntime) -> Result<(), Fail> {
-    let mut sink = MemorySink::new(rt.alloc(), 5)?;
-    sink.fail_at(2)?;
+    let mut sink = sink_of_five(rt.alloc(), 2)?;
     let texts = [
         (b"a".as_slice(), true),
         (b"b".as_slice(), false),
@@ -42,9 +48,10 @@ fn a_sink_fails_at_a_listed_call(rt: HostRuntime) -> Result<(), Fail> {
     Ok(())
 }
 
-/// Files of two names, the first of which is given its bytes twice.
-fn two_files(alloc: Global) -> Result<MemoryFiles, Fail> {
+/// Files of two names, the first of which is given its bytes twice. The call of that number fails.
+fn two_files(alloc: Global, call: u64) -> Result<MemoryFiles, Fail> {
     let mut files = MemoryFiles::new(alloc);
+    files.fail_at(call)?;
     files.add("MPM.SYS", b"old")?;
     files.add("B.PRL", b"four")?;
     files.add("MPM.SYS", b"abc")?;
@@ -60,7 +67,7 @@ fn give_their_bytes(files: &mut MemoryFiles, out: &mut Vec<u8>) -> bool {
 
 #[test]
 fn files_give_their_bytes(rt: HostRuntime) -> Result<(), Fail> {
-    let mut files = two_files(rt.alloc())?;
+    let mut files = two_files(rt.alloc(), 0)?;
     let mut out = Vec::new(rt.alloc());
     let given = give_their_bytes(&mut files, &mut out);
     assert!(rt; given);
@@ -77,21 +84,20 @@ fn fail_as_listed(files: &mut MemoryFiles, out: &mut Vec<u8>) -> bool {
 
 #[test]
 fn files_fail_at_a_listed_call_and_a_missing_name(rt: HostRuntime) -> Result<(), Fail> {
-    let mut files = two_files(rt.alloc())?;
-    files.fail_at(1)?;
+    let mut files = two_files(rt.alloc(), 1)?;
     let mut out = Vec::new(rt.alloc());
     let failed = fail_as_listed(&mut files, &mut out);
     assert!(rt; failed);
     Ok(())
 }
 
-/// Drives with one image of two sectors, of ones and of twos.
-fn two_sectors(alloc: Global) -> Result<MemoryDrives, Fail> {
-    let mut image = Vec::with_capacity(alloc, 256)?;
-    image.extend_from_slice(&[1; 128])?;
-    image.extend_from_slice(&[2; 128])?;
+/// Drives with one image of two sectors, of ones and of twos. The call of that number fails.
+fn two_sectors(alloc: Global, call: u64) -> Result<MemoryDrives, Fail> {
+    let mut image = [1; 256];
+    image[128..].copy_from_slice(&[2; 128]);
     let mut drives = MemoryDrives::new(alloc);
-    drives.add("SYSTEM.DSK", image.as_slice())?;
+    drives.fail_at(call)?;
+    drives.add("SYSTEM.DSK", &image)?;
     Ok(drives)
 }
 
@@ -112,20 +118,25 @@ fn read_what_was_written(drives: &mut MemoryDrives) -> bool {
 
 #[test]
 fn drives_read_what_was_written(rt: HostRuntime) -> Result<(), Fail> {
-    let mut drives = two_sectors(rt.alloc())?;
+    let mut drives = two_sectors(rt.alloc(), 0)?;
     let read = read_what_was_written(&mut drives);
     assert!(rt; read);
     Ok(())
 }
 
-#[test]
-fn drives_fail_at_a_listed_attach_and_a_missing_name(rt: HostRuntime) -> Result<(), Fail> {
-    let mut drives = two_sectors(rt.alloc())?;
-    drives.fail_at(1)?;
+/// Whether the first attaching fails, and then one of a missing name alone.
+fn fail_to_attach(drives: &mut MemoryDrives) -> bool {
     let first = drives.attach(0, "SYSTEM.DSK") == Err(FetchError::Failed);
     let missing = drives.attach(0, "B") == Err(FetchError::Failed);
     let second = drives.attach(0, "SYSTEM.DSK") == Ok(());
-    assert!(rt; first && missing && second);
+    first && missing && second
+}
+
+#[test]
+fn drives_fail_at_a_listed_attach_and_a_missing_name(rt: HostRuntime) -> Result<(), Fail> {
+    let mut drives = two_sectors(rt.alloc(), 1)?;
+    let failed = fail_to_attach(&mut drives);
+    assert!(rt; failed);
     Ok(())
 }
 
@@ -141,8 +152,7 @@ fn fail_to_write(drives: &mut MemoryDrives) -> bool {
 
 #[test]
 fn drives_fail_at_a_listed_write(rt: HostRuntime) -> Result<(), Fail> {
-    let mut drives = two_sectors(rt.alloc())?;
-    drives.fail_at(3)?;
+    let mut drives = two_sectors(rt.alloc(), 3)?;
     let failed = fail_to_write(&mut drives);
     assert!(rt; failed);
     Ok(())

@@ -1,0 +1,17 @@
+//! Tests of what calls and runs are made of: values, devices in memory, scripts, what is rendered, the memory of a machine, and
+//! the gate. They stand above the crates that they try, so that none of these is proved once more for its tests; each sees what
+//! any caller of them does.
+#![tactic(auto)]
+
+#[cfg(test)]
+mod devices;
+#[cfg(test)]
+mod gate;
+#[cfg(test)]
+mod lines;
+#[cfg(test)]
+mod memory;
+#[cfg(test)]
+mod scripts;
+#[cfg(test)]
+mod values;
