@@ -15,9 +15,9 @@ use Rattle.mpm_bdos.specs.declared.functions.FileFunction.{FileFunction}
 use Rattle.mpm_bdos.specs.declared.functions.FileFunction.TheVariants.{DeleteFile}
 use Rattle.mpm_bdos.specs.declared.refusals.Refusal.TheVariants.{ReadOnlyFile, WrongPassword, InUse}
 use Rattle.mpm_bdos.specs.Filing.{Situation, block}
-use Rattle.mpm_bdos.specs.Subjects.{drive_number, drive_at, given_password, is_next, next_in, is_of_extent, found_in, fits, deleted_in, deleted_files, has_attribute}
+use Rattle.mpm_bdos.specs.Subjects.{drive_number, drive_at, given_password, is_next, next_in, is_of_extent, found_in, fits, deleted_in, deleted_files, has_attribute, mode_if_open}
 use Rattle.mpm_bdos.specs.Refusals.{refusals_of_each, Test, tests_for, tests_each, applies, does_apply, is_open_read_only, lacks_password, is_in_use, file_refusal, first_refused, deletion_refusal}
-use Rattle.mpm_bdos.proofs.Searched.{found_same}
+use Rattle.mpm_files.proofs.Lowest.{found_same}
 
 mapped_none : {X Y : Type 0} (f : X → Y) (o : Option X) → not (is_some o) ≡ not (is_some (option_map f o))
 mapped_none f None = refl
@@ -83,7 +83,7 @@ refused_deletion drive opens by pattern found is =
 abbrev pub deleter : Situation → Deleter
 deleter s = record { process = s.caller.process; user = s.caller.user; drive = drive_number s; given = given_password s; default = s.caller.password }
 
-tests_step : (s : Situation) (file : FileName) (tests : List Test) (row : List Refusal)
+pub tests_step : (s : Situation) (file : FileName) (tests : List Test) (row : List Refusal)
     → option_map (λ (t : Test). t.refusal) (find (does_apply s) (tests_for row file ++ tests)) ≡ option_or (find (applies s file) row) (option_map (λ (t : Test). t.refusal) (find (does_apply s) tests))
 tests_step s file tests [] = refl
 tests_step s file tests (refusal ∷ row) = by_test (applies s file refusal) (tests_step s file tests row)
@@ -109,7 +109,7 @@ as_table : (s : Situation) (file : FileName) → s.function ≡ DeleteFile → f
 unfolding applies refusals_of_each file_refusal
 as_table s file is =
     let rest : FileFunction → Option Refusal = λ f. cond (lacks_password (drive_at s) file f (given_password s) s.caller.password) (Some WrongPassword) (cond (is_in_use s file f) (Some InUse) None) in
-    ap (λ f. cond (has_attribute (drive_at s) file 8 || is_open_read_only s f) (Some ReadOnlyFile) (rest f)) is
+    ap (λ f. cond (has_attribute (drive_at s) file 8 || is_open_read_only (mode_if_open s) f) (Some ReadOnlyFile) (rest f)) is
     ∙ ap (λ b. cond b (Some ReadOnlyFile) (rest DeleteFile)) (or_none (has_attribute (drive_at s) file 8))
 
 pub deletion_as_table : (s : Situation) → s.function ≡ DeleteFile

@@ -19,7 +19,7 @@ abbrev pub freed : ℕ → ℕ → FileKey → Bool
 freed mask k key = nat_lt key.drive k && is_bit mask key.drive
 
 -- where no file is given back, all stay
-abbrev no_file : FileKey → Bool
+abbrev pub no_file : FileKey → Bool
 no_file key = false
 
 item_kept : (item : Item) (own : Bool) → cond (own && false) None (Some item) ≡ Some item
@@ -45,14 +45,14 @@ locks_kept [] p = refl
 locks_kept (lock ∷ locks) p =
     lock_kept lock (locks_without locks p (is_lock_among no_file)) (nat_eq lock.owner p) ∙ ap (λ (rest : List RecordLock). lock ∷ rest) (locks_kept locks p)
 
-all_kept : (opens : OpenFiles) (p : ℕ) → given_back opens p no_file ≡ opens
+pub all_kept : (opens : OpenFiles) (p : ℕ) → given_back opens p no_file ≡ opens
 unfolding given_back
 all_kept opens p =
     ap (λ items. record { items = items; locks = locks_without opens.locks p (is_lock_among no_file) }) (items_kept opens.items p)
     ∙ ap (λ locks. record opens { locks = locks }) (locks_kept opens.locks p)
 
 -- tests that say the same give back the same
-given_alike : (opens : OpenFiles) (p : ℕ) (a b : FileKey → Bool) → ((key : FileKey) → a key ≡ b key) → given_back opens p a ≡ given_back opens p b
+pub given_alike : (opens : OpenFiles) (p : ℕ) (a b : FileKey → Bool) → ((key : FileKey) → a key ≡ b key) → given_back opens p a ≡ given_back opens p b
 given_alike opens p a b same = ap (given_back opens p) (fun_ext same)
 
 below_none : (d : ℕ) → nat_lt d 0 ≡ false

@@ -1,5 +1,6 @@
 -- The bytes of records that were read stand at the front of their job's.
 use Rattle.std.proofs.Common.{◌≡◌, ◌∙◌, ap, ℕ, ◌+◌, ◌-◌, ◌*◌, ◌≤◌, List, ◌++◌, length, take, drop, arith}
+use Rattle.std.specs.Prelude.{min}
 use Rattle.std.specs.List.{flat_map}
 use Rattle.std.proofs.Math.Seq.{take-append_seam}
 use Rattle.std.proofs.lemmas.List.{length-append, length-drop}
@@ -15,3 +16,6 @@ records_taken records bytes before moved size size_before count few e =
     let whole : length bytes ≡ length read + length (drop n before) = ap length e ∙ length-append read (drop n before) in
     let exact : 128 * moved ≡ length read = omega (arith, whole, rest, size, few, count) in
     ap (take (128 * moved)) e ∙ ap (λ m. take m (read ++ drop n before)) exact ∙ take-append_seam read (drop n before)
+
+pub sixteen_at_most : (count moved : ℕ) → count ≡ min moved 16 → moved ≤ 16 → count ≡ moved
+sixteen_at_most count moved is few = is ∙ omega (arith, few)

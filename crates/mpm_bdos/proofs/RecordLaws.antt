@@ -11,10 +11,11 @@ use Rattle.mpm_files.specs.declared.errors.RecordError.TheVariants.{UnwrittenExt
 use Rattle.mpm_files.specs.Units.{FileUnit, ReadsRecord, AddsEntry, ClearsBlock, WritesRecord, all_applied}
 use Rattle.mpm_files.specs.Plans.{Plan, behind, unless_failing, when, clears_blocks, needs_entry, needs_block, write_units, reading, writing}
 use Rattle.mpm_files.specs.Serving.{records_moved}
+use Rattle.mpm_bdos.specs.declared.ends.Ended.{Ended}
 use Rattle.mpm_bdos.specs.declared.ends.RecordEnd.TheVariants.{Failing, LockedOff}
 use Rattle.mpm_bdos.specs.declared.functions.FileFunction.TheVariants.{ReadSequential, WriteSequential, ReadRandom, WriteRandom}
 use Rattle.mpm_bdos.specs.Subjects.{file_of}
-use Rattle.mpm_bdos.specs.Records.{is_locked_off, ends, ends_of, end_of, end_by, Ended, one_done, ended_by, writing_ended, reading_ended}
+use Rattle.mpm_bdos.specs.Records.{is_locked_off, ends, ends_of, end_of, end_by, one_done, ended_by, writing_ended, reading_ended}
 use Rattle.mpm_bdos.specs.Jobs.{count_until}
 
 -- what a plan comes to whose records were cut, or not
@@ -22,7 +23,7 @@ abbrev pub planned : Plan → Bool → Ended
 planned plan cut = record { moved = sum_by records_moved plan.units; end = end_by plan.error cut }
 
 -- one record is one that is moved
-one_written : (entry clears : Bool) (a b c : FileUnit) → records_moved a ≡ 0 → records_moved b ≡ 0 → records_moved c ≡ 1
+pub one_written : (entry clears : Bool) (a b c : FileUnit) → records_moved a ≡ 0 → records_moved b ≡ 0 → records_moved c ≡ 1
     → sum_by records_moved (when entry a ++ (when clears b ++ (c ∷ []))) ≡ 1
 one_written true true a b c is_a is_b is_c = omega (arith, is_a, is_b, is_c)
 one_written true false a b c is_a is_b is_c = omega (arith, is_a, is_c)

@@ -14,9 +14,10 @@ use Rattle.mpm_files.specs.Serving.{records_moved}
 use Rattle.mpm_files.proofs.Needs.{IsWhole}
 use Rattle.mpm_files.proofs.Tested.{same_reads, still_whole}
 use Rattle.mpm_bdos.specs.declared.ends.RecordEnd.{RecordEnd}
+use Rattle.mpm_bdos.specs.declared.ends.Ended.{Ended}
 use Rattle.mpm_bdos.specs.declared.ends.RecordEnd.TheVariants.{Failing, LockedOff}
 use Rattle.mpm_bdos.specs.Subjects.{file_of}
-use Rattle.mpm_bdos.specs.Records.{is_locked_off, ends, ends_of, end_of, end_by, Ended, one_done, ended_by, testing_ended}
+use Rattle.mpm_bdos.specs.Records.{is_locked_off, ends, ends_of, end_of, end_by, one_done, ended_by, testing_ended}
 use Rattle.mpm_bdos.specs.Jobs.{count_until}
 use Rattle.mpm_bdos.proofs.RecordLaws.{planned, one_more, is_cut}
 

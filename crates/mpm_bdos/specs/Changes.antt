@@ -6,15 +6,18 @@ use Rattle.mpm_mount.specs.Faults.{plain}
 use Rattle.mpm_opens.specs.declared.kinds.FileKey.{FileKey}
 use Rattle.mpm_opens.specs.declared.kinds.Mode.TheVariants.{Unlocked}
 use Rattle.mpm_opens.specs.Kinds.{is_same_mode, is_file}
+use Rattle.mpm_opens.specs.Items.{file_where, is_given_back}
 use Rattle.mpm_opens.specs.Opens.{OpenFiles, added, given_back, closed, written}
 use Rattle.mpm_fcb.specs.Names.{has_f5}
+use Rattle.mpm_fcb.specs.declared.block.ControlBlock.{ControlBlock}
 use Rattle.mpm_files.specs.declared.jobs.Job.{Job}
 use Rattle.mpm_files.specs.Plans.{is_same_file}
+use Rattle.mpm_bdos.specs.declared.releasing.Deletion.{Deletion}
 use Rattle.mpm_bdos.specs.declared.functions.FileFunction.{FileFunction}
 use Rattle.mpm_bdos.specs.declared.functions.FileFunction.TheVariants.{ResetDisks, OpenFile, CloseFile, SearchNext, DeleteFile, WriteSequential, MakeFile, RenameFile, ProtectDisk, WriteRandom, ResetDrives, AccessDrives, FreeDrives, TestAndWrite, LockRecord, UnlockRecord}
 use Rattle.mpm_bdos.specs.Marks.{is_bit, with_marks, without_marks}
 use Rattle.mpm_bdos.specs.Filing.{LastSearch, Filing, Situation, block}
-use Rattle.mpm_bdos.specs.Subjects.{last_search, drive_number, drive_at, is_mounted, open_mode, subject_key, file_of, first_record, mode_by, found, deleted_files, names_drive}
+use Rattle.mpm_bdos.specs.Subjects.{last_search, drive_number, drive_at, is_mounted, open_mode, subject_key, file_of, first_record, mode_by, found, deleted_in, names_drive}
 use Rattle.mpm_bdos.specs.Records.{Locking, locking, unlocking}
 use Rattle.mpm_bdos.specs.Jobs.{Turned, job_of}
 
@@ -25,9 +28,28 @@ locking_of s =
     then locking (drive_at s) s.filing.opens s.caller.process (subject_key s) (first_record s) s.caller.multi
     else (record { opens = s.filing.opens; moved = 0; end = None })
 
--- a file that is deleted
+-- a file that is deleted, by what a deletion names
+abbrev pub is_deleted_in : Drive → Deletion → FileKey → Bool
+is_deleted_in drive deletion key = (key.drive == deletion.drive) && list_any (is_same_file (file_of key)) (deleted_in drive deletion.user deletion.pattern)
+
+abbrev pub deletion : Situation → Deletion
+deletion s = record { user = s.caller.user; drive = drive_number s; pattern = (block s).name }
+
 abbrev pub is_deleted : Situation → FileKey → Bool
-is_deleted s key = (key.drive == drive_number s) && list_any (is_same_file (file_of key)) (deleted_files s)
+is_deleted s key = is_deleted_in (drive_at s) (deletion s) key
+
+-- the caller's open files of those files, each at the place of its number: a deletion gives them back once they are gone
+unfoldable pub deleted_by : Situation → FileFunction → List (Option FileKey)
+deleted_by s DeleteFile = map (file_where (is_given_back s.caller.process (is_deleted s))) s.filing.opens.items
+deleted_by s function = replicate 64 None
+
+-- files by places, some of which have one
+abbrev pub is_at : Option FileKey → FileKey → Bool
+is_at None key = false
+is_at (Some file) key = is_file file key
+
+abbrev pub is_among : List (Option FileKey) → FileKey → Bool
+is_among files key = list_any (λ place. is_at place key) files
 
 -- what is open
 abbrev pub written_where : Situation → ℕ → OpenFiles
@@ -47,11 +69,11 @@ opens_by s t LockRecord = (locking_of s).opens
 opens_by s t UnlockRecord = unlocking s.filing.opens s.caller.process (subject_key s) (first_record s) s.caller.multi
 opens_by s t function = s.filing.opens
 
--- the marks
-unfoldable pub marks_by : Situation → FileFunction → List ℕ
-marks_by s AccessDrives = with_marks s.filing.marks s.caller.process s.call.word
-marks_by s FreeDrives = without_marks s.filing.marks s.caller.process s.call.word
-marks_by s function = s.filing.marks
+-- the marks of a process by the mask that it names
+unfoldable pub marks_by : List ℕ → ℕ → ℕ → FileFunction → List ℕ
+marks_by marks p mask AccessDrives = with_marks marks p mask
+marks_by marks p mask FreeDrives = without_marks marks p mask
+marks_by marks p mask function = marks
 
 -- the drives that are protected: none, those but the drives of a mask, and one more
 unfoldable pub none_protected : List Bool
@@ -66,32 +88,30 @@ unprotected protected mask = map (is_still_protected protected mask) (range_with
 abbrev pub with_protected : List Bool → ℕ → List Bool
 with_protected protected drive = slice_set protected drive true
 
-abbrev pub protected_by : Situation → FileFunction → List Bool
-protected_by s ResetDisks = none_protected
-protected_by s ResetDrives = unprotected s.filing.protected s.call.word
-protected_by s ProtectDisk = if is_mounted s.filing s.caller.drive then with_protected s.filing.protected s.caller.drive else s.filing.protected
-protected_by s function = s.filing.protected
+abbrev pub protected_by : List Bool → Bool → ℕ → ℕ → FileFunction → List Bool
+protected_by protected is_mounted own mask ResetDisks = none_protected
+protected_by protected is_mounted own mask ResetDrives = unprotected protected mask
+protected_by protected is_mounted own mask ProtectDisk = if is_mounted then with_protected protected own else protected
+protected_by protected is_mounted own mask function = protected
 
 unfoldable pub protected_then : Situation → List Bool
-protected_then s = protected_by s s.function
+protected_then s = protected_by s.filing.protected (is_mounted s.filing s.caller.drive) s.caller.drive s.call.word s.function
 
 -- the caller's search, where it found something
 abbrev pub finding : FileName × ℕ → LastSearch → LastSearch
 finding entry search = record search { found = entry }
 
-abbrev pub search_by : Situation → FileName × ℕ → FileFunction → Option LastSearch
-search_by s entry SearchNext = option_map (finding entry) (last_search s)
-search_by s entry function = Some (record {
-  drive = drive_number s;
-  user = s.caller.user;
-  pattern = plain (block s).name;
-  extent = (block s).ex;
-  found = entry;
-})
+abbrev pub search_by : Option LastSearch → ℕ → ℕ → ControlBlock → FileName × ℕ → FileFunction → Option LastSearch
+search_by last drive user b entry SearchNext = option_map (finding entry) last
+search_by last drive user b entry function =
+    Some (record { drive = drive; user = user; pattern = plain b.name; extent = b.ex; found = entry })
 
-abbrev pub searches_by : Situation → Option (FileName × ℕ) → List (Option LastSearch)
-searches_by s None = s.filing.searches
-searches_by s (Some entry) = slice_set s.filing.searches s.caller.process (search_by s entry s.function)
+abbrev pub searches_by : List (Option LastSearch) → ℕ → (FileName × ℕ → Option LastSearch) → Option (FileName × ℕ) → List (Option LastSearch)
+searches_by searches p search None = searches
+searches_by searches p search (Some entry) = slice_set searches p (search entry)
+
+abbrev pub search_of_call : Situation → FileName × ℕ → Option LastSearch
+search_of_call s entry = search_by (last_search s) (drive_number s) s.caller.user (block s) entry s.function
 
 -- the drives: that of the job is what its turns have come to
 abbrev pub drives_by : Situation → Drive → Option Job → List (Option Drive)
@@ -104,6 +124,6 @@ filing_after s t = record {
   drives = drives_by s t.drive (job_of s);
   protected = protected_then s;
   opens = opens_by s t s.function;
-  marks = marks_by s s.function;
-  searches = searches_by s (found s);
+  marks = marks_by s.filing.marks s.caller.process s.call.word s.function;
+  searches = searches_by s.filing.searches s.caller.process (search_of_call s) (found s);
 }

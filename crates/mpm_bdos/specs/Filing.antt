@@ -6,6 +6,7 @@ use Rattle.mpm_mount.specs.Drives.{FileName, Drive}
 use Rattle.mpm_opens.specs.Opens.{OpenFiles}
 use Rattle.mpm_fcb.specs.declared.block.ControlBlock.{ControlBlock}
 use Rattle.mpm_fcb.specs.Blocks.{block_of}
+use Rattle.mpm_bdos.specs.declared.caller.Caller.{Caller}
 use Rattle.mpm_bdos.specs.declared.functions.FileFunction.{FileFunction}
 
 -- a process's last search: where it looked, for what, and the directory entry that it found, by its file and its number. (MP/M II
@@ -25,14 +26,6 @@ pub record Filing : Type 0 where
   pub opens : OpenFiles
   pub marks : List ℕ
   pub searches : List (Option LastSearch)
-
--- the process that calls: its number, user, drive, multi-sector count and default password
-pub record Caller : Type 0 where
-  pub process : ℕ
-  pub user : ℕ
-  pub drive : ℕ
-  pub multi : ℕ
-  pub password : List ℕ
 
 -- a call as it enters service, and the stamp of that moment
 pub record Situation : Type 0 where

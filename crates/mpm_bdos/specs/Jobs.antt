@@ -22,9 +22,9 @@ use Rattle.mpm_bdos.specs.Subjects.{file_of, drive_at, subject, subject_key, fir
 use Rattle.mpm_bdos.specs.Refusals.{makes_xfcb, refusal_of}
 use Rattle.mpm_bdos.specs.Records.{is_locked_off}
 
--- the room of a job's bytes: zeros behind those that count
+-- the room of a job's bytes: the 4,096 that count at most, and zeros behind them
 unfoldable pub filled : List ℕ → List ℕ
-filled bytes = bytes ++ drop (length bytes) (replicate 4096 0)
+filled bytes = take 4096 bytes ++ drop (length bytes) (replicate 4096 0)
 
 -- a job on a user's file of a name, and on the call's file
 abbrev pub job_for : JobKind → ℕ → List ℕ → Job

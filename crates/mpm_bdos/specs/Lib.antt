@@ -12,4 +12,14 @@ pub mod Replies
 pub mod Outcomes
 pub mod Direct
 pub mod Serving
+pub mod Turns
 pub mod Looking
+pub mod Sizes
+pub mod Telling
+pub mod Ending
+pub mod Planning
+pub mod Asking
+pub mod Leaving
+pub mod Driving
+pub mod Replying
+pub mod Starting

@@ -1,5 +1,5 @@
 -- What the directory of a mounted drive says of what calls ask: its label, a file's XFCB, how many records an extent has.
-use Rattle.std.specs.Prelude.{ℕ, ⊤, ◌<◌, ◌==◌, length, Bool, List, Option, Some, None, nat_le, if◌then◌else◌}
+use Rattle.std.specs.Prelude.{◌≡◌, ℕ, ◌==◌, Bool, true, Option, Some, None, option_map, nat_le, if◌then◌else◌}
 use Rattle.mpm_base.specs.declared.kind.Kind.{Kind}
 use Rattle.mpm_dirent.specs.declared.kinds.Entry.{Entry}
 use Rattle.mpm_dirent.specs.declared.kinds.Entry.TheVariants.{Free, File, Xfcb, Label, Kept}
@@ -9,8 +9,9 @@ use Rattle.mpm_dirent.specs.declared.kinds.LabelEntry.{LabelEntry}
 use Rattle.mpm_mount.specs.declared.searching.Found.{Found}
 use Rattle.mpm_mount.specs.Drives.{FileName, Protection, DirectoryLabel, entry_number}
 use Rattle.mpm_mount.specs.Faults.{plain, extent_of}
-use Rattle.mpm_files.specs.Plans.{attributes_in}
 use Rattle.mpm_mount.specs.Directories.{Directory, entry_in, extent_slot, xfcb_slot, label_slot}
+use Rattle.mpm_bdos.specs.declared.searching.EntryPlace.{EntryPlace}
+use Rattle.mpm_bdos.specs.Subjects.{is_behind}
 
 -- the label
 abbrev pub label_at : Entry → Option LabelEntry
@@ -69,23 +70,15 @@ count_where d extent (Some slot) = count_at extent (entry_in d slot)
 unfoldable pub count_of : Directory → FileName → ℕ → Option ℕ
 count_of d file extent = count_where d extent (extent_slot d file extent)
 
--- the attributes of a file's entry
-abbrev pub attributes_at : Entry → Option (List Bool)
-attributes_at (File f) = Some (attributes_in f.name)
-attributes_at Free = None
-attributes_at (Xfcb x) = None
-attributes_at (Label label) = None
-attributes_at (Kept bytes) = None
-
-abbrev pub attributes_where : Directory → Option Found → Option (List Bool)
-attributes_where d None = None
-attributes_where d (Some found) = attributes_at (entry_in d found.slot)
-
--- what was found is one of the directory's entries
-abbrev pub IsWithin : Directory → Option Found → Type 0
-IsWithin d None = ⊤
-IsWithin d (Some found) = found.slot < length d.entries
-
 -- what a search in the directory found, by its file and its number
 abbrev pub entry_found : Kind → ℕ → Found → (FileName × ℕ)
 entry_found kind user found = (record { user = user; name = plain found.name }, entry_number kind found.extent)
+
+-- an entry by its place among those of a user
+abbrev pub at_place : ℕ → EntryPlace → (FileName × ℕ)
+at_place user place = (record { user = user; name = plain place.name }, place.number)
+
+-- a search that goes on from what was found comes to each entry behind a place
+abbrev pub MissesNothing : ℕ → Kind → Option EntryPlace → Option Found → Type 0
+MissesNothing user kind behind start =
+    (entry : FileName × ℕ) → is_behind (option_map (at_place user) behind) entry ≡ true → is_behind (option_map (entry_found kind user) start) entry ≡ true

@@ -12,6 +12,7 @@ use Rattle.mpm_files.specs.declared.errors.RecordError.TheVariants.{UnwrittenExt
 use Rattle.mpm_files.specs.Units.{WritesRecord, applied, all_applied}
 use Rattle.mpm_files.specs.Plans.{Test, needs_entry, needs_block, has_record, write_units}
 use Rattle.mpm_bdos.specs.declared.ends.RecordEnd.{RecordEnd}
+use Rattle.mpm_bdos.specs.declared.ends.Ended.{Ended}
 use Rattle.mpm_bdos.specs.declared.ends.RecordEnd.TheVariants.{Failing, LockedOff, TooManyLocks, NoLockRoom}
 use Rattle.mpm_bdos.specs.declared.functions.FileFunction.{FileFunction}
 use Rattle.mpm_bdos.specs.declared.functions.FileFunction.TheVariants.{ReadSequential, WriteSequential, ReadRandom, WriteRandom, TestAndWrite, LockRecord}
@@ -101,10 +102,6 @@ end_by (Some error) cut = Some (Failing error)
 end_by None cut = if cut then Some LockedOff else None
 
 -- so many records are done in order, and then what ended them
-pub record Ended : Type 0 where
-  pub moved : ℕ
-  pub end : Option RecordEnd
-
 abbrev pub one_done : Ended → Ended
 one_done ended = record ended { moved = ended.moved + 1 }
 

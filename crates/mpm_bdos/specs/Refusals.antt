@@ -6,6 +6,8 @@ use Rattle.std.specs.List.{flat_map, list_any, range_with_len}
 use Rattle.std.specs.FinMap.{get}
 use Rattle.mpm_dirent.specs.declared.kinds.LabelEntry.{LabelEntry}
 use Rattle.mpm_mount.specs.Drives.{FileName, DirectoryLabel, Drive, free_entries}
+use Rattle.mpm_mount.specs.Faults.{plain}
+use Rattle.mpm_opens.specs.declared.kinds.Mode.{Mode}
 use Rattle.mpm_opens.specs.declared.kinds.Mode.TheVariants.{ReadOnly}
 use Rattle.mpm_opens.specs.declared.kinds.OpenRefused.{OpenRefused}
 use Rattle.mpm_opens.specs.declared.kinds.OpenRefused.TheVariants as opening
@@ -25,7 +27,7 @@ use Rattle.mpm_bdos.specs.declared.refusals.Refusal.{Refusal}
 use Rattle.mpm_bdos.specs.declared.refusals.Refusal.TheVariants.{NotMounted, Ambiguous, NotOpen, NotOpenToLock, BeyondFile, NotFound, ProtectedDrive, ReadOnlyFile, FileExists, WrongPassword, InUse, FileLimit, ListFull, DirectoryFull, Busy}
 use Rattle.mpm_bdos.specs.Marks.{is_marked}
 use Rattle.mpm_bdos.specs.Filing.{Situation, block}
-use Rattle.mpm_bdos.specs.Subjects.{drive_named, drive_number, drive_at, is_mounted, is_protected, own_file, new_file, is_there, has_attribute, extent_count, subject, open_key, open_mode, first_record, data_byte, file_admits, given_password, mode_by, found, deleted_in, deleted_files, names, key_of}
+use Rattle.mpm_bdos.specs.Subjects.{drive_named, drive_number, drive_at, is_mounted, is_protected, is_there, has_attribute, extent_count, subject, open_key, mode_if_open, first_record, data_byte, file_admits, given_password, mode_by, found, deleted_in, deleted_files, names, key_of}
 
 -- the table: the refusals of a call
 unfoldable pub refusals_of : FileFunction → List Refusal
@@ -86,9 +88,9 @@ is_unmounted s None = false
 is_unmounted s (Some drive) = not (is_mounted s.filing drive)
 
 -- a `?` where one name is meant; a renaming has two
-abbrev pub has_question : Situation → FileFunction → Bool
-has_question s RenameFile = is_ambiguous (block s).name || is_ambiguous (new_name_of (block s))
-has_question s function = is_ambiguous (block s).name
+abbrev pub has_question : ControlBlock → FileFunction → Bool
+has_question b RenameFile = is_ambiguous b.name || is_ambiguous (new_name_of b)
+has_question b function = is_ambiguous b.name
 
 -- nothing is found: no extent of the file that is opened, no open file that is closed, no entry that is sought, no file that a
 -- pattern fits, no file
@@ -104,15 +106,22 @@ abbrev pub is_missing : Situation → FileName → FileFunction → Bool
 is_missing s file function = is_missing_in (drive_at s) file s.caller.user (block s) (is_some (open_key s)) (is_some (found s)) function
 
 -- the open file is in read-only mode; a call that names none is asked for its file alone
-abbrev pub is_open_read_only : Situation → FileFunction → Bool
-is_open_read_only s DeleteFile = false
-is_open_read_only s RenameFile = false
-is_open_read_only s function = is_some (open_key s) && is_same_mode (open_mode s) ReadOnly
+abbrev pub is_mode : Mode → Option Mode → Bool
+is_mode mode None = false
+is_mode mode (Some other) = is_same_mode other mode
+
+abbrev pub is_open_read_only : Option Mode → FileFunction → Bool
+is_open_read_only mode DeleteFile = false
+is_open_read_only mode RenameFile = false
+is_open_read_only mode function = is_mode ReadOnly mode
 
 -- the file that must not be there
+abbrev pub existing_name : ControlBlock → FileFunction → List ℕ
+existing_name b RenameFile = new_name_of b
+existing_name b function = b.name
+
 abbrev pub existing_file : Situation → FileFunction → FileName
-existing_file s RenameFile = new_file s
-existing_file s function = own_file s
+existing_file s function = record { user = s.caller.user; name = plain (existing_name (block s) function) }
 
 -- without the password: an opening needs it where 80h of the mode guards, the label where it has one itself, and all others where
 -- any bit guards
@@ -164,9 +173,13 @@ is_without_room (Some opening.Incompatible) = false
 is_without_room (Some opening.ProcessLimit) = false
 is_without_room None = false
 
+abbrev pub is_used : Option OpenRefused → Bool → FileFunction → Bool
+is_used refusal have_others OpenFile = is_incompatible refusal
+is_used refusal have_others function = have_others
+
 abbrev pub is_in_use : Situation → FileName → FileFunction → Bool
-is_in_use s file OpenFile = is_incompatible (opening_refusal s file)
-is_in_use s file function = items.have_others s.filing.opens.items s.caller.process (key_of (drive_number s) file)
+is_in_use s file function =
+    is_used (opening_refusal s file) (items.have_others s.filing.opens.items s.caller.process (key_of (drive_number s) file)) function
 
 -- a file that is deleted is refused for the first of these that applies to it, by who deletes it
 abbrev pub refuses_deleted : Drive → OpenFiles → Deleter → FileName → Refusal → Bool
@@ -225,13 +238,13 @@ are_busy opens marks p function own mask = list_any (is_named_busy opens marks p
 -- whether a refusal applies to a file of a call
 unfoldable pub applies : Situation → FileName → Refusal → Bool
 applies s file NotMounted = is_unmounted s (drive_named s)
-applies s file Ambiguous = has_question s s.function
+applies s file Ambiguous = has_question (block s) s.function
 applies s file NotOpen = not (is_some (open_key s))
 applies s file NotOpenToLock = not (is_some (open_key s))
 applies s file BeyondFile = are_beyond (first_record s) s.caller.multi
 applies s file NotFound = is_missing s file s.function
 applies s file ProtectedDrive = is_protected s
-applies s file ReadOnlyFile = has_attribute (drive_at s) file 8 || is_open_read_only s s.function
+applies s file ReadOnlyFile = has_attribute (drive_at s) file 8 || is_open_read_only (mode_if_open s) s.function
 applies s file FileExists = is_there (drive_at s) (existing_file s s.function)
 applies s file WrongPassword = lacks_password (drive_at s) file s.function (given_password s) s.caller.password
 applies s file InUse = is_in_use s file s.function

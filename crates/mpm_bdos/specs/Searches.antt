@@ -1,8 +1,11 @@
--- The last searches of processes, as they are kept: what was found by the name of its file, whose user is the search's. (MP/M II
+-- The last searches of processes, as they are kept: what was found by its place among the entries of the search's user. (MP/M II
 -- Programmer's Guide, "Function 18: Search for Next".)
-use Rattle.std.specs.Prelude.{List, Option, None, option_map, replicate}
+use Rattle.std.specs.Prelude.{ℕ, List, Option, Some, None, option_map, replicate}
 use Rattle.mpm_bdos.specs.Filing as filing
+use Rattle.mpm_bdos.specs.declared.functions.FileFunction.{FileFunction}
+use Rattle.mpm_bdos.specs.declared.functions.FileFunction.TheVariants.{SearchNext}
 use Rattle.mpm_bdos.specs.declared.searches.LastSearch.{LastSearch}
+use Rattle.mpm_bdos.specs.Looking.{at_place}
 
 abbrev pub search_of : LastSearch → filing.LastSearch
 search_of s = record {
@@ -10,7 +13,7 @@ search_of s = record {
   user = s.user;
   pattern = s.pattern;
   extent = s.extent;
-  found = (record { user = s.user; name = s.found }, s.number);
+  found = at_place s.user s.found;
 }
 
 abbrev pub searched : Option LastSearch → Option filing.LastSearch
@@ -19,3 +22,12 @@ searched search = option_map search_of search
 -- nobody has searched
 unfoldable pub no_searches : List (Option filing.LastSearch)
 no_searches = replicate 32 None
+
+-- whose entries a call seeks
+abbrev pub user_where : Option LastSearch → ℕ → ℕ
+user_where None user = user
+user_where (Some search) user = search.user
+
+abbrev pub user_sought : Option LastSearch → ℕ → FileFunction → ℕ
+user_sought search user SearchNext = user_where search user
+user_sought search user function = user

@@ -1,24 +1,39 @@
--- A file call in service: what is kept of it, and what the mounted drives stand for with some of its turns ended.
-use Rattle.std.specs.Prelude.{◌≡◌, ℕ, Bool, List, Option, Some, None, ⊤, slice_index_or}
+-- What is kept between file calls; a file call in service; and what the mounted drives stand for with some of its turns ended.
+use Rattle.std.specs.Prelude.{◌≡◌, ℕ, ◌<◌, ◌≤◌, Bool, List, [], ◌∷◌, Option, Some, None, IfSome, ⊤, length, option_map, replicate, slice_index_or, slice_set}
 use Rattle.mpm_base.specs.Calls.{Taken}
+use Rattle.mpm_base.specs.declared.kind.Kind.{Kind}
+use Rattle.mpm_cache.specs.declared.cache.Place.{Place}
 use Rattle.mpm_mount.specs.Drives.{Drive}
 use Rattle.mpm_mount.specs.Directories.{Directory, Stands}
-use Rattle.mpm_opens.specs.Opens.{OpenFiles}
+use Rattle.mpm_opens.specs.Items.{place_at}
+use Rattle.mpm_opens.specs.Opens.{OpenFiles, none_open}
 use Rattle.mpm_files.specs.declared.jobs.Job.{Job}
 use Rattle.mpm_files.specs.declared.work.Work.{Work}
-use Rattle.mpm_files.specs.Serving.{IsServing}
+use Rattle.mpm_files.specs.Serving.{IsInService}
+use Rattle.mpm_files.specs.Turning.{Suits}
+use Rattle.mpm_bdos.specs.declared.caller.Caller.{Caller}
 use Rattle.mpm_bdos.specs.declared.functions.FileFunction.{FileFunction}
 use Rattle.mpm_bdos.specs.declared.refusals.Refusal.{Refusal}
-use Rattle.mpm_bdos.specs.Filing.{LastSearch, Filing, Caller, Situation}
-use Rattle.mpm_bdos.specs.Subjects.{drive_at}
+use Rattle.mpm_bdos.specs.Marks.{no_marks}
+use Rattle.mpm_bdos.specs.Filing.{LastSearch, Filing, Situation}
+use Rattle.mpm_bdos.specs.Searches.{no_searches}
+use Rattle.mpm_bdos.specs.Subjects.{drive_number, drive_at}
 use Rattle.mpm_bdos.specs.Refusals.{refusal_of}
 use Rattle.mpm_bdos.specs.Jobs.{job_of}
+use Rattle.mpm_bdos.specs.Changes.{none_protected}
 use Rattle.mpm_bdos.specs.Outcomes.{drives_after}
+
+-- a caller's user and multi-sector count are in their ranges
+pub record IsCaller (caller : Caller) : Type 0 where
+  pub user : caller.user < 16
+  pub some : 1 ≤ caller.multi
+  pub few : caller.multi ≤ 16
 
 -- what it was, what refused it, and the work of its job
 pub record InService : Type 0 where
   pub caller : Caller
   pub function : FileFunction
+  pub drive : ℕ
   pub call : Taken
   pub moment : List ℕ
   pub refusal : Option Refusal
@@ -27,11 +42,47 @@ pub record InService : Type 0 where
 -- all that file calls keep, as contracts see it: the files of drives stand in the images
 pub record Kept : Type 0 where
   pub mounted : List (Option Directory)
+  pub cached : List (Place × List ℕ)
   pub protected : List Bool
   pub opens : OpenFiles
   pub marks : List ℕ
   pub searches : List (Option LastSearch)
   pub service : Option InService
+
+-- a directory in a place, if one is there; it is of the drive with the place's number; and there are places for sixteen drives
+abbrev pub directory_at : List (Option Directory) → ℕ → Option Directory
+directory_at mounted number = slice_index_or mounted number None
+
+abbrev pub kind_at : List (Option Directory) → ℕ → Option Kind
+kind_at mounted number = option_map (λ directory. directory.kind) (directory_at mounted number)
+
+pub record AreInPlace (mounted : List (Option Directory)) : Type 0 where
+  pub places : length mounted ≡ 16
+  pub each : (number : ℕ) → IfSome (directory_at mounted number) (λ directory. directory.drive ≡ number)
+
+-- directories that come into the places of their drives, the first where there are two; and into sixteen that are free
+unfoldable pub all_put : List Directory → List (Option Directory) → List (Option Directory)
+all_put [] places = places
+all_put (directory ∷ directories) places = slice_set (all_put directories places) directory.drive (Some directory)
+
+abbrev pub in_places : List Directory → List (Option Directory)
+in_places directories = all_put directories (replicate 16 None)
+
+-- open files are of users 0 to 15
+abbrev pub HaveUsers : OpenFiles → Type 0
+HaveUsers opens = (number : ℕ) → IfSome (place_at opens.items number) (λ item. item.file.user < 16)
+
+-- before the first call
+abbrev pub nothing_kept : List (Option Directory) → Kept
+nothing_kept mounted = record {
+  mounted = mounted;
+  cached = [];
+  protected = none_protected;
+  opens = none_open;
+  marks = no_marks;
+  searches = no_searches;
+  service = None;
+}
 
 abbrev pub filing_of : Kept → List (Option Drive) → Filing
 filing_of kept drives =
@@ -50,27 +101,33 @@ StandsWhere number image (Some directory) None = ⊥
 StandsWhere number image None (Some drive) = ⊥
 
 pub record StandEach (images : ℕ → List ℕ) (mounted : List (Option Directory)) (drives : List (Option Drive)) : Type 0 where
-  pub each : (number : ℕ) → StandsWhere number (images number) (slice_index_or mounted number None) (slice_index_or drives number None)
+  pub each : (number : ℕ) → StandsWhere number (images number) (directory_at mounted number) (slice_index_or drives number None)
 
--- the work of a job, with so many turns ended
-abbrev pub WorksOn : Option Work → Drive → Option Job → ℕ → Type 0
-WorksOn None drive None turns = ⊤
-WorksOn (Some work) drive (Some job) turns = IsServing drive job turns work
-WorksOn None drive (Some job) turns = ⊥
-WorksOn (Some work) drive None turns = ⊥
+-- the work of a job on a drive that is mounted, with so many turns ended; and no work where there is no job
+abbrev pub WorksAt : List ℕ → Option Directory → Drive → Job → ℕ → Work → Type 0
+WorksAt image None before job turns work = ⊥
+WorksAt image (Some directory) before job turns work = IsInService image directory before job turns work
 
-pub record IsCallOf (service : InService) (s : Situation) (turns : ℕ) : Type 0 where
+abbrev pub WorksOn : List ℕ → Option Directory → Drive → Option Job → ℕ → Option Work → Type 0
+WorksOn image directory before None turns None = ⊤
+WorksOn image directory before (Some job) turns (Some work) = WorksAt image directory before job turns work
+WorksOn image directory before (Some job) turns None = ⊥
+WorksOn image directory before None turns (Some work) = ⊥
+
+pub record IsCallOf (service : InService) (s : Situation) : Type 0 where
   pub caller : service.caller ≡ s.caller
   pub function : service.function ≡ s.function
+  pub drive : service.drive ≡ drive_number s
   pub call : service.call ≡ s.call
   pub moment : service.moment ≡ s.moment
   pub refusal : service.refusal ≡ refusal_of s
-  pub work : WorksOn service.work (drive_at s) (job_of s) turns
 
--- a call is in service with so many turns ended: nothing but the drive of its job has changed since it entered
+-- a call is in service with so many turns ended: its job suits its drive, and nothing but that drive has changed since it entered
 pub record Serves (images : ℕ → List ℕ) (kept : Kept) (s : Situation) (turns : ℕ) : Type 0 where
   pub service : InService
   pub there : kept.service ≡ Some service
-  pub is : IsCallOf service s turns
+  pub is : IsCallOf service s
+  pub suits : IfSome (job_of s) (Suits (drive_at s))
+  pub works : WorksOn (images (drive_number s)) (directory_at kept.mounted (drive_number s)) (drive_at s) (job_of s) turns service.work
   pub same : filing_of kept s.filing.drives ≡ s.filing
   pub stand : StandEach images kept.mounted (drives_after s turns)

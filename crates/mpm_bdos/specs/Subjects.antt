@@ -1,6 +1,6 @@
 -- What a file call names: its drive, its file, its open file, its records, its password, the files of a pattern, the drives of a
 -- mask. (MP/M II Programmer's Guide, "File Control Block Definition", and the functions.)
-use Rattle.std.specs.Prelude.{ℕ, ◌%◌, ◌==◌, ◌&&◌, ◌||◌, not, Bool, true, false, List, [], ◌∷◌, Option, Some, None, is_some, option_map, option_and_then, unwrap_or, map, filter, find, slice_index_or, if◌then◌else◌}
+use Rattle.std.specs.Prelude.{ℕ, ◌%◌, ◌==◌, ◌&&◌, ◌||◌, not, Bool, true, false, List, [], Option, Some, None, is_some, option_map, option_and_then, unwrap_or, map, filter, find, slice_index_or, if◌then◌else◌}
 use Rattle.std.specs.Ordering.{is_lt}
 use Rattle.std.specs.FinMap.{get, empty}
 use Rattle.mpm_base.specs.Calls.{word_at, eight_at}
@@ -19,6 +19,7 @@ use Rattle.mpm_fcb.specs.declared.block.ControlBlock.{ControlBlock}
 use Rattle.mpm_fcb.specs.Names.{drive_of, new_name_of}
 use Rattle.mpm_fcb.specs.Positions.{sequential_record, random_record}
 use Rattle.mpm_fcb.specs.Opening as fcb
+use Rattle.mpm_files.specs.Units.{first_attributes}
 use Rattle.mpm_files.specs.Plans.{entries_named, is_fitting}
 use Rattle.mpm_bdos.specs.declared.functions.FileFunction.{FileFunction}
 use Rattle.mpm_bdos.specs.declared.functions.FileFunction.TheVariants.{ResetDisks, OpenFile, CloseFile, SearchFirst, SearchNext, ReadSequential, WriteSequential, MakeFile, ProtectDisk, ReadRandom, WriteRandom, ResetDrives, AccessDrives, FreeDrives, TestAndWrite, LockRecord, UnlockRecord, FreeSpace, FlushBuffers, LabelData}
@@ -30,20 +31,20 @@ abbrev pub last_search : Situation → Option LastSearch
 last_search s = slice_index_or s.filing.searches s.caller.process None
 
 -- the drive that a call names, from 0, if it names one: that of the search that goes on, that in E, or that of the control block
-unfoldable pub drive_by : Situation → FileFunction → Option ℕ
-drive_by s SearchNext = option_map (λ search. search.drive) (last_search s)
-drive_by s FreeSpace = Some (s.call.word % 256)
-drive_by s LabelData = Some (s.call.word % 256)
-drive_by s ResetDisks = None
-drive_by s ProtectDisk = None
-drive_by s ResetDrives = None
-drive_by s AccessDrives = None
-drive_by s FreeDrives = None
-drive_by s FlushBuffers = None
-drive_by s function = Some (drive_of s.caller.drive (block s))
+unfoldable pub drive_by : Option LastSearch → ℕ → ℕ → ControlBlock → FileFunction → Option ℕ
+drive_by search own word b SearchNext = option_map (λ search. search.drive) search
+drive_by search own word b FreeSpace = Some (word % 256)
+drive_by search own word b LabelData = Some (word % 256)
+drive_by search own word b ResetDisks = None
+drive_by search own word b ProtectDisk = None
+drive_by search own word b ResetDrives = None
+drive_by search own word b AccessDrives = None
+drive_by search own word b FreeDrives = None
+drive_by search own word b FlushBuffers = None
+drive_by search own word b function = Some (drive_of own b)
 
 abbrev pub drive_named : Situation → Option ℕ
-drive_named s = drive_by s s.function
+drive_named s = drive_by (last_search s) s.caller.drive s.call.word (block s) s.function
 
 abbrev pub drive_number : Situation → ℕ
 drive_number s = unwrap_or (drive_named s) s.caller.drive
@@ -72,12 +73,7 @@ own_file s = record { user = s.caller.user; name = plain (block s).name }
 abbrev pub new_file : Situation → FileName
 new_file s = record { user = s.caller.user; name = plain (new_name_of (block s)) }
 
--- the attributes of a file that is there, which are those of its lowest entry, and one of them, by its place among F1' to F8' and
--- T1' to T3'
-abbrev pub first_attributes : {K : Type 0} → List (K × PhysicalExtent) → Option (List Bool)
-first_attributes [] = None
-first_attributes (entry ∷ entries) = Some entry.1.attributes
-
+-- the attributes of a file that is there, and one of them, by its place among F1' to F8' and T1' to T3'
 unfoldable pub attributes_in : Drive → FileName → Option (List Bool)
 attributes_in drive file = first_attributes (extents_of drive file)
 
@@ -109,17 +105,14 @@ is_shared drive file = shared_by (attributes_in drive file) (attributes_in drive
 unfoldable pub opened_in : Drive → FileName → FileName
 opened_in drive file = if is_shared drive file then shared_file file else file
 
-abbrev pub opened_file : Situation → FileName
-opened_file s = opened_in (drive_at s) (own_file s)
-
 -- the open file that a call names by its number, as record locks have it at the DMA address and others in the handle
-unfoldable pub number_by : Situation → FileFunction → Option ℕ
-number_by s LockRecord = fcb.item_numbered (word_at s.call 0)
-number_by s UnlockRecord = fcb.item_numbered (word_at s.call 0)
-number_by s function = fcb.item_of (block s)
+unfoldable pub number_by : ℕ → ControlBlock → FileFunction → Option ℕ
+number_by word b LockRecord = fcb.item_numbered word
+number_by word b UnlockRecord = fcb.item_numbered word
+number_by word b function = fcb.item_of b
 
 abbrev pub item_number : Situation → Option ℕ
-item_number s = number_by s s.function
+item_number s = number_by (word_at s.call 0) (block s) s.function
 
 -- that is the caller's own of the drive and the name that the call names, whatever user's
 abbrev pub key_named : Situation → ℕ → Option FileKey
@@ -132,8 +125,11 @@ open_key s = option_and_then (key_named s) (item_number s)
 abbrev pub open_mode : Situation → Mode
 open_mode s = (item_of s.filing.opens (unwrap_or (item_number s) 0)).mode
 
+abbrev pub mode_if_open : Situation → Option Mode
+mode_if_open s = option_map (λ key. open_mode s) (open_key s)
+
 abbrev pub has_written : Situation → Bool
-has_written s = (item_of s.filing.opens (unwrap_or (item_number s) 0)).has_written
+has_written s = is_some (open_key s) && (item_of s.filing.opens (unwrap_or (item_number s) 0)).has_written
 
 -- files by drive and without it
 abbrev pub key_of : ℕ → FileName → FileKey
@@ -142,36 +138,36 @@ key_of drive file = record { drive = drive; user = file.user; name = file.name }
 abbrev pub file_of : FileKey → FileName
 file_of key = record { user = key.user; name = key.name }
 
-abbrev pub open_file : Situation → FileName
-open_file s = unwrap_or (option_map file_of (open_key s)) (own_file s)
+abbrev pub open_file : FileName → Option FileKey → FileName
+open_file own key = unwrap_or (option_map file_of key) own
 
 -- the file that a call is about
-unfoldable pub subject_by : Situation → FileFunction → FileName
-subject_by s OpenFile = opened_file s
-subject_by s CloseFile = open_file s
-subject_by s ReadSequential = open_file s
-subject_by s WriteSequential = open_file s
-subject_by s ReadRandom = open_file s
-subject_by s WriteRandom = open_file s
-subject_by s TestAndWrite = open_file s
-subject_by s LockRecord = open_file s
-subject_by s UnlockRecord = open_file s
-subject_by s function = own_file s
+unfoldable pub subject_by : Drive → FileName → Option FileKey → FileFunction → FileName
+subject_by drive own key OpenFile = opened_in drive own
+subject_by drive own key CloseFile = open_file own key
+subject_by drive own key ReadSequential = open_file own key
+subject_by drive own key WriteSequential = open_file own key
+subject_by drive own key ReadRandom = open_file own key
+subject_by drive own key WriteRandom = open_file own key
+subject_by drive own key TestAndWrite = open_file own key
+subject_by drive own key LockRecord = open_file own key
+subject_by drive own key UnlockRecord = open_file own key
+subject_by drive own key function = own
 
 abbrev pub subject : Situation → FileName
-subject s = subject_by s s.function
+subject s = subject_by (drive_at s) (own_file s) (open_key s) s.function
 
 abbrev pub subject_key : Situation → FileKey
 subject_key s = key_of (drive_number s) (subject s)
 
 -- the first of its records
-abbrev pub first_by : Situation → FileFunction → ℕ
-first_by s ReadSequential = sequential_record (block s)
-first_by s WriteSequential = sequential_record (block s)
-first_by s function = random_record (block s)
+abbrev pub first_by : ControlBlock → FileFunction → ℕ
+first_by b ReadSequential = sequential_record b
+first_by b WriteSequential = sequential_record b
+first_by b function = random_record b
 
 unfoldable pub first_record : Situation → ℕ
-first_record s = first_by s s.function
+first_record s = first_by (block s) s.function
 
 -- the password that a call gives, and whom an XFCB lets in by it
 abbrev pub given_password : Situation → List ℕ
@@ -205,9 +201,12 @@ unfoldable pub mode_asked : Drive → FileName → ControlBlock → List ℕ →
 mode_asked drive file b given default =
     if is_shared drive file || not (file_admits drive (opened_in drive file) 0x40 given default) then ReadOnly else (fcb.open_mode b)
 
+abbrev pub mode_in : Drive → FileName → ControlBlock → List ℕ → List ℕ → FileFunction → Mode
+mode_in drive file b given default MakeFile = fcb.made_mode b
+mode_in drive file b given default function = mode_asked drive file b given default
+
 unfoldable pub mode_by : Situation → FileFunction → Mode
-mode_by s MakeFile = fcb.made_mode (block s)
-mode_by s function = mode_asked (drive_at s) (own_file s) (block s) (given_password s) s.caller.password
+mode_by s function = mode_in (drive_at s) (own_file s) (block s) (given_password s) s.caller.password function
 
 -- the first directory entry of the user behind the last, whose name fits and that passes a test; what a search finds covers its
 -- extent, or is any where that is `?`
@@ -228,16 +227,16 @@ is_of_extent kind extent entry = (extent == 63) || (entry.1 == entry_number kind
 unfoldable pub found_in : Drive → ℕ → List ℕ → ℕ → Option (FileName × ℕ) → Option (FileName × ℕ)
 found_in drive user pattern extent last = next_in drive user pattern (is_of_extent drive.kind extent) last
 
-abbrev pub found_behind : Situation → LastSearch → Option (FileName × ℕ)
-found_behind s search = found_in (drive_at s) search.user search.pattern search.extent (Some search.found)
+abbrev pub found_behind : Drive → LastSearch → Option (FileName × ℕ)
+found_behind drive search = found_in drive search.user search.pattern search.extent (Some search.found)
 
-unfoldable pub found_by : Situation → FileFunction → Option (FileName × ℕ)
-found_by s SearchFirst = found_in (drive_at s) s.caller.user (plain (block s).name) (block s).ex None
-found_by s SearchNext = option_and_then (found_behind s) (last_search s)
-found_by s function = None
+unfoldable pub found_by : Drive → ℕ → ControlBlock → Option LastSearch → FileFunction → Option (FileName × ℕ)
+found_by drive user b search SearchFirst = found_in drive user (plain b.name) b.ex None
+found_by drive user b search SearchNext = option_and_then (found_behind drive) search
+found_by drive user b search function = None
 
 abbrev pub found : Situation → Option (FileName × ℕ)
-found s = found_by s s.function
+found s = found_by (drive_at s) s.caller.user (block s) (last_search s) s.function
 
 -- the files that a deletion names, by name, each once for each of its directory entries
 abbrev pub fits : ℕ → List ℕ → (FileName × ℕ) → Bool

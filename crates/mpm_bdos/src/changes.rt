@@ -8,7 +8,7 @@ ghost use Rattle.mpm_mount.specs.Faults.{plain};
 ghost use Rattle.mpm_mount.specs.Directories.{Stands};
 ghost use Rattle.mpm_bdos.specs.Records as spec;
 
-use crate::ends::RecordEnd;
+use crate::ends::{Ended, RecordEnd};
 use crate::marks::is_bit;
 use mpm_base::Pid;
 use mpm_files::{RecordError, read_error};
@@ -113,13 +113,6 @@ pub(crate) fn free_drives(opens: &mut Opens, p: Pid, mask: u16)
     }
 }
 
-/// So many records are done in order, and then what ended them.
-#[derive(Clone, Copy, Debug, PartialEq, Eq)]
-pub(crate) struct Locked {
-    pub(crate) moved: u8,
-    pub(crate) end: Option<RecordEnd>,
-}
-
 /// Locks so many records from one on by way of an open file, up to one that can't be read or whose lock isn't granted. The file's
 /// name has no attributes.
 #[tactic(auto, using(crate::proofs::Locking::none_locked))]
@@ -130,7 +123,7 @@ pub(crate) fn lock_records(
     file: FileKey,
     first: u32,
     count: u8,
-) -> Locked
+) -> Ended
     requires live { IsLive opens.old item }
     requires file { file_of opens.old item ≡ file }
     requires plain { plain file.name ≡ file.name }
@@ -148,7 +141,7 @@ pub(crate) fn lock_records(
         let error = read_error(mounted, file.user, &file.name, n);
         match lock_record(opens, item, n, error) {
             Some(end) => {
-                return Locked {
+                return Ended {
                     moved: k,
                     end: Some(end),
                 };
@@ -156,7 +149,7 @@ pub(crate) fn lock_records(
             None => {}
         }
     }
-    Locked {
+    Ended {
         moved: count,
         end: None,
     }

@@ -18,6 +18,13 @@ pub enum RecordEnd {
     NoLockRoom,
 }
 
+/// So many records are done in order, and then what ended them.
+#[derive(Clone, Copy, Debug, PartialEq, Eq)]
+pub(crate) struct Ended {
+    pub(crate) moved: u8,
+    pub(crate) end: Option<RecordEnd>,
+}
+
 /// The code of an extent that isn't there.
 fn no_extent_code(function: FileFunction) -> u16
     ensures { result ≡ spec.no_extent_code function }

@@ -15,7 +15,6 @@ use mpm_mount::Mounted;
 use mpm_opens::{FileKey, Opens};
 
 /// The room of a job's bytes: zeros behind those that count, at most 4,096.
-#[tactic(auto, unfolding(crate::specs::Jobs::filled))]
 fn filled(bytes: &[u8]) -> [u8; 4096]
     requires { length bytes.now ≤ 4096 }
     ensures { result ≡ spec.filled bytes.now }
@@ -215,7 +214,8 @@ pub(crate) fn is_locked_off(opens: &Opens, p: Pid, file: FileKey, n: u32) -> boo
 #[tactic(auto, using(crate::proofs::Counting::none_counted, crate::proofs::Counting::all_counted))]
 pub(crate) fn count_free(opens: &Opens, p: Pid, file: FileKey, first: u32, count: u8) -> u8
     requires { first ≤ 16777216 }
-    ensures { result ≡ spec.count_until (records.is_locked_off opens.now p file) first count }
+    ensures value { result ≡ spec.count_until (records.is_locked_off opens.now p file) first count }
+    ensures few { result ≤ count }
 {
     for k in 0..count {
         if is_locked_off(opens, p, file, first + u32::from(k)) {
@@ -247,10 +247,11 @@ pub(crate) fn count_tested(
     count: u8,
 ) -> u8
     requires plain { plain file.name ≡ file.name }
-    requires first { first ≤ 262143 }
+    requires first { first ≤ 262271 }
     requires count { count ≤ 16 }
-    ensures { (image : List ℕ) (drive : Drive) → Stands image mounted.now drive
+    ensures value { (image : List ℕ) (drive : Drive) → Stands image mounted.now drive
         → result ≡ spec.count_until (spec.is_tested_off drive opens.now p file) first count }
+    ensures few { result ≤ count }
 {
     for k in 0..count {
         if is_tested_off(mounted, opens, p, file, first + u32::from(k)) {

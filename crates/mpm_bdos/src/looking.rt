@@ -6,13 +6,13 @@ ghost use Rattle.mpm_mount.specs.Directories.{Stands};
 ghost use Rattle.mpm_bdos.specs.Subjects.{data_byte, extent_count, file_admits};
 ghost use Rattle.mpm_bdos.specs.Subjects.{attributes_in as file_attributes};
 ghost use Rattle.mpm_files.specs.Plans.{attributes_in};
+ghost use Rattle.mpm_files.specs.Lookups as found;
 ghost use Rattle.mpm_bdos.specs.Looking as spec;
-ghost use Rattle.mpm_bdos.specs.Looking.{IsWithin};
 
 use mpm_dirent::{Entry, FileEntry, LabelEntry, XfcbEntry};
-use mpm_fcb::plain_name;
+use mpm_files::lowest_entry;
 use mpm_guard::admits;
-use mpm_mount::{Found, Mounted};
+use mpm_mount::Mounted;
 
 /// The label in an entry.
 fn label_at(entry: &Entry) -> Option<LabelEntry>
@@ -155,7 +155,7 @@ pub(crate) fn file_admits(
 
 /// The attributes of a name: bit 7 of its bytes.
 #[tactic(auto, using(crate::proofs::Looked::attributes_all))]
-fn attributes_of(name: &[u8; 11]) -> [bool; 11]
+pub(crate) fn attributes_of(name: &[u8; 11]) -> [bool; 11]
     ensures { result ≡ attributes_in name.now }
 {
     let mut attributes = [false; 11];
@@ -167,7 +167,7 @@ fn attributes_of(name: &[u8; 11]) -> [bool; 11]
 
 /// The attributes of an entry of a file.
 fn attributes_at(entry: &Entry) -> Option<[bool; 11]>
-    ensures { result ≡ spec.attributes_at entry.now }
+    ensures { result ≡ found.attributes_at entry.now }
 {
     match entry {
         Entry::File { file } => Some(attributes_of(&file.name)),
@@ -175,24 +175,8 @@ fn attributes_at(entry: &Entry) -> Option<[bool; 11]>
     }
 }
 
-/// The lowest entry of a user's file, as a search for its name comes to it.
-fn lowest_entry(mounted: &Mounted, user: u8, name: &[u8; 11]) -> Option<Found>
-    ensures attributes { (image : List ℕ) (drive : Drive) → Stands image mounted.now drive
-        → file_attributes drive (record { user = user; name = plain name.now }) ≡ spec.attributes_where mounted.now result }
-    ensures within { IsWithin mounted.now result }
-{
-    let sought = plain_name(name);
-    let mut last = None;
-    while let Some(found) = mounted.next(user, name, last) {
-        if found.name == sought {
-            return Some(found);
-        }
-        last = Some(found);
-    }
-    None
-}
-
 /// The attributes of a user's file, if it is there.
+#[tactic(auto, unfolding(crate::specs::Subjects::attributes_in))]
 pub(crate) fn attributes(mounted: &Mounted, user: u8, name: &[u8; 11]) -> Option<[bool; 11]>
     ensures { (image : List ℕ) (drive : Drive) → Stands image mounted.now drive
         → file_attributes drive (record { user = user; name = plain name.now }) ≡ result }

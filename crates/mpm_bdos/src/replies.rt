@@ -2,12 +2,10 @@ ghost use Rattle.std.specs.Prelude.{◌≡◌, ◌≤◌, ◌<◌, ◌/◌, ◌%
 ghost use Rattle.std.specs.List.{flat_map};
 ghost use Rattle.mpm_files.specs.declared.jobs.Job.{Job};
 ghost use Rattle.mpm_files.specs.Serving.{with_records};
-ghost use Rattle.mpm_fcb.specs.Positions.{at_position};
 ghost use Rattle.mpm_bdos.specs.Replies as spec;
 
 use crate::functions::FileFunction;
 use mpm_dirent::{Entry, FileEntry, write_entry};
-use mpm_fcb::ControlBlock;
 use mpm_files::Work;
 
 /// The position behind a call on records from one on, of which so many were moved.
@@ -18,16 +16,6 @@ pub(crate) fn position_behind(function: FileFunction, first: u32, moved: u8) -> 
     match function {
         FileFunction::ReadSequential | FileFunction::WriteSequential => first + u32::from(moved),
         _ => first,
-    }
-}
-
-/// Puts into a block the position behind a call on records, at most 262,271, whose extent has so many records, unless it stays.
-pub(crate) fn move_block(block: &mut ControlBlock, stays: bool, position: u32, count: u8)
-    requires { position ≤ 262271 }
-    ensures { block.new ≡ (if stays then block.old else (at_position block.old position count)) }
-{
-    if !stays {
-        block.set_position(position, count);
     }
 }
 
@@ -70,11 +58,20 @@ fn room_of(work: &Work) -> &[u8]
     work.bytes()
 }
 
+/// How many records a job has read, 16 at most.
+#[tactic(auto, using(crate::proofs::ReadBytes::sixteen_at_most))]
+fn read_count(work: &Work) -> u8
+    ensures few { result ≤ 16 }
+    ensures count { work.now.moved ≤ 16 → result ≡ work.now.moved }
+{
+    work.moved().min(16)
+}
+
 /// The bytes of the records that a job has read, 16 at most.
 pub(crate) fn read_bytes(work: &Work) -> &[u8]
-    requires { work.now.moved ≤ 16 }
-    ensures { (records : List (List ℕ)) (before : Job) → work.now.job ≡ with_records before records → length before.bytes ≡ 4096
-        → length records ≡ work.now.moved → result.now ≡ flat_map (λ record_bytes. record_bytes) records }
+    ensures few { length result.now ≤ 4096 }
+    ensures bytes { (records : List (List ℕ)) (before : Job) → work.now.job ≡ with_records before records → length before.bytes ≡ 4096
+        → length records ≡ work.now.moved → work.now.moved ≤ 16 → result.now ≡ flat_map (λ record_bytes. record_bytes) records }
 {
-    &room_of(work)[..128 * usize::from(work.moved())]
+    &room_of(work)[..128 * usize::from(read_count(work))]
 }

@@ -1,5 +1,6 @@
 ghost use Rattle.std.specs.Prelude.{◌≡◌, Some, None, slice_index_or, slice_set};
 
+use crate::searching::EntryPlace;
 use mpm_base::Pid;
 use std::marker::Model;
 
@@ -15,10 +16,8 @@ pub(crate) struct LastSearch {
     pub(crate) pattern: [u8; 11],
     /// The extent that is sought, or `?` for any.
     pub(crate) extent: u8,
-    /// The name and the type of the file whose entry was found, without bit 7.
-    pub(crate) found: [u8; 11],
-    /// That entry's number among those of its file.
-    pub(crate) number: u16,
+    /// The entry that was found.
+    pub(crate) found: EntryPlace,
 }
 
 /// The last searches of all processes.

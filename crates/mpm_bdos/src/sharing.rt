@@ -4,6 +4,7 @@ ghost use Rattle.mpm_mount.specs.Drives.{Drive};
 ghost use Rattle.mpm_mount.specs.Directories.{Stands};
 ghost use Rattle.mpm_bdos.specs.Subjects as spec;
 
+use crate::functions::FileFunction;
 use crate::looking::{attributes, file_admits};
 use mpm_fcb::ControlBlock;
 use mpm_mount::Mounted;
@@ -52,5 +53,23 @@ pub(crate) fn mode_asked(
         block.open_mode()
     } else {
         Mode::ReadOnly
+    }
+}
+
+/// The mode in which a call opens a file: one that it makes in the mode of the block.
+pub(crate) fn mode_in(
+    mounted: &Mounted,
+    user: u8,
+    block: &ControlBlock,
+    given: &[u8; 8],
+    default: &[u8; 8],
+    function: FileFunction,
+) -> Mode
+    ensures { (image : List ℕ) (drive : Drive) → Stands image mounted.now drive
+        → result ≡ spec.mode_in drive (record { user = user; name = plain block.now.name }) block.now given.now default.now function }
+{
+    match function {
+        FileFunction::MakeFile => block.made_mode(),
+        _ => mode_asked(mounted, user, block, given, default),
     }
 }

@@ -34,7 +34,7 @@ fn with_attribute(byte: u8, attribute: bool) -> u8
 
 /// A name with these attributes in place of its own.
 #[tactic(auto, using(crate::proofs::Attributes::attributed), unfolding(crate::specs::Names::with_attributes))]
-pub(crate) fn with_attributes(name: &[u8; 11], attributes: &[bool; 11]) -> [u8; 11]
+pub fn with_attributes(name: &[u8; 11], attributes: &[bool; 11]) -> [u8; 11]
     ensures { result ≡ spec.with_attributes name.now attributes.now }
 {
     let mut named = *name;

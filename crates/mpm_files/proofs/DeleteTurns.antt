@@ -1,5 +1,5 @@
 -- The turns of a deletion.
-use Rattle.std.proofs.Common.{◌≡◌, ℕ, zero, suc, ◌+◌, ◌≤◌, ◌<◌, ◌%◌, Bool, true, false, ◌&&◌, ◌==◌, List, [], ◌∷◌, ◌++◌, Option, Some, None, drop, length, refl, sym, ap, subst, ◌∙◌, arith}
+use Rattle.std.proofs.Common.{◌≡◌, ℕ, zero, suc, ◌+◌, ◌≤◌, ◌<◌, Bool, true, false, ◌&&◌, ◌==◌, List, [], ◌∷◌, ◌++◌, Option, Some, None, drop, length, refl, sym, ap, subst, ◌∙◌, arith}
 use Rattle.std.specs.Prelude.{cond, is_some, option_map, if◌then◌else◌}
 use Rattle.mpm_names.specs.Matching.{does_match}
 use Rattle.std.specs.List.{list_any}
@@ -35,14 +35,7 @@ use Rattle.mpm_files.proofs.Tied.{kind_of}
 use Rattle.mpm_files.proofs.NextEntries.{deletion_next, deleted_xfcb_next}
 use Rattle.mpm_files.proofs.Served.{left_as, serves_quietly}
 use Rattle.mpm_files.proofs.NextDone.{IsDone, place_within}
-
--- a name without bit 7 has none
-mod_twice : (c : ℕ) → c % 128 % 128 ≡ c % 128
-mod_twice c = omega arith
-
-pub plain_twice : (name : List ℕ) → plain (plain name) ≡ plain name
-plain_twice [] = refl
-plain_twice (c ∷ name) = ap (λ x. x ∷ plain (plain name)) (mod_twice c) ∙ ap (λ l. c % 128 ∷ l) (plain_twice name)
+use Rattle.mpm_files.proofs.SearchSteps.{plain_twice}
 
 -- the first of a list by a test of what it is made to
 abbrev made_of : {X Y : Type 0} → Option X → (X → Y) → Option Y

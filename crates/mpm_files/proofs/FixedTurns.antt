@@ -2,6 +2,7 @@
 use Rattle.std.proofs.Common.{◌≡◌, ◌≢◌, ◌⊎◌, inl, inr, ℕ, zero, suc, ◌+◌, ◌≤◌, ◌<◌, Bool, true, false, not, ◌==◌, List, [], ◌∷◌, None, drop, length, refl, sym, ap, subst, ◌∙◌, arith}
 use Rattle.std.specs.Prelude.{is_some, slice_index_or}
 use Rattle.std.specs.FinMap.{get}
+use Rattle.std.proofs.lemmas.List.{drop_all}
 use Rattle.std.proofs.lemmas.Bool.{cases_lt}
 use Rattle.mpm_mount.specs.Drives.{Drive, free_entries}
 use Rattle.mpm_files.specs.declared.jobs.JobKind.{JobKind}
@@ -20,18 +21,12 @@ use Rattle.mpm_files.proofs.NextDone.{IsDone}
 use Rattle.mpm_files.proofs.DeleteTurns.{never_empty}
 
 -- what is left of these units isn't nothing
-drop_over : (us : List FileUnit) (k : ℕ) → length us ≤ k → drop k us ≡ []
-drop_over [] zero h = refl
-drop_over [] (suc k) h = refl
-drop_over (u ∷ us) zero h = absurd (omega arith)
-drop_over (u ∷ us) (suc k) h = drop_over us k (omega arith)
-
 some_left : (units fixed : List FileUnit) (j k : ℕ) → Follows units j (drop k fixed) → j < length units → k < length fixed
 some_left units fixed j k follows h = by_size (cases_lt k (length fixed))
   where
     by_size : (k < length fixed) ⊎ (length fixed ≤ k) → k < length fixed
     by_size (inl less) = less
-    by_size (inr over) = absurd (never_empty units j (drop k fixed) follows (drop_over fixed k over) h)
+    by_size (inr over) = absurd (never_empty units j (drop k fixed) follows (drop_all k fixed over) h)
 
 -- the next of them is done
 pub fixed_done : (before : Drive) (job : Job) (j : ℕ) (work : Work) (kind : JobKind) (fixed : List FileUnit) → IsServing before job j work → work.job.kind ≡ kind

@@ -40,6 +40,9 @@ pub mod NoFile
 pub mod RenameTurns
 pub mod WriteTurns
 pub mod Placing
+pub mod SearchSteps
+pub mod Lowest
+pub mod Settled
 pub mod StandingLaws
 pub mod EntryPuts
 pub mod FoundEntries

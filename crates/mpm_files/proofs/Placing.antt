@@ -1,6 +1,6 @@
 -- XFCBs, the label and directory entries that are put into a slot: no fault beside all others, and what they make of the drive.
 use Rattle.std.proofs.Common.{◌≡◌, ℕ, zero, suc, ◌+◌, ◌*◌, ◌/◌, ◌%◌, ◌≤◌, ◌<◌, Bool, true, false, not, ◌==◌, List, [], ◌∷◌, ◌++◌, Option, Some, None, Ok, map, take, drop, length, refl, sym, ap, subst, ◌∙◌, arith}
-use Rattle.std.specs.Prelude.{is_some, bytes_eq, nat_le, replicate, slice_index}
+use Rattle.std.specs.Prelude.{is_some, unwrap_or, bytes_eq, nat_le, replicate, slice_index}
 use Rattle.std.specs.List.{list_any}
 use Rattle.std.specs.FinMap.{get}
 use Rattle.std.proofs.lemmas.Bool.{true≢false, and_parts, eqb-true}
@@ -13,28 +13,26 @@ use Rattle.mpm_dirent.specs.declared.kinds.Entry.{Entry}
 use Rattle.mpm_dirent.specs.declared.kinds.Entry.TheVariants.{Free, File, Xfcb, Label}
 use Rattle.mpm_dirent.specs.declared.kinds.FileEntry.{FileEntry}
 use Rattle.mpm_dirent.specs.declared.kinds.XfcbEntry.{XfcbEntry}
-use Rattle.mpm_mount.specs.declared.searching.Found.{Found}
 use Rattle.mpm_mount.specs.Drives.{FileName, PhysicalExtent, Drive, places, entry_number, entry_name, extents_of, with_extent, without_extent, with_xfcb, without_xfcb, free_entries}
 use Rattle.mpm_mount.specs.Faults.{plain, extent_of, name_of, is_named, is_label, is_xfcb, cause_of, first_fault}
 use Rattle.mpm_mount.specs.Images.{extent_in}
 use Rattle.mpm_mount.specs.Changes.{exchanged, HasNoBlock}
 use Rattle.mpm_mount.specs.Directories.{Directory, Stands, others, entry_in, extent_slot, xfcb_slot, label_slot, free_slot}
-use Rattle.mpm_mount.specs.Searching.{IsUnambiguous, search_of, IsLeast, IsNext}
-use Rattle.mpm_mount.proofs.OneFile.{lowest_found, lowest_missing}
 use Rattle.mpm_mount.proofs.Sorts.{xfcb_added, xfcb_changed, xfcb_renamed, label_added, label_changed, extent_added, extent_changed, extent_renamed}
 use Rattle.mpm_mount.proofs.Puts.{ranges_at, still_changed, still_renamed, still_added, still_xfcb_added, still_xfcb_changed, still_label_added, still_label_changed, extent_without_blocks}
 use Rattle.mpm_mount.proofs.LookedUp.{nowhere, extent_found, xfcb_found, xfcb_missing, label_found, label_missing, free_slot_found}
 use Rattle.mpm_mount.proofs.FreeEntries.{no_free_slot}
 use Rattle.mpm_mount.proofs.Distinct.{xfcb_by, label_by}
 use Rattle.mpm_files.specs.declared.jobs.Job.{Job}
-use Rattle.mpm_files.specs.Units.{FileUnit, AddsEntry, SetsAttributes, RenamesEntry, PutsXfcb, RenamesXfcb, PutsLabel, where_there, attributes_of, new_entry, with_attributes, stages, last_of, applied}
+use Rattle.mpm_files.specs.Units.{FileUnit, AddsEntry, SetsAttributes, RenamesEntry, PutsXfcb, RenamesXfcb, PutsLabel, where_there, first_attributes, attributes_of, new_entry, with_attributes, stages, last_of, applied}
 use Rattle.mpm_files.specs.Plans.{file_of_job, new_file_of_job, protection_in, attributes_in}
+use Rattle.mpm_files.specs.Lookups.{attributes_at}
 use Rattle.mpm_files.specs.Counting.{bit, file_in}
 use Rattle.mpm_files.specs.Standing.{StandsOn, Does}
 use Rattle.mpm_files.specs.Turning.{IsFileAt, xfcb_of_job, label_of_job, marks_set}
 use Rattle.mpm_files.proofs.Tied.{kind_of}
 use Rattle.mpm_files.proofs.NoFile.{there_at}
-use Rattle.mpm_files.proofs.DeleteTurns.{plain_twice}
+use Rattle.mpm_files.proofs.SearchSteps.{plain_twice}
 
 -- an XFCB comes, or another in its place
 pub clean_over : (d : Directory) (job : Job) (slot : ℕ) → first_fault d.kind d.entries ≡ None → xfcb_slot d (file_of_job job) ≡ Some slot
@@ -320,17 +318,12 @@ xfcb_free image d files file slot stands found none =
     true≢false (sym (ap is_some ((xfcb_found image d files file slot stands found).protection)) ∙ ap is_some none)
 
 -- the attributes of a file are those of its lowest entry
-pub lowest_attributes : (image : List ℕ) (d : Directory) (files : Drive) (user : ℕ) (pattern : List ℕ) (found : Found) (f : FileEntry) → Stands image d files → IsUnambiguous pattern
-    → (least : IsLeast d.kind (search_of d.kind user pattern None) d.entries found) → entry_in d found.slot ≡ File f
-    → map (nat_le 128) f.name ≡ attributes_of (extents_of files (record { user = user; name = plain pattern }))
-unfolding extent_in
-lowest_attributes image d files user pattern found f stands one least is =
-    ap (λ (q : FileEntry). map (nat_le 128) q.name) (file_same f least.file (entry_in d found.slot) is least.entry)
-    ∙ sym (ap attributes_of ((lowest_found image d files user pattern found stands one least).1))
+pub lowest_attributes : {K : Type 0} (d : Directory) (extents : List (K × PhysicalExtent)) (slot : ℕ) (f : FileEntry) → first_attributes extents ≡ attributes_at (entry_in d slot) → entry_in d slot ≡ File f
+    → map (nat_le 128) f.name ≡ attributes_of extents
+lowest_attributes d extents slot f first is = sym (ap (λ o. unwrap_or o (replicate 11 false)) (first ∙ ap attributes_at is))
 
-pub no_attributes : (image : List ℕ) (d : Directory) (files : Drive) (user : ℕ) (pattern : List ℕ) → Stands image d files → IsUnambiguous pattern
-    → IsNext d.kind (search_of d.kind user pattern None) d.entries None → replicate 11 false ≡ attributes_of (extents_of files (record { user = user; name = plain pattern }))
-no_attributes image d files user pattern stands one none = sym (ap attributes_of (lowest_missing image d files user pattern stands one none))
+pub no_attributes : {K : Type 0} (extents : List (K × PhysicalExtent)) → first_attributes extents ≡ None → replicate 11 false ≡ attributes_of extents
+no_attributes extents none = sym (ap (λ o. unwrap_or o (replicate 11 false)) none)
 
 -- a unit without stages is done by nothing
 pub does_nothing : {E : Type 0} (disks : Option Disks) (d : Directory) (files : Drive) (image : List ℕ) (unit : FileUnit) → told_image disks d.drive ≡ Some image → Stands image d files → stages unit files ≡ []

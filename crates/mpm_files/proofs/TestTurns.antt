@@ -1,9 +1,9 @@
 -- The turns of a job that tests records and writes them.
-use Rattle.std.proofs.Common.{◌≡◌, ◌⊎◌, inl, inr, ℕ, zero, suc, ◌+◌, ◌-◌, ◌≤◌, ◌<◌, Bool, true, false, not, ◌||◌, List, [], ◌∷◌, ◌++◌, Option, Some, None, Ok, take, drop, length, refl, sym, ap, subst, ◌∙◌, arith}
+use Rattle.std.proofs.Common.{◌≡◌, ◌⊎◌, inl, inr, ℕ, suc, ◌+◌, ◌-◌, ◌≤◌, ◌<◌, Bool, true, false, not, ◌||◌, List, [], ◌∷◌, ◌++◌, Option, Some, None, Ok, take, drop, length, refl, sym, ap, subst, ◌∙◌, arith}
 use Rattle.std.specs.Prelude.{bytes_eq, if◌then◌else◌}
 use Rattle.std.specs.List.{list_any}
 use Rattle.std.proofs.lemmas.Bool.{cases_lt}
-use Rattle.std.proofs.lemmas.List.{append-nil, length-drop}
+use Rattle.std.proofs.lemmas.List.{append-nil, drop_all, length-drop}
 use Rattle.std.proofs.lemmas.List.FromFn.{length-map-range_with_len}
 use Rattle.mpm_port.specs.Disks.{Disks}
 use Rattle.mpm_mount.specs.Drives.{FileName, Drive, record_of}
@@ -55,12 +55,6 @@ abbrev tests_now : Drive → Work → List FileUnit
 tests_now files work = left_testing files (file_of_job work.job) (tested_now work) (drop work.ended (tests_of_job work.job)) (stamp_now work)
 
 -- there is one
-drop_over : (us : List Test) (k : ℕ) → length us ≤ k → drop k us ≡ []
-drop_over [] zero h = refl
-drop_over [] (suc k) h = refl
-drop_over (u ∷ us) zero h = absurd (omega arith)
-drop_over (u ∷ us) (suc k) h = drop_over us k (omega arith)
-
 no_tests : (files : Drive) (file : FileName) (n : ℕ) (tests : List Test) (stamp : Option (List ℕ)) → tests ≡ [] → left_testing files file n tests stamp ≡ []
 unfolding left_testing
 no_tests files file n [] stamp none = refl
@@ -76,7 +70,7 @@ nothing_tested : (files : Drive) (work : Work) (missed : Bool) → work.job.coun
 nothing_tested files work true over = ap (left_passing (file_of_job work.job) (tested_now work)) (none_left work.job.count work.ended over)
 nothing_tested files work false over =
     no_tests files (file_of_job work.job) (tested_now work) (drop work.ended (tests_of_job work.job)) (stamp_now work)
-    (drop_over (tests_of_job work.job) work.ended (omega (arith, over, tests_many work.job)))
+    (drop_all work.ended (tests_of_job work.job) (omega (arith, over, tests_many work.job)))
 
 pub tests_more : (before : Drive) (job : Job) (j : ℕ) (work : Work) → IsServing before job j work → work.job.kind ≡ TestWrite → j < length (plan_of before job).units → work.ended < work.job.count
 tests_more before job j work serving is h = by_size (cases_lt work.ended work.job.count)

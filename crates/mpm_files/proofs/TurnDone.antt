@@ -1,7 +1,9 @@
 -- A turn of a job in service.
-use Rattle.std.proofs.Common.{ℕ, suc, ◌+◌, ◌≤◌, ◌<◌, Option, length, sym, ap, subst, ◌∙◌, arith}
+use Rattle.std.proofs.Common.{◌≡◌, ℕ, suc, ◌+◌, ◌≤◌, ◌<◌, Option, Some, Ok, length, sym, ap, subst, ◌∙◌, arith}
 use Rattle.mpm_port.specs.Disks.{Disks}
+use Rattle.mpm_blocks.specs.Sectors.{told_image}
 use Rattle.mpm_mount.specs.Drives.{Drive}
+use Rattle.mpm_mount.specs.Images.{files_of}
 use Rattle.mpm_mount.specs.Directories.{Directory, Stands}
 use Rattle.mpm_files.specs.declared.jobs.Job.{Job}
 use Rattle.mpm_files.specs.declared.work.Work.{Work}
@@ -11,6 +13,8 @@ use Rattle.mpm_files.specs.Serving.{units_done, turns_in, IsServing}
 use Rattle.mpm_files.specs.Standing.{StandsOn}
 use Rattle.mpm_files.specs.Containment.{IsContained}
 use Rattle.mpm_files.specs.Turning.{InService, Contained, one_ended}
+use Rattle.mpm_mount.proofs.Mounts.{mounts}
+use Rattle.mpm_files.proofs.Tied.{kind_of}
 use Rattle.mpm_files.proofs.Contained.{turn_contained}
 use Rattle.mpm_files.proofs.StandingLaws.{among_all}
 use Rattle.mpm_files.proofs.Served.{serves_idly, done_idly}
@@ -51,3 +55,14 @@ pub failure_contained : (disks : Option Disks) (drive : ℕ) (before : Drive) (j
 failure_contained disks drive before job j stopped =
     among_all (IsContained before job j) (units_done before job stopped.turn) (stages (unit_at before job stopped.turn) (units_done before job stopped.turn)) stopped.within.files
     (turn_contained before job j stopped.turn stopped.since) stopped.within.among
+
+-- and that image mounts again, as that drive
+pub failure_mounts : (disks : Option Disks) (drive : ℕ) (before : Drive) (job : Job) (j : ℕ) (stopped : Contained disks drive before job j)
+    → (told_image disks drive ≡ Some stopped.within.stands.image) × (files_of stopped.within.stands.image before.kind ≡ Ok stopped.within.files)
+failure_mounts disks drive before job j stopped =
+    let within = stopped.within in
+    let kind : before.kind ≡ within.directory.kind =
+    sym (failure_contained disks drive before job j stopped).keeps.kind ∙ kind_of within.stands.image within.directory within.files within.stands.stands in (
+      ap (told_image disks) (sym within.here) ∙ within.stands.told,
+      ap (files_of within.stands.image) kind ∙ mounts within.stands.image within.directory within.files within.stands.stands,
+    )

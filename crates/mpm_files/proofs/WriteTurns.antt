@@ -1,12 +1,11 @@
 -- The turns of a job that writes records.
-use Rattle.std.proofs.Common.{◌≡◌, ◌≢◌, ◌⊎◌, inl, inr, ℕ, zero, suc, ◌+◌, ◌/◌, ◌≤◌, ◌<◌, Bool, true, false, ◌&&◌, not, List, [], ◌∷◌, Option, Some, None, drop, length, refl, sym, ap, subst, ◌∙◌, arith, ne_eqb}
+use Rattle.std.proofs.Common.{◌≡◌, ◌≢◌, ◌⊎◌, inl, inr, ℕ, suc, ◌+◌, ◌/◌, ◌≤◌, ◌<◌, Bool, true, false, ◌&&◌, not, List, [], ◌∷◌, Option, Some, None, drop, length, refl, sym, ap, subst, ◌∙◌, arith, ne_eqb}
 use Rattle.std.specs.Prelude.{is_some, IfSome, if◌then◌else◌}
 use Rattle.std.proofs.lemmas.Bool.{true≢false, false_from_ne_true, cases_lt}
-use Rattle.std.proofs.lemmas.List.{append-nil}
+use Rattle.std.proofs.lemmas.List.{append-nil, drop_all}
 use Rattle.std.proofs.lemmas.List.FromFn.{length-map-range_with_len}
 use Rattle.mpm_mount.specs.Drives.{FileName, PhysicalExtent, Drive, entry_name, free_records, free_entries}
 use Rattle.mpm_mount.specs.Directories.{Directory, Stands, free_block}
-use Rattle.mpm_mount.specs.Searching.{IsUnambiguous}
 use Rattle.mpm_mount.proofs.FreeRecords.{no_free_block}
 use Rattle.mpm_files.specs.declared.jobs.JobKind.TheVariants.{Write}
 use Rattle.mpm_files.specs.declared.jobs.Job.{Job}
@@ -22,7 +21,7 @@ use Rattle.mpm_files.specs.Standing.{HasFreshBlock}
 use Rattle.mpm_files.specs.Units.{FileUnit, Idles, AddsEntry, ClearsBlock, WritesRecord, stages, last_of, applied}
 use Rattle.mpm_files.specs.Plans.{file_of_job, record_at, records_of_job, needs_entry, needs_block, clears_blocks, plan_by, plan_of, unit_at}
 use Rattle.mpm_files.specs.Serving.{units_done, records_after, with_records, missed_by, has_missed, left_writing, stamp_left, Follows, IsServing, IsCleared, IsInService}
-use Rattle.mpm_files.specs.Turning.{MayWrite, SuitsKind, Suits, one_ended}
+use Rattle.mpm_files.specs.Turning.{SuitsKind, Suits, one_ended}
 use Rattle.mpm_files.proofs.NextUnits.{items_left, entry_next, clearing_next, record_next}
 use Rattle.mpm_files.proofs.Served.{left_as, serves_on, serves_quietly}
 use Rattle.mpm_files.proofs.NextDone.{IsDone}
@@ -56,12 +55,6 @@ stamp_now work = stamp_left work.job.stamp work.moved
 abbrev later_records : Work → List (List ℕ)
 later_records work = drop (work.moved + 1) (records_of_job work.job)
 
-drop_over : (us : List (List ℕ)) (k : ℕ) → length us ≤ k → drop k us ≡ []
-drop_over [] zero h = refl
-drop_over [] (suc k) h = refl
-drop_over (u ∷ us) zero h = absurd (omega arith)
-drop_over (u ∷ us) (suc k) h = drop_over us k (omega arith)
-
 no_records : (files : Drive) (cleared : Bool) (file : FileName) (n : ℕ) (records : List (List ℕ)) (stamp : Option (List ℕ)) → records ≡ [] → left_writing files cleared file n records stamp ≡ []
 unfolding left_writing
 no_records files cleared file n [] stamp none = refl
@@ -75,7 +68,7 @@ records_left before job j work serving is h = by_size (cases_lt work.moved work.
     by_size (inr over) =
         absurd (never_empty (plan_of before job).units j _ (subst (Follows (plan_of before job).units j) (left_as (units_done before job j) work Write is) serving.left)
         (no_records (units_done before job j) (is_some work.cleared) (file_of_job work.job) (number_now work) (drop work.moved (records_of_job work.job)) (stamp_now work)
-        (drop_over (records_of_job work.job) work.moved (omega (arith, over, length-map-range_with_len (record_at work.job.bytes) 0 work.job.count)))) h)
+        (drop_all work.moved (records_of_job work.job) (omega (arith, over, length-map-range_with_len (record_at work.job.bytes) 0 work.job.count)))) h)
 
 left_now : (before : Drive) (job : Job) (j : ℕ) (work : Work) → IsServing before job j work → work.job.kind ≡ Write → j < length (plan_of before job).units
     → Follows (plan_of before job).units j
@@ -169,16 +162,13 @@ record_written before job j work serving is h no_entry no_block =
     }
 
 -- what each step asks of the directory, and what it finds there
-pub may_write : (before : Drive) (job : Job) (j : ℕ) (work : Work) → IsServing before job j work → work.job.kind ≡ Write → Suits before job → MayWrite job
+pub may_write : (before : Drive) (job : Job) (j : ℕ) (work : Work) → IsServing before job j work → work.job.kind ≡ Write → Suits before job → job.first + job.count ≤ 262144
 may_write before job j work serving is suits = subst (SuitsKind before job) (kind_is before job j work serving is) suits.kind
-
-pub name_fits : (before : Drive) (job : Job) (j : ℕ) (work : Work) → IsServing before job j work → work.job.kind ≡ Write → Suits before job → IsUnambiguous work.job.name
-name_fits before job j work serving is suits = subst (λ (q : Job). IsUnambiguous q.name) (sym serving.job_is) (may_write before job j work serving is suits).name
 
 pub extent_small : (before : Drive) (job : Job) (j : ℕ) (work : Work) → IsServing before job j work → work.job.kind ≡ Write → j < length (plan_of before job).units → Suits before job
     → number_now work / 128 ≤ 2047
 extent_small before job j work serving is h suits =
-    omega (arith, records_left before job j work serving is h, ap (λ (q : Job). q.first) serving.job_is, ap (λ (q : Job). q.count) serving.job_is, (may_write before job j work serving is suits).last)
+    omega (arith, records_left before job j work serving is h, ap (λ (q : Job). q.first) serving.job_is, ap (λ (q : Job). q.count) serving.job_is, may_write before job j work serving is suits)
 
 pub number_small : (before : Drive) (job : Job) (j : ℕ) (work : Work) → IsServing before job j work → work.job.kind ≡ Write → j < length (plan_of before job).units → Suits before job
     → number_now work ≤ 262286

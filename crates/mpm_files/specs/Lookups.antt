@@ -9,12 +9,14 @@ use Rattle.mpm_dirent.specs.declared.kinds.Entry.TheVariants.{Free, File, Xfcb, 
 use Rattle.mpm_dirent.specs.declared.kinds.FileEntry.{FileEntry}
 use Rattle.mpm_dirent.specs.declared.kinds.XfcbEntry.{XfcbEntry}
 use Rattle.mpm_dirent.specs.Proper.{IsProper}
+use Rattle.mpm_mount.specs.declared.searching.Found.{Found}
 use Rattle.mpm_mount.specs.Drives.{FileName, Protection, block_place}
 use Rattle.mpm_mount.specs.Faults.{extent_of, block_at, first_fault}
 use Rattle.mpm_mount.specs.Directories.{Directory, entry_in, extent_slot, xfcb_slot}
 use Rattle.mpm_files.specs.declared.stamps.Stamp.{Stamp}
 use Rattle.mpm_files.specs.declared.stamps.Stamp.TheVariants.{First, Second}
 use Rattle.mpm_files.specs.Units.{first_stamped, second_stamped}
+use Rattle.mpm_files.specs.Plans.{attributes_in}
 use Rattle.mpm_files.specs.Counting.{number_in}
 
 -- a directory has all its slots and no fault
@@ -78,6 +80,18 @@ stamped_in Second = second_stamped
 abbrev pub stamped_entry : Stamp → List ℕ → XfcbEntry → XfcbEntry
 stamped_entry First moment xfcb = record xfcb { first = moment }
 stamped_entry Second moment xfcb = record xfcb { second = moment }
+
+-- the attributes of a file's entry, F1' to F8' and T1' to T3', and of one that was found. ("File Attributes".)
+abbrev pub attributes_at : Entry → Option (List Bool)
+attributes_at (File f) = Some (attributes_in f.name)
+attributes_at Free = None
+attributes_at (Xfcb x) = None
+attributes_at (Label label) = None
+attributes_at (Kept bytes) = None
+
+abbrev pub attributes_where : Directory → Option Found → Option (List Bool)
+attributes_where d None = None
+attributes_where d (Some found) = attributes_at (entry_in d found.slot)
 
 abbrev pub is_file : Entry → Bool
 is_file (File f) = true

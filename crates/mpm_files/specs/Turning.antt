@@ -1,5 +1,5 @@
 -- What a turn leaves of a job in service, on the attached image of its drive.
-use Rattle.std.specs.Prelude.{◌≡◌, ℕ, suc, ◌+◌, ◌*◌, ◌<◌, ◌≤◌, ◌==◌, not, false, List, ◌++◌, take, drop, Option, Some, None, is_some, if◌then◌else◌, length, Result, OnOk, OnErr}
+use Rattle.std.specs.Prelude.{◌≡◌, ℕ, suc, ◌+◌, ◌*◌, ◌<◌, ◌≤◌, ◌==◌, ◌&&◌, not, false, List, ◌++◌, take, drop, Option, Some, None, is_some, if◌then◌else◌, length, Result, OnOk, OnErr}
 use Rattle.std.specs.List.{list_any}
 use Rattle.std.specs.FinMap.{get}
 use Rattle.mpm_port.specs.Disks.{Disks}
@@ -26,16 +26,10 @@ use Rattle.mpm_files.specs.Serving.{units_done, IsInService}
 use Rattle.mpm_files.specs.Lookups.{IsSound, IsRecordCached}
 use Rattle.mpm_files.specs.Standing.{StandsWithin}
 
--- records are written up to the last that a file may have
-pub record MayWrite (job : Job) : Type 0 where
-  pub name : IsUnambiguous job.name
-  pub last : job.first + job.count ≤ 262144
-
--- a file that is made isn't there, and there is a free entry for it, and one for its XFCB where that is to come
+-- a file that is made isn't there, and there is a free entry for it, and one for its XFCB where that comes and isn't there
 pub record MayMake (drive : Drive) (job : Job) : Type 0 where
-  pub name : IsUnambiguous job.name
   pub none : has_file drive (file_of_job job) ≡ false
-  pub room : suc (bit (not (job.count == 0))) ≤ free_entries drive
+  pub room : suc (bit (not (job.count == 0) && not (is_some (get drive.xfcbs (file_of_job job))))) ≤ free_entries drive
 
 -- a file is renamed to another name, of which no file is there
 pub record MayRename (drive : Drive) (job : Job) : Type 0 where
@@ -43,11 +37,11 @@ pub record MayRename (drive : Drive) (job : Job) : Type 0 where
   pub other : is_same_file (new_file_of_job job) (file_of_job job) ≡ false
   pub none : has_file drive (new_file_of_job job) ≡ false
 
--- what is asked of a drive by the sort of a job: of a name that entries are sought by, that it fits one name alone; of an XFCB or a
--- label that comes, a free entry
+-- what is asked of a drive by the sort of a job: of records that are written, that none is above the last that a file may have; of a
+-- name by which entries are sought one after the other, that it fits one name alone; of an XFCB or a label that comes, a free entry
 abbrev pub SuitsKind : Drive → Job → JobKind → Type 0
 SuitsKind drive job Read = Unit {0}
-SuitsKind drive job Write = MayWrite job
+SuitsKind drive job Write = job.first + job.count ≤ 262144
 SuitsKind drive job TestWrite = Unit {0}
 SuitsKind drive job Make = MayMake drive job
 SuitsKind drive job Delete = Unit {0}

@@ -1,6 +1,6 @@
 -- The units of a file call, and what each makes of a drive. (MP/M II Programmer's Guide, "File Organization", "File Control
 -- Block Definition", "Extended File Control Block (XFCB)", "Directory Labels".)
-use Rattle.std.specs.Prelude.{ℕ, ◌+◌, ◌/◌, ◌%◌, ◌==◌, ◌&&◌, ◌||◌, Bool, false, List, [], ◌∷◌, ◌++◌, Option, Some, None, nat_lt, nat_le, is_some, replicate, slice_set, slice_index_or, map, take, drop, if◌then◌else◌}
+use Rattle.std.specs.Prelude.{ℕ, ◌+◌, ◌/◌, ◌%◌, ◌==◌, ◌&&◌, ◌||◌, Bool, false, List, [], ◌∷◌, ◌++◌, Option, Some, None, nat_lt, nat_le, is_some, unwrap_or, replicate, slice_set, slice_index_or, map, take, drop, if◌then◌else◌}
 use Rattle.std.specs.FinMap.{get}
 use Rattle.mpm_base.specs.declared.kind.Kind.{Kind}
 use Rattle.mpm_blocks.specs.Geometries.{block_records}
@@ -36,10 +36,13 @@ pub data FileUnit : Type 0 where
 abbrev pub zero_record : List ℕ
 zero_record = replicate 128 0
 
--- the attributes of a file are those of its lowest entry. ("File Attributes".)
+-- the attributes of a file that is there are those of its lowest entry; of one that isn't, none is set. ("File Attributes".)
+abbrev pub first_attributes : {K : Type 0} → List (K × PhysicalExtent) → Option (List Bool)
+first_attributes [] = None
+first_attributes (entry ∷ entries) = Some entry.1.attributes
+
 abbrev pub attributes_of : {K : Type 0} → List (K × PhysicalExtent) → List Bool
-attributes_of [] = replicate 11 false
-attributes_of (entry ∷ entries) = entry.1.attributes
+attributes_of entries = unwrap_or (first_attributes entries) (replicate 11 false)
 
 -- a new entry of a file, for an extent: it holds no block
 unfoldable pub new_entry : Drive → FileName → ℕ → PhysicalExtent

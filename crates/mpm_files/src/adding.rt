@@ -9,7 +9,6 @@ ghost use Rattle.mpm_cache.specs.Coherent.{IsCoherent, HasNoAlias};
 ghost use Rattle.mpm_sectors.specs.Disks.{Leaves};
 ghost use Rattle.mpm_files.specs.Standing.{Does};
 ghost use Rattle.mpm_mount.specs.Faults.{plain};
-ghost use Rattle.mpm_mount.specs.Searching.{IsUnambiguous};
 ghost use Rattle.mpm_files.specs.Units.{AddsEntry, attributes_of};
 ghost use Rattle.mpm_files.specs.Plans.{file_of_job};
 
@@ -17,6 +16,7 @@ use crate::entries::put_entry;
 use crate::jobs::Job;
 use crate::marking::marked;
 use crate::renaming::file_at;
+use crate::searching::lowest_entry;
 use mpm_base::Steps;
 use mpm_cache::Cache;
 use mpm_dirent::{Entry, FileEntry};
@@ -26,11 +26,11 @@ use std::sync::ledger::Ledger;
 
 /// A name with the attributes of a job's file, which are those of its lowest entry.
 fn attributes(mounted: &Mounted, job: &Job) -> [u8; 11]
-    ensures { (image : List ℕ) (files : Drive) → Stands image mounted.now files → IsUnambiguous job.now.name
+    ensures { (image : List ℕ) (files : Drive) → Stands image mounted.now files
         → map (nat_le 128) result ≡ attributes_of (extents_of files (file_of_job job.now)) }
 {
     let _kind = mounted.kind();
-    match mounted.next(job.user, &job.name, None) {
+    match lowest_entry(mounted, job.user, &job.name) {
         Some(found) => match file_at(mounted, found.slot) {
             Some(file) => file.name,
             None => [0; 11],
@@ -44,7 +44,7 @@ fn new_entry(mounted: &Mounted, job: &Job, extent: u16) -> FileEntry
     requires { extent ≤ 2047 }
     ensures user { result.user ≡ job.now.user }
     ensures name { plain result.name ≡ plain job.now.name }
-    ensures attributes { (image : List ℕ) (files : Drive) → Stands image mounted.now files → IsUnambiguous job.now.name
+    ensures attributes { (image : List ℕ) (files : Drive) → Stands image mounted.now files
         → map (nat_le 128) result.name ≡ attributes_of (extents_of files (file_of_job job.now)) }
     ensures low { result.ex ≡ extent % 32 }
     ensures high { result.s2 ≡ extent / 32 }
@@ -75,7 +75,7 @@ pub(crate) fn add_entry<D: Drives, L: Ledger>(
     requires coherent { IsCoherent cache.old (D.disks drives.old) }
     requires apart { HasNoAlias cache.old (D.disks drives.old) mounted.old.drive }
     ensures does { (image : List ℕ) (files : Drive) → told_image (D.disks drives.old) mounted.old.drive ≡ Some image → Stands image mounted.old files
-        → job.now.user < 16 → extent ≤ 2047 → IsUnambiguous job.now.name → get files.extents (entry_name files.kind (file_of_job job.now) extent) ≡ None
+        → job.now.user < 16 → extent ≤ 2047 → get files.extents (entry_name files.kind (file_of_job job.now) extent) ≡ None
         → free_entries files ≢ 0 → Does (D.disks drives.new) mounted.old.drive mounted.new files (AddsEntry (file_of_job job.now) extent) result }
     ensures drive { mounted.new.drive ≡ mounted.old.drive }
     ensures kind { mounted.new.kind ≡ mounted.old.kind }

@@ -28,14 +28,6 @@ pub use errors::RecordError;
 pub use jobs::{Job, JobKind};
 pub use planning::{plan, turns};
 pub use records::read_error;
+pub use searching::lowest_entry;
 pub use turning::{Progress, turn};
 pub use work::Work;
-
-#[cfg(test)]
-mod calls;
-#[cfg(test)]
-mod failures;
-#[cfg(test)]
-mod sequences;
-#[cfg(test)]
-mod tests;

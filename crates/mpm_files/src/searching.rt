@@ -1,14 +1,18 @@
-ghost use Rattle.std.specs.Prelude.{◌≡◌, ◌≤◌, count_by, bytes_eq};
+ghost use Rattle.std.specs.Prelude.{◌≡◌, ◌<◌, ◌≤◌, ℕ, List, IfSome, length, count_by, bytes_eq};
 ghost use Rattle.std.specs.List.{list_any};
 ghost use Rattle.mpm_mount.specs.Faults as faults;
+ghost use Rattle.mpm_mount.specs.Drives.{Drive, extents_of};
 ghost use Rattle.mpm_mount.specs.Directories as directory;
+ghost use Rattle.mpm_mount.specs.Directories.{Stands};
 ghost use Rattle.mpm_files.specs.Plans as plans;
 ghost use Rattle.mpm_files.specs.Counting as spec;
+ghost use Rattle.mpm_files.specs.Units.{first_attributes};
+ghost use Rattle.mpm_files.specs.Lookups.{attributes_where};
 
 use crate::jobs::Job;
 use mpm_blocks::geometry;
 use mpm_dirent::Entry;
-use mpm_mount::Mounted;
+use mpm_mount::{Found, Mounted};
 use mpm_names::matches;
 
 /// Which directory entries are counted.
@@ -68,6 +72,23 @@ pub(crate) fn has_file(mounted: &Mounted, user: u8, name: &[u8; 11]) -> bool
         }
     }
     false
+}
+
+/// The lowest directory entry of a user's file, by its exact name: bytes that fit each other byte in a search are sought as they are.
+pub fn lowest_entry(mounted: &Mounted, user: u8, name: &[u8; 11]) -> Option<Found>
+    ensures attributes { (image : List ℕ) (files : Drive) → Stands image mounted.now files
+        → first_attributes (extents_of files (record { user = user; name = faults.plain name.now })) ≡ attributes_where mounted.now result }
+    ensures within { IfSome result (λ found. found.slot < length mounted.now.entries) }
+{
+    let sought = plain(name);
+    let mut last = None;
+    while let Some(found) = mounted.next(user, name, last) {
+        if found.name == sought {
+            return Some(found);
+        }
+        last = Some(found);
+    }
+    None
 }
 
 /// Whether a job deletes an entry.

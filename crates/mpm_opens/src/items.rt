@@ -27,7 +27,7 @@ impl Model for Items {
 
 impl Items {
     ghost use Rattle.mpm_opens.specs.declared.limits.TheConstants.{ITEMS, OPENINGS};
-    ghost use Rattle.mpm_opens.specs.Items.{no_items, place_at, item_at, number_of, file_named, have_others, have_others_on, is_excluded, items_of, has_counted_out, are_full, first_free, with_changed, opened_again, closed_once, that_wrote, refusal_of, opened, opened_number, items_added, add_answer, items_without};
+    ghost use Rattle.mpm_opens.specs.Items.{no_items, place_at, item_at, number_of, is_of, file_where, file_named, have_others, have_others_on, is_excluded, items_of, has_counted_out, are_full, first_free, with_changed, opened_again, closed_once, that_wrote, refusal_of, opened, opened_number, items_added, add_answer, items_without};
 
     /// No items.
     #[tactic(auto, unfolding(crate::specs::Items::no_items))]
@@ -189,6 +189,20 @@ impl Items {
         named_at(&places[place], p, drive, name)
     }
 
+    /// The file of a process's item, by number.
+    pub(crate) fn file(&self, p: Pid, number: u8) -> Option<FileKey>
+        ensures file { result ≡ file_where (is_of p) (place_at self.now number) }
+        ensures places { length self.now ≡ ITEMS }
+    {
+        // Read before the early return, which then knows how many places there are.
+        let places = &self.places;
+        let place = usize::from(number);
+        if ITEMS <= place {
+            return None;
+        }
+        file_at(&places[place], p)
+    }
+
     /// The number of the first free place.
     #[tactic(auto, unfolding(crate::specs::Items::first_free, crate::specs::Items::are_full))]
     fn first_free(&self) -> u8
@@ -284,6 +298,16 @@ fn named_at(place: &Option<Item>, p: Pid, drive: u8, name: &[u8; 11]) -> Option<
 {
     match place {
         Some(item) if item.is_named(p, drive, name) => Some(item.file),
+        _ => None,
+    }
+}
+
+/// The file of the item at a place, where it is a process's.
+fn file_at(place: &Option<Item>, p: Pid) -> Option<FileKey>
+    ensures { result ≡ file_where (is_of p) place.now }
+{
+    match place {
+        Some(item) if is_process(item.process, p) => Some(item.file),
         _ => None,
     }
 }

@@ -26,7 +26,9 @@ impl Model for Opens {
 }
 
 impl Opens {
-    ghost use Rattle.mpm_opens.specs.Items.{number_of, file_named, have_others, have_others_on, refusal_of, add_answer};
+    ghost use Rattle.std.specs.Prelude.{length};
+    ghost use Rattle.mpm_opens.specs.declared.limits.TheConstants.{ITEMS};
+    ghost use Rattle.mpm_opens.specs.Items.{place_at, number_of, is_of, file_where, file_named, have_others, have_others_on, refusal_of, add_answer};
     ghost use Rattle.mpm_opens.specs.Locks.{owner_of, lock_answer};
     ghost use Rattle.mpm_opens.specs.Opens.{AreOpen, IsLive, item_of, process_of, file_of, IsItemOf, none_open, added, given_back, closed_at, closed, written_at, written, locked, unlocked, HasLeft, IsOpened, IsClosed, HasNoted, HasLocked, HasUnlocked, IfLocked, UnlessLocked};
 
@@ -79,6 +81,14 @@ impl Opens {
         ensures its { IfSome result (λ file. IsItemOf self.now p file item) }
     {
         self.items.named(p, item, drive, name)
+    }
+
+    /// The file of a process's item, by the item's number; none where the number is none of its items, 64 and more among them.
+    pub fn file(&self, p: Pid, item: u8) -> Option<FileKey>
+        ensures file { result ≡ file_where (is_of p) (place_at self.now.items item) }
+        ensures places { length self.now.items ≡ ITEMS }
+    {
+        self.items.file(p, item)
     }
 
     /// Why `add` would refuse a file, if it would.

@@ -1,7 +1,9 @@
-//! Tests of whole kernels, of machines and of runs, as scenes: what happens, and what is seen. They stand above the crates that
+//! Tests of file calls, of whole kernels, of machines and of runs, as scenes: what happens, and what is seen. They stand above the crates that
 //! they play, so that none of these is proved once more for its tests; each sees what any caller of them does.
 #![tactic(auto)]
 
+#[cfg(test)]
+mod files;
 #[cfg(test)]
 mod kernel;
 #[cfg(test)]

@@ -4,7 +4,8 @@ use Rattle.mpm_mount.specs.Searching.{search_of, IsNext}
 use Rattle.mpm_bdos.specs.Looking.{entry_found}
 use Rattle.mpm_bdos.specs.Subjects.{next_in}
 use Rattle.mpm_bdos.proofs.Deleted.{is_refused, refused_deletion}
-use Rattle.mpm_bdos.proofs.Searched.{next_step, no_step, fewer_left}
+use Rattle.mpm_files.proofs.SearchSteps.{fewer_left}
+use Rattle.mpm_bdos.proofs.Searched.{next_step, no_step}
 use Rattle.mpm_bdos.proofs.deleting.deletion_refusal.Goals as goal
 
 pub returns-then-is_some : goal.returns-then-is_some

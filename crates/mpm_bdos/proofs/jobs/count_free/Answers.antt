@@ -3,8 +3,8 @@ use Rattle.mpm_bdos.specs.Records as records
 use Rattle.mpm_bdos.proofs.Counting.{one_counted, counted_stop}
 use Rattle.mpm_bdos.proofs.jobs.count_free.Goals as goal
 
-pub returns-then-is_locked_off : goal.returns-then-is_locked_off
-returns-then-is_locked_off c =
+pub returns-then-is_locked_off-clause-value : goal.returns-then-is_locked_off-clause-value
+returns-then-is_locked_off-clause-value c =
     counted_stop (records.is_locked_off c.args.opens.now c.args.p c.args.file) c.args.first c.args.count c.loop-k.k c.loop-k.invariant
     (omega (arith, c.loop-k-test.true))
     (ap (λ k. records.is_locked_off c.args.opens.now c.args.p c.args.file (c.args.first + k)) (sym c.from.ensures) ∙ sym c.is_locked_off.ensures ∙ c.if-is_locked_off.true)

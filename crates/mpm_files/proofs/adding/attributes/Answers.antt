@@ -1,15 +1,16 @@
-use Rattle.std.proofs.Common.{None, subst}
-use Rattle.mpm_mount.specs.Searching.{search_of, IsNext}
+use Rattle.std.proofs.Common.{◌∙◌, ap}
+use Rattle.mpm_mount.specs.Drives.{extents_of}
+use Rattle.mpm_files.specs.Lookups.{attributes_where}
+use Rattle.mpm_files.specs.Plans.{file_of_job}
 use Rattle.mpm_files.proofs.Placing.{lowest_attributes, no_attributes}
 use Rattle.mpm_files.proofs.adding.attributes.Goals as goal
 
 pub returns-in-Some-file_at : goal.returns-in-Some-file_at
-returns-in-Some-file_at c = λ image files stands one.
-    lowest_attributes image c.args.mounted.now files c.args.job.now.user c.args.job.now.name c.in-Some.found c.in-Some-file_at.file stands one
-    (subst (IsNext c.args.mounted.now.kind (search_of c.args.mounted.now.kind c.args.job.now.user c.args.job.now.name None) c.args.mounted.now.entries) c.in-Some.is c.next.ensures)
+returns-in-Some-file_at c = λ image files stands.
+    lowest_attributes c.args.mounted.now (extents_of files (file_of_job c.args.job.now)) c.in-Some.found.slot c.in-Some-file_at.file
+    (c.lowest_entry.ensures.attributes image files stands ∙ ap (attributes_where c.args.mounted.now) c.in-Some.is)
     c.in-Some-file_at.ensures.found.entry
 
 pub returns-in-None : goal.returns-in-None
-returns-in-None c = λ image files stands one.
-    no_attributes image c.args.mounted.now files c.args.job.now.user c.args.job.now.name stands one
-    (subst (IsNext c.args.mounted.now.kind (search_of c.args.mounted.now.kind c.args.job.now.user c.args.job.now.name None) c.args.mounted.now.entries) c.in-None.is c.next.ensures)
+returns-in-None c = λ image files stands.
+    no_attributes (extents_of files (file_of_job c.args.job.now)) (c.lowest_entry.ensures.attributes image files stands ∙ ap (attributes_where c.args.mounted.now) c.in-None.is)

@@ -1,12 +1,11 @@
 use Rattle.std.proofs.Common.{refl, sym, subst, arith, ◌<◌}
-use Rattle.mpm_mount.specs.Searching.{IsUnambiguous}
 use Rattle.mpm_files.specs.declared.jobs.Job.{Job}
 use Rattle.mpm_files.specs.Units.{AddsEntry, PutsXfcb}
 use Rattle.mpm_files.specs.Plans.{file_of_job, protection_in}
 use Rattle.mpm_files.specs.Serving.{units_done}
 use Rattle.mpm_files.proofs.NextDone.{does_next}
 use Rattle.mpm_files.proofs.FixedTurns.{entry_made, xfcb_made}
-use Rattle.mpm_files.proofs.MakeTurns.{may_make, made_entry_fits, made_xfcb_fits}
+use Rattle.mpm_files.proofs.MakeTurns.{made_entry_fits, made_xfcb_fits}
 use Rattle.mpm_files.proofs.changing.make_next.Goals as goal
 
 pub returns-then-work-eq0-clause-make : goal.returns-then-work-eq0-clause-make
@@ -19,7 +18,7 @@ returns-then-work-eq0-clause-make g c = λ kind.
         entry_made before job j c.args.work.now service.serving kind h c.if-work-eq0.true,
         c.add_entry.ensures.does image (units_done before job j) told service.stands
             (subst (λ (q : Job). q.user < 16) (sym service.serving.job_is) suits.user) (omega arith)
-            (subst (λ (q : Job). IsUnambiguous q.name) (sym service.serving.job_is) (may_make before job j c.args.work.now service.serving kind suits).name) fits.none fits.room,
+            fits.none fits.room,
       ),
     ))
 

@@ -5,7 +5,7 @@ use Rattle.mpm_files.specs.Units.{AddsEntry, ClearsBlock}
 use Rattle.mpm_files.specs.Plans.{file_of_job}
 use Rattle.mpm_files.specs.Serving.{units_done}
 use Rattle.mpm_files.proofs.NextDone.{does_next, fails_next, clears_next, never_next}
-use Rattle.mpm_files.proofs.WriteTurns.{number_now, number_small, entry_missing, entry_written, extent_small, name_fits, entry_gone, entry_room, entry_entered, block_ready, cleared_same}
+use Rattle.mpm_files.proofs.WriteTurns.{number_now, number_small, entry_missing, entry_written, extent_small, entry_gone, entry_room, entry_entered, block_ready, cleared_same}
 use Rattle.std.specs.FinMap.{get}
 use Rattle.mpm_mount.specs.Drives.{entry_name}
 use Rattle.mpm_files.specs.Standing.{Does}
@@ -31,7 +31,6 @@ returns-in-Entry-clause-write g c = λ kind.
             (c.add_entry.ensures.does image (units_done before job j) told service.stands
             (subst (λ (q : Job). q.user < 16) (sym service.serving.job_is) suits.user)
             (subst (λ m. m / 128 ≤ 2047) n (extent_small before job j c.args.work.now service.serving kind h suits))
-            (name_fits before job j c.args.work.now service.serving kind suits)
             (ap (λ m. get (units_done before job j).extents (entry_name (units_done before job j).kind (file_of_job c.args.work.now.job) (m / 128))) (sym n) ∙ entry_gone (units_done before job j) (file_of_job c.args.work.now.job) (number_now c.args.work.now) missing)
             (entry_room before job j c.args.work.now (number_now c.args.work.now / 128) service.serving kind h written.unit_is)),
       ),

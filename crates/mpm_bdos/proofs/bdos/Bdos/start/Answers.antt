@@ -1,0 +1,33 @@
+use Rattle.std.proofs.Common.{◌≡◌, ◌∙◌, Some, sym, ap, subst}
+use Rattle.mpm_clock.specs.PackedDecimal.{stamp}
+use Rattle.mpm_bdos.specs.Serving.{InService, Kept, StandEach, Serves}
+use Rattle.mpm_bdos.specs.Starting.{caller_of, entering, turns_where}
+use Rattle.mpm_bdos.specs.Jobs.{call_turns}
+use Rattle.mpm_bdos.proofs.Started.{entered_so, entered_turns, one_function}
+use Rattle.mpm_bdos.proofs.bdos.Bdos.start.Goals as goal
+
+pub returns-clause-turns : goal.returns-clause-turns
+returns-clause-turns c =
+    let inside = c.self.inside in
+    let kept : Kept = record { mounted = inside.mounted; cached = inside.cache; protected = inside.protected; opens = inside.opens; marks = inside.marks; searches = inside.searches; service = inside.service } in
+    let caller = caller_of c.args.p c.args.process.now in
+    λ images drives found is stand.
+    c.turns_of-turns.ensures
+    ∙ ap (λ (v : InService). turns_where v.work) c.service.view_is
+    ∙ subst (λ (k : Kept). turns_where c.entered_among-service.result.work ≡ call_turns (entering k drives caller found c.args.call.now (stamp c.args.now))) c.self.view_is
+    (entered_turns images kept drives c.caller_of-caller.result caller c.in-Some.function found c.args.call.now c.stamp.result (stamp c.args.now) c.entered_among-service.result
+    c.caller_of-caller.ensures (one_function c.function_of_call.result c.in-Some.function found _ c.in-Some.is c.function_of_call.ensures is) c.stamp.ensures
+    (c.entered_among-service.ensures images drives (subst (λ (k : Kept). StandEach images k.mounted drives) (sym c.self.view_is) stand)))
+
+pub returns-clause-serves : goal.returns-clause-serves
+returns-clause-serves c =
+    let inside = c.self.inside in
+    let kept : Kept = record { mounted = inside.mounted; cached = inside.cache; protected = inside.protected; opens = inside.opens; marks = inside.marks; searches = inside.searches; service = inside.service } in
+    let caller = caller_of c.args.p c.args.process.now in
+    let service = c.entered_among-service.result in
+    λ images drives found is stand.
+    let stands = subst (λ (k : Kept). StandEach images k.mounted drives) (sym c.self.view_is) stand in
+    subst (λ (k : Kept). Serves images (record kept { service = Some service }) (entering k drives caller found c.args.call.now (stamp c.args.now)) 0) c.self.view_is
+    (entered_so images kept drives c.caller_of-caller.result caller c.in-Some.function found c.args.call.now c.stamp.result (stamp c.args.now) service
+    c.caller_of-caller.ensures (one_function c.function_of_call.result c.in-Some.function found _ c.in-Some.is c.function_of_call.ensures is) c.stamp.ensures stands
+    (c.entered_among-service.ensures images drives stands))

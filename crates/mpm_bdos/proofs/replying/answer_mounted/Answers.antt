@@ -1,0 +1,34 @@
+use Rattle.std.proofs.Common.{◌≡◌, ◌∙◌, ◌≤◌, IfSome, sym, ap, subst}
+use Rattle.mpm_bdos.specs.declared.granting.Granted.{Granted}
+use Rattle.mpm_bdos.specs.Ending.{is_moving, is_reading, IsPlaced}
+use Rattle.mpm_bdos.specs.Asking.{key_asked}
+use Rattle.mpm_bdos.specs.Leaving.{IsOwn, left_by, left_first, granted_by}
+use Rattle.mpm_bdos.specs.Replies.{found_bytes, answer_by}
+use Rattle.mpm_bdos.proofs.replying.answer_mounted.Goals as goal
+
+pub grant-granted-requires-clause-item : goal.grant-granted-requires-clause-item
+unfolding left_by
+grant-granted-requires-clause-item c = λ f.
+    let a = c.args.asked.now in
+    subst (λ opens. IfSome a.item (λ item. IsOwn opens a.caller.process item))
+    (sym (c.leave.ensures ∙ ap (left_by c.args.opens.now a c.subject_key-2.result c.moved_by.result c.args.deleted.now) f)) c.requires.own
+
+pub returns-clause-reply : goal.returns-clause-reply
+returns-clause-reply c = λ image drive records entry stands granted is.
+    let a = c.args.asked.now in
+    let opens = c.args.opens.now in
+    let work = c.args.work.now in
+    let deleted = c.args.deleted.now in
+    let left : c.leave.new.opens ≡ left_first opens a work deleted =
+    c.leave.ensures
+    ∙ ap (λ key. left_by opens a key c.moved_by.result deleted a.function) c.subject_key-2.ensures
+    ∙ ap (λ moved. left_by opens a (key_asked a) moved deleted a.function) c.moved_by.ensures
+    in
+    let same : c.grant-granted.result ≡ granted_by drive (left_first opens a work deleted) a work =
+    c.grant-granted.ensures.granted image drive stands granted.in_file ∙ ap (λ o. granted_by drive o a work) left
+    in
+    c.answer.ensures image drive records entry stands (subst (λ (g : Granted). IfSome g.ended.end (λ end. g.ended.moved ≤ 15)) (sym same) granted.few)
+    (λ moves. subst IsPlaced (sym same) (granted.placed (sym (ap (λ (g : Granted). is_moving g.function) same) ∙ moves)))
+    (λ reads. granted.read (sym (ap (λ (g : Granted). is_reading g.function) same) ∙ reads))
+    (c.told_found-told.ensures image drive stands ∙ ap (found_bytes drive) is)
+    ∙ ap (λ g. answer_by drive g records entry c.args.fcb.now c.args.dma) same

@@ -1,0 +1,71 @@
+-- What the records of a call come to, by the work of its job behind its last turn.
+use Rattle.std.specs.Prelude.{◌≡◌, ℕ, ◌≤◌, Bool, true, false, List, [], Option, Some, None, length, nat_lt}
+use Rattle.std.specs.FinMap.{get}
+use Rattle.mpm_mount.specs.Drives.{FileName, PhysicalExtent, Drive, IsOfImage}
+use Rattle.mpm_files.specs.declared.errors.RecordError.{RecordError}
+use Rattle.mpm_files.specs.declared.jobs.Job.{Job}
+use Rattle.mpm_files.specs.declared.work.Work.{Work}
+use Rattle.mpm_files.specs.Serving.{with_records, told_error}
+use Rattle.mpm_bdos.specs.declared.ends.Ended.{Ended}
+use Rattle.mpm_bdos.specs.declared.functions.FileFunction.{FileFunction}
+use Rattle.mpm_bdos.specs.declared.functions.FileFunction.TheVariants.{ReadSequential, WriteSequential, ReadRandom, WriteRandom, TestAndWrite}
+use Rattle.mpm_bdos.specs.declared.granting.Granted.{Granted}
+use Rattle.mpm_bdos.specs.Records.{end_by}
+use Rattle.mpm_bdos.specs.Replies.{does_stay, position_of}
+
+-- it was cut where its job has fewer records than it names
+abbrev pub is_cut_short : FileFunction → ℕ → ℕ → Bool
+is_cut_short WriteSequential count multi = nat_lt count multi
+is_cut_short WriteRandom count multi = nat_lt count multi
+is_cut_short TestAndWrite count multi = nat_lt count multi
+is_cut_short function count multi = false
+
+abbrev pub count_of : Option Work → ℕ
+count_of None = 0
+count_of (Some work) = work.job.count
+
+abbrev pub moved_by : Option Work → ℕ
+moved_by None = 0
+moved_by (Some work) = work.moved
+
+abbrev pub error_of : Option Work → Option RecordError
+error_of None = None
+error_of (Some work) = told_error work
+
+unfoldable pub ended : FileFunction → ℕ → Option Work → Ended
+ended function multi work = record { moved = moved_by work; end = end_by (error_of work) (is_cut_short function (count_of work) multi) }
+
+-- calls that move on a file's position
+abbrev pub is_moving : FileFunction → Bool
+is_moving ReadSequential = true
+is_moving WriteSequential = true
+is_moving ReadRandom = true
+is_moving WriteRandom = true
+is_moving TestAndWrite = true
+is_moving function = false
+
+-- calls that read records, and the records that stand at the front of their job's bytes
+abbrev pub is_reading : FileFunction → Bool
+is_reading ReadSequential = true
+is_reading ReadRandom = true
+is_reading function = false
+
+pub record IsRead (work : Work) (records : List (List ℕ)) : Type 0 where
+  pub before : Job
+  pub job_is : work.job ≡ with_records before records
+  pub size : length before.bytes ≡ 4096
+  pub count : length records ≡ work.moved
+  pub few : work.moved ≤ 16
+
+abbrev pub HasRead : Option Work → List (List ℕ) → Type 0
+HasRead None records = records ≡ []
+HasRead (Some work) records = IsRead work records
+
+-- where its block doesn't stay, the position behind a call is one that a block can have
+abbrev pub IsPlaced : Granted → Type 0
+IsPlaced g = does_stay g.ended.moved g.ended.end ≡ false → position_of g ≤ 262271
+
+-- each directory entry of a file is such as the drive of an image has
+pub record IsSound (drive : Drive) : Type 0 where
+  pub each : (file : FileName) (number : ℕ) (extent : PhysicalExtent) → get drive.extents (record { user = file.user; name = file.name; number = number }) ≡ Some extent
+      → IsOfImage drive.kind (record { user = file.user; name = file.name; number = number }) extent

@@ -1,0 +1,58 @@
+-- A file call that enters service.
+use Rattle.std.specs.Prelude.{ℕ, ◌&&◌, List, Option, Some, None, IfSome, is_some, min, option_and_then, unwrap_or}
+use Rattle.mpm_base.specs.Calls.{Taken}
+use Rattle.mpm_procs.specs.declared.process.Process.{Process}
+use Rattle.mpm_mount.specs.Drives.{Drive}
+use Rattle.mpm_mount.specs.Faults.{plain}
+use Rattle.mpm_mount.specs.Directories.{Directory}
+use Rattle.mpm_opens.specs.Items.{file_named}
+use Rattle.mpm_opens.specs.Opens.{OpenFiles, item_of}
+use Rattle.mpm_fcb.specs.declared.block.ControlBlock.{ControlBlock}
+use Rattle.mpm_files.specs.declared.work.Work.{Work}
+use Rattle.mpm_files.specs.Serving.{turns_in}
+use Rattle.mpm_files.specs.Turning.{Suits}
+use Rattle.mpm_bdos.specs.declared.caller.Caller.{Caller}
+use Rattle.mpm_bdos.specs.declared.functions.FileFunction.{FileFunction}
+use Rattle.mpm_bdos.specs.declared.planning.About.{About}
+use Rattle.mpm_bdos.specs.declared.starting.TheConstants.{LAST_POSITION}
+use Rattle.mpm_bdos.specs.Filing.{Situation}
+use Rattle.mpm_bdos.specs.Subjects.{drive_number, drive_at, first_by}
+use Rattle.mpm_bdos.specs.Jobs.{job_of}
+use Rattle.mpm_bdos.specs.Asking.{called}
+use Rattle.mpm_bdos.specs.Serving.{InService, Kept, directory_at, WorksOn, IsCallOf}
+
+-- a process as it calls
+abbrev pub caller_of : ℕ → Process → Caller
+caller_of p process =
+    record { process = p; user = process.user; drive = process.drive; multi = process.multi; password = process.password }
+
+-- its call, upon what is kept and the drives for which the images stand
+abbrev pub entering : Kept → List (Option Drive) → Caller → FileFunction → Taken → List ℕ → Situation
+entering kept drives caller function call moment = called drives kept.protected kept.opens kept.marks kept.searches caller function call moment
+
+-- what is looked up of a call, by its block, its drive, the user of its file and the number of its open file
+abbrev pub about_in : OpenFiles → ℕ → ControlBlock → FileFunction → ℕ → ℕ → Option ℕ → About
+about_in opens p b function drive owner number = record {
+  file = record { drive = drive; user = owner; name = plain b.name };
+  first = min (first_by b function) LAST_POSITION;
+  has_written = is_some (option_and_then (λ n. file_named opens.items p n drive (plain b.name)) number) && (item_of opens (unwrap_or number 0)).has_written;
+}
+
+-- its job begins, if it has one, and suits its drive
+pub record Begins (image : List ℕ) (directory : Option Directory) (s : Situation) (work : Option Work) : Type 0 where
+  pub suits : IfSome (job_of s) (Suits (drive_at s))
+  pub works : WorksOn image directory (drive_at s) (job_of s) 0 work
+
+-- what is kept of it, as it enters
+pub record Enters (image : List ℕ) (directory : Option Directory) (s : Situation) (service : InService) : Type 0 where
+  pub is : IsCallOf service s
+  pub begins : Begins image directory s service.work
+
+-- likewise over the directories of all drives
+pub record EntersAmong (images : ℕ → List ℕ) (mounted : List (Option Directory)) (s : Situation) (service : InService) : Type 0 where
+  pub enters : Enters (images (drive_number s)) (directory_at mounted (drive_number s)) s service
+
+-- how many turns some work takes; one where there is none
+abbrev pub turns_where : Option Work → ℕ
+turns_where None = 1
+turns_where (Some work) = turns_in work

@@ -1,0 +1,163 @@
+ghost use Rattle.std.specs.Prelude.{◌≡◌, ◌≤◌, ◌<◌, ◌+◌, ℕ, suc, false, List, Option, None, Ok, IfOk, IfSome, OnOk, OnErr};
+ghost use Rattle.mpm_port.specs.Causes.{HasCause};
+ghost use Rattle.mpm_port.specs.Disks.{Disks};
+ghost use Rattle.mpm_cache.specs.Coherent.{IsCoherent, HasNoAlias};
+ghost use Rattle.mpm_files.specs.declared.turning.Progress.TheVariants as progress;
+ghost use Rattle.mpm_mount.specs.Drives.{Drive};
+ghost use Rattle.mpm_bdos.specs.Direct.{direct_of, direct};
+ghost use Rattle.mpm_bdos.specs.Filing.{Situation};
+ghost use Rattle.mpm_bdos.specs.Outcomes.{left_by, without_search};
+ghost use Rattle.mpm_bdos.specs.Jobs.{call_turns};
+ghost use Rattle.mpm_bdos.specs.Turns.{FitsDrives, KeepsImages, TurnKeeps, StopsWithin, ServesReading, ServesCached, IsIdle, told_images, progress_after, drive_served, has_work};
+
+use crate::direct::do_directly;
+use crate::directories::Directories;
+use crate::functions::DirectFunction;
+use crate::marks::Marks;
+use crate::protected::Protected;
+use crate::refusals::Extended;
+use crate::searches::Searches;
+use crate::service::Service;
+use crate::turning::turn_service;
+use mpm_base::{Call, Pid, Reply, Steps};
+use mpm_cache::{Cache, OutOfMemory};
+use mpm_files::Progress;
+use mpm_mount::Mounted;
+use mpm_opens::Opens;
+use mpm_port::{Drives, Failed};
+use mpm_procs::Process;
+use std::alloc::Global;
+use std::marker::Model;
+use std::sync::ledger::Ledger;
+
+/// The basic disk operating system: the calls on files and drives, one in service at a time, over the drives that are mounted.
+/// (MP/M II Programmer's Guide, "BDOS Function Calls".)
+#[derive(Drop)]
+pub struct Bdos {
+    pub(crate) mounted: Directories,
+    pub(crate) cache: Cache,
+    pub(crate) protected: Protected,
+    pub(crate) opens: Opens,
+    pub(crate) marks: Marks,
+    pub(crate) searches: Searches,
+    pub(crate) service: Option<Service>,
+}
+
+impl Model for Bdos {
+    ghost use Rattle.mpm_bdos.specs.Serving.{Kept, HaveUsers};
+
+    ghost Value = { Kept };
+
+    ghost view = { λ b. record {
+      mounted = b.mounted;
+      cached = b.cache;
+      protected = b.protected;
+      opens = b.opens;
+      marks = b.marks;
+      searches = b.searches;
+      service = b.service;
+    } };
+
+    ghost invariant = { λ b. HaveUsers b.opens };
+}
+
+impl Bdos {
+    ghost use Rattle.mpm_bdos.specs.Serving.{AreInPlace, StandEach, Serves, filing_of, nothing_kept};
+
+    /// Nothing is open, marked, sought or protected, nothing is cached, and no call is in service. Of the sixteen drives those
+    /// are mounted whose directories there are, each in the place of its drive's number.
+    ///
+    /// # Errors
+    /// Where no memory is found for the cache.
+    #[tactic(auto, using(crate::proofs::KeptLaws::no_users))]
+    pub fn new(alloc: Global, mounted: Vec<Option<Mounted>>) -> Result<Bdos, OutOfMemory>
+        requires { AreInPlace mounted.items }
+        ensures kept { IfOk result (λ bdos. bdos ≡ nothing_kept mounted.items) }
+        ensures coherent { IfOk result (λ bdos. (disks : Option Disks) → IsCoherent bdos.cached disks) }
+        ensures apart { IfOk result (λ bdos. (disks : Option Disks) (number : ℕ) → HasNoAlias bdos.cached disks number) }
+    {
+        let cache = Cache::new(alloc)?;
+        Ok(Bdos {
+            mounted: Directories::of(mounted),
+            cache,
+            protected: Protected::new(),
+            opens: Opens::new(),
+            marks: Marks::new(),
+            searches: Searches::new(),
+            service: None,
+        })
+    }
+
+    /// Does a call that no disk serves, as 14, 24, 29, 31 and 36 are, of a process; nothing where it is another one. What
+    /// becomes of the process's drive is not done here.
+    pub fn direct(&self, call: &Call, process: &Process, reply: &mut Reply) -> Option<Extended>
+        ensures answer { (images : ℕ → List ℕ) (drives : List (Option Drive)) → StandEach images self.now.mounted drives
+            → IfSome (direct_of call.now.function) (λ function. reply.new ≡ (direct (filing_of self.now drives) process.now.drive call.now function).answer) }
+        ensures extended { (images : ℕ → List ℕ) (drives : List (Option Drive)) → StandEach images self.now.mounted drives
+            → IfSome (direct_of call.now.function) (λ function. result ≡ (direct (filing_of self.now drives) process.now.drive call.now function).extended) }
+        ensures other { direct_of call.now.function ≡ None → reply.new ≡ reply.old }
+        ensures unanswered { direct_of call.now.function ≡ None → result ≡ None }
+    {
+        match DirectFunction::of(call.function) {
+            Some(function) => do_directly(
+                &self.mounted,
+                &self.protected,
+                function,
+                process.drive,
+                call,
+                reply,
+            ),
+            None => None,
+        }
+    }
+
+    /// Gives back all that a process that ended has open, its locks and its marks, and forgets what it searched for last.
+    #[tactic(auto, using(crate::proofs::KeptLaws::users_left), unfolding(crate::specs::Outcomes::left_by, crate::specs::Outcomes::without_search))]
+    pub fn give_back(&mut self, p: Pid)
+        ensures filing { (drives : List (Option Drive)) → filing_of self.new drives ≡ without_search (left_by (filing_of self.old drives) p) p }
+        ensures rest { self.new ≡ record self.old { opens = self.new.opens; marks = self.new.marks; searches = self.new.searches } }
+    {
+        self.opens.give_back(p);
+        self.marks.leave(p);
+        self.searches.forget(p);
+    }
+
+    /// Does the next turn of the call in service, and tells whether another is left: nothing where no call is in service, or its
+    /// call does nothing on its drive. It takes 20 calls of the drives at most; one that reads a record, one, or none where that
+    /// record's sector is cached.
+    ///
+    /// # Errors
+    /// Where the drive of the call failed: each other drive is as it was.
+    pub fn turn<D: Drives, L: Ledger>(
+        &mut self,
+        drives: &mut D,
+        steps: &mut Steps<L>,
+    ) -> Result<Progress, Failed>
+        requires { FitsDrives D.attached D.disks self.old.mounted self.old.cached drives.old }
+        ensures ok { (s : Situation) (j : ℕ) → Serves (told_images (D.disks drives.old)) self.old s j → j < call_turns s
+            → OnOk result (Serves (told_images (D.disks drives.new)) self.new s (suc j)) }
+        ensures err { (s : Situation) (j : ℕ) → Serves (told_images (D.disks drives.old)) self.old s j → j < call_turns s
+            → OnErr result (StopsWithin (D.disks drives.new) s j) }
+        ensures progress { (s : Situation) (j : ℕ) → Serves (told_images (D.disks drives.old)) self.old s j
+            → IfOk result (λ told. told ≡ progress_after (suc j) (call_turns s)) }
+        ensures idle { has_work self.old.service ≡ false → IsIdle self.old.service self.new.service self.old.mounted self.new.mounted self.old.cached self.new.cached drives.old drives.new steps.old steps.new }
+        ensures done { has_work self.old.service ≡ false → result ≡ Ok progress.Done }
+        ensures kept { TurnKeeps self.old self.new }
+        ensures fits { FitsDrives D.attached D.disks self.new.mounted self.new.cached drives.new }
+        ensures images { KeepsImages (drive_served self.old.service) self.old.mounted (D.disks drives.old) (D.disks drives.new) }
+        ensures names { D.failed_names drives.new ≡ D.failed_names drives.old }
+        ensures attached { (other : ℕ) → D.attached drives.new other ≡ D.attached drives.old other }
+        ensures calls { steps.new ≤ steps.old + 20 }
+        ensures reads { ServesReading self.old.service → steps.new ≤ steps.old + 1 }
+        ensures cached { ServesCached self.old.cached self.old.mounted self.old.service → steps.new ≡ steps.old }
+        ensures cause { HasCause (D.faults drives.old) (D.faults drives.new) result }
+    {
+        turn_service(
+            &mut self.service,
+            &mut self.mounted,
+            &mut self.cache,
+            drives,
+            steps,
+        )
+    }
+}

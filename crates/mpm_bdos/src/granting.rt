@@ -1,0 +1,211 @@
+ghost use Rattle.std.specs.Prelude.{◌≡◌, ◌≤◌, ◌<◌, ℕ, true, List, IfSome, unwrap_or};
+ghost use Rattle.std.specs.FinMap.{get};
+ghost use Rattle.mpm_mount.specs.Drives.{Drive, extents_of};
+ghost use Rattle.mpm_mount.specs.Directories.{Stands};
+ghost use Rattle.mpm_fcb.specs.Positions.{with_random};
+ghost use Rattle.mpm_bdos.specs.Jobs.{no_protection};
+ghost use Rattle.mpm_bdos.specs.Ending as ending;
+ghost use Rattle.mpm_bdos.specs.Records as records;
+ghost use Rattle.mpm_bdos.specs.Replies as spec;
+ghost use Rattle.mpm_bdos.specs.Telling as telling;
+
+use crate::ends::{Ended, RecordEnd, coded, does_stay};
+use crate::functions::FileFunction;
+use crate::looking::label_byte;
+use crate::replies::position_behind;
+use crate::sizes::size;
+use crate::telling::{open_block, position_block, xfcb_block};
+use mpm_fcb::ControlBlock;
+use mpm_files::{RecordError, Work};
+use mpm_mount::Mounted;
+use mpm_opens::Mode;
+
+/// How a call opened a file, or made it.
+#[derive(Clone, Copy, Debug, PartialEq, Eq)]
+pub(crate) struct OpenedAs {
+    pub(crate) mode: Mode,
+    /// Its number among the files that are open, 0 to 63.
+    pub(crate) number: u8,
+}
+
+/// A call that isn't refused, behind its turns: what its reply goes by, besides what its drive then has.
+#[derive(Clone, Copy)]
+pub(crate) struct Granted {
+    pub(crate) function: FileFunction,
+    /// The file control block that it gave.
+    pub(crate) block: ControlBlock,
+    /// The user whose file it is about; the file's name is the block's.
+    pub(crate) owner: u8,
+    /// The first of its records.
+    pub(crate) first: u32,
+    /// How many of them are done, and what ended them.
+    pub(crate) ended: Ended,
+    /// The file that it opened or made.
+    pub(crate) opened: Option<OpenedAs>,
+}
+
+/// Whether a call on so many records was cut before one that another process has locked: its job does fewer.
+fn is_cut_short(function: FileFunction, count: u8, multi: u8) -> bool
+    ensures { result ≡ ending.is_cut_short function count multi }
+{
+    match function {
+        FileFunction::WriteSequential | FileFunction::WriteRandom | FileFunction::TestAndWrite =>
+            count < multi,
+        _ => false,
+    }
+}
+
+/// How many records a call's job does, if it has one.
+fn count_of(work: &Option<Work>) -> u8
+    ensures { result ≡ ending.count_of work.now }
+{
+    match work {
+        Some(work) => work.job.count,
+        None => 0,
+    }
+}
+
+/// How many it has done.
+pub(crate) fn moved_by(work: &Option<Work>) -> u8
+    ensures { result ≡ ending.moved_by work.now }
+{
+    match work {
+        Some(work) => work.moved(),
+        None => 0,
+    }
+}
+
+/// Why it ended, once its turns have.
+fn error_of(work: &Option<Work>) -> Option<RecordError>
+    ensures { result ≡ ending.error_of work.now }
+{
+    match work {
+        Some(work) => work.error(),
+        None => None,
+    }
+}
+
+/// What the records of a call on so many come to by its job.
+#[tactic(auto, unfolding(crate::specs::Ending::ended))]
+pub(crate) fn ended(function: FileFunction, multi: u8, work: &Option<Work>) -> Ended
+    ensures { result ≡ ending.ended function multi work.now }
+{
+    Ended {
+        moved: moved_by(work),
+        end: RecordEnd::of(
+            error_of(work),
+            is_cut_short(function, count_of(work), multi),
+        ),
+    }
+}
+
+/// How many records are done, at most 15, and the code of what ended them.
+#[tactic(auto, using(crate::proofs::EndingLaws::told_in_four_bits))]
+fn told_code(function: FileFunction, ended: &Ended) -> u16
+    ensures { IfSome ended.now.end (λ _. ended.now.moved ≤ 15) → result ≡ records.coded function ended.now.moved ended.now.end }
+{
+    coded(function, ended.moved.min(15), ended.end)
+}
+
+/// The value.
+#[tactic(auto, unfolding(crate::specs::Replies::value_by))]
+pub(crate) fn value(granted: &Granted, mounted: &Mounted) -> u16
+    ensures { (image : List ℕ) (drive : Drive) → Stands image mounted.now drive
+        → IfSome granted.now.ended.end (λ _. granted.now.ended.moved ≤ 15) → result ≡ spec.value_by drive granted.now granted.now.function }
+{
+    match granted.function {
+        FileFunction::LabelData => u16::from(label_byte(mounted)),
+        function => told_code(function, &granted.ended),
+    }
+}
+
+/// The block of a file that was opened or made.
+fn opened_block(granted: &Granted, mounted: &Mounted) -> ControlBlock
+    requires { IfSome granted.now.opened (λ made. made.number ≤ 63) }
+    ensures { (image : List ℕ) (drive : Drive) → Stands image mounted.now drive
+        → result ≡ spec.opened_block drive granted.now granted.now.opened }
+{
+    let mut block = granted.block;
+    match granted.opened {
+        Some(opened) => open_block(
+            &mut block,
+            mounted,
+            granted.owner,
+            opened.mode,
+            opened.number,
+        ),
+        None => {}
+    }
+    block
+}
+
+/// The block behind a call on records, which stays or moves on.
+fn moved_block(granted: &Granted, mounted: &Mounted) -> ControlBlock
+    ensures { (image : List ℕ) (drive : Drive) → Stands image mounted.now drive → ending.IsPlaced granted.now
+        → result ≡ spec.moved_block drive granted.now }
+{
+    if does_stay(granted.ended.moved, granted.ended.end) {
+        granted.block
+    } else {
+        placed_block(granted, mounted)
+    }
+}
+
+/// The block that moves on.
+fn placed_block(granted: &Granted, mounted: &Mounted) -> ControlBlock
+    ensures { (image : List ℕ) (drive : Drive) → Stands image mounted.now drive → spec.position_of granted.now ≤ 262271
+        → result ≡ telling.moved_to drive granted.now.owner granted.now.block (spec.position_of granted.now) }
+{
+    let mut block = granted.block;
+    position_block(&mut block, mounted, granted.owner, position_of(granted));
+    block
+}
+
+/// The position behind a call on records, at most 262,271.
+fn position_of(granted: &Granted) -> u32
+    ensures low { result ≤ 262271 }
+    ensures position { spec.position_of granted.now ≤ 262271 → result ≡ spec.position_of granted.now }
+{
+    let first = granted.first.min(262_271);
+    position_behind(granted.function, first, granted.ended.moved).min(262_271)
+}
+
+/// The file control block.
+#[tactic(auto, unfolding(crate::specs::Replies::block_by))]
+pub(crate) fn block(granted: &Granted, mounted: &Mounted) -> ControlBlock
+    requires number { IfSome granted.now.opened (λ made. made.number ≤ 63) }
+    ensures { (image : List ℕ) (drive : Drive) → Stands image mounted.now drive
+        → (ending.is_moving granted.now.function ≡ true → ending.IsPlaced granted.now) → result ≡ spec.block_by drive granted.now granted.now.function }
+{
+    match granted.function {
+        FileFunction::OpenFile | FileFunction::MakeFile => opened_block(granted, mounted),
+        FileFunction::ReadSequential
+        | FileFunction::WriteSequential
+        | FileFunction::ReadRandom
+        | FileFunction::WriteRandom
+        | FileFunction::TestAndWrite => moved_block(granted, mounted),
+        FileFunction::FileSize => sized_block(granted, mounted),
+        FileFunction::ReadXfcb => guarded_block(granted, mounted),
+        _ => granted.block,
+    }
+}
+
+/// The block that tells a file's size.
+fn sized_block(granted: &Granted, mounted: &Mounted) -> ControlBlock
+    ensures { (image : List ℕ) (drive : Drive) → Stands image mounted.now drive
+        → result ≡ with_random granted.now.block (spec.size_of (extents_of drive (spec.file_in granted.now))) }
+{
+    let mut block = granted.block;
+    block.set_random(size(mounted, granted.owner, &granted.block.name));
+    block
+}
+
+/// The block that tells of a file's XFCB.
+fn guarded_block(granted: &Granted, mounted: &Mounted) -> ControlBlock
+    ensures { (image : List ℕ) (drive : Drive) → Stands image mounted.now drive
+        → result ≡ spec.told_xfcb (unwrap_or (get drive.xfcbs (spec.file_in granted.now)) no_protection) granted.now.block }
+{
+    let mut block = granted.block;
+    xfcb_block(&mut block, mounted, granted.owner);
+    block
+}

@@ -1,0 +1,217 @@
+ghost use Rattle.std.specs.Prelude.{◌≡◌, ◌≤◌, ℕ, List, None, Some, IfSome, if◌then◌else◌};
+ghost use Rattle.mpm_mount.specs.Drives.{Drive};
+ghost use Rattle.mpm_mount.specs.Directories.{Stands};
+ghost use Rattle.mpm_mount.specs.Faults.{plain};
+ghost use Rattle.mpm_opens.specs.Items as items;
+ghost use Rattle.mpm_opens.specs.Opens.{added, closed, process_of, file_of, IsLive};
+ghost use Rattle.mpm_fcb.specs.Names.{has_f5};
+ghost use Rattle.mpm_fcb.specs.Positions.{random_record};
+ghost use Rattle.mpm_bdos.specs.declared.functions.FileFunction.TheVariants as functions;
+ghost use Rattle.mpm_bdos.specs.Replies.{opened_as};
+ghost use Rattle.mpm_bdos.specs.Leaving as spec;
+
+use crate::applies::{mode_needed, subject_key};
+use crate::asking::Asked;
+use crate::changes::{close_file, lock_records, note_written, unlock_records};
+use crate::ends::Ended;
+use crate::functions::FileFunction;
+use crate::granting::{Granted, OpenedAs, ended};
+use crate::releasing::give_back_deleted;
+use crate::subjects::{OpenItem, first_record};
+use mpm_base::Pid;
+use mpm_fcb::ControlBlock;
+use mpm_files::Work;
+use mpm_mount::Mounted;
+use mpm_opens::{FileKey, Mode, Opens};
+
+/// Opens a file for a process.
+fn open_file(opens: &mut Opens, p: Pid, file: FileKey, mode: Mode) -> Option<OpenedAs>
+    ensures opens { opens.new ≡ added opens.old p file mode }
+    ensures opened { result ≡ opened_as mode (items.add_answer opens.old.items p file mode) }
+    ensures number { IfSome result (λ made. made.number ≤ 63) }
+{
+    match opens.add(p, file, mode) {
+        Ok(number) => Some(OpenedAs { mode, number }),
+        Err(_) => None,
+    }
+}
+
+/// Closes a process's file once, unless F5' asks to leave it open.
+fn close_unless_f5(opens: &mut Opens, p: Pid, file: FileKey, block: &ControlBlock)
+    ensures { opens.new ≡ (if has_f5 block.now then opens.old else (closed opens.old p file)) }
+{
+    if !block.has_f5() {
+        close_file(opens, p, file);
+    }
+}
+
+/// No record is locked, and nothing keeps one from it.
+fn nothing_locked() -> Ended
+    ensures { result ≡ record { moved = 0; end = None } }
+{
+    Ended {
+        moved: 0,
+        end: None,
+    }
+}
+
+/// Locks so many records from one on by way of an open file, if that is open in unlocked mode.
+fn lock_by(opens: &mut Opens, mounted: &Mounted, item: &OpenItem, first: u32, count: u8) -> Ended
+    requires live { IsLive opens.old item.now.number }
+    requires file { file_of opens.old item.now.number ≡ item.now.file }
+    requires plain { plain item.now.file.name ≡ item.now.file.name }
+    requires first { first ≤ 262143 }
+    requires count { count ≤ 16 }
+    ensures opens { (image : List ℕ) (drive : Drive) → Stands image mounted.now drive
+        → opens.new ≡ (spec.locked_by drive opens.old (process_of opens.old item.now.number) item.now.file first count item.now.mode).opens }
+    ensures ended { (image : List ℕ) (drive : Drive) → Stands image mounted.now drive
+        → result ≡ spec.ended_of (spec.locked_by drive opens.old (process_of opens.old item.now.number) item.now.file first count item.now.mode) }
+{
+    match item.mode {
+        Mode::Unlocked => lock_records(opens, mounted, item.number, item.file, first, count),
+        Mode::Locked | Mode::ReadOnly => nothing_locked(),
+    }
+}
+
+/// Locks the records of a call by way of the open file that it names, if its caller has that. (MP/M II Programmer's Guide,
+/// "Function 42: Lock Record".)
+fn lock(
+    opens: &mut Opens,
+    mounted: &Mounted,
+    p: Pid,
+    item: Option<OpenItem>,
+    first: u32,
+    count: u8,
+) -> Ended
+    requires item { IfSome item (λ item. spec.IsOwn opens.old p item) }
+    requires first { first ≤ 262143 }
+    requires count { count ≤ 16 }
+    ensures opens { (image : List ℕ) (drive : Drive) → Stands image mounted.now drive
+        → opens.new ≡ (spec.locked_where drive opens.old p first count item).opens }
+    ensures ended { (image : List ℕ) (drive : Drive) → Stands image mounted.now drive
+        → result ≡ spec.ended_of (spec.locked_where drive opens.old p first count item) }
+{
+    match item {
+        Some(item) => lock_by(opens, mounted, &item, first, count),
+        None => nothing_locked(),
+    }
+}
+
+/// Frees the records of a call by way of the open file that it names, if its caller has that. (MP/M II Programmer's Guide,
+/// "Function 43: Unlock Record".)
+fn unlock(opens: &mut Opens, p: Pid, item: Option<OpenItem>, first: u32, count: u8)
+    requires item { IfSome item (λ item. spec.IsOwn opens.old p item) }
+    requires first { first ≤ 16777216 }
+    ensures { opens.new ≡ spec.unlocked_where opens.old p first count item }
+{
+    let _ = p;
+    match item {
+        Some(item) => unlock_records(opens, item.number, first, count),
+        None => {}
+    }
+}
+
+/// What a call on a mounted drive leaves of open files, unless it opens one or locks records.
+#[tactic(auto, unfolding(crate::specs::Leaving::left_by))]
+pub(crate) fn leave(
+    opens: &mut Opens,
+    asked: &Asked,
+    file: FileKey,
+    moved: u8,
+    deleted: &[Option<FileKey>; 64],
+)
+    requires item { asked.now.function ≡ functions.UnlockRecord → IfSome asked.now.item (λ item. spec.IsOwn opens.old asked.now.caller.process item) }
+    ensures { opens.new ≡ spec.left_by opens.old asked.now file moved deleted.now asked.now.function }
+{
+    let p = asked.caller.process;
+    match asked.function {
+        FileFunction::CloseFile => close_unless_f5(opens, p, file, &asked.block),
+        FileFunction::DeleteFile => give_back_deleted(opens, p, deleted),
+        FileFunction::RenameFile => opens.leave_file(p, file),
+        FileFunction::WriteSequential | FileFunction::WriteRandom | FileFunction::TestAndWrite =>
+            note_written(opens, p, file, moved),
+        FileFunction::UnlockRecord => {
+            let first = first_record(&asked.block, asked.function);
+            unlock(opens, p, asked.item, first, asked.caller.multi);
+        }
+        _ => {}
+    }
+}
+
+/// What a call on a mounted drive opens or makes, in the mode in which it asks for its file.
+#[tactic(auto, unfolding(crate::specs::Leaving::opened_by, crate::specs::Leaving::opened_for))]
+fn open_asked(opens: &mut Opens, mounted: &Mounted, asked: &Asked) -> Option<OpenedAs>
+    ensures opens { (image : List ℕ) (drive : Drive) → Stands image mounted.now drive
+        → opens.new ≡ spec.opened_by drive opens.old asked.now asked.now.function }
+    ensures opened { (image : List ℕ) (drive : Drive) → Stands image mounted.now drive
+        → result ≡ spec.opened_for drive opens.old asked.now asked.now.function }
+    ensures number { IfSome result (λ made. made.number ≤ 63) }
+{
+    match asked.function {
+        FileFunction::OpenFile | FileFunction::MakeFile => open_file(
+            opens,
+            asked.caller.process,
+            subject_key(asked),
+            mode_needed(mounted, asked),
+        ),
+        _ => None,
+    }
+}
+
+/// The first of the records that a call locks, at most the last that a file may have.
+fn first_locked(block: &ControlBlock) -> u32
+    ensures low { result ≤ 262143 }
+    ensures first { random_record block.now ≤ 262143 → result ≡ random_record block.now }
+{
+    block.random_record().min(262_143)
+}
+
+/// What the records of a call on a mounted drive come to: those that it locks are locked.
+#[tactic(auto, unfolding(crate::specs::Leaving::locked_for, crate::specs::Leaving::ended_for))]
+fn end_records(opens: &mut Opens, mounted: &Mounted, asked: &Asked, work: &Option<Work>) -> Ended
+    requires item { asked.now.function ≡ functions.LockRecord → IfSome asked.now.item (λ item. spec.IsOwn opens.old asked.now.caller.process item) }
+    requires few { asked.now.caller.multi ≤ 16 }
+    ensures opens { (image : List ℕ) (drive : Drive) → Stands image mounted.now drive → spec.IsInFile asked.now
+        → opens.new ≡ spec.locked_for drive opens.old asked.now asked.now.function }
+    ensures ended { (image : List ℕ) (drive : Drive) → Stands image mounted.now drive → spec.IsInFile asked.now
+        → result ≡ spec.ended_for drive opens.old asked.now work.now asked.now.function }
+{
+    match asked.function {
+        FileFunction::LockRecord => lock(
+            opens,
+            mounted,
+            asked.caller.process,
+            asked.item,
+            first_locked(&asked.block),
+            asked.caller.multi,
+        ),
+        function => ended(function, asked.caller.multi, work),
+    }
+}
+
+/// What the reply of a call on a mounted drive goes by, which isn't refused: its file is opened or made, its records are locked.
+pub(crate) fn grant(
+    opens: &mut Opens,
+    mounted: &Mounted,
+    asked: &Asked,
+    work: &Option<Work>,
+) -> Granted
+    requires item { asked.now.function ≡ functions.LockRecord → IfSome asked.now.item (λ item. spec.IsOwn opens.old asked.now.caller.process item) }
+    requires few { asked.now.caller.multi ≤ 16 }
+    ensures opens { (image : List ℕ) (drive : Drive) → Stands image mounted.now drive → spec.IsInFile asked.now
+        → opens.new ≡ spec.opened_by drive (spec.locked_for drive opens.old asked.now asked.now.function) asked.now asked.now.function }
+    ensures granted { (image : List ℕ) (drive : Drive) → Stands image mounted.now drive → spec.IsInFile asked.now
+        → result ≡ spec.granted_by drive opens.old asked.now work.now }
+    ensures number { IfSome result.opened (λ made. made.number ≤ 63) }
+{
+    let ended = end_records(opens, mounted, asked, work);
+    let opened = open_asked(opens, mounted, asked);
+    Granted {
+        function: asked.function,
+        block: asked.block,
+        owner: asked.owner,
+        first: first_record(&asked.block, asked.function),
+        ended,
+        opened,
+    }
+}

@@ -1,0 +1,50 @@
+ghost use Rattle.std.specs.Prelude.{◌≡◌, Some, None, IfOk, replicate, slice_set};
+ghost use Rattle.mpm_bdos.specs.Serving.{AreInPlace, in_places as all_in_places};
+
+use mpm_cache::OutOfMemory;
+use mpm_mount::Mounted;
+use std::alloc::Global;
+
+/// Sixteen places, in which no drive is mounted.
+fn no_places(alloc: Global) -> Result<Vec<Option<Mounted>>, OutOfMemory>
+    ensures { IfOk result (λ places. places.items ≡ replicate 16 None) }
+{
+    let places = Vec::from_array(
+        alloc,
+        [
+            None, None, None, None, None, None, None, None, None, None, None, None, None, None,
+            None, None,
+        ],
+    )?;
+    Ok(places)
+}
+
+/// Puts a directory into the place of its drive's number, if there is that place.
+fn put(places: &mut Vec<Option<Mounted>>, mounted: Mounted)
+    ensures { places.new.items ≡ slice_set places.old.items mounted.drive (Some mounted) }
+{
+    let number = usize::from(mounted.drive());
+    if number < places.len() {
+        places[number] = Some(mounted);
+    }
+}
+
+/// The directories of mounted drives, each in the place of its drive's number, of which there are sixteen. Of two of one drive
+/// the first is in its place.
+///
+/// # Errors
+/// Where no memory is found for the places.
+#[tactic(auto, using(crate::proofs::Placed::all_placed, crate::proofs::Placed::last_put, crate::proofs::Placed::none_put))]
+pub fn in_places(
+    alloc: Global,
+    mut mounted: Vec<Mounted>,
+) -> Result<Vec<Option<Mounted>>, OutOfMemory>
+    ensures places { IfOk result (λ places. places.items ≡ all_in_places mounted.items) }
+    ensures each { IfOk result (λ places. AreInPlace places.items) }
+{
+    let mut places = no_places(alloc)?;
+    while let Some(next) = mounted.pop() {
+        put(&mut places, next);
+    }
+    Ok(places)
+}

@@ -1,0 +1,91 @@
+ghost use Rattle.std.specs.Prelude.{◌≡◌, ◌≤◌, ℕ, true, List, Option, IfSome, option_map};
+ghost use Rattle.mpm_mount.specs.Drives.{Drive, FileName};
+ghost use Rattle.mpm_mount.specs.Directories.{Stands};
+ghost use Rattle.mpm_opens.specs.Opens.{AreOpen};
+ghost use Rattle.mpm_bdos.specs.Asking.{called, found_as};
+ghost use Rattle.mpm_bdos.specs.Leaving as spec;
+ghost use Rattle.mpm_bdos.specs.Replies as replies;
+ghost use Rattle.mpm_bdos.specs.Replying.{IsAnswering, IsReplied};
+
+use crate::answering::answer;
+use crate::applies::subject_key;
+use crate::asking::{Asked, ask};
+use crate::caller::Caller;
+use crate::finding::{FoundEntry, found};
+use crate::functions::FileFunction;
+use crate::granting::moved_by;
+use crate::keeping::keep_found;
+use crate::leaving::{grant, leave};
+use crate::protected::Protected;
+use crate::searches::Searches;
+use crate::telling::told_found;
+use mpm_base::{Call, Reply};
+use mpm_files::Work;
+use mpm_mount::Mounted;
+use mpm_opens::{FileKey, Opens};
+
+/// Answers a call on a mounted drive, which isn't refused, and does what it leaves of open files and of locks.
+pub(crate) fn answer_mounted(
+    reply: &mut Reply,
+    mounted: &Mounted,
+    opens: &mut Opens,
+    asked: &Asked,
+    found: &Option<FoundEntry>,
+    work: &Option<Work>,
+    deleted: &[Option<FileKey>; 64],
+    fcb: &[u8; 36],
+    dma: u16,
+)
+    requires own { IfSome asked.now.item (λ item. spec.IsOwn opens.old asked.now.caller.process item) }
+    requires few { asked.now.caller.multi ≤ 16 }
+    ensures sound { AreOpen opens.old }
+    ensures opens { (image : List ℕ) (drive : Drive) → Stands image mounted.now drive → spec.IsInFile asked.now
+        → opens.new ≡ spec.opens_left drive opens.old asked.now work.now deleted.now }
+    ensures reply { (image : List ℕ) (drive : Drive) (records : List (List ℕ)) (entry : Option (FileName × ℕ)) → Stands image mounted.now drive
+        → (granted : spec.IsGranted drive opens.old asked.now work.now deleted.now records) → option_map (found_as mounted.now.kind) found.now ≡ entry
+        → reply.new ≡ replies.answer_by drive (spec.granted_by drive (spec.left_first opens.old asked.now work.now deleted.now) asked.now work.now) records entry fcb.now dma }
+{
+    // Who has a lock tells that all open files are sound.
+    let _ = opens.owner(subject_key(asked), 0);
+    leave(opens, asked, subject_key(asked), moved_by(work), deleted);
+    let granted = grant(opens, mounted, asked, work);
+    let told = told_found(mounted, found);
+    answer(reply, &granted, mounted, work, &told, fcb, dma);
+}
+
+/// Answers a call on a mounted drive, which isn't refused, behind its turns: with what it leaves of open files and of its caller's
+/// search. `deleted` are its caller's open files of the files that it deleted.
+pub(crate) fn reply_mounted(
+    reply: &mut Reply,
+    mounted: &Mounted,
+    protected: &Protected,
+    opens: &mut Opens,
+    searches: &mut Searches,
+    caller: &Caller,
+    function: FileFunction,
+    call: &Call,
+    work: &Option<Work>,
+    deleted: &[Option<FileKey>; 64],
+)
+    requires { caller.now.multi ≤ 16 }
+    ensures { (image : List ℕ) (drives : List (Option Drive)) (marks moment : List ℕ)
+        → IsAnswering (called drives protected.now opens.old marks searches.old caller.now function call.now moment) image mounted.now work.now deleted.now
+        → IsReplied (called drives protected.now opens.old marks searches.old caller.now function call.now moment) reply.new opens.new searches.new }
+{
+    let asked = ask(mounted, protected, opens, searches, caller, function, call);
+    let search = searches.get(caller.process);
+    let found = found(mounted, caller.user, &asked.block, search, function);
+    keep_found(
+        searches,
+        caller.process,
+        mounted.kind(),
+        asked.drive,
+        caller.user,
+        &asked.block,
+        &found,
+        function,
+    );
+    answer_mounted(
+        reply, mounted, opens, &asked, &found, work, deleted, &call.fcb, call.dma,
+    );
+}

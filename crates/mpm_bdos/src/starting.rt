@@ -1,0 +1,372 @@
+ghost use Rattle.std.specs.Prelude.{◌≡◌, ◌≤◌, ◌&&◌, ℕ, List, Option, Some, None, IfSome, is_some, min, length, option_and_then, unwrap_or};
+ghost use Rattle.std.specs.Option.{option_copied};
+ghost use Rattle.mpm_mount.specs.Faults.{plain};
+ghost use Rattle.mpm_mount.specs.Drives.{Drive};
+ghost use Rattle.mpm_mount.specs.Directories.{Stands};
+ghost use Rattle.mpm_opens.specs.Items.{file_named};
+ghost use Rattle.mpm_opens.specs.Opens.{item_of};
+ghost use Rattle.mpm_fcb.specs.Blocks.{block_of};
+ghost use Rattle.mpm_fcb.specs.Positions.{sequential_record};
+ghost use Rattle.mpm_files.specs.Turning.{Suits};
+ghost use Rattle.mpm_bdos.specs.Subjects as subjects;
+ghost use Rattle.mpm_bdos.specs.Refusals as refusals;
+ghost use Rattle.mpm_bdos.specs.Asking.{called, StandsFor};
+ghost use Rattle.mpm_bdos.specs.Functions.{function_of};
+ghost use Rattle.mpm_bdos.specs.Serving.{IsCaller, HaveUsers, StandEach, WorksOn};
+ghost use Rattle.mpm_bdos.specs.Starting as spec;
+
+use crate::asking::{ask, drive_of_call, word_of_call};
+use crate::bdos::Bdos;
+use crate::caller::Caller;
+use crate::directories::Directories;
+use crate::functions::FileFunction;
+use crate::marks::Marks;
+use crate::planning::{About, job_by};
+use crate::protected::Protected;
+use crate::refusals::Refusal;
+use crate::refusing::refusal_of;
+use crate::searches::Searches;
+use crate::service::Service;
+use crate::subjects::item_number;
+use mpm_base::{Call, Pid};
+use mpm_clock::{Moment, stamp};
+use mpm_fcb::{ControlBlock, plain_name};
+use mpm_files::{Job, Work, plan, turns};
+use mpm_mount::Mounted;
+use mpm_opens::{FileKey, Opens};
+use mpm_procs::Process;
+
+/// The last position that a block can have: record 255 of the last extent.
+const LAST_POSITION: u32 = 262_271;
+
+/// The most records of a job.
+const RECORDS: u8 = 16;
+
+/// The file control block in a call's 36 bytes.
+fn read_block(bytes: &[u8; 36]) -> ControlBlock
+    ensures block { result ≡ block_of bytes.now }
+    ensures size { length bytes.now ≡ 36 }
+{
+    ControlBlock::read(bytes)
+}
+
+/// The file control block of a call.
+fn block_taken(call: &Call) -> ControlBlock
+    ensures block { result ≡ block_of call.now.fcb }
+    ensures size { length call.now.fcb ≡ 36 }
+{
+    read_block(&call.fcb)
+}
+
+/// The first of a call's records, or the last position that a block can have, where it is behind that.
+fn first_position(block: &ControlBlock, function: FileFunction) -> u32
+    ensures value { result ≡ min (subjects.first_by block.now function) 262271 }
+    ensures few { result ≤ 262271 }
+    ensures low { sequential_record block.now ≤ 262271 }
+{
+    let sequential = block.sequential_record();
+    match function {
+        FileFunction::ReadSequential | FileFunction::WriteSequential => sequential,
+        _ => block.random_record().min(LAST_POSITION),
+    }
+}
+
+/// Whether a record was written by way of an open file of a process, on a drive and of a name; not where that isn't so.
+fn was_written(opens: &Opens, p: Pid, number: u8, drive: u8, name: &[u8; 11]) -> bool
+    ensures { result ≡ (is_some (file_named opens.now.items p number drive name.now) && (item_of opens.now number).has_written) }
+{
+    match opens.named(p, number, drive, name) {
+        Some(_) => opens.has_written(number),
+        None => false,
+    }
+}
+
+/// The same by the number of the open file that a call names, if it names one.
+fn has_written(opens: &Opens, p: Pid, number: Option<u8>, drive: u8, name: &[u8; 11]) -> bool
+    ensures { result ≡ (is_some (option_and_then (λ n. file_named opens.now.items p n drive name.now) number) && (item_of opens.now (unwrap_or number 0)).has_written) }
+{
+    match number {
+        Some(number) => was_written(opens, p, number, drive, name),
+        None => false,
+    }
+}
+
+/// Looks up that of a call of which its job is made: by its block, the drive that it names, the user of its file and the number of
+/// its open file.
+#[tactic(auto, using(crate::proofs::Started::plain_again))]
+fn about_of(
+    opens: &Opens,
+    p: Pid,
+    block: &ControlBlock,
+    function: FileFunction,
+    drive: u8,
+    owner: u8,
+    number: Option<u8>,
+) -> About
+    ensures value { result ≡ spec.about_in opens.now p block.now function drive owner number }
+    ensures plain { plain result.file.name ≡ result.file.name }
+    ensures few { result.first ≤ 262271 }
+    ensures low { sequential_record block.now ≤ 262271 }
+{
+    let name = plain_name(&block.name);
+    let first = first_position(block, function);
+    let has_written = has_written(opens, p, number, drive, &name);
+    About {
+        file: FileKey {
+            drive,
+            user: owner,
+            name,
+        },
+        first,
+        has_written,
+    }
+}
+
+/// Begins a job that suits its drive.
+fn begun_job(mounted: &Mounted, job: &Job) -> Option<Work>
+    ensures { (image : List ℕ) (drive : Drive) → Stands image mounted.now drive → Suits drive job.now → WorksOn image (Some mounted.now) drive (Some job.now) 0 result }
+{
+    // No job that suits its drive has more.
+    if job.first > LAST_POSITION || job.count > RECORDS {
+        return None;
+    }
+    Some(plan(mounted, job))
+}
+
+/// Begins a job that suits its drive, if there is one.
+fn begun(mounted: &Mounted, job: Option<Job>) -> Option<Work>
+    ensures { (image : List ℕ) (drive : Drive) → Stands image mounted.now drive → IfSome job (Suits drive) → WorksOn image (Some mounted.now) drive job 0 result }
+{
+    match job {
+        Some(job) => begun_job(mounted, &job),
+        None => None,
+    }
+}
+
+/// Begins the job of a call that isn't refused, on a drive that is mounted.
+fn begun_call(
+    mounted: &Mounted,
+    protected: &Protected,
+    opens: &Opens,
+    searches: &Searches,
+    caller: &Caller,
+    function: FileFunction,
+    call: &Call,
+    moment: [u8; 4],
+) -> Option<Work>
+    requires caller { IsCaller caller.now }
+    requires users { HaveUsers opens.now }
+    ensures { (image : List ℕ) (drives : List (Option Drive)) (marks : List ℕ)
+        → Stands image mounted.now (subjects.drive_at (called drives protected.now opens.now marks searches.now caller.now function call.now moment))
+        → refusals.refusal_of (called drives protected.now opens.now marks searches.now caller.now function call.now moment) ≡ None
+        → spec.Begins image (Some mounted.now) (called drives protected.now opens.now marks searches.now caller.now function call.now moment) result }
+{
+    let block = block_taken(call);
+    let number = item_number(call.word(0), &block, function);
+    let asked = ask(mounted, protected, opens, searches, caller, function, call);
+    let about = about_of(
+        opens,
+        caller.process,
+        &block,
+        function,
+        asked.drive,
+        asked.owner,
+        number,
+    );
+    let job = job_by(
+        mounted, opens, caller, function, call, &block, moment, about,
+    );
+    begun(mounted, job)
+}
+
+/// Begins the job of a call, if it has one: of one that isn't refused, on a drive that is mounted.
+fn begun_unless(
+    refusal: Option<Refusal>,
+    mounted: Option<&Mounted>,
+    protected: &Protected,
+    opens: &Opens,
+    searches: &Searches,
+    caller: &Caller,
+    function: FileFunction,
+    call: &Call,
+    moment: [u8; 4],
+) -> Option<Work>
+    requires caller { IsCaller caller.now }
+    requires users { HaveUsers opens.now }
+    ensures { (image : List ℕ) (drives : List (Option Drive)) (marks : List ℕ)
+        → StandsFor image (option_copied mounted.entry) (called drives protected.now opens.now marks searches.now caller.now function call.now moment)
+        → refusal ≡ refusals.refusal_of (called drives protected.now opens.now marks searches.now caller.now function call.now moment)
+        → spec.Begins image (option_copied mounted.entry) (called drives protected.now opens.now marks searches.now caller.now function call.now moment) result }
+{
+    if refusal.is_some() {
+        return None;
+    }
+    match mounted {
+        Some(mounted) => begun_call(
+            mounted, protected, opens, searches, caller, function, call, moment,
+        ),
+        None => None,
+    }
+}
+
+/// How many turns the work of a call takes; one where it has none.
+fn turns_of(work: &Option<Work>) -> u32
+    ensures { result ≡ spec.turns_where work.now }
+{
+    match work {
+        Some(work) => turns(work),
+        None => 1,
+    }
+}
+
+/// A call with the same content.
+fn copied(call: &Call) -> Call
+    ensures { result ≡ call.now }
+{
+    Call {
+        function: call.function,
+        word: call.word,
+        dma: call.dma,
+        fcb: call.fcb,
+        length: call.length,
+        bytes: call.bytes,
+    }
+}
+
+/// What is kept of a call as it enters service: on a drive, by that drive's directory, where it is mounted.
+fn entered(
+    drive: u8,
+    mounted: Option<&Mounted>,
+    protected: &Protected,
+    opens: &Opens,
+    marks: &Marks,
+    searches: &Searches,
+    caller: &Caller,
+    function: FileFunction,
+    call: &Call,
+    moment: [u8; 4],
+) -> Service
+    requires caller { IsCaller caller.now }
+    requires users { HaveUsers opens.now }
+    ensures { (image : List ℕ) (drives : List (Option Drive))
+        → StandsFor image (option_copied mounted.entry) (called drives protected.now opens.now marks.now searches.now caller.now function call.now moment)
+        → drive ≡ subjects.drive_number (called drives protected.now opens.now marks.now searches.now caller.now function call.now moment)
+        → spec.Enters image (option_copied mounted.entry) (called drives protected.now opens.now marks.now searches.now caller.now function call.now moment) result }
+{
+    let refusal = refusal_of(
+        mounted, protected, opens, marks, searches, caller, function, call,
+    );
+    let work = begun_unless(
+        refusal, mounted, protected, opens, searches, caller, function, call, moment,
+    );
+    Service {
+        caller: *caller,
+        function,
+        drive,
+        call: copied(call),
+        moment,
+        refusal,
+        work,
+    }
+}
+
+/// What is kept of a call as it enters service, over the directories of all drives.
+fn entered_among(
+    mounted: &Directories,
+    protected: &Protected,
+    opens: &Opens,
+    marks: &Marks,
+    searches: &Searches,
+    caller: &Caller,
+    function: FileFunction,
+    call: &Call,
+    moment: [u8; 4],
+) -> Service
+    requires caller { IsCaller caller.now }
+    requires users { HaveUsers opens.now }
+    ensures { (images : ℕ → List ℕ) (drives : List (Option Drive)) → StandEach images mounted.now drives
+        → spec.EntersAmong images mounted.now (called drives protected.now opens.now marks.now searches.now caller.now function call.now moment) result }
+{
+    let search = searches.get(caller.process);
+    let word = word_of_call(call);
+    let block = block_taken(call);
+    let drive = drive_of_call(search, caller.drive, word, &block, function);
+    entered(
+        drive,
+        mounted.get(drive),
+        protected,
+        opens,
+        marks,
+        searches,
+        caller,
+        function,
+        call,
+        moment,
+    )
+}
+
+/// A process as it calls.
+fn caller_of(p: Pid, process: &Process) -> Caller
+    ensures { result ≡ spec.caller_of p process.now }
+{
+    Caller {
+        process: p,
+        user: process.user,
+        drive: process.drive,
+        multi: process.multi,
+        password: process.password,
+    }
+}
+
+/// The function of a call, if that is one on files and drives.
+fn function_of_call(call: &Call) -> Option<FileFunction>
+    ensures { result ≡ function_of call.now.function }
+{
+    FileFunction::of(call.function)
+}
+
+impl Bdos {
+    ghost use Rattle.std.specs.Prelude.{◌≡◌, ℕ, List, Option, Some, None};
+    ghost use Rattle.mpm_clock.specs.Times.{IsTime};
+    ghost use Rattle.mpm_clock.specs.PackedDecimal.{stamp as stamp_of};
+    ghost use Rattle.mpm_mount.specs.Drives.{Drive};
+    ghost use Rattle.mpm_bdos.specs.declared.functions.FileFunction as functions;
+    ghost use Rattle.mpm_bdos.specs.Functions.{function_of};
+    ghost use Rattle.mpm_bdos.specs.Jobs.{call_turns};
+    ghost use Rattle.mpm_bdos.specs.Serving.{IsCaller, StandEach, Serves};
+    ghost use Rattle.mpm_bdos.specs.Starting.{caller_of, entering};
+
+    /// A process's call on files and drives enters service: how many turns it takes. A call of another function doesn't, and takes
+    /// none. No device is asked. (MP/M II Programmer's Guide, "BDOS Function Calls".)
+    pub fn start(&mut self, p: Pid, call: &Call, process: &Process, now: Moment) -> u32
+        requires caller { IsCaller (caller_of p process.now) }
+        requires time { IsTime now }
+        ensures turns { (images : ℕ → List ℕ) (drives : List (Option Drive)) (function : functions.FileFunction) → function_of call.now.function ≡ Some function
+            → StandEach images self.old.mounted drives → result ≡ call_turns (entering self.old drives (caller_of p process.now) function call.now (stamp_of now)) }
+        ensures serves { (images : ℕ → List ℕ) (drives : List (Option Drive)) (function : functions.FileFunction) → function_of call.now.function ≡ Some function
+            → StandEach images self.old.mounted drives → Serves images self.new (entering self.old drives (caller_of p process.now) function call.now (stamp_of now)) 0 }
+        ensures kept { self.new ≡ record self.old { service = self.new.service } }
+        ensures other { function_of call.now.function ≡ None → self.new ≡ self.old }
+        ensures no_turns { function_of call.now.function ≡ None → result ≡ 0 }
+    {
+        let function = match function_of_call(call) {
+            Some(function) => function,
+            None => return 0,
+        };
+        let caller = caller_of(p, process);
+        let service = entered_among(
+            &self.mounted,
+            &self.protected,
+            &self.opens,
+            &self.marks,
+            &self.searches,
+            &caller,
+            function,
+            call,
+            stamp(now),
+        );
+        let turns = turns_of(&service.work);
+        self.service = Some(service);
+        turns
+    }
+}

@@ -1,0 +1,167 @@
+ghost use Rattle.std.specs.Prelude.{◌≡◌, ◌<◌, ◌≤◌, ℕ, List, Some, option_map, unwrap_or};
+ghost use Rattle.mpm_mount.specs.Faults.{plain, extent_of};
+ghost use Rattle.mpm_mount.specs.Drives.{Drive, extents_of, entry_number};
+ghost use Rattle.mpm_mount.specs.Directories.{Stands};
+ghost use Rattle.mpm_fcb.specs.Opening.{opened};
+ghost use Rattle.mpm_fcb.specs.Positions.{extent_of as extent_at, at_position, three_bytes};
+ghost use Rattle.mpm_files.specs.Units.{attributes_of as attributes_there, where_there};
+ghost use Rattle.mpm_mount.specs.Drives.{free_records};
+ghost use Rattle.std.specs.FinMap.{get};
+ghost use Rattle.mpm_bdos.specs.Asking.{found_as};
+ghost use Rattle.mpm_bdos.specs.Jobs.{no_protection};
+ghost use Rattle.mpm_bdos.specs.Replies as replies;
+ghost use Rattle.mpm_bdos.specs.Telling as spec;
+
+use crate::finding::FoundEntry;
+use crate::looking::{attributes, attributes_of, count, xfcb};
+use crate::protection::Protection;
+use crate::replies::told_bytes;
+use mpm_dirent::{Entry, FileEntry};
+use mpm_fcb::{ControlBlock, plain_name, three_bytes, with_attributes};
+use mpm_mount::Mounted;
+use mpm_opens::Mode;
+
+/// The last extent of an entry of a file.
+fn last_of(file: &FileEntry) -> u16
+    ensures { result ≡ extent_of file.now }
+{
+    32 * u16::from(file.s2) + u16::from(file.ex)
+}
+
+/// An entry of a file, as a search tells it.
+fn told_file(file: &FileEntry) -> [u8; 128]
+    requires user { file.now.user < 16 }
+    requires last { extent_of file.now ≤ 2047 }
+    ensures { result ≡ spec.told_file file.now }
+{
+    let name = with_attributes(&plain_name(&file.name), &attributes_of(&file.name));
+    told_bytes(file.user, &name, last_of(file), file.rc)
+}
+
+/// A directory entry, as a search tells it, if it is one of a file.
+fn told_at(entry: &Entry) -> Option<[u8; 128]>
+    requires { spec.CanTell entry.now }
+    ensures { result ≡ spec.told_at entry.now }
+{
+    match entry {
+        Entry::File { file } => Some(told_file(file)),
+        _ => None,
+    }
+}
+
+/// The entry that covers an extent of a user's file, as a search tells it, in a drive's directory.
+#[tactic(auto, using(crate::proofs::Looked::extent_within, crate::proofs::Told::can_tell), unfolding(crate::specs::Telling::told_in))]
+fn told_in(mounted: &Mounted, user: u8, name: &[u8; 11], extent: u16) -> Option<[u8; 128]>
+    ensures { result ≡ spec.told_in mounted.now (record { user = user; name = plain name.now }) extent }
+{
+    // The kind tells how many slots there are.
+    let _ = mounted.kind();
+    match mounted.extent(user, name, extent) {
+        Some(slot) => told_at(mounted.entry(slot)),
+        None => None,
+    }
+}
+
+/// The entry that covers an extent of a user's file, as a search tells it, if it is there.
+pub(crate) fn found_bytes(
+    mounted: &Mounted,
+    user: u8,
+    name: &[u8; 11],
+    extent: u16,
+) -> Option<[u8; 128]>
+    ensures { (image : List ℕ) (drive : Drive) → Stands image mounted.now drive
+        → where_there result (λ bytes. bytes)
+        ≡ replies.found_bytes drive (Some (record { user = user; name = plain name.now }, entry_number mounted.now.kind extent)) }
+{
+    told_in(mounted, user, name, extent)
+}
+
+/// The entry that a search found, as it tells it.
+pub(crate) fn told_found(mounted: &Mounted, found: &Option<FoundEntry>) -> Option<[u8; 128]>
+    ensures { (image : List ℕ) (drive : Drive) → Stands image mounted.now drive
+        → where_there result (λ bytes. bytes) ≡ replies.found_bytes drive (option_map (found_as mounted.now.kind) found.now) }
+{
+    match found {
+        Some(entry) => found_bytes(mounted, entry.user, &entry.found.name, entry.found.extent),
+        None => None,
+    }
+}
+
+/// The record count of an extent of a user's file, 0 where it isn't there.
+#[tactic(auto, using(crate::proofs::Told::counted))]
+pub(crate) fn record_count(mounted: &Mounted, user: u8, name: &[u8; 11], extent: u16) -> u8
+    ensures { (image : List ℕ) (drive : Drive) → Stands image mounted.now drive
+        → result ≡ replies.record_count drive (record { user = user; name = plain name.now }) extent }
+{
+    count(mounted, user, name, extent).unwrap_or(0)
+}
+
+/// The attributes of a user's file, none where it isn't there.
+#[tactic(auto, using(crate::proofs::Told::attributes_same))]
+fn attributes_or_none(mounted: &Mounted, user: u8, name: &[u8; 11]) -> [bool; 11]
+    ensures { (image : List ℕ) (drive : Drive) → Stands image mounted.now drive
+        → result ≡ attributes_there (extents_of drive (record { user = user; name = plain name.now })) }
+{
+    match attributes(mounted, user, name) {
+        Some(attributes) => attributes,
+        None => [false; 11],
+    }
+}
+
+/// Puts into a block what an opening or a making of a file of the user `owner` answers.
+pub(crate) fn open_block(
+    block: &mut ControlBlock,
+    mounted: &Mounted,
+    owner: u8,
+    mode: Mode,
+    item: u8,
+)
+    requires { item < 64 }
+    ensures { (image : List ℕ) (drive : Drive) → Stands image mounted.now drive
+        → block.new ≡ spec.opened_by drive owner block.old mode item }
+{
+    let attributes = attributes_or_none(mounted, owner, &block.name);
+    let records = record_count(mounted, owner, &block.name, u16::from(block.ex % 32));
+    block.open(&attributes, records, mode, item);
+}
+
+/// Puts into a block a position, at most 262,271, in a file of the user `owner`.
+pub(crate) fn position_block(block: &mut ControlBlock, mounted: &Mounted, owner: u8, position: u32)
+    requires { position ≤ 262271 }
+    ensures { (image : List ℕ) (drive : Drive) → Stands image mounted.now drive
+        → block.new ≡ spec.moved_to drive owner block.old position }
+{
+    let extent = (position / 128).min(2047) as u16;
+    let records = record_count(mounted, owner, &block.name, extent);
+    block.set_position(position, records);
+}
+
+/// An XFCB of a user's file, empty where it has none.
+fn xfcb_or_none(mounted: &Mounted, user: u8, name: &[u8; 11]) -> Protection
+    ensures { (image : List ℕ) (drive : Drive) → Stands image mounted.now drive
+        → result ≡ unwrap_or (get drive.xfcbs (record { user = user; name = plain name.now })) no_protection }
+{
+    match xfcb(mounted, user, name) {
+        Some(xfcb) => Protection::of_xfcb(&xfcb),
+        None => Protection::none(),
+    }
+}
+
+/// Puts into a block the mode and the stamps of the XFCB of a user's file. (MP/M II Programmer's Guide, "Function 102: Read File
+/// XFCB".)
+pub(crate) fn xfcb_block(block: &mut ControlBlock, mounted: &Mounted, user: u8)
+    ensures { (image : List ℕ) (drive : Drive) → Stands image mounted.now drive
+        → block.new ≡ replies.told_xfcb (unwrap_or (get drive.xfcbs (record { user = user; name = plain block.old.name })) no_protection) block.old }
+{
+    let xfcb = xfcb_or_none(mounted, user, &block.name);
+    xfcb.tell(block);
+}
+
+/// How many records there is room for on a drive, in three bytes. (MP/M II Programmer's Guide, "Function 46: Get Disk Free
+/// Space".)
+#[tactic(auto, using(mpm_mount::proofs::FreeRecords::free_records_same))]
+pub(crate) fn free_bytes(mounted: &Mounted) -> [u8; 3]
+    ensures { (image : List ℕ) (drive : Drive) → Stands image mounted.now drive → result ≡ three_bytes (free_records drive) }
+{
+    three_bytes(mounted.free_records())
+}

@@ -1,0 +1,164 @@
+ghost use Rattle.std.specs.Prelude.{◌≡◌, ◌≢◌, ℕ, suc, ◌+◌, ◌<◌, ◌≤◌, Option, Some, Ok, IfOk, IfSome, MatchOption, OnOk, OnErr, option_map, is_some, false};
+ghost use Rattle.mpm_port.specs.Causes.{HasCause};
+ghost use Rattle.mpm_blocks.specs.Geometries.{geometry_of};
+ghost use Rattle.mpm_cache.specs.Coherent.{IsCoherent, HasNoAlias};
+ghost use Rattle.mpm_sectors.specs.Disks.{Leaves};
+ghost use Rattle.mpm_mount.specs.Drives.{Drive};
+ghost use Rattle.mpm_files.specs.declared.jobs.Job.{Job};
+ghost use Rattle.mpm_files.specs.declared.jobs.JobKind.TheVariants as kinds;
+ghost use Rattle.mpm_files.specs.declared.turning.Progress.TheVariants as progress;
+ghost use Rattle.mpm_files.specs.Plans.{turns_of};
+ghost use Rattle.mpm_files.specs.Turning.{Suits, IsNextCached};
+ghost use Rattle.mpm_bdos.specs.Serving.{directory_at};
+ghost use Rattle.mpm_bdos.specs.Turns.{FitsDrives, KeepsImages, progress_after, labelled, HasLeft, IsWorking, IsWorkingOn, IsContainedAt, IsServing, IsServiceContained, IsReading, IsReadingCached, ServesReading, ServesCached, IsIdle, has_work, drive_served, without_work};
+
+use crate::directories::Directories;
+use crate::service::Service;
+use mpm_base::Steps;
+use mpm_cache::Cache;
+use mpm_files::{Progress, Work};
+use mpm_mount::Mounted;
+use mpm_port::{Drives, Failed};
+use std::sync::ledger::Ledger;
+
+/// Does the next unit of a job on a drive that is mounted; nothing where none is.
+#[tactic(auto)]
+pub(crate) fn turn_at<D: Drives, L: Ledger>(
+    place: &mut Option<Mounted>,
+    cache: &mut Cache,
+    work: &mut Work,
+    drives: &mut D,
+    steps: &mut Steps<L>,
+) -> Result<Progress, Failed>
+    requires size { IfSome place.old (λ d. D.attached drives.old d.drive ≡ Some (geometry_of d.kind).bytes) }
+    requires coherent { IsCoherent cache.old (D.disks drives.old) }
+    requires apart { IfSome place.old (λ d. HasNoAlias cache.old (D.disks drives.old) d.drive) }
+    ensures ok { (before : Drive) (job : Job) (j : ℕ) → Suits before job → IsWorking (D.disks drives.old) place.old before job j work.old → j < turns_of before job
+        → OnOk result (IsWorking (D.disks drives.new) place.new before job (suc j) work.new) }
+    ensures err { (before : Drive) (job : Job) (j : ℕ) → Suits before job → IsWorking (D.disks drives.old) place.old before job j work.old → j < turns_of before job
+        → OnErr result (IsContainedAt (D.disks drives.new) place.old before job j) }
+    ensures progress { (before : Drive) (job : Job) (j : ℕ) → IsWorking (D.disks drives.old) place.old before job j work.old
+        → IfOk result (λ told. told ≡ progress_after (suc j) (turns_of before job)) }
+    ensures same { option_map labelled place.new ≡ option_map labelled place.old }
+    ensures calls { steps.new ≤ steps.old + 20 }
+    ensures reads { work.old.job.kind ≡ kinds.Read → steps.new ≤ steps.old + 1 }
+    ensures cached { work.old.job.kind ≡ kinds.Read → IfSome place.old (λ d. IsNextCached cache.old d work.old) → steps.new ≡ steps.old }
+    ensures leaves { HasLeft D.attached D.disks D.failed_names place.old cache.old cache.new drives.old drives.new }
+    ensures cause { HasCause (D.faults drives.old) (D.faults drives.new) result }
+{
+    match place {
+        Some(mounted) => mpm_files::turn(mounted, cache, work, drives, steps),
+        None => Ok(Progress::Done),
+    }
+}
+
+impl Directories {
+    /// Does the next unit of a job on the drive of a number, where it is mounted.
+    #[tactic(auto, using(crate::proofs::Fitting::labels_stay, crate::proofs::Fitting::images_after))]
+    pub(crate) fn turn<D: Drives, L: Ledger>(
+        &mut self,
+        number: u8,
+        cache: &mut Cache,
+        work: &mut Work,
+        drives: &mut D,
+        steps: &mut Steps<L>,
+    ) -> Result<Progress, Failed>
+        requires { FitsDrives D.attached D.disks self.old cache.old drives.old }
+        ensures ok { (before : Drive) (job : Job) (j : ℕ) → Suits before job → IsWorking (D.disks drives.old) (directory_at self.old number) before job j work.old → j < turns_of before job
+            → OnOk result (IsWorking (D.disks drives.new) (directory_at self.new number) before job (suc j) work.new) }
+        ensures err { (before : Drive) (job : Job) (j : ℕ) → Suits before job → IsWorking (D.disks drives.old) (directory_at self.old number) before job j work.old → j < turns_of before job
+            → OnErr result (IsContainedAt (D.disks drives.new) (directory_at self.old number) before job j) }
+        ensures progress { (before : Drive) (job : Job) (j : ℕ) → IsWorking (D.disks drives.old) (directory_at self.old number) before job j work.old
+            → IfOk result (λ told. told ≡ progress_after (suc j) (turns_of before job)) }
+        ensures places { (other : ℕ) → Some number ≢ Some other → directory_at self.new other ≡ directory_at self.old other }
+        ensures labels { (other : ℕ) → option_map labelled (directory_at self.new other) ≡ option_map labelled (directory_at self.old other) }
+        ensures fits { FitsDrives D.attached D.disks self.new cache.new drives.new }
+        ensures images { KeepsImages (Some number) self.old (D.disks drives.old) (D.disks drives.new) }
+        ensures names { D.failed_names drives.new ≡ D.failed_names drives.old }
+        ensures attached { (other : ℕ) → D.attached drives.new other ≡ D.attached drives.old other }
+        ensures calls { steps.new ≤ steps.old + 20 }
+        ensures reads { work.old.job.kind ≡ kinds.Read → steps.new ≤ steps.old + 1 }
+        ensures cached { work.old.job.kind ≡ kinds.Read → IfSome (directory_at self.old number) (λ d. IsNextCached cache.old d work.old) → steps.new ≡ steps.old }
+        ensures cause { HasCause (D.faults drives.old) (D.faults drives.new) result }
+    {
+        let place = usize::from(number);
+        if place < self.places.len() {
+            turn_at(&mut self.places[place], cache, work, drives, steps)
+        } else {
+            Ok(Progress::Done)
+        }
+    }
+}
+
+impl Service {
+    /// Does the next unit of the job, where the call has one.
+    pub(crate) fn turn<D: Drives, L: Ledger>(
+        &mut self,
+        mounted: &mut Directories,
+        cache: &mut Cache,
+        drives: &mut D,
+        steps: &mut Steps<L>,
+    ) -> Result<Progress, Failed>
+        requires { FitsDrives D.attached D.disks mounted.old cache.old drives.old }
+        ensures ok { (before : Drive) (job : Job) (j : ℕ) → Suits before job → IsWorkingOn (D.disks drives.old) (directory_at mounted.old self.old.drive) before job j self.old.work → j < turns_of before job
+            → OnOk result (IsWorkingOn (D.disks drives.new) (directory_at mounted.new self.new.drive) before job (suc j) self.new.work) }
+        ensures err { (before : Drive) (job : Job) (j : ℕ) → Suits before job → IsWorkingOn (D.disks drives.old) (directory_at mounted.old self.old.drive) before job j self.old.work → j < turns_of before job
+            → OnErr result (IsContainedAt (D.disks drives.new) (directory_at mounted.old self.old.drive) before job j) }
+        ensures progress { (before : Drive) (job : Job) (j : ℕ) → IsWorkingOn (D.disks drives.old) (directory_at mounted.old self.old.drive) before job j self.old.work
+            → IfOk result (λ told. told ≡ progress_after (suc j) (turns_of before job)) }
+        ensures idle { is_some self.old.work ≡ false → IsIdle self.old self.new mounted.old mounted.new cache.old cache.new drives.old drives.new steps.old steps.new }
+        ensures done { is_some self.old.work ≡ false → result ≡ Ok progress.Done }
+        ensures kept { without_work self.new ≡ without_work self.old }
+        ensures places { (other : ℕ) → Some self.old.drive ≢ Some other → directory_at mounted.new other ≡ directory_at mounted.old other }
+        ensures labels { (other : ℕ) → option_map labelled (directory_at mounted.new other) ≡ option_map labelled (directory_at mounted.old other) }
+        ensures fits { FitsDrives D.attached D.disks mounted.new cache.new drives.new }
+        ensures images { KeepsImages (Some self.old.drive) mounted.old (D.disks drives.old) (D.disks drives.new) }
+        ensures names { D.failed_names drives.new ≡ D.failed_names drives.old }
+        ensures attached { (other : ℕ) → D.attached drives.new other ≡ D.attached drives.old other }
+        ensures calls { steps.new ≤ steps.old + 20 }
+        ensures reads { IsReading self.old.work → steps.new ≤ steps.old + 1 }
+        ensures cached { IsReadingCached cache.old (directory_at mounted.old self.old.drive) self.old.work → steps.new ≡ steps.old }
+        ensures cause { HasCause (D.faults drives.old) (D.faults drives.new) result }
+    {
+        let number = self.drive;
+        match &mut self.work {
+            Some(work) => mounted.turn(number, cache, work, drives, steps),
+            None => Ok(Progress::Done),
+        }
+    }
+}
+
+/// Does the next unit of the job of the call in service, where one is and has one.
+pub(crate) fn turn_service<D: Drives, L: Ledger>(
+    service: &mut Option<Service>,
+    mounted: &mut Directories,
+    cache: &mut Cache,
+    drives: &mut D,
+    steps: &mut Steps<L>,
+) -> Result<Progress, Failed>
+    requires { FitsDrives D.attached D.disks mounted.old cache.old drives.old }
+    ensures ok { (before : Drive) (job : Job) (j : ℕ) → Suits before job → IsServing (D.disks drives.old) mounted.old before job j service.old → j < turns_of before job
+        → OnOk result (IsServing (D.disks drives.new) mounted.new before job (suc j) service.new) }
+    ensures err { (before : Drive) (job : Job) (j : ℕ) → Suits before job → IsServing (D.disks drives.old) mounted.old before job j service.old → j < turns_of before job
+        → OnErr result (IsServiceContained (D.disks drives.new) mounted.old before job j service.old) }
+    ensures progress { (before : Drive) (job : Job) (j : ℕ) → IsServing (D.disks drives.old) mounted.old before job j service.old
+        → IfOk result (λ told. told ≡ progress_after (suc j) (turns_of before job)) }
+    ensures idle { has_work service.old ≡ false → IsIdle service.old service.new mounted.old mounted.new cache.old cache.new drives.old drives.new steps.old steps.new }
+    ensures done { has_work service.old ≡ false → result ≡ Ok progress.Done }
+    ensures kept { option_map without_work service.new ≡ option_map without_work service.old }
+    ensures places { (other : ℕ) → drive_served service.old ≢ Some other → directory_at mounted.new other ≡ directory_at mounted.old other }
+    ensures labels { (other : ℕ) → option_map labelled (directory_at mounted.new other) ≡ option_map labelled (directory_at mounted.old other) }
+    ensures fits { FitsDrives D.attached D.disks mounted.new cache.new drives.new }
+    ensures images { KeepsImages (drive_served service.old) mounted.old (D.disks drives.old) (D.disks drives.new) }
+    ensures names { D.failed_names drives.new ≡ D.failed_names drives.old }
+    ensures attached { (other : ℕ) → D.attached drives.new other ≡ D.attached drives.old other }
+    ensures calls { steps.new ≤ steps.old + 20 }
+    ensures reads { ServesReading service.old → steps.new ≤ steps.old + 1 }
+    ensures cached { ServesCached cache.old mounted.old service.old → steps.new ≡ steps.old }
+    ensures cause { HasCause (D.faults drives.old) (D.faults drives.new) result }
+{
+    match service {
+        Some(service) => service.turn(mounted, cache, drives, steps),
+        None => Ok(Progress::Done),
+    }
+}
