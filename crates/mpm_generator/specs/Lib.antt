@@ -1,0 +1,5 @@
+pub mod Draws
+pub mod Sizes
+pub mod Programs
+pub mod Images
+pub mod Machines
