@@ -15,7 +15,7 @@ pub struct Interrupts {
 }
 
 impl Interrupts {
-    ghost use Rattle.std.specs.Prelude.{◌≡◌, ◌<◌, ◌≤◌, ℕ, false, None, IfSome, IfNone, All};
+    ghost use Rattle.std.specs.Prelude.{◌≡◌, ◌<◌, ◌≤◌, ℕ, false, None, is_some, IfSome, IfNone, All};
     ghost use Rattle.mpm_script.specs.Events.{IsEvent, IsTimed};
     ghost use Rattle.mpm_interrupts.specs.Interrupts.{due, due_taken, is_tick_due, script_due};
 
@@ -47,6 +47,14 @@ impl Interrupts {
             return Some(Event::Tick);
         }
         self.script.take_due(step)
+    }
+
+    /// Whether an event is due at a step.
+    #[tactic(auto, unfolding(crate::specs::Interrupts::due))]
+    pub fn is_due(&self, step: u64) -> bool
+        ensures { result ≡ is_some (due step self.now) }
+    {
+        self.is_tick_due(step) || self.script.is_due(step)
     }
 
     /// Whether a periodic tick is due at a step.
@@ -98,7 +106,7 @@ impl Model for Pending {
 }
 
 impl Pending {
-    ghost use Rattle.std.specs.Prelude.{◌≡◌, ◌<◌, ℕ, None, IfSome, IfNone, drop, length, slice_get};
+    ghost use Rattle.std.specs.Prelude.{◌≡◌, ◌<◌, ℕ, None, is_some, IfSome, IfNone, drop, length, slice_get};
     ghost use Rattle.mpm_script.specs.Events.{IsEvent};
     ghost use Rattle.mpm_interrupts.specs.Interrupts.{script_due, script_after};
 
@@ -115,6 +123,16 @@ impl Pending {
                 Some(timed.event)
             }
             _ => None,
+        }
+    }
+
+    /// Whether its first event is due at a step.
+    fn is_due(&self, step: u64) -> bool
+        ensures { result ≡ is_some (script_due step self.now) }
+    {
+        match self.first() {
+            Some(timed) => timed.step <= step,
+            None => false,
         }
     }
 

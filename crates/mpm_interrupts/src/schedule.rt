@@ -25,7 +25,7 @@ impl Model for Schedule {
 }
 
 impl Schedule {
-    ghost use Rattle.std.specs.Prelude.{◌≡◌, ◌<◌, ◌≤◌, ℕ, None, IfSome, IfNone, All};
+    ghost use Rattle.std.specs.Prelude.{◌≡◌, ◌<◌, ◌≤◌, ℕ, None, is_some, IfSome, IfNone, All};
     ghost use Rattle.mpm_script.specs.Events.{IsEvent, IsTimed};
     ghost use Rattle.mpm_interrupts.specs.Interrupts.{due, due_taken};
 
@@ -54,6 +54,13 @@ impl Schedule {
         let event = self.interrupts.take_due(step);
         self.next = self.interrupts.next_step();
         event
+    }
+
+    /// Whether an event is due at a step.
+    pub fn is_due(&self, step: u64) -> bool
+        ensures { result ≡ is_some (due step self.now) }
+    {
+        self.next <= step && self.interrupts.is_due(step)
     }
 
     /// A step before which nothing is due.

@@ -32,6 +32,15 @@ impl Native {
         Act::Ask
     }
 
+    /// The number of the function that it calls next.
+    pub fn function(&self) -> u8
+        ensures { result ≡ (native_call self.now).function }
+    {
+        match self {
+            Native::Tmp { tmp } => tmp.function(),
+        }
+    }
+
     /// It takes the answer to that call.
     pub fn took(&mut self, reply: &Reply)
         ensures { self.new ≡ native_took self.old reply.now }

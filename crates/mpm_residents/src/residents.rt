@@ -1,4 +1,4 @@
-ghost use Rattle.std.specs.Prelude.{◌≡◌, ◌<◌, ◌++◌, ◌∷◌, [], true, is_some, OnOk, IfSome};
+ghost use Rattle.std.specs.Prelude.{◌≡◌, ◌<◌, ◌++◌, ◌∷◌, [], true, is_some, option_map, OnOk, IfSome};
 
 use crate::{Act, Native, Tmp};
 use mpm_base::{Call, Pid, Reply};
@@ -53,6 +53,17 @@ impl Residents {
         ensures { result ≡ is_some (native_in self.now p) }
     {
         0 < p.0 && usize::from(p.0) <= self.natives.len()
+    }
+
+    /// The number of the function that the resident of a slot calls next, if one acts there.
+    pub fn function(&self, p: Pid) -> Option<u8>
+        ensures { result ≡ option_map (λ native. (native_call native).function) (native_in self.now p) }
+    {
+        if self.has(p) {
+            Some(self.natives[usize::from(p.0) - 1].function())
+        } else {
+            None
+        }
     }
 
     /// The resident of a slot fills in the call that it makes next.

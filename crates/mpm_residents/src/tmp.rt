@@ -102,6 +102,22 @@ impl Tmp {
         }
     }
 
+    /// The number of the function that it calls next.
+    #[tactic(auto, unfolding(crate::specs::Terminals::next_call))]
+    pub fn function(&self) -> u8
+        ensures { result ≡ (next_call self.now).function }
+    {
+        match self.row {
+            Row::Attach => functions::ATTACH_CONSOLE,
+            Row::Prompt | Row::NoDrive => functions::PRINT_STRING,
+            Row::ReadLine => functions::READ_CONSOLE_BUFFER,
+            Row::NewLine => functions::CONSOLE_OUTPUT,
+            Row::SelectDrive { .. } => functions::SELECT_DISK,
+            Row::SetUser { .. } => functions::SET_GET_USER_CODE,
+            Row::SendCommand => functions::SEND_CLI_COMMAND,
+        }
+    }
+
     /// Takes the answer to that call.
     #[tactic(auto, unfolding(crate::specs::Terminals::took, crate::specs::Terminals::next_call))]
     pub fn took(&mut self, reply: &Reply)
