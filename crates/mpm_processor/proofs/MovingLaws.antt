@@ -12,16 +12,13 @@ use Rattle.mpm_banks.specs.Sides.{alone}
 use Rattle.mpm_banks.specs.Actions.{memory_after, devices_after}
 use Rattle.mpm_processor.specs.declared.gate.Gate.{Gate}
 use Rattle.mpm_processor.specs.Gates.{gate_of}
-use Rattle.mpm_processor.specs.Moving.{View, instruction_in, moved, moves, CanMove, Moves}
+use Rattle.mpm_processor.specs.Moving.{View, view_of, instruction_in, moved, moves, CanMove, Moves}
 
 pub view_is : (a b : View) → a.regs ≡ b.regs → a.memory ≡ b.memory → a.devices ≡ b.devices → a ≡ b
 view_is a b regs memory devices =
     ap (λ r. record a { regs = r }) regs ∙ ap (λ m. record b { memory = m; devices = a.devices }) memory ∙ ap (λ d. record b { devices = d }) devices
 
--- the view of registers, devices and the bytes of both sides; what leaves those as they were leaves the view so
-abbrev pub view_of : SegmentSpec → Regs → List ℕ → List ℕ → Devices → View
-view_of spec regs segment common devices = record { regs = regs; memory = alone spec segment common; devices = devices }
-
+-- what leaves registers, devices and the bytes of both sides as they were leaves the view so
 pub same_view : (spec : SegmentSpec) (regs : Regs) (segment common : List ℕ) (devices : Devices) (segment2 common2 : List ℕ) (devices2 : Devices)
     → segment2 ≡ segment → common2 ≡ common → devices2 ≡ devices
     → view_of spec regs segment2 common2 devices2 ≡ view_of spec regs segment common devices
@@ -49,6 +46,23 @@ moves_more inside n seg old now new m can is =
         | inr other ↦ m.each k (omega (arith, other))
       ];
     }
+
+-- some behind others
+
+pub moves_join : (inside : Bool) (n m seg : ℕ) (old now new : View) → Moves inside n seg old now → Moves inside m seg now new
+    → Moves inside (n + m) seg old new
+unfolding moves
+moves_join inside n zero seg old now new first more =
+    let P : ℕ → Type 0 = λ k. Moves inside k seg old new in
+    let all : n ≡ n + 0 = omega arith in
+    let same : Moves inside n seg old new = record { is = more.is ∙ first.is; each = first.each } in
+    subst P all same
+moves_join inside n (suc m) seg old now new first more =
+    let P : ℕ → Type 0 = λ k. Moves inside k seg old new in
+    let all : n + m + 1 ≡ n + suc m = omega arith in
+    let part : Moves inside m seg now (moves m seg now) = record { is = refl; each = λ k below. more.each k (omega (arith, below)) } in
+    let most = moves_join inside n m seg old now (moves m seg now) first part in
+    subst P all (moves_more inside (n + m) seg old (moves m seg now) new most (more.each m (omega arith)) more.is)
 
 -- where no listed instruction stands, nothing changes
 pub unmoved : (seg : ℕ) (view : View) → IsNone (instruction_in seg view) → moved seg view ≡ view

@@ -1,10 +1,12 @@
 -- Instructions of one process, one after another, as long as nothing else may come between them.
-use Rattle.std.specs.Prelude.{◌≡◌, ℕ, zero, suc, ◌<◌, ◌≤◌, Bool, Option, None, IsSome}
+use Rattle.std.specs.Prelude.{◌≡◌, ℕ, zero, suc, ◌<◌, ◌≤◌, Bool, List, Option, None, IsSome}
 use Rattle.z80_regs.specs.declared.regs.Regs.{Regs}
 use Rattle.z80_regs.specs.Outcome.{Outcome}
 use Rattle.z80_ext.specs.Instruction.{instruction, registers_after, actions_of}
 use Rattle.mpm_base.specs.declared.devices.Devices.{Devices}
+use Rattle.mpm_base.specs.declared.segment.SegmentSpec.{SegmentSpec}
 use Rattle.mpm_banks.specs.Memory.{Memory, byte_at}
+use Rattle.mpm_banks.specs.Sides.{alone}
 use Rattle.mpm_banks.specs.Ports.{port_byte}
 use Rattle.mpm_banks.specs.Actions.{memory_after, devices_after}
 use Rattle.mpm_processor.specs.declared.instruction.Instructions.{Instructions}
@@ -15,6 +17,10 @@ pub record View : Type 0 where
   pub regs : Regs
   pub memory : Memory
   pub devices : Devices
+
+-- the view of what a process reaches: registers, devices, and the bytes of its segment and of common memory
+abbrev pub view_of : SegmentSpec → Regs → List ℕ → List ℕ → Devices → View
+view_of spec regs segment common devices = record { regs = regs; memory = alone spec segment common; devices = devices }
 
 -- the instruction that stands there
 abbrev pub instruction_in : ℕ → View → Option Outcome

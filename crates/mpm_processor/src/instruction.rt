@@ -1,4 +1,4 @@
-ghost use Rattle.std.specs.Prelude.{◌≡◌, ◌↔◌, ◌<◌, ◌≤◌, ◌+◌, ◌-◌, ◌*◌, ℕ, List, true, None, IsNone, IsSome, IfSome, MatchOption, is_none, is_some};
+ghost use Rattle.std.specs.Prelude.{◌≡◌, ◌↔◌, ◌<◌, ◌≤◌, ◌+◌, ◌-◌, ◌*◌, ℕ, List, true, false, length, None, IsNone, IsSome, IfSome, MatchOption, is_none, is_some};
 ghost use Rattle.z80_regs.specs.declared.regs.Regs.{Regs};
 ghost use Rattle.z80_ext.specs.Instruction.{IsPrefixAt, IsLoadUpAt, instruction, registers_after, actions_of};
 ghost use Rattle.mpm_banks.specs.Allocations.{FitsBelowCommon};
@@ -7,7 +7,7 @@ ghost use Rattle.mpm_banks.specs.Sides.{alone};
 ghost use Rattle.mpm_banks.specs.Ports.{port_byte};
 ghost use Rattle.mpm_banks.specs.Actions.{memory_after, devices_after};
 ghost use Rattle.mpm_processor.specs.Gates.{IsHome, gate_in, gate_of};
-ghost use Rattle.mpm_processor.specs.Moving.{CanMove, Moves};
+ghost use Rattle.mpm_processor.specs.Moving.{CanMove, Moves, view_of};
 
 use crate::gate::is_gate;
 use mpm_banks::{Banks, Burst, SliceBus, last_page};
@@ -118,12 +118,12 @@ fn execute_prefixed(
     step_prefixed(prefix, regs, &mut bus)
 }
 
-/// Whether LDIR is at PC, where a prefix is, with its second byte below the last page of the segment.
+/// Whether LDIR is at PC, whose first byte is read, with its second byte below the last page of the segment.
 #[inline(always)]
 fn is_load(prefix: u8, spec: SegmentSpec, pc: u16, segment: &[u8]) -> bool
     requires { FitsBelowCommon spec }
-    ensures { (regs : Regs) (common : List ℕ) → regs.pc ≡ pc → IsPrefixAt prefix regs (byte_at (alone spec segment.now common) 0) → result ≡ true
-        → IsLoadUpAt regs (byte_at (alone spec segment.now common) 0) }
+    ensures { (regs : Regs) (common : List ℕ) → regs.pc ≡ pc → regs.halted ≡ false → prefix ≡ byte_at (alone spec segment.now common) 0 pc
+        → result ≡ true → IsLoadUpAt regs (byte_at (alone spec segment.now common) 0) }
 {
     match opcode_below_gates(spec, pc.wrapping_add(1), segment) {
         Some(opcode) => u16::from_le_bytes([prefix, opcode]) == 0xB0ED,
@@ -131,8 +131,38 @@ fn is_load(prefix: u8, spec: SegmentSpec, pc: u16, segment: &[u8]) -> bool
     }
 }
 
-/// One transfer of LDIR, which is at PC. It is code of its own, so that its bus stays in registers.
-#[inline(never)]
+/// The same where a prefix is known to be there: of the four, EDh alone has these bits. Most prefixes so cost no look at the
+/// second byte, and a comparison with EDh itself would be made one of each step.
+#[inline(always)]
+fn is_load_at_prefix(prefix: u8, spec: SegmentSpec, pc: u16, segment: &[u8]) -> bool
+    requires { FitsBelowCommon spec }
+    ensures { (regs : Regs) (common : List ℕ) → regs.pc ≡ pc → regs.halted ≡ false → prefix ≡ byte_at (alone spec segment.now common) 0 pc
+        → result ≡ true → IsLoadUpAt regs (byte_at (alone spec segment.now common) 0) }
+{
+    if prefix / 16 % 4 != 2 {
+        return false;
+    }
+    is_load(prefix, spec, pc, segment)
+}
+
+/// Whether LDIR is at PC, with both its bytes below the last page of the segment, where no gate is.
+#[inline(always)]
+fn is_load_again(spec: SegmentSpec, regs: &Regs, segment: &[u8]) -> bool
+    requires { FitsBelowCommon spec }
+    ensures load { (common : List ℕ) → result ≡ true → IsLoadUpAt regs.now (byte_at (alone spec segment.now common) 0) }
+    ensures below { result ≡ true → regs.now.pc < 256 * (spec.base + spec.pages - 1) }
+{
+    if regs.halted {
+        return false;
+    }
+    match opcode_below_gates(spec, regs.pc, segment) {
+        Some(prefix) => is_load(prefix, spec, regs.pc, segment),
+        None => false,
+    }
+}
+
+/// One transfer of LDIR, which is at PC.
+#[inline(always)]
 fn execute_load(
     spec: SegmentSpec,
     regs: &mut Regs,
@@ -155,32 +185,35 @@ fn execute_load(
     step_load_up(regs, &mut bus);
 }
 
-/// One instruction of a process, with these registers. Where it has a prefix, it goes over a bus of its own, so that the
-/// bus of all others needs no memory.
-#[inline(always)]
-fn advance(
-    opcode: u8,
+/// Transfers of LDIR, which is at PC, one after another: at least one, at most so many. It is code of its own, so that its
+/// bus stays in registers.
+#[inline(never)]
+fn execute_loads(
+    inside: bool,
+    most: u64,
     spec: SegmentSpec,
     regs: &mut Regs,
     segment: &mut [u8],
     common: &mut [u8],
     devices: &mut Devices,
-) -> Stepped
+) -> u64
     requires fits { FitsBelowCommon spec }
-    requires opcode { opcode ≡ byte_at (alone spec segment.old common.old) 0 regs.old.pc }
-    ensures illegal { (result ≡ Stepped.Illegal) ↔ IsNone (instruction regs.old (byte_at (alone spec segment.old common.old) 0) (port_byte devices.old)) }
-    ensures registers { regs.new ≡ registers_after (instruction regs.old (byte_at (alone spec segment.old common.old) 0) (port_byte devices.old)) regs.old }
-    ensures memory { alone spec segment.new common.new ≡ memory_after (actions_of (instruction regs.old (byte_at (alone spec segment.old common.old) 0) (port_byte devices.old))) 0 (alone spec segment.old common.old) }
-    ensures devices { devices.new ≡ devices_after (actions_of (instruction regs.old (byte_at (alone spec segment.old common.old) 0) (port_byte devices.old))) devices.old }
+    requires some { 0 < most }
+    requires load { IsLoadUpAt regs.old (byte_at (alone spec segment.old common.old) 0) }
+    requires gate { gate_of inside (alone spec segment.old common.old) 0 regs.old.pc ≡ None }
+    ensures count { result ≤ most }
+    ensures some { 0 < result }
+    ensures moved { Moves inside result 0 (view_of spec regs.old segment.old common.old devices.old)
+        (view_of spec regs.new segment.new common.new devices.new) }
+    ensures segment { length segment.new ≡ length segment.old }
+    ensures common { length common.new ≡ length common.old }
 {
-    match execute_unprefixed(opcode, spec, regs, segment, common, devices) {
-        None => Stepped::Ran,
-        Some(prefix) => {
-            if is_load(prefix, spec, regs.pc, segment) {
-                execute_load(spec, regs, segment, common, devices);
-                return Stepped::Ran;
-            }
-            execute_prefixed(prefix, spec, regs, segment, common, devices)
+    let mut done = 0;
+    loop {
+        execute_load(spec, regs, segment, common, devices);
+        done += 1;
+        if done == most || !is_load_again(spec, regs, segment) {
+            return done;
         }
     }
 }
@@ -210,17 +243,27 @@ impl Burst for Instructions {
     ) -> u64 {
         let inside = self.inside;
         let most = self.most;
-        for done in 0..most {
+        let mut done = 0;
+        while done < most {
             let opcode = match fetch(inside, spec, regs.pc, segment, common, devices) {
                 None => return done,
                 Some(opcode) => opcode,
             };
-            match advance(opcode, spec, regs, segment, common, devices) {
-                Stepped::Ran => {}
-                Stepped::Illegal => return done,
+            match execute_unprefixed(opcode, spec, regs, segment, common, devices) {
+                None => done += 1,
+                Some(prefix) if is_load_at_prefix(prefix, spec, regs.pc, segment) => {
+                    let most = most - done;
+                    done += execute_loads(inside, most, spec, regs, segment, common, devices);
+                }
+                Some(prefix) => {
+                    match execute_prefixed(prefix, spec, regs, segment, common, devices) {
+                        Stepped::Ran => done += 1,
+                        Stepped::Illegal => return done,
+                    }
+                }
             }
         }
-        most
+        done
     }
 }
 

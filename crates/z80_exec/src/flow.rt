@@ -6,16 +6,15 @@ use crate::loads::push;
 use crate::operands::word_at;
 use z80_regs::{Bus, Regs};
 
-/// The address that a relative jump goes to: a displacement of 80h or more is negative, 256 less.
+/// The address that a relative jump goes to: a displacement of 80h or more is negative, 256 less. Raised by 128 and lowered
+/// again it needs no test.
 #[inline(always)]
 pub fn relative_to(address: u16, displacement: u8) -> u16
     ensures { result ≡ relative address displacement }
 {
-    if displacement < 128 {
-        address.wrapping_add(u16::from(displacement))
-    } else {
-        address.wrapping_sub(256 - u16::from(displacement))
-    }
+    address
+        .wrapping_add(u16::from(displacement.wrapping_add(128)))
+        .wrapping_sub(128)
 }
 
 /// A jump where a condition holds.

@@ -8,6 +8,9 @@ use Rattle.z80_regs.specs.declared.regs.Regs.{Regs}
 use Rattle.z80_decode.specs.declared.instr.Instr.{Instr}
 use Rattle.z80_decode.specs.declared.instr.Page.TheVariants.{Main}
 use Rattle.z80_decode.specs.declared.forms.Form.{Form}
+use Rattle.z80_decode.specs.declared.page_forms.BitForm.{BitForm}
+use Rattle.z80_decode.specs.declared.page_forms.BitForm.TheVariants.{Test, Change}
+use Rattle.z80_ext.specs.Bits.{memory_bits}
 use Rattle.z80_decode.specs.declared.forms.Tail.{Tail}
 use Rattle.z80_decode.specs.declared.forms.Tail.TheVariants.{Nothing, Byte, Word, Displacement, DisplacementByte}
 use Rattle.z80_decode.specs.Opcodes.{form_of}
@@ -29,6 +32,14 @@ pub index_bits_page : (index : IndexRegister) (instr : Instr) (regs : Regs) (mem
     page_outcome (bits_page_of index) instr regs memory ports ≡ index_bits_outcome index instr regs memory
 index_bits_page Ix instr regs memory ports = refl
 index_bits_page Iy instr regs memory ports = refl
+
+-- what acts on the byte at an address looks at neither R nor PC
+pub bits_behind : (form : BitForm) (address byte : ℕ) (regs : Regs) →
+    memory_bits form address byte (behind 4 (begun regs)) ≡ record (memory_bits form address byte regs) {
+      registers = behind 4 (begun (memory_bits form address byte regs).registers);
+    }
+bits_behind (Test weight) address byte regs = refl
+bits_behind (Change change) address byte regs = refl
 
 -- an instruction without prefix, by what stands behind its opcode
 by_tail : (tail : Tail) (form : Form) (opcode first second : ℕ) (regs : Regs) (memory ports : ℕ → ℕ) →

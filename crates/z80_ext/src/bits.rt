@@ -71,20 +71,19 @@ fn act_on_operand<B: Bus>(form: BitForm, at: Operand, byte: u8, regs: &mut Regs,
     }
 }
 
-/// Acts on the byte at an address.
+/// Acts on the byte at an address, which is known. Memory comes before the registers, so that what was read before it and
+/// this write look up where memory lies once.
 #[tactic(auto, unfolding(z80_regs::specs::Outcome::Leaves))]
-pub fn act_on_memory<B: Bus>(form: BitForm, address: u16, regs: &mut Regs, bus: &mut B)
-    ensures registers { regs.new ≡ (memory_bits form address (B.byte bus.old address) regs.old).registers }
-    ensures bus { Leaves B.wrote B.took (memory_bits form address (B.byte bus.old address) regs.old).actions
-        bus.old bus.new }
+pub fn act_on_memory<B: Bus>(form: BitForm, address: u16, byte: u8, regs: &mut Regs, bus: &mut B)
+    ensures registers { regs.new ≡ (memory_bits form address byte regs.old).registers }
+    ensures bus { Leaves B.wrote B.took (memory_bits form address byte regs.old).actions bus.old bus.new }
 {
-    let byte = bus.read(address);
     match form {
         BitForm::Test(weight) => test_bit(weight, byte, regs),
         BitForm::Change(change) => {
             let (value, flags) = changed(change, byte, regs.f);
-            regs.f = flags;
             bus.write(address, value);
+            regs.f = flags;
         }
     }
 }

@@ -251,7 +251,7 @@ fn bits_page(index: IndexRegister) -> Page
 }
 
 /// One step where DDh CBh or FDh CBh is at PC. (UM0080, "Rotate and Shift Group", "Bit Set, Reset, and Test Group".)
-#[tactic(auto, using(crate::proofs::Next::index_bits_page), unfolding(crate::specs::Index::index_bits_outcome, z80_regs::specs::Outcome::Leaves))]
+#[tactic(auto, using(crate::proofs::Next::index_bits_page, crate::proofs::Next::bits_behind), unfolding(crate::specs::Index::index_bits_outcome, z80_regs::specs::Outcome::Leaves))]
 fn step_index_bits<B: Bus>(index: IndexRegister, regs: &mut Regs, bus: &mut B) -> Stepped
     ensures illegal { let opcode = B.byte bus.old (onward regs.old.pc 3) in (result ≡ Stepped.Illegal) ↔ IsNone
         (outcome_of (index_bit_instr_by (indexed_bit_form_of opcode) (bits_page_of index) (B.byte bus.old (onward regs.old.pc 2)) opcode) regs.old (B.byte bus.old) (B.port_byte bus.old)) }
@@ -267,8 +267,9 @@ fn step_index_bits<B: Bus>(index: IndexRegister, regs: &mut Regs, bus: &mut B) -
         Some(form) => {
             let displacement = bus.read(regs.pc.wrapping_add(2));
             let address = relative_to(index_at(regs, index), displacement);
+            let byte = bus.read(address);
+            act_on_memory(form, address, byte, regs, bus);
             begin_behind(4, regs);
-            act_on_memory(form, address, regs, bus);
             Stepped::Ran
         }
     }

@@ -133,6 +133,43 @@ fn a_burst_stops_after_as_many_as_it_may(rt: HostRuntime) -> Result<(), OutOfMem
 }
 
 #[test]
+fn a_block_transfer_goes_on_as_long_as_it_may(rt: HostRuntime) -> Result<(), OutOfMemory> {
+    // LD HL,4000h; LD DE,4100h; LD BC,3; LDIR.
+    let program = [
+        0x21, 0x00, 0x40, 0x11, 0x00, 0x41, 0x01, 0x03, 0x00, 0xED, 0xB0,
+    ];
+    let five = run(rt.alloc(), false, 5, &program)?;
+    assert_eq!(rt; five.done, 5);
+    assert_eq!(rt; five.regs.pc, 0x4009);
+    assert_eq!(rt; five.regs.c, 1);
+    assert_eq!(rt; five.regs.r, 5);
+    let six = run(rt.alloc(), false, 6, &program)?;
+    assert_eq!(rt; six.done, 6);
+    assert_eq!(rt; six.regs.pc, 0x400B);
+    assert_eq!(rt; six.regs.c, 0);
+    assert_eq!(rt; six.banks.byte(Seg(0), 0x4102), 0x40);
+    Ok(())
+}
+
+#[test]
+fn a_block_transfer_that_writes_over_itself_ends(rt: HostRuntime) -> Result<(), OutOfMemory> {
+    // LD HL,4200h; LD DE,4009h; LD BC,2; LDIR, which becomes NOP and OR B.
+    let run = run(
+        rt.alloc(),
+        false,
+        6,
+        &[
+            0x21, 0x00, 0x42, 0x11, 0x09, 0x40, 0x01, 0x02, 0x00, 0xED, 0xB0,
+        ],
+    )?;
+    assert_eq!(rt; run.done, 6);
+    assert_eq!(rt; run.regs.pc, 0x400B);
+    assert_eq!(rt; run.regs.c, 1);
+    assert_eq!(rt; run.banks.byte(Seg(0), 0x4009), 0);
+    Ok(())
+}
+
+#[test]
 fn a_burst_writes_to_its_segment(rt: HostRuntime) -> Result<(), OutOfMemory> {
     // LD (4200h),HL.
     let mut banks = memory_with(rt.alloc(), &[0x22, 0x00, 0x42])?;

@@ -1,12 +1,15 @@
-use Rattle.std.proofs.Common.{◌≡◌, length}
-use Rattle.mpm_banks.specs.Sides.{alone}
-use Rattle.mpm_processor.specs.Moving.{Moves}
+use Rattle.std.proofs.Common.{◌≡◌, ◌≤◌, ◌-◌, length}
+use Rattle.mpm_processor.specs.Moving.{Moves, view_of}
 use Rattle.mpm_processor.proofs.instruction.InstructionsBurst.run.Given as goal
 
 abbrev pub invariant-loop-done : goal.invariant-loop-done
 invariant-loop-done l = record {
-  moved : Moves l.inside l.done 0 (record { regs = l.initial.regs; memory = alone l.spec l.initial.segment l.initial.common; devices = l.initial.devices })
-      (record { regs = l.regs; memory = alone l.spec l.segment l.common; devices = l.devices });
+  moved : Moves l.inside l.done 0 (view_of l.spec l.initial.regs l.initial.segment l.initial.common l.initial.devices)
+      (view_of l.spec l.regs l.segment l.common l.devices);
+  count : l.done ≤ l.most;
   segment : length l.segment ≡ length l.initial.segment;
   common : length l.common ≡ length l.initial.common;
 }
+
+abbrev pub decreases-loop-done : goal.decreases-loop-done
+decreases-loop-done l = l.most - l.done
