@@ -13,6 +13,3 @@ pub use parameters::Geometry;
 
 /// No memory was found: the allocator's own error.
 pub use std::alloc::AllocError as OutOfMemory;
-
-#[cfg(test)]
-mod tests;

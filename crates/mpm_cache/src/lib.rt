@@ -7,6 +7,3 @@ pub use cache::Cache;
 
 /// No memory was found: the allocator's own error.
 pub use std::alloc::AllocError as OutOfMemory;
-
-#[cfg(test)]
-mod tests;

@@ -13,6 +13,3 @@ pub use moment::Moment;
 pub use packed_decimal::{moment_in, packed, stamp};
 pub use telling::{tell_date, tell_time};
 pub use woken::Woken;
-
-#[cfg(test)]
-mod tests;

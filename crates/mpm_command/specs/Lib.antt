@@ -1,3 +1,4 @@
 pub mod Texts
 pub mod Commands
 pub mod BasePages
+pub mod FileBlocks

@@ -8,7 +8,4 @@ mod text;
 
 pub use command::{Command, command_of, console_of, tail_of};
 pub use mpm_names::BadName;
-pub use page::base_page;
-
-#[cfg(test)]
-mod tests;
+pub use page::{base_page, file_block};

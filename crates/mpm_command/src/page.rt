@@ -1,5 +1,6 @@
 ghost use Rattle.std.specs.Prelude.{◌≡◌, ◌≤◌, length};
 ghost use Rattle.mpm_command.specs.BasePages.{base_page as page_with, block_of as block_said, block_named, tail_bytes as tail_said, upper_tail as upper};
+ghost use Rattle.mpm_command.specs.FileBlocks.{file_block as block_whole};
 
 use crate::text::{first_word, second_word};
 use mpm_banks::{CALL_GATE, END_GATE};
@@ -39,6 +40,19 @@ fn named_block(parsed: &Parsed) -> [u8; 16]
     let mut block = [0; 16];
     block[1..12].copy_from_slice(&parsed.name);
     block[0] = parsed.drive;
+    block
+}
+
+/// The file control block of a name: the drive, the name with its type, the password at 16 and its length at 26; its other
+/// bytes are zeros.
+#[tactic(auto, unfolding(mpm_base::specs::Lists::zeros))]
+pub fn file_block(parsed: &Parsed) -> [u8; 36]
+    ensures { result ≡ block_whole parsed.now }
+{
+    let mut block = [0; 36];
+    block[26] = parsed.password_length;
+    block[16..24].copy_from_slice(&parsed.password);
+    block[..16].copy_from_slice(&named_block(parsed));
     block
 }
 

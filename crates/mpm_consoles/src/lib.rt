@@ -13,6 +13,3 @@ pub use keys::KeyDone;
 pub use modes::{AWAIT_KEY, POLL_KEY, TELL_STATUS, echoes, is_cooked, is_raw, writes};
 pub use std::alloc::AllocError as OutOfMemory;
 pub use unit::Unit;
-
-#[cfg(test)]
-mod tests;

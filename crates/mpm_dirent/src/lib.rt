@@ -10,6 +10,3 @@ mod write;
 pub use kinds::{Entry, FileEntry, LabelEntry, XfcbEntry};
 pub use read::read_entry;
 pub use write::write_entry;
-
-#[cfg(test)]
-mod tests;

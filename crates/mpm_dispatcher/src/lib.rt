@@ -7,6 +7,3 @@ mod dispatcher;
 pub use completed::Completed;
 pub use dispatcher::{Dispatcher, READY, done};
 pub use std::alloc::AllocError as OutOfMemory;
-
-#[cfg(test)]
-mod tests;

@@ -19,9 +19,9 @@ use Rattle.mpm_blocks.specs.Sectors.{told_image}
 use Rattle.mpm_mount.specs.Mounting.{IsMounted, IsImageFault, Counts}
 use Rattle.mpm_blocks.proofs.ToldImages.{told_image_same}
 use Rattle.mpm_drives.specs.Images.{ToldImage, Images, image_named, HasFault}
-use Rattle.mpm_drives.specs.Mounted.{number_of, IsImageOf, HasDirectory, IsMountedAs, AreMounted, OnlyDrive, SameBeside}
+use Rattle.mpm_drives.specs.Mounted.{number_of, IsImageOf, IsNamed, HasDirectory, IsMountedAs, AreMounted, OnlyDrive, SameBeside}
 use Rattle.mpm_drives.specs.Stopping.{Failures, StopsAt, IsFirst, Stops}
-use Rattle.mpm_drives.proofs.Telling.{attached_image, attached_only, same_only, only_over, directory_told, fault_told, faultless_told}
+use Rattle.mpm_drives.proofs.Telling.{attached_image, attached_named, same_named, attached_only, same_only, only_over, directory_told, fault_told, faultless_told}
 
 -- drives before one of some that don't clash have other numbers
 
@@ -56,6 +56,7 @@ kept number a a' x x' images spec d only apart mounted =
       kind = mounted.kind;
       size = only.others d.drive other ∙ mounted.size;
       image = subst (IsImageOf (images spec.image)) (sym (only.told d.drive other)) mounted.image;
+      name = only.named d.drive spec.image other mounted.name;
       directory = mounted.directory;
     }
 
@@ -97,6 +98,7 @@ mounted_by a x one other spec d same mounted = record {
   kind = mounted.kind;
   size = mounted.size;
   image = subst (λ (t : ToldImage). IsImageOf t (told_image x d.drive)) same mounted.image;
+  name = mounted.name;
   directory = subst (λ (t : ToldImage). HasDirectory t spec.kind d) same mounted.directory;
 }
 
@@ -133,6 +135,7 @@ mounted_as a a' x y z spec name size d is attaches bytes drives same number kind
       kind = kind;
       size = ap a' number ∙ drives (number_of spec) ∙ bytes;
       image = subst (IsImageOf (image_named x spec.image)) told image;
+      name = subst (λ drive. IsNamed z drive spec.image) (sym number) (same_named y z (number_of spec) spec.image same (subst (IsNamed y (number_of spec)) is (attached_named x y (number_of spec) name size attaches)));
       directory = directory_told (image_named x spec.image) (told_image y (number_of spec)) spec.kind d image without mounted;
     }
 

@@ -1,5 +1,5 @@
 -- What attaching a drive and mounting it leave of what is told of images.
-use Rattle.std.proofs.Common.{◌≡◌, ◌≢◌, ◌∙◌, ℕ, List, Option, Some, None, refl, ap, subst}
+use Rattle.std.proofs.Common.{◌≡◌, ◌≢◌, ◌∙◌, ℕ, List, Option, Some, None, refl, ap, sym, subst}
 use Rattle.std.specs.Prelude.{IfSome, IsSomeAnd, IsOk, Result, Err, Ok, option_and_then}
 use Rattle.mpm_base.specs.declared.kind.Kind.{Kind}
 use Rattle.mpm_port.specs.Disks.{Disks, SameDisks, Attaches, Told, image_of}
@@ -10,7 +10,7 @@ use Rattle.mpm_blocks.specs.Sectors.{told_image}
 use Rattle.mpm_mount.specs.Mounting.{IsMounted}
 use Rattle.mpm_blocks.proofs.ToldImages.{told_image_same}
 use Rattle.mpm_drives.specs.Images.{ToldImage, Untold, Missing, Bytes, found, image_named, HasFault, IsFaultless}
-use Rattle.mpm_drives.specs.Mounted.{IsImageOf, HasDirectory, OnlyDrive}
+use Rattle.mpm_drives.specs.Mounted.{IsImageOf, IsNamed, HasDirectory, OnlyDrive}
 
 -- the image that a drive was attached to is that of the name
 
@@ -62,12 +62,34 @@ other_told (Some old) None drive other name size attaches apart = absurd attache
 other_told (Some old) (Some new) drive other name size attaches apart =
     ap (option_and_then new.image) (attaches.others other apart) ∙ image_through (old.name_of other) new.image old.image attaches.images
 
+-- and the names by which they were attached
+
+pub attached_named : (old new : Option Disks) (drive : ℕ) (name : List ℕ) (size : Option ℕ) → Told (Attaches drive name size) old new → IsNamed new drive name
+unfolding IsNamed
+attached_named None new drive name size attaches = subst (λ (d : Option Disks). IsNamed d drive name) (sym attaches) tt
+attached_named (Some old) None drive name size attaches = absurd attaches
+attached_named (Some old) (Some new) drive name size attaches = attaches.here
+
+pub same_named : (old new : Option Disks) (drive : ℕ) (name : List ℕ) → Told SameDisks old new → IsNamed old drive name → IsNamed new drive name
+unfolding IsNamed
+same_named None new drive name same named = subst (λ (d : Option Disks). IsNamed d drive name) (sym same) tt
+same_named (Some old) None drive name same named = absurd same
+same_named (Some old) (Some new) drive name same named = same.names drive ∙ named
+
+others_named : (old new : Option Disks) (drive other : ℕ) (image name : List ℕ) (size : Option ℕ) → Told (Attaches drive image size) old new → other ≢ drive
+    → IsNamed old other name → IsNamed new other name
+unfolding IsNamed
+others_named None new drive other image name size attaches apart named = subst (λ (d : Option Disks). IsNamed d other name) (sym attaches) tt
+others_named (Some old) None drive other image name size attaches apart named = absurd attaches
+others_named (Some old) (Some new) drive other image name size attaches apart named = attaches.others other apart ∙ named
+
 pub attached_only : (number : ℕ) (name : List ℕ) (size : Option ℕ) (attached attached' : ℕ → Option ℕ) (old new : Option Disks) → Told (Attaches number name size) old new
     → ((other : ℕ) → other ≢ number → attached' other ≡ attached other) → OnlyDrive number attached attached' old new
 attached_only number name size attached attached' old new attaches others = record {
   images = λ image. images_attached old new number name image size attaches;
   told = λ other apart. other_told old new number other name size attaches apart;
   others = others;
+  named = λ other image apart named. others_named old new number other name image size attaches apart named;
 }
 
 pub same_only : (number : ℕ) (attached attached' : ℕ → Option ℕ) (old new : Option Disks) → Told SameDisks old new
@@ -76,6 +98,7 @@ same_only number attached attached' old new same others = record {
   images = λ image. images_same old new image same;
   told = λ other apart. told_image_same old new other same;
   others = others;
+  named = λ other name apart named. same_named old new other name same named;
 }
 
 pub only_over : (number : ℕ) (a b c : ℕ → Option ℕ) (x y z : Option Disks) → OnlyDrive number a b x y → OnlyDrive number b c y z → OnlyDrive number a c x z
@@ -83,6 +106,7 @@ only_over number a b c x y z one two = record {
   images = λ name. two.images name ∙ one.images name;
   told = λ other apart. two.told other apart ∙ one.told other apart;
   others = λ other apart. two.others other apart ∙ one.others other apart;
+  named = λ other name apart named. two.named other name apart (one.named other name apart named);
 }
 
 -- what is so of the image of an attached drive is so of the image of that name

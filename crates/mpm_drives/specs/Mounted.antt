@@ -1,11 +1,11 @@
 -- The drives of a machine: as its machine file lists them, as they are mounted, and by what is on them.
-use Rattle.std.specs.Prelude.{◌≡◌, ◌≢◌, ℕ, ◌-◌, List, [], Option, Some, None, IsSome, IfSome, map}
-use Rattle.std.specs.List.{All, AllZip}
+use Rattle.std.specs.Prelude.{◌≡◌, ◌≢◌, ℕ, ◌-◌, List, [], ◌∷◌, Option, Some, None, IsSome, IfSome, map, replicate, slice_set}
+use Rattle.std.specs.List.{All, AllByRecursion, AllZip}
 use Rattle.mpm_base.specs.declared.kind.Kind.{Kind}
 use Rattle.mpm_port.specs.Disks.{Disks}
 use Rattle.mpm_machine_file.specs.declared.lists.DriveSpec.{DriveSpec}
 use Rattle.mpm_mount.specs.Drives.{Drive}
-use Rattle.mpm_mount.specs.Directories.{Directory, IsDirectory, Stands}
+use Rattle.mpm_mount.specs.Directories.{Directory, IsDirectory}
 use Rattle.mpm_blocks.specs.Geometries.{geometry_of}
 use Rattle.mpm_blocks.specs.Sectors.{told_image}
 use Rattle.mpm_mount.specs.Mounting.{drive_in, IsMounted}
@@ -26,6 +26,10 @@ IsImageOf Untold told = told ≡ None
 IsImageOf Missing told = ⊥
 IsImageOf (Bytes image) told = told ≡ Some image
 
+-- where images are told, a drive was attached by that name
+unfoldable pub IsNamed : Option Disks → ℕ → List ℕ → Type 0
+IsNamed disks drive name = IfSome disks (λ told. told.name_of drive ≡ Some name)
+
 -- a directory in memory is that of an image. Of one that isn't told it is one without a fault
 abbrev pub HasDirectory : ToldImage → Kind → Directory → Type 0
 HasDirectory Untold kind d = IsDirectory kind d.entries
@@ -38,6 +42,7 @@ pub record IsMountedAs (attached : ℕ → Option ℕ) (disks : Option Disks) (i
   pub kind : d.kind ≡ spec.kind
   pub size : attached d.drive ≡ Some (geometry_of spec.kind).bytes
   pub image : IsImageOf (images spec.image) (told_image disks d.drive)
+  pub name : IsNamed disks d.drive spec.image
   pub directory : HasDirectory (images spec.image) spec.kind d
 
 -- so is each drive of a machine file, in order
@@ -47,15 +52,6 @@ AreMounted attached disks images specs mounted = AllZip (IsMountedAs attached di
 -- the drives are attached
 abbrev pub AreAttached : (ℕ → Option ℕ) → List Directory → Type 0
 AreAttached attached mounted = All (λ d. IsSome (attached d.drive)) mounted
-
--- a mounted drive, its image, where it is told, and its directory in memory, stand for the files on a drive of that number
-pub record StandsOn (disks : Option Disks) (d : Directory) (drive : NumberedDrive) : Type 0 where
-  pub number : d.drive ≡ drive.number
-  pub stands : IfSome (told_image disks d.drive) (λ image. Stands image d drive.files)
-
--- so does each of them, in order
-abbrev pub StandEach : Option Disks → List Directory → List NumberedDrive → Type 0
-StandEach disks mounted drives = AllZip (StandsOn disks) mounted drives
 
 -- what is on a drive of a machine file is what its image stands for
 pub record IsDriveOf (images : Images) (spec : DriveSpec) (drive : NumberedDrive) : Type 0 where
@@ -77,11 +73,21 @@ on_drive disks d = record { number = d.drive; files = drive_in (bytes_if (told_i
 unfoldable pub drives_on : Option Disks → List Directory → List NumberedDrive
 drives_on disks mounted = map (on_drive disks) mounted
 
+-- they stand in the places of their numbers, of which there are sixteen
+unfoldable pub placed : List NumberedDrive → List (Option Drive)
+placed [] = replicate 16 None
+placed (drive ∷ drives) = slice_set (placed drives) drive.number (Some drive.files)
+
+-- the images of the drives of a machine file are told
+abbrev pub AreTold : Images → List DriveSpec → Type 0
+AreTold images specs = AllByRecursion (λ spec. images spec.image ≢ Untold) specs
+
 -- a drive is attached anew: the images, and the other drives with theirs, are as they were
 pub record OnlyDrive (number : ℕ) (attached attached' : ℕ → Option ℕ) (disks disks' : Option Disks) : Type 0 where
   pub images : (name : List ℕ) → image_named disks' name ≡ image_named disks name
   pub told : (other : ℕ) → other ≢ number → told_image disks' other ≡ told_image disks other
   pub others : (other : ℕ) → other ≢ number → attached' other ≡ attached other
+  pub named : (other : ℕ) (name : List ℕ) → other ≢ number → IsNamed disks other name → IsNamed disks' other name
 
 -- a drive that none of a machine file's is, and its image, are as they were
 pub record SameBeside (specs : List DriveSpec) (attached attached' : ℕ → Option ℕ) (disks disks' : Option Disks) : Type 0 where

@@ -6,6 +6,3 @@ mod mounted;
 
 pub use error::BootError;
 pub use mounted::MountedDrives;
-
-#[cfg(test)]
-mod tests;

@@ -77,6 +77,13 @@ impl MountedDrives {
         Ok(MountedDrives { items })
     }
 
+    /// The mounted drives as a list, in order of their letters.
+    pub fn into_mounted(self) -> Vec<Mounted>
+        ensures { result.items ≡ self }
+    {
+        self.items
+    }
+
     /// Brings what was written to the drives to where it stays, one drive after another in order of their letters, up to the
     /// first that fails. `steps` counts the calls.
     pub fn sync<D: Drives, L: Ledger>(

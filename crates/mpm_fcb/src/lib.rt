@@ -11,6 +11,3 @@ pub use block::ControlBlock;
 pub use names::{is_ambiguous, plain_name, with_attributes};
 pub use opening::item_numbered;
 pub use positions::{are_beyond, three_bytes};
-
-#[cfg(test)]
-mod tests;

@@ -4,6 +4,3 @@
 mod flags;
 
 pub use flags::{FlagSet, FlagWait, Flags};
-
-#[cfg(test)]
-mod tests;

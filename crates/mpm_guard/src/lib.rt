@@ -8,6 +8,3 @@ mod encoding;
 pub use admission::{admits, admits_label};
 pub use encoding::{decode_password, encode};
 pub use mpm_clock::stamp;
-
-#[cfg(test)]
-mod tests;

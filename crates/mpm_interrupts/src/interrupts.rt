@@ -167,6 +167,3 @@ impl Pending {
         }
     }
 }
-
-#[cfg(test)]
-mod tests;

@@ -6,6 +6,3 @@ mod line;
 
 pub use echo::{Echo, key_echo};
 pub use line::{Edit, LineKey, answer_line, edited, full_line, is_full, key_of};
-
-#[cfg(test)]
-mod tests;

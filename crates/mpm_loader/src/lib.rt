@@ -10,6 +10,3 @@ mod plan;
 pub use load::Load;
 pub use mpm_prl::BadHeader;
 pub use plan::Plan;
-
-#[cfg(test)]
-mod tests;

@@ -16,6 +16,3 @@ pub use lists::{DriveSpec, DriveSpecs, Segments};
 pub use machine_file::MachineFile;
 pub use reading::read_machine;
 pub use text::Text;
-
-#[cfg(test)]
-mod tests;

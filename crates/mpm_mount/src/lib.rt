@@ -18,6 +18,3 @@ pub use searching::Found;
 
 /// No memory was found: the allocator's own error.
 pub use std::alloc::AllocError as OutOfMemory;
-
-#[cfg(test)]
-mod tests;

@@ -10,6 +10,3 @@ mod spelling;
 
 pub use file_name::{BadName, Parsed, parse_filename};
 pub use pattern::matches;
-
-#[cfg(test)]
-mod tests;

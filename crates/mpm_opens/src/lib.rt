@@ -10,6 +10,3 @@ mod opens;
 
 pub use kinds::{FileKey, LockDone, Mode, OpenRefused};
 pub use opens::Opens;
-
-#[cfg(test)]
-mod tests;

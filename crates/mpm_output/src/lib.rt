@@ -8,6 +8,3 @@ mod unlisted;
 pub use console::{put_bytes, write_bytes, write_kept, write_string, write_tabbed};
 pub use errors::error_text;
 pub use unlisted::{ILLEGAL_LENGTH, illegal_text};
-
-#[cfg(test)]
-mod tests;

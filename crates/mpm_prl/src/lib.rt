@@ -7,6 +7,3 @@ mod relocation;
 
 pub use file_header::{BadHeader, PrlHeader, header};
 pub use relocation::patch;
-
-#[cfg(test)]
-mod tests;

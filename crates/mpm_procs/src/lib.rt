@@ -9,6 +9,3 @@ mod settings;
 pub use process::{NewProcess, Process};
 pub use procs::{NoSlot, Procs};
 pub use std::alloc::AllocError as OutOfMemory;
-
-#[cfg(test)]
-mod tests;

@@ -8,6 +8,3 @@ mod store;
 pub use blocks::{BLOCK_SIZE, address_of, write_call};
 pub use queues::{MakeRefused, QueueOutcome, Queues};
 pub use std::alloc::AllocError as OutOfMemory;
-
-#[cfg(test)]
-mod tests;

@@ -8,6 +8,3 @@ mod lists;
 mod node;
 
 pub use lists::Lists;
-
-#[cfg(test)]
-mod tests;

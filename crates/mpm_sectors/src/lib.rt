@@ -6,6 +6,3 @@ mod disk;
 mod slots;
 
 pub use disk::Disk;
-
-#[cfg(test)]
-mod tests;

@@ -5,6 +5,3 @@ mod service;
 mod waiting;
 
 pub use service::{Service, Turn};
-
-#[cfg(test)]
-mod tests;

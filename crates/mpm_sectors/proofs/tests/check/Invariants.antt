@@ -1,4 +1,0 @@
-use Rattle.mpm_sectors.proofs.tests.check.Given as goal
-
-abbrev pub ghosts-is_contained : goal.ghosts-is_contained
-ghosts-is_contained a = record { name = a.blank.name; parts = a.blank.parts }
