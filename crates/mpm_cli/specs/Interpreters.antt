@@ -1,10 +1,10 @@
 -- The command line interpreter: what it does in each row of its table, and where it goes by the answer. (MP/M II User's
 -- Guide, "Command Line Interpreter"; System Guide, "Page Relocatable Programs"; Programmer's Guide, "Function 150: Send CLI
 -- Command", and those of the functions that it calls.)
-use Rattle.std.specs.Prelude.{ℕ, ◌+◌, ◌-◌, ◌*◌, ◌%◌, ◌<◌, ◌≤◌, ◌≡◌, ◌==◌, ◌||◌, Bool, true, false, nat_lt, if◌then◌else◌, List, [], ◌∷◌, ◌++◌, min, length, take, drop, codes, slice_index, slice_index_or, slice_set, bit_or, Option, Some, None}
+use Rattle.std.specs.Prelude.{ℕ, ◌+◌, ◌-◌, ◌*◌, ◌%◌, ◌<◌, ◌≤◌, ◌≡◌, ◌==◌, ◌&&◌, Bool, true, false, nat_lt, nat_le, if◌then◌else◌, List, [], ◌∷◌, ◌++◌, min, length, take, drop, codes, slice_index, slice_index_or, slice_set, bit_or, Option, Some, None}
 use Rattle.z80_regs.specs.Words.{low, high, word_of}
 use Rattle.mpm_base.specs.Lists.{zeros}
-use Rattle.mpm_base.specs.Calls.{Taken, Answer, byte_in}
+use Rattle.mpm_base.specs.Calls.{Taken, Answer}
 use Rattle.mpm_base.specs.declared.functions.TheConstants.{PRINT_STRING, OPEN_FILE, CLOSE_FILE, READ_SEQUENTIAL, SET_GET_USER_CODE, COMPUTE_FILE_SIZE, ABSOLUTE_MEMORY_REQUEST, RELOCATABLE_MEMORY_REQUEST, MEMORY_FREE, OPEN_QUEUE, READ_QUEUE, CONDITIONAL_WRITE_QUEUE}
 use Rattle.mpm_base.specs.declared.segment.SegmentSpec.{SegmentSpec}
 use Rattle.mpm_procs.specs.declared.process.NewProcess.{NewProcess}
@@ -148,6 +148,14 @@ act_at _ cli = Ask
 unfoldable pub next_act : Interpreter → Act
 next_act cli = act_at cli.row cli
 
+-- whether that is a call
+abbrev pub is_call : Act → Bool
+is_call Ask = true
+is_call (PlaceBytes seg address length) = false
+is_call (MoveCode seg address length page) = false
+is_call (BeginProcess seg new) = false
+is_call (GiveConsole console) = false
+
 -- the process that begins has a console, a user and a drive that there can be, and a console that is given back is there
 pub record IsNew (consoles : ℕ) (new : NewProcess) : Type 0 where
   pub console : new.console < consoles
@@ -230,9 +238,20 @@ sized hl cli =
 abbrev pub byte_at : Answer → ℕ → ℕ
 byte_at reply place = slice_index_or reply.bytes place 0
 
-abbrev pub reserved : Answer → Interpreter → Interpreter
-reserved reply cli =
-    if reply.hl == 0 then record cli { row = row_for_piece cli.load; seg = byte_at reply 3; spec = record { base = byte_at reply 0; pages = byte_at reply 1 } }
+-- whether that is one of sixteen segments, with the pages that were asked for, which ends below common memory
+abbrev pub is_segment_of : ℕ → Answer → Bool
+is_segment_of pages reply = nat_lt (byte_at reply 3) 16 && (nat_le pages (byte_at reply 1) && nat_le (byte_at reply 0 + byte_at reply 1) 192)
+
+-- then its bounds hold
+pub record IsSegmentOf (pages : ℕ) (reply : Answer) : Type 0 where
+  pub seg : byte_at reply 3 < 16
+  pub enough : pages ≤ byte_at reply 1
+  pub below : byte_at reply 0 + byte_at reply 1 ≤ 192
+
+-- a segment is reserved, or none is there
+abbrev pub reserved : ℕ → Answer → Interpreter → Interpreter
+reserved pages reply cli =
+    if reply.hl == 0 && is_segment_of pages reply then record cli { row = row_for_piece cli.load; seg = byte_at reply 3; spec = record { base = byte_at reply 0; pages = byte_at reply 1 } }
     else record cli { row = CloseAfter NoMemory }
 
 -- the next records of the file, where there are some
@@ -257,7 +276,7 @@ took_at OpenAbsolute cli reply = record (with_block reply cli) { row = after_ope
 took_at ReadHeader cli reply = headed (begun (records_in reply)) (with_block reply cli)
 took_at ComputeSize cli reply = sized reply.hl (with_block reply cli)
 took_at SetUserZero cli reply = record cli { row = ComputeSize }
-took_at (Reserve relocatable pages) cli reply = reserved reply cli
+took_at (Reserve relocatable pages) cli reply = reserved pages reply cli
 took_at Place cli reply = record cli { row = row_behind_code cli.load }
 took_at Patch cli reply = record cli { row = row_behind_marks cli.load }
 took_at ReadOn cli reply = read_on (records_in reply) (with_block reply cli)
@@ -282,16 +301,3 @@ IsRow _ load = Unit {0}
 pub record IsSegment (spec : SegmentSpec) : Type 0 where
   pub two : 2 ≤ spec.pages
   pub below : spec.base + spec.pages ≤ 192
-
--- a descriptor that function 128 or 129 may answer where so many pages were asked for
-pub record IsDescriptor (reply : Answer) (pages : ℕ) : Type 0 where
-  pub seg : byte_at reply 3 < 16
-  pub enough : pages ≤ byte_at reply 1
-  pub below : byte_at reply 0 + byte_at reply 1 ≤ 192
-
--- whether a call asks for memory, and what is so of an answer to a call
-abbrev pub asks_memory : Taken → Bool
-asks_memory call = call.function == ABSOLUTE_MEMORY_REQUEST || call.function == RELOCATABLE_MEMORY_REQUEST
-
-abbrev pub MayTake : Taken → Answer → Type 0
-MayTake call reply = asks_memory call ≡ true → reply.hl ≡ 0 → IsDescriptor reply (byte_in call 1)

@@ -1,6 +1,7 @@
 ghost use Rattle.std.specs.Prelude.{◌≡◌, ◌≤◌, [], length};
 ghost use Rattle.mpm_command.specs.Commands.{IsCommand, tail_in};
-ghost use Rattle.mpm_cli.specs.Interpreters.{no_command as command_of_nobody, request as request_for, records_in as records_of, byte_at as byte_of_reply};
+ghost use Rattle.mpm_cli.specs.Interpreters.{no_command as command_of_nobody, request as request_for, records_in as records_of, byte_at as byte_of_reply, is_segment_of as is_segment_with, IsSegmentOf};
+ghost use Rattle.std.specs.Bool.{OnTrue};
 
 use crate::act::Act;
 use crate::asking::{
@@ -67,7 +68,7 @@ impl Cli {
     ghost use Rattle.mpm_base.specs.declared.functions.TheConstants.{CONDITIONAL_WRITE_QUEUE, OPEN_FILE};
     ghost use Rattle.mpm_command.specs.Commands.{IsCommand, tail_in};
     ghost use Rattle.mpm_loader.specs.Pieces.{has_all};
-    ghost use Rattle.mpm_cli.specs.Interpreters.{opening, asking, asking_file, queue_block as block_of_queue, file_block as block_of_file, descriptor as descriptor_of, last_page as page_of_gates, next_call, next_act, act_at, process_of, took as behind, took_at, message_in as message_of_bytes, commanded, with_block, reserved, MayTake, IsDescriptor, IsAct, IsNew};
+    ghost use Rattle.mpm_cli.specs.Interpreters.{opening, asking, asking_file, queue_block as block_of_queue, file_block as block_of_file, descriptor as descriptor_of, last_page as page_of_gates, next_call, next_act, act_at, process_of, took as behind, took_at, message_in as message_of_bytes, commanded, with_block, reserved, IsAct, IsNew, is_call};
     ghost use Rattle.mpm_cli.specs.declared.table.Row.TheVariants.{Place, Patch, SetUser, OpenQueue, OpenRelocatable, OpenAbsolute, ReadHeader, ComputeSize, ReadOn};
 
     /// The interpreter of a system with so many consoles, one at least, at its first row.
@@ -119,11 +120,41 @@ impl Cli {
         }
     }
 
-    /// It takes the answer: of the call, or to what it handed over, which is 0, or FFh where no process could begin. A segment
-    /// that was reserved has the pages that were asked for, and ends below common memory.
-    #[tactic(auto, unfolding(crate::specs::Interpreters::took, crate::specs::Interpreters::next_call), using(crate::proofs::Answering::is_descriptor))]
+    /// Whether it makes a call next, and hands nothing over.
+    #[tactic(auto, unfolding(crate::specs::Interpreters::next_act))]
+    pub fn asks(&self) -> bool
+        ensures { result ≡ is_call (next_act self.now) }
+    {
+        match self.row {
+            Row::Place | Row::Patch | Row::PlaceBasePage | Row::Begin | Row::Give => false,
+            _ => true,
+        }
+    }
+
+    /// The number of the function that it calls next, 0 where it hands something over.
+    #[tactic(auto, unfolding(crate::specs::Interpreters::next_call))]
+    pub fn function(&self) -> u8
+        ensures { result ≡ (next_call self.now).function }
+    {
+        match self.row {
+            Row::ReadCommand => functions::READ_QUEUE,
+            Row::OpenQueue => functions::OPEN_QUEUE,
+            Row::WriteQueue => functions::CONDITIONAL_WRITE_QUEUE,
+            Row::SetUser | Row::SetUserZero => functions::SET_GET_USER_CODE,
+            Row::OpenRelocatable | Row::OpenAbsolute => functions::OPEN_FILE,
+            Row::ReadHeader | Row::ReadOn => functions::READ_SEQUENTIAL,
+            Row::ComputeSize => functions::COMPUTE_FILE_SIZE,
+            Row::Reserve { relocatable, .. } => request(relocatable),
+            Row::Free { .. } => functions::MEMORY_FREE,
+            Row::CloseAfter { .. } | Row::Close => functions::CLOSE_FILE,
+            Row::Tell { .. } => functions::PRINT_STRING,
+            Row::Place | Row::Patch | Row::PlaceBasePage | Row::Begin | Row::Give => 0,
+        }
+    }
+
+    /// It takes the answer: of the call, or to what it handed over, which is 0, or FFh where no process could begin.
+    #[tactic(auto, unfolding(crate::specs::Interpreters::took))]
     pub fn took(&mut self, reply: &Reply)
-        requires { MayTake (next_call self.old) reply.now }
         ensures { self.new ≡ behind self.old reply.now }
     {
         match self.row {
@@ -403,11 +434,10 @@ impl Cli {
 
     /// A segment of so many pages at least was reserved, or there is none.
     fn take_segment(&mut self, reply: &Reply, pages: u8)
-        requires two { 2 ≤ pages }
-        requires segment { reply.now.hl ≡ 0 → IsDescriptor reply.now pages }
-        ensures { self.new ≡ reserved reply.now self.old }
+        requires { 2 ≤ pages }
+        ensures { self.new ≡ reserved pages reply.now self.old }
     {
-        if reply.hl == 0 {
+        if reply.hl == 0 && is_segment_of(pages, reply) {
             self.seg = Seg(byte_at(reply, 3));
             self.spec = SegmentSpec {
                 base: byte_at(reply, 0),
@@ -471,6 +501,15 @@ fn request(relocatable: bool) -> u8
     } else {
         functions::ABSOLUTE_MEMORY_REQUEST
     }
+}
+
+/// Whether the descriptor that was answered is one of a segment of so many pages at least.
+fn is_segment_of(pages: u8, reply: &Reply) -> bool
+    ensures test { result ≡ is_segment_with pages reply.now }
+    ensures segment { OnTrue result (IsSegmentOf pages reply.now) }
+{
+    let [base, size, seg] = [byte_at(reply, 0), byte_at(reply, 1), byte_at(reply, 3)];
+    seg < 16 && pages <= size && u16::from(base) + u16::from(size) <= 192
 }
 
 /// The records that a call read, sixteen at most.

@@ -1,6 +1,3 @@
-ghost use Rattle.std.specs.Bool.{OnTrue};
-ghost use Rattle.mpm_cli.specs.Interpreters.{MayTake};
-
 use super::*;
 use mpm_base::{Call, Name8, Reply, Seg, functions};
 use mpm_command::base_page;
@@ -23,30 +20,13 @@ fn begin() -> Driven {
     }
 }
 
-/// Whether a reply may answer a call: a segment that it reserves is large enough, and ends below common memory.
-fn may_take(call: &Call, reply: &Reply) -> bool
-    ensures { OnTrue result (MayTake call.now reply.now) }
-{
-    if call.function != 128 && call.function != 129 {
-        return true;
-    }
-    let bytes = reply.placed();
-    if bytes.len() < 4 {
-        return false;
-    }
-    bytes[3] < 16 && call.byte(1) <= bytes[1] && u16::from(bytes[0]) + u16::from(bytes[1]) <= 192
-}
-
-/// It takes an answer, of at most 2,048 bytes, if that may answer its call.
+/// It takes an answer, of at most 2,048 bytes.
 fn answer(driven: &mut Driven, value: u16, bytes: &[u8]) -> bool {
     if 2048 < bytes.len() {
         return false;
     }
     driven.cli.next(&mut driven.call);
     driven.reply.answer_with(value, 0, bytes);
-    if !may_take(&driven.call, &driven.reply) {
-        return false;
-    }
     driven.cli.took(&driven.reply);
     true
 }
@@ -60,9 +40,6 @@ fn answer_file(driven: &mut Driven, value: u16, fcb: &[u8; 36], bytes: &[u8]) ->
     driven.reply.answer_with(value, 0, bytes);
     driven.reply.has_fcb = true;
     driven.reply.fcb = *fcb;
-    if !may_take(&driven.call, &driven.reply) {
-        return false;
-    }
     driven.cli.took(&driven.reply);
     true
 }
@@ -594,6 +571,41 @@ fn a_program_without_memory_is_told(rt: HostRuntime) {
     );
     assert!(rt; closes(&mut driven, &sized(8)));
     assert!(rt; tells(&mut driven, 0, b"No memory\r\n"));
+}
+
+/// Whether a program of seven pages gets no memory where this descriptor is answered.
+fn gets_none(driven: &mut Driven, descriptor: &[u8]) -> bool {
+    seeks(driven, b"")
+        && opens_relocatable(driven, 0x00FF)
+        && opens_absolute(driven, 0)
+        && asks_file(
+            driven,
+            functions::COMPUTE_FILE_SIZE,
+            &block(1),
+            b"",
+            0,
+            &sized(8),
+            b"",
+        )
+        && asks(
+            driven,
+            functions::ABSOLUTE_MEMORY_REQUEST,
+            0,
+            &[0, 7, 0, 0],
+            0,
+            descriptor,
+        )
+        && closes(driven, &sized(8))
+        && tells(driven, 0, b"No memory\r\n")
+}
+
+#[test]
+fn a_descriptor_that_is_no_segment_for_the_program_counts_as_refused(rt: HostRuntime) {
+    let mut driven = begin();
+    assert!(rt; gets_none(&mut driven, &[0, 6, 0x80, 2]));
+    assert!(rt; gets_none(&mut driven, &[0x40, 0x81, 0x80, 2]));
+    assert!(rt; gets_none(&mut driven, &[0, 7, 0x80, 16]));
+    assert!(rt; gets_none(&mut driven, b""));
 }
 
 #[test]

@@ -1,5 +1,5 @@
-//! Processes of the system itself. They run no instructions: each asks the kernel for one call a step, and goes on by its
-//! answer.
+//! Processes of the system itself. They run no instructions: each asks the kernel for one call a step, or hands something to
+//! the machine, and goes on by the answer.
 #![tactic(auto)]
 
 mod line;
@@ -7,7 +7,7 @@ mod native;
 mod residents;
 mod tmp;
 
-pub use native::{Act, Native};
+pub use native::Native;
 pub use residents::Residents;
 pub use tmp::Tmp;
 

@@ -1,52 +1,64 @@
 ghost use Rattle.std.specs.Prelude.{◌≡◌};
-ghost use Rattle.mpm_residents.specs.declared.native.Act.TheVariants.{Ask as Asks};
-ghost use Rattle.mpm_residents.specs.Natives.{native_call, native_took};
+ghost use Rattle.mpm_residents.specs.Natives.{native_act, native_call, native_took, asks as native_asks, IsNativeAct};
 
 use crate::Tmp;
 use mpm_base::{Call, Reply};
+use mpm_cli::{Act, Cli};
 
 /// A process of the system.
 #[derive(Drop)]
 pub enum Native {
     /// A terminal message processor.
     Tmp { tmp: Tmp },
-}
-
-/// What a process of the system does in its step.
-#[derive(Clone, Copy, Debug, PartialEq, Eq)]
-pub enum Act {
-    /// It makes the call that it filled in.
-    Ask,
+    /// The command line interpreter.
+    Cli { cli: Cli },
 }
 
 impl Native {
-    /// What it does next. It fills in the call; a call that is held, or has to be made again, is filled in again.
+    /// What it does next. It fills in the call that it makes, or the bytes that it hands over; a call that is held, or has to be
+    /// made again, is filled in again.
     pub fn next(&mut self, call: &mut Call) -> Act
         ensures native { self.new ≡ self.old }
         ensures call { call.new ≡ native_call self.old }
-        ensures act { result ≡ Asks }
+        ensures act { result ≡ native_act self.old }
+        ensures bounds { IsNativeAct self.old result }
     {
         match self {
-            Native::Tmp { tmp } => tmp.next(call),
+            Native::Tmp { tmp } => {
+                tmp.next(call);
+                Act::Ask
+            }
+            Native::Cli { cli } => cli.next(call),
         }
-        Act::Ask
     }
 
-    /// The number of the function that it calls next.
+    /// Whether it makes a call next, and hands nothing over.
+    pub fn asks(&self) -> bool
+        ensures { result ≡ native_asks self.now }
+    {
+        match self {
+            Native::Tmp { .. } => true,
+            Native::Cli { cli } => cli.asks(),
+        }
+    }
+
+    /// The number of the function that it calls next, 0 where it hands something over.
     pub fn function(&self) -> u8
         ensures { result ≡ (native_call self.now).function }
     {
         match self {
             Native::Tmp { tmp } => tmp.function(),
+            Native::Cli { cli } => cli.function(),
         }
     }
 
-    /// It takes the answer to that call.
+    /// It takes the answer to that.
     pub fn took(&mut self, reply: &Reply)
         ensures { self.new ≡ native_took self.old reply.now }
     {
         match self {
             Native::Tmp { tmp } => tmp.took(reply),
+            Native::Cli { cli } => cli.took(reply),
         }
     }
 }

@@ -1,5 +1,6 @@
 use super::*;
 use mpm_base::{Call, Pid, Reply, functions};
+use mpm_cli::{Act, Cli};
 use std::test::Fail;
 
 /// A processor, and the call and the reply with which it is driven.
@@ -251,26 +252,59 @@ fn a_line_may_have_127_bytes(rt: HostRuntime) {
     assert_eq!(rt; terminal.call.byte(128), b'a');
 }
 
+/// Whether a process makes a call of this function next, and says so beforehand.
+fn asks(native: &mut Native, call: &mut Call, function: u8) -> bool {
+    let told = native.asks() && native.function() == function;
+    match native.next(call) {
+        Act::Ask => told && call.function == function,
+        _ => false,
+    }
+}
+
+/// Whether a process gives a console back next, and says beforehand that it makes no call.
+fn gives(native: &mut Native, call: &mut Call, given: u8) -> bool {
+    let told = !native.asks() && native.function() == 0;
+    match native.next(call) {
+        Act::Give { console } => told && console == given,
+        _ => false,
+    }
+}
+
 #[test]
 fn a_call_that_is_held_is_made_again(rt: HostRuntime) {
     let mut native = Native::Tmp { tmp: Tmp::new(0) };
     let mut call = Call::new();
     let mut reply = Reply::new();
-    assert_eq!(rt; native.next(&mut call), Act::Ask);
-    assert_eq!(rt; call.function, functions::ATTACH_CONSOLE);
-    assert_eq!(rt; native.next(&mut call), Act::Ask);
-    assert_eq!(rt; call.function, functions::ATTACH_CONSOLE);
+    assert!(rt; asks(&mut native, &mut call, functions::ATTACH_CONSOLE));
+    assert!(rt; asks(&mut native, &mut call, functions::ATTACH_CONSOLE));
     reply.answer(0);
     native.took(&reply);
-    assert_eq!(rt; native.next(&mut call), Act::Ask);
-    assert_eq!(rt; call.function, functions::PRINT_STRING);
+    assert!(rt; asks(&mut native, &mut call, functions::PRINT_STRING));
+}
+
+#[test]
+fn an_interpreter_tells_of_a_command_without_a_name_and_gives_the_console_back(rt: HostRuntime) {
+    let mut native = Native::Cli { cli: Cli::new(2) };
+    let mut call = Call::new();
+    let mut reply = Reply::new();
+    assert!(rt; asks(&mut native, &mut call, functions::READ_QUEUE));
+    reply.answer_with(0, 0, b"\x00\x01=x");
+    native.took(&reply);
+    assert!(rt; asks(&mut native, &mut call, functions::PRINT_STRING));
+    assert_eq!(rt; call.word, 1);
+    assert!(rt; call.taken() == b"Bad load\r\n".as_slice());
+    reply.answer(0);
+    native.took(&reply);
+    assert!(rt; gives(&mut native, &mut call, 1));
+    native.took(&reply);
+    assert!(rt; asks(&mut native, &mut call, functions::READ_QUEUE));
 }
 
 /// The function that the resident of a slot calls next, 0 where none acts there.
 fn next_function(residents: &mut Residents, p: Pid) -> u8 {
     let mut call = Call::new();
-    if residents.has(p) {
-        residents.ask(p, &mut call);
+    if residents.asks(p) {
+        let _ = residents.ask(p, &mut call);
     }
     call.function
 }
@@ -285,10 +319,14 @@ fn answer(residents: &mut Residents, p: Pid) {
 #[test]
 fn each_resident_goes_on_by_its_own_answers(rt: HostRuntime) -> Result<(), Fail> {
     let mut residents = Residents::none(rt.alloc());
+    residents.add_interpreter(2)?;
     residents.add_terminal(0)?;
     residents.add_terminal(1)?;
     answer(&mut residents, Pid(2));
-    assert_eq!(rt; next_function(&mut residents, Pid(0)), 0);
+    assert_eq!(rt;
+        next_function(&mut residents, Pid(0)),
+        functions::READ_QUEUE
+    );
     assert_eq!(rt;
         next_function(&mut residents, Pid(1)),
         functions::ATTACH_CONSOLE

@@ -1,4 +1,5 @@
 pub mod Children
+pub mod Copied
 pub mod Homes
 pub mod CreatedLaws
 pub mod Beginning

@@ -1,4 +1,5 @@
 pub mod Ending
 pub mod Creating
 pub mod Aborting
+pub mod Copies
 pub mod Procedures

@@ -106,7 +106,7 @@ fn has_name(call: &Call, process: &Process) -> bool
 }
 
 /// The address of the copy of a process's descriptor in common memory.
-fn copy_address(q: Pid) -> u16
+pub(crate) fn copy_address(q: Pid) -> u16
     ensures { result ≡ address_of_copy q }
 {
     0xF800 + 52 * u16::from(q.0)
