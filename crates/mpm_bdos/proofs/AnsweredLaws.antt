@@ -1,28 +1,27 @@
 -- What a call leaves of open files, and what its reply goes by, is what its turns have come to.
 use Rattle.std.proofs.Common.{◌≡◌, ◌∙◌, ℕ, ◌==◌, ◌&&◌, not, Bool, true, false, cond, List, Option, Some, None, refl, sym, ap, subst}
-use Rattle.std.specs.Prelude.{bytes_eq, is_some, map, option_and_then, option_map, unwrap_or}
+use Rattle.std.specs.Prelude.{bytes_eq, is_some, option_and_then, option_map, unwrap_or}
 use Rattle.std.proofs.lemmas.Bool.{true≢false, false≢true}
 use Rattle.std.proofs.lemmas.Option.{same_Some}
-use Rattle.mpm_mount.specs.Drives.{FileName, Drive}
+use Rattle.mpm_mount.specs.Drives.{Drive}
 use Rattle.mpm_opens.specs.declared.kinds.FileKey.{FileKey}
 use Rattle.mpm_opens.specs.declared.kinds.Item.{Item}
 use Rattle.mpm_opens.specs.declared.kinds.Mode.{Mode}
 use Rattle.mpm_opens.specs.declared.kinds.Mode.TheVariants.{Locked, Unlocked, ReadOnly}
 use Rattle.mpm_opens.specs.Kinds.{is_same_mode, is_file}
-use Rattle.mpm_opens.specs.Items.{place_at, is_named, file_where, file_named, is_given_back, add_answer}
+use Rattle.mpm_opens.specs.Items.{place_at, is_named, file_where, file_named, add_answer}
 use Rattle.mpm_opens.specs.Opens.{OpenFiles, item_of, AreOpen, added, given_back, closed, written}
 use Rattle.mpm_opens.proofs.Keys.{equal_numbers}
 use Rattle.mpm_files.specs.declared.work.Work.{Work}
-use Rattle.mpm_fcb.specs.declared.block.ControlBlock.{ControlBlock}
 use Rattle.mpm_fcb.specs.Names.{has_f5}
 use Rattle.mpm_fcb.specs.Positions.{random_record}
 use Rattle.mpm_bdos.specs.declared.functions.FileFunction.{FileFunction}
 use Rattle.mpm_bdos.specs.declared.functions.FileFunction.TheVariants.{ResetDisks, OpenFile, CloseFile, SearchFirst, SearchNext, DeleteFile, ReadSequential, WriteSequential, MakeFile, RenameFile, ProtectDisk, SetAttributes, ReadRandom, WriteRandom, FileSize, ResetDrives, AccessDrives, FreeDrives, TestAndWrite, LockRecord, UnlockRecord, FreeSpace, FlushBuffers, SetLabel, LabelData, ReadXfcb, WriteXfcb}
 use Rattle.mpm_bdos.specs.Filing.{Situation, block}
-use Rattle.mpm_bdos.specs.Subjects.{drive_number, drive_at, own_file, key_of, file_of, item_number, key_named, open_key, open_mode, open_file, opened_in, subject_by, subject, subject_key, first_by, first_record, given_password, mode_asked, mode_in, mode_by}
+use Rattle.mpm_bdos.specs.Subjects.{drive_number, drive_at, own_file, key_of, file_of, item_number, key_named, open_key, open_mode, open_file, opened_in, subject_by, subject, subject_key, first_by, first_record, given_password, mode_in, mode_by}
 use Rattle.mpm_bdos.specs.Refusals.{refusals_of, applies, refusal_of}
 use Rattle.mpm_bdos.specs.Records.{Locking, locking, unlocking}
-use Rattle.mpm_bdos.specs.Jobs.{job_by, call_turns, Turned, turned}
+use Rattle.mpm_bdos.specs.Jobs.{job_by, call_turns, turned}
 use Rattle.mpm_bdos.specs.Changes.{is_among, is_deleted, deleted_by, locking_of, opens_by}
 use Rattle.mpm_bdos.specs.Replies.{end_after, opened_as, granted_of}
 use Rattle.mpm_bdos.specs.Replies as replies

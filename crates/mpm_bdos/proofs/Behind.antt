@@ -13,7 +13,7 @@ use Rattle.mpm_mount.proofs.Sought.{by_fields, less_through}
 use Rattle.mpm_bdos.specs.declared.searching.EntryPlace.{EntryPlace}
 use Rattle.mpm_files.specs.Plans.{entries_named, is_fitting}
 use Rattle.mpm_bdos.specs.Subjects.{is_behind, is_next, next_in, is_of_extent, found_in}
-use Rattle.mpm_bdos.specs.Looking.{at_place, entry_found, MissesNothing}
+use Rattle.mpm_bdos.specs.Looking.{MissesNothing}
 use Rattle.mpm_files.proofs.Lowest.{found_same}
 
 -- of entries of one user, the order is that of names and then of numbers

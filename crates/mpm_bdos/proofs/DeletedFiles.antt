@@ -1,11 +1,9 @@
 -- The open files that a deletion gives back: what is kept of them as it begins names the same files.
-use Rattle.std.proofs.Common.{◌≡◌, ◌∙◌, ℕ, zero, suc, ◌%◌, ◌+◌, ◌<◌, ◌≤◌, ◌==◌, Bool, true, false, not, ◌&&◌, ◌||◌, cond, List, [], ◌∷◌, Option, Some, None, length, take, get_or, map, refl, sym, ap, arith, eq-eqb}
+use Rattle.std.proofs.Common.{◌≡◌, ◌∙◌, ℕ, zero, suc, ◌%◌, ◌+◌, ◌<◌, ◌==◌, Bool, true, false, not, ◌&&◌, ◌||◌, cond, List, [], ◌∷◌, Option, Some, None, length, take, get_or, map, refl, sym, ap, arith, eq-eqb}
 use Rattle.std.proofs.lemmas.List.{get_or-map, length-map}
-use Rattle.std.specs.Prelude.{bytes_eq, is_some, find, filter, option_map, slice_index_or}
-use Rattle.std.specs.List.{list_any, list_all, range_with_len}
-use Rattle.std.specs.List as lists
-use Rattle.std.proofs.lemmas.Bool.{true≢false, false≢true, and_parts}
-use Rattle.std.proofs.lemmas.Option.{same_Some}
+use Rattle.std.specs.Prelude.{bytes_eq, is_some, find, filter, option_map}
+use Rattle.std.specs.List.{list_any, list_all}
+use Rattle.std.proofs.lemmas.Bool.{false≢true, and_parts}
 use Rattle.std.proofs.lemmas.List.FromFn.{fill_by_all}
 use Rattle.mpm_names.specs.Matching.{does_match}
 use Rattle.mpm_names.proofs.Fitting.{fits_everywhere}
@@ -15,13 +13,11 @@ use Rattle.mpm_mount.specs.Directories.{Directory, Stands}
 use Rattle.mpm_mount.specs.Faults.{plain}
 use Rattle.mpm_mount.specs.Searching.{search_of, IsNext}
 use Rattle.mpm_mount.proofs.UsedBlocks.{or_last}
-use Rattle.mpm_mount.proofs.Replaced.{and_all}
 use Rattle.mpm_files.specs.Plans.{is_same_file, entries_named, is_entry_of, has_file, is_fitting}
 use Rattle.mpm_files.proofs.Names.{one_file}
 use Rattle.mpm_opens.specs.declared.kinds.FileKey.{FileKey}
 use Rattle.mpm_opens.specs.declared.kinds.Item.{Item}
 use Rattle.mpm_opens.specs.declared.kinds.RecordLock.{RecordLock}
-use Rattle.mpm_opens.specs.Kinds.{is_file}
 use Rattle.mpm_opens.specs.Kinds as keys
 use Rattle.mpm_opens.specs.Items.{place_at, has_item_of, file_where, is_given_back, left_in, items_without}
 use Rattle.mpm_opens.specs.Locks.{locks_without, is_lock_among}
@@ -29,7 +25,7 @@ use Rattle.mpm_opens.specs.Opens.{OpenFiles, given_back, has_owners_item, AreOpe
 use Rattle.mpm_opens.proofs.Keys.{equal_numbers, same_file, file_is_itself, same_file_back}
 use Rattle.mpm_opens.proofs.GivingLaws.{given_back_twice}
 use Rattle.mpm_bdos.specs.declared.releasing.Deletion.{Deletion}
-use Rattle.mpm_bdos.specs.Subjects.{file_of, is_next, next_in, fits, deleted_in}
+use Rattle.mpm_bdos.specs.Subjects.{file_of, is_next, next_in, fits}
 use Rattle.mpm_bdos.specs.Looking.{entry_found}
 use Rattle.mpm_bdos.specs.Changes.{is_deleted_in, is_at, is_among}
 use Rattle.mpm_files.proofs.SearchSteps.{plain_twice}

@@ -1,7 +1,7 @@
 -- What the records of a call come to, by its work behind its last turn, is what its turns have come to.
-use Rattle.std.proofs.Common.{◌≡◌, ◌∙◌, ℕ, ◌+◌, ◌≤◌, ◌<◌, ◌==◌, Bool, true, false, cond, List, Option, Some, None, IfSome, refl, sym, ap, subst, arith, eqb-true}
+use Rattle.std.proofs.Common.{◌≡◌, ◌∙◌, ℕ, ◌≤◌, ◌<◌, ◌==◌, Bool, true, false, cond, List, Option, Some, None, IfSome, refl, sym, ap, subst, arith, eqb-true}
 use Rattle.std.specs.Prelude.{is_some, nat_lt, min}
-use Rattle.std.proofs.lemmas.Bool.{true≢false, false≢true}
+use Rattle.std.proofs.lemmas.Bool.{false≢true}
 use Rattle.std.proofs.lemmas.Bool.Decides.{nat_tests}
 use Rattle.std.proofs.lemmas.Option.{same_Some}
 use Rattle.mpm_mount.specs.Drives.{Drive}
@@ -13,10 +13,8 @@ use Rattle.mpm_files.specs.Plans.{file_of_job, turns_of}
 use Rattle.mpm_files.specs.Serving.{IsServing}
 use Rattle.mpm_files.specs.Turning.{Suits}
 use Rattle.mpm_files.proofs.Missed.{error_told}
-use Rattle.mpm_bdos.specs.declared.ends.Ended.{Ended}
 use Rattle.mpm_bdos.specs.declared.functions.FileFunction.{FileFunction}
 use Rattle.mpm_bdos.specs.declared.functions.FileFunction.TheVariants.{ResetDisks, OpenFile, CloseFile, SearchFirst, SearchNext, DeleteFile, ReadSequential, WriteSequential, MakeFile, RenameFile, ProtectDisk, SetAttributes, ReadRandom, WriteRandom, FileSize, ResetDrives, AccessDrives, FreeDrives, TestAndWrite, LockRecord, UnlockRecord, FreeSpace, FlushBuffers, SetLabel, LabelData, ReadXfcb, WriteXfcb}
-use Rattle.mpm_bdos.specs.declared.refusals.Refusal.{Refusal}
 use Rattle.mpm_bdos.specs.Filing.{Situation}
 use Rattle.mpm_bdos.specs.Subjects.{drive_at}
 use Rattle.mpm_bdos.specs.Refusals.{refusal_of}

@@ -1,6 +1,6 @@
 -- A turn on one drive leaves all mounted drives fit, and the images of all others.
 use Rattle.std.proofs.Common.{◌≡◌, ◌≢◌, ℕ, zero, suc, ◌<◌, Bool, true, List, [], ◌∷◌, Option, Some, None, IfSome, refl, sym, ap, subst, ◌∙◌, arith, length}
-use Rattle.std.specs.Prelude.{is_some, option_map, option_and_then, slice_index_or, slice_set}
+use Rattle.std.specs.Prelude.{IsSome, is_some, option_map, option_and_then, slice_index_or, slice_set}
 use Rattle.std.proofs.lemmas.Bool.{true≢false}
 use Rattle.mpm_base.specs.declared.kind.Kind.{Kind}
 use Rattle.mpm_port.specs.Disks.{Disks, Told, image_of}
@@ -11,7 +11,8 @@ use Rattle.mpm_cache.specs.Coherent.{HaveOwnImages, StayApart, AreApart}
 use Rattle.mpm_sectors.specs.Writes.{Elsewhere}
 use Rattle.mpm_mount.specs.Directories.{Directory}
 use Rattle.mpm_bdos.specs.Serving.{directory_at, AreInPlace}
-use Rattle.mpm_bdos.specs.Turns.{FitsDrives, KeepsImages, HasLeft, has_directory, labelled}
+use Rattle.mpm_bdos.specs.Syncing.{AreAttached}
+use Rattle.mpm_bdos.specs.Turns.{FitsDrives, KeepsImages, StaysBeside, HasLeft, has_directory, labelled}
 
 -- what is in a place that is there
 pub in_place : {X : Type 0} (xs : List X) (n : ℕ) (x y : X) → n < length xs → slice_index_or xs n x ≡ slice_index_or xs n y
@@ -28,7 +29,7 @@ labels_stay (d ∷ ds) zero (suc other) new same = refl
 labels_stay (d ∷ ds) (suc number) zero new same = refl
 labels_stay (d ∷ ds) (suc number) (suc other) new same = labels_stay ds number other new same
 
-there_label : (d : Option Directory) → is_some (option_map labelled d) ≡ is_some d
+pub there_label : (d : Option Directory) → is_some (option_map labelled d) ≡ is_some d
 there_label None = refl
 there_label (Some d) = refl
 
@@ -119,3 +120,45 @@ images_after attached disks failed mounted number None cached later old now plac
 images_after attached disks failed mounted number (Some d) cached later old now placed is left fits = λ other apart there.
     elsewhere_told d.drive other (disks old) (disks now) left.others (fits.apart.own d.drive other (is_there mounted number d placed is) there)
     (λ same. apart (ap (λ n. Some n) (sym (its_number mounted number d placed is) ∙ same)))
+
+-- each drive is that of the image of its name, and an image that is no mounted drive's is as it was
+pub stays_same : (mounted : List (Option Directory)) (disks : Option Disks) → Told (StaysBeside mounted) disks disks
+stays_same mounted None = refl
+stays_same mounted (Some disks) = record { names = λ number. refl; others = λ name none. refl }
+
+elsewhere_beside : (mounted : List (Option Directory)) (drive : ℕ) (disks now : Option Disks) → has_directory mounted drive ≡ true → Told (Elsewhere drive) disks now → Told (StaysBeside mounted) disks now
+elsewhere_beside mounted drive None now there told = told
+elsewhere_beside mounted drive (Some disks) None there told = absurd told
+elsewhere_beside mounted drive (Some disks) (Some now) there told = record { names = told.names; others = λ name none. told.others name (none drive there) }
+
+pub stays_after : {D : Type 0} (attached : D → ℕ → Option ℕ) (disks : D → Option Disks) (failed : D → List (List ℕ)) (mounted : List (Option Directory)) (number : ℕ) (d : Option Directory)
+    (cached later : List (Place × List ℕ)) (old now : D) → AreInPlace mounted → directory_at mounted number ≡ d → HasLeft attached disks failed d cached later old now
+    → Told (StaysBeside mounted) (disks old) (disks now)
+stays_after attached disks failed mounted number None cached later old now placed is left =
+    subst (λ (device : _). Told (StaysBeside mounted) (disks old) (disks device)) (sym left.drives) (stays_same mounted (disks old))
+stays_after attached disks failed mounted number (Some d) cached later old now placed is left =
+    elsewhere_beside mounted d.drive (disks old) (disks now) (is_there mounted number d placed is) left.others
+
+-- over several turns: the same drives are mounted
+stays_told : (one other : List (Option Directory)) (first next last : Disks) → ((number : ℕ) → has_directory other number ≡ has_directory one number)
+    → StaysBeside one first next → StaysBeside other next last → StaysBeside one first last
+stays_told one other first next last same a b = record {
+  names = λ number. b.names number ∙ a.names number;
+  others = λ name none. b.others name (λ number there is. none number (sym (same number) ∙ there) (sym (a.names number) ∙ is)) ∙ a.others name none;
+}
+
+pub stays_again : (one other : List (Option Directory)) (first next last : Option Disks) → ((number : ℕ) → has_directory other number ≡ has_directory one number)
+    → Told (StaysBeside one) first next → Told (StaysBeside other) next last → Told (StaysBeside one) first last
+stays_again one other None next last same a b = subst (λ disks. Told (StaysBeside other) disks last) a b
+stays_again one other (Some first) None last same a b = absurd a
+stays_again one other (Some first) (Some next) None same a b = absurd b
+stays_again one other (Some first) (Some next) (Some last) same a b = stays_told one other first next last same a b
+
+-- drives that are mounted are attached
+if_attached : (d : Option Directory) (size : Option ℕ) → IfSome d (λ directory. size ≡ Some (geometry_of directory.kind).bytes) → IfSome d (λ directory. IsSome size)
+if_attached None size is = tt
+if_attached (Some d) size is = ap is_some is
+
+pub fit_attached : {D : Type 0} (attached : D → ℕ → Option ℕ) (disks : D → Option Disks) (mounted : List (Option Directory)) (cached : List (Place × List ℕ)) (drives : D)
+    → FitsDrives attached disks mounted cached drives → AreAttached (attached drives) mounted
+fit_attached attached disks mounted cached drives fits = λ number. if_attached (directory_at mounted number) (attached drives number) (fits.sizes number)

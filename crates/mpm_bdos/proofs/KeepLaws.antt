@@ -1,6 +1,6 @@
 -- The search of a call that is kept, where it found an entry.
 use Rattle.std.proofs.Common.{◌≡◌, ◌∙◌, ℕ, ◌==◌, ◌&&◌, List, Option, Some, None, sym, ap, eqb-true}
-use Rattle.std.specs.Prelude.{find, option_and_then, option_map, slice_set}
+use Rattle.std.specs.Prelude.{option_map, slice_set}
 use Rattle.std.proofs.lemmas.Bool.{and_parts}
 use Rattle.mpm_base.specs.declared.kind.Kind.{Kind}
 use Rattle.mpm_names.specs.Matching.{does_match}

@@ -1,5 +1,5 @@
 -- A call on a mounted drive is answered as its turns have come to.
-use Rattle.std.proofs.Common.{◌≡◌, ◌∙◌, ℕ, List, Option, Some, None, sym, ap, subst}
+use Rattle.std.proofs.Common.{◌≡◌, ◌∙◌, ℕ, List, Option, Some, sym, ap, subst}
 use Rattle.std.specs.Prelude.{option_map}
 use Rattle.mpm_base.specs.Calls.{Answer}
 use Rattle.mpm_mount.specs.Drives.{FileName, Drive}
@@ -7,19 +7,18 @@ use Rattle.mpm_mount.specs.Directories.{Directory, Stands}
 use Rattle.mpm_opens.specs.declared.kinds.FileKey.{FileKey}
 use Rattle.mpm_opens.specs.Opens.{OpenFiles, AreOpen}
 use Rattle.mpm_files.specs.declared.work.Work.{Work}
-use Rattle.mpm_bdos.specs.declared.asking.Asked.{Asked}
 use Rattle.mpm_bdos.specs.declared.ends.Ended.{Ended}
 use Rattle.mpm_bdos.specs.declared.granting.Granted.{Granted}
 use Rattle.mpm_bdos.specs.declared.finding.FoundEntry.{FoundEntry}
-use Rattle.mpm_bdos.specs.Filing.{LastSearch, Situation}
+use Rattle.mpm_bdos.specs.Filing.{Situation}
 use Rattle.mpm_bdos.specs.Subjects.{found}
 use Rattle.mpm_bdos.specs.Jobs.{call_turns, turned}
-use Rattle.mpm_bdos.specs.Changes.{opens_by, searches_by, search_of_call}
+use Rattle.mpm_bdos.specs.Changes.{opens_by}
 use Rattle.mpm_bdos.specs.Replies.{answer_by, granted_of, answer_after}
 use Rattle.mpm_bdos.specs.Asking.{asked_of, found_as}
 use Rattle.mpm_bdos.specs.Ending.{moved_by, ended, IsPlaced}
 use Rattle.mpm_bdos.specs.Leaving.{left_first, granted_by, opens_left, IsGranted, IsInFile}
-use Rattle.mpm_bdos.specs.Replying.{IsAnswering, IsReplied}
+use Rattle.mpm_bdos.specs.Replying.{IsAnswering}
 use Rattle.mpm_bdos.proofs.AnsweredLaws.{granted_same, opens_same}
 use Rattle.mpm_bdos.proofs.ToldLaws.{FewDone, ends_so, few_granted, placed, in_file, has_read}
 

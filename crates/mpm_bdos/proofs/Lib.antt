@@ -39,6 +39,7 @@ pub mod Suited
 pub mod Started
 pub mod AskedLaws
 pub mod UnmountedLaws
+pub mod OnDrives
 pub mod Firsts
 pub mod DeletedFiles
 pub mod OpenedLaws
@@ -48,3 +49,6 @@ pub mod AnsweredLaws
 pub mod KeepLaws
 pub mod ToldLaws
 pub mod LastLaws
+pub mod UserLaws
+pub mod FinishLaws
+pub mod AtOnceLaws

@@ -81,7 +81,7 @@ job_drives : (s : Situation) (job : Job) (j : ℕ) → job_of s ≡ Some job →
 unfolding drives_after turned
 job_drives s job j is = ap (λ found. drives_by s (turned_by (drive_at s) j found).drive found) is
 
-idle_drives : (s : Situation) (j : ℕ) → job_of s ≡ None → drives_after s j ≡ s.filing.drives
+pub idle_drives : (s : Situation) (j : ℕ) → job_of s ≡ None → drives_after s j ≡ s.filing.drives
 unfolding drives_after turned
 idle_drives s j is = ap (λ found. drives_by s (turned_by (drive_at s) j found).drive found) is
 
@@ -163,6 +163,7 @@ kept_call service other s same is = record {
   call = ap (λ (call : InService). call.call) same ∙ is.call;
   moment = ap (λ (call : InService). call.moment) same ∙ is.moment;
   refusal = ap (λ (call : InService). call.refusal) same ∙ is.refusal;
+  deleted = λ none. ap (λ (call : InService). call.deleted) same ∙ is.deleted none;
 }
 
 -- it is there, by its work
@@ -240,6 +241,7 @@ serves_more disks now old new s j job is kept images serves serving =
       service = call.one;
       there = call.there;
       is = served;
+      sound = serves.sound;
       suits = serves.suits;
       works = subst (λ found. WorksOn (told_images now number) (directory_at new.mounted number) (drive_at s) found (suc j) call.one.work) (sym is) works;
       same = ap (λ one. filing_of one s.filing.drives) kept.rest ∙ serves.same;
@@ -267,6 +269,7 @@ serves_idly images old new s j is kept service mounted serves = record {
   service = serves.service;
   there = service ∙ serves.there;
   is = serves.is;
+  sound = serves.sound;
   suits = serves.suits;
   works = works;
   same = ap (λ one. filing_of one s.filing.drives) kept.rest ∙ serves.same;

@@ -1,12 +1,11 @@
 -- An opening changes nothing of its drive by which its file is found and its mode is asked: it may set a stamp.
-use Rattle.std.proofs.Common.{◌≡◌, ◌∙◌, ℕ, Bool, not, ◌||◌, cond, List, [], ◌∷◌, Option, Some, None, refl, sym, ap, subst}
+use Rattle.std.proofs.Common.{◌≡◌, ◌∙◌, ℕ, not, ◌||◌, cond, List, [], ◌∷◌, Option, Some, None, refl, sym, ap, subst}
 use Rattle.std.specs.Prelude.{filter, option_map, unwrap_or}
 use Rattle.std.specs.FinMap.{FinMap, get, get-insert, entries}
 use Rattle.std.specs.Ordering.{is_eq}
 use Rattle.std.specs.Cmp.{tied_itself}
 use Rattle.mpm_mount.specs.Drives.{FileName, entry_cmp, PhysicalExtent, Protection, Drive, with_xfcb, is_of, extents_of}
 use Rattle.mpm_mount.proofs.Orders.{file_total}
-use Rattle.mpm_opens.specs.declared.kinds.Mode.{Mode}
 use Rattle.mpm_opens.specs.declared.kinds.Mode.TheVariants.{ReadOnly}
 use Rattle.mpm_guard.specs.Passwords.{is_admitted}
 use Rattle.mpm_files.specs.declared.jobs.JobKind.{JobKind}

@@ -4,7 +4,9 @@ use Rattle.std.specs.Prelude.{is_some, max, min, length, unwrap_or, slice_index_
 use Rattle.std.proofs.lemmas.List.{set-get_or}
 use Rattle.std.proofs.lemmas.Option.{same_Some}
 use Rattle.mpm_base.specs.Calls.{Taken}
-use Rattle.mpm_mount.specs.Drives.{Drive}
+use Rattle.std.specs.FinMap.{get-empty}
+use Rattle.mpm_mount.specs.Drives.{Drive, IsOfImage, entry_cmp}
+use Rattle.mpm_mount.proofs.InSlots.{extent_of_image}
 use Rattle.mpm_mount.specs.Faults.{plain}
 use Rattle.mpm_mount.specs.Directories.{Directory, Stands}
 use Rattle.mpm_fcb.specs.declared.block.ControlBlock.{ControlBlock}
@@ -25,14 +27,17 @@ use Rattle.mpm_bdos.specs.Refusals.{refusal_of}
 use Rattle.mpm_bdos.specs.Jobs.{job_by, unless_refused, job_of, turns_by, call_turns, turned_by, turned}
 use Rattle.mpm_bdos.specs.Changes.{drives_by}
 use Rattle.mpm_bdos.specs.Outcomes.{drives_after}
+use Rattle.mpm_bdos.specs.Ending.{IsSound}
 use Rattle.mpm_bdos.specs.Planning.{IsAbout}
-use Rattle.mpm_bdos.specs.Asking.{StandsFor, unnamed_refusal, unmounted_refusal}
+use Rattle.mpm_bdos.specs.Asking.{StandsFor, unnamed_refusal}
 use Rattle.mpm_bdos.specs.Serving.{IsCaller, HaveUsers, InService, Kept, StandsWhere, StandEach, directory_at, WorksOn, Serves}
 use Rattle.mpm_bdos.specs.Starting.{entering, about_in, Begins, Enters, EntersAmong, turns_where}
 use Rattle.mpm_files.proofs.SearchSteps.{plain_twice}
+use Rattle.mpm_files.proofs.Tied.{kind_of}
 use Rattle.mpm_bdos.proofs.NamedFiles.{subject_name}
 use Rattle.mpm_bdos.proofs.Suited.{IsCall, each_suits, low_first}
 use Rattle.mpm_bdos.proofs.UnmountedLaws.{unmounted_so}
+use Rattle.mpm_bdos.proofs.OnDrives.{no_drive}
 
 pub plain_again : (name other : List ℕ) → name ≡ plain other → plain name ≡ name
 plain_again name other e = ap plain e ∙ plain_twice other ∙ sym e
@@ -103,10 +108,6 @@ pub refused_begins : (image : List ℕ) (directory : Option Directory) (s : Situ
 unfolding job_of
 refused_begins image directory s refusal e is = begins_none image directory s (ap (λ r. unless_refused r (job_by s s.function)) (sym e) ∙ refused_job s refusal is)
 
-no_drive : (s : Situation) (named : Option ℕ) (refusal : Option Refusal) → unmounted_refusal named refusal ≡ None → named ≡ None
-no_drive s None refusal e = refl
-no_drive s (Some drive) refusal e = absurd (cc)
-
 without_drive : (s : Situation) (function : FileFunction) → drive_by (last_search s) s.caller.drive s.call.word (block s) function ≡ None → job_by s function ≡ None
 unfolding drive_by job_by
 without_drive s OpenFile none = absurd (cc)
@@ -176,6 +177,28 @@ drives_at_first : (image : List ℕ) (directory : Option Directory) (s : Situati
 unfolding drives_after turned
 drives_at_first image directory s work stands works = by_job image directory s (job_of s) work (mounted s.filing (drive_number s)) refl stands works
 
+-- its drive is that of an image, or there is none
+sound_there : (image : List ℕ) (d : Directory) (drive : Drive) → Stands image d drive → IsSound drive
+sound_there image d drive stands = record {
+  each = λ file number extent is. subst (λ kind. IsOfImage kind (record { user = file.user; name = file.name; number = number }) extent) (sym (kind_of image d drive stands))
+      (extent_of_image image d drive (record { user = file.user; name = file.name; number = number }) extent stands is);
+}
+
+pub nothing_some : {X : Type 0} (x : X) → None ≡ Some x → ⊥
+nothing_some x e = absurd (cc)
+
+sound_nowhere : IsSound blank_drive
+sound_nowhere = record {
+  each = λ file number extent is.
+      absurd (nothing_some extent (sym (get-empty entry_cmp (record { user = file.user; name = file.name; number = number })) ∙ is));
+}
+
+sound_drive : (image : List ℕ) (directory : Option Directory) (s : Situation) (m : Option Drive) → mounted s.filing (drive_number s) ≡ m → StandsWhere (drive_number s) image directory m → IsSound (drive_at s)
+unfolding drive_at
+sound_drive image directory s None at stands = subst (λ (m : Option Drive). IsSound (unwrap_or m blank_drive)) (sym at) sound_nowhere
+sound_drive image None s (Some drive) at stands = absurd stands
+sound_drive image (Some d) s (Some drive) at stands = subst (λ (m : Option Drive). IsSound (unwrap_or m blank_drive)) (sym at) (sound_there image d drive stands.stands)
+
 -- it is in service
 pub in_service : (images : ℕ → List ℕ) (kept : Kept) (drives : List (Option Drive)) (caller : Caller) (function : FileFunction) (call : Taken) (moment : List ℕ) (service : InService)
     → StandEach images kept.mounted drives
@@ -188,6 +211,7 @@ in_service images kept drives caller function call moment service stand enters =
       service = service;
       there = refl;
       is = enters.is;
+      sound = sound_drive (images number) (directory_at kept.mounted number) s (mounted s.filing number) refl (stand.each number);
       suits = enters.begins.suits;
       works = enters.begins.works;
       same = refl;

@@ -1,9 +1,8 @@
 -- What is looked up of a call behind its turns is what was looked up of it as it entered.
-use Rattle.std.proofs.Common.{◌≡◌, ◌∙◌, ℕ, zero, suc, Bool, true, false, List, Option, Some, None, refl, sym, ap, subst}
-use Rattle.std.specs.Prelude.{is_some, option_and_then, slice_index_or, unwrap_or, replicate}
-use Rattle.std.proofs.lemmas.Bool.{true≢false, false≢true}
+use Rattle.std.proofs.Common.{◌≡◌, ◌∙◌, ℕ, zero, suc, Bool, true, false, Option, Some, None, refl, sym, ap, subst}
+use Rattle.std.specs.Prelude.{is_some, slice_index_or, unwrap_or, replicate}
+use Rattle.std.proofs.lemmas.Bool.{false≢true}
 use Rattle.mpm_mount.specs.Drives.{FileName, Drive}
-use Rattle.mpm_mount.specs.Faults.{plain}
 use Rattle.mpm_opens.specs.declared.kinds.FileKey.{FileKey}
 use Rattle.mpm_files.specs.declared.jobs.JobKind.TheVariants as kinds
 use Rattle.mpm_files.specs.declared.jobs.Job.{Job}
@@ -11,7 +10,6 @@ use Rattle.mpm_files.specs.Plans.{file_of_job, turns_of}
 use Rattle.mpm_files.specs.Serving.{units_done}
 use Rattle.mpm_guard.specs.Passwords.{has_bit}
 use Rattle.mpm_fcb.specs.declared.block.ControlBlock.{ControlBlock}
-use Rattle.mpm_bdos.specs.declared.asking.Asked.{Asked}
 use Rattle.mpm_bdos.specs.declared.functions.FileFunction.{FileFunction}
 use Rattle.mpm_bdos.specs.declared.functions.FileFunction.TheVariants.{ResetDisks, OpenFile, CloseFile, SearchFirst, SearchNext, DeleteFile, ReadSequential, WriteSequential, MakeFile, RenameFile, ProtectDisk, SetAttributes, ReadRandom, WriteRandom, FileSize, ResetDrives, AccessDrives, FreeDrives, TestAndWrite, LockRecord, UnlockRecord, FreeSpace, FlushBuffers, SetLabel, LabelData, ReadXfcb, WriteXfcb}
 use Rattle.mpm_bdos.specs.Filing.{LastSearch, Situation, block}

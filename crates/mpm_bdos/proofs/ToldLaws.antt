@@ -1,9 +1,9 @@
 -- What bounds a reply: few records are done where something ended them, a position is one that a block can have, and the records that
 -- were read stand at the front of their job's bytes.
-use Rattle.std.proofs.Common.{◌≡◌, ◌∙◌, ◌⊎◌, inl, inr, ℕ, zero, suc, ◌+◌, ◌/◌, ◌≤◌, ◌<◌, ◌==◌, not, Bool, true, false, cond, List, [], ◌∷◌, ◌++◌, Option, Some, None, IfSome, length, refl, sym, ap, subst, arith}
-use Rattle.std.specs.Prelude.{is_some, nat_le, nat_lt, sum_by, option_and_then}
+use Rattle.std.proofs.Common.{◌≡◌, ◌∙◌, ◌⊎◌, inl, inr, ℕ, zero, suc, ◌+◌, ◌/◌, ◌≤◌, ◌<◌, not, Bool, true, false, cond, List, [], ◌∷◌, ◌++◌, Option, Some, None, IfSome, length, refl, sym, ap, subst, arith}
+use Rattle.std.specs.Prelude.{is_some, nat_le, sum_by, option_and_then}
 use Rattle.std.specs.FinMap.{get}
-use Rattle.std.proofs.lemmas.Bool.{true≢false, false≢true, cases_lt}
+use Rattle.std.proofs.lemmas.Bool.{false≢true, cases_lt}
 use Rattle.std.proofs.lemmas.Bool.Decides.{nat_tests}
 use Rattle.std.proofs.lemmas.Option.{same_Some}
 use Rattle.std.proofs.lemmas.List.Sums.{sum_by-cons}
@@ -18,7 +18,7 @@ use Rattle.mpm_files.specs.declared.jobs.JobKind.TheVariants as kinds
 use Rattle.mpm_files.specs.declared.jobs.Job.{Job}
 use Rattle.mpm_files.specs.declared.work.Work.{Work}
 use Rattle.mpm_files.specs.Units.{ReadsRecord, where_there, stages, last_of, applied}
-use Rattle.mpm_files.specs.Plans.{Plan, file_of_job, behind, unless_failing, read_error, reading, plan_by, plan_of, turns_of}
+use Rattle.mpm_files.specs.Plans.{Plan, file_of_job, behind, unless_failing, reading, plan_by, plan_of, turns_of}
 use Rattle.mpm_files.specs.Serving.{records_moved, moved_after, all_read, records_after, IsServing}
 use Rattle.mpm_files.specs.Turning.{Suits}
 use Rattle.mpm_files.proofs.TurnLaws.{take_all}
@@ -30,12 +30,12 @@ use Rattle.mpm_bdos.specs.Filing.{Situation, block}
 use Rattle.mpm_fcb.specs.Positions.{random_record, are_beyond}
 use Rattle.mpm_bdos.specs.Subjects.{drive_at, subject_key, first_by, first_record, open_mode}
 use Rattle.mpm_bdos.specs.Refusals.{refusals_of, applies, refusal_of}
-use Rattle.mpm_bdos.specs.Records.{Asked, Locking, one_locked, unless_ended, end_of, locking}
-use Rattle.mpm_bdos.specs.Jobs.{free_count, reading_job, writing_job, testing_job, where_some, job_by, job_of, turns_by, call_turns, Turned, turned_by, turned}
+use Rattle.mpm_bdos.specs.Records.{Locking, unless_ended, end_of, locking}
+use Rattle.mpm_bdos.specs.Jobs.{free_count, reading_job, writing_job, testing_job, job_by, job_of, turns_by, call_turns, Turned, turned_by, turned}
 use Rattle.mpm_bdos.specs.Changes.{locking_of}
-use Rattle.mpm_bdos.specs.Replies.{end_after, position_by, position_of, does_stay, granted_of}
+use Rattle.mpm_bdos.specs.Replies.{end_after, position_by, granted_of}
 use Rattle.mpm_bdos.specs.Replies as replies
-use Rattle.mpm_bdos.specs.Ending.{IsSound, ended, is_moving, is_reading, IsRead, HasRead, IsPlaced}
+use Rattle.mpm_bdos.specs.Ending.{IsSound, ended, is_moving, is_reading, HasRead, IsPlaced}
 use Rattle.mpm_bdos.specs.Leaving.{nothing_locked}
 use Rattle.mpm_bdos.specs.Serving.{WorksOn}
 use Rattle.mpm_bdos.specs.Replying.{IsServed}

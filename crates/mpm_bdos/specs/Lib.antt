@@ -23,3 +23,6 @@ pub mod Leaving
 pub mod Driving
 pub mod Replying
 pub mod Starting
+pub mod Finishing
+pub mod AtOnce
+pub mod Syncing

@@ -5,6 +5,7 @@ use Rattle.mpm_base.specs.declared.kind.Kind.{Kind}
 use Rattle.mpm_cache.specs.declared.cache.Place.{Place}
 use Rattle.mpm_mount.specs.Drives.{Drive}
 use Rattle.mpm_mount.specs.Directories.{Directory, Stands}
+use Rattle.mpm_opens.specs.declared.kinds.FileKey.{FileKey}
 use Rattle.mpm_opens.specs.Items.{place_at}
 use Rattle.mpm_opens.specs.Opens.{OpenFiles, none_open}
 use Rattle.mpm_files.specs.declared.jobs.Job.{Job}
@@ -20,7 +21,8 @@ use Rattle.mpm_bdos.specs.Searches.{no_searches}
 use Rattle.mpm_bdos.specs.Subjects.{drive_number, drive_at}
 use Rattle.mpm_bdos.specs.Refusals.{refusal_of}
 use Rattle.mpm_bdos.specs.Jobs.{job_of}
-use Rattle.mpm_bdos.specs.Changes.{none_protected}
+use Rattle.mpm_bdos.specs.Changes.{none_protected, deleted_by}
+use Rattle.mpm_bdos.specs.Ending.{IsSound}
 use Rattle.mpm_bdos.specs.Outcomes.{drives_after}
 
 -- a caller's user and multi-sector count are in their ranges
@@ -29,7 +31,7 @@ pub record IsCaller (caller : Caller) : Type 0 where
   pub some : 1 ≤ caller.multi
   pub few : caller.multi ≤ 16
 
--- what it was, what refused it, and the work of its job
+-- what it was, what refused it, the work of its job, and its caller's open files that it deletes
 pub record InService : Type 0 where
   pub caller : Caller
   pub function : FileFunction
@@ -38,6 +40,7 @@ pub record InService : Type 0 where
   pub moment : List ℕ
   pub refusal : Option Refusal
   pub work : Option Work
+  pub deleted : List (Option FileKey)
 
 -- all that file calls keep, as contracts see it: the files of drives stand in the images
 pub record Kept : Type 0 where
@@ -121,12 +124,15 @@ pub record IsCallOf (service : InService) (s : Situation) : Type 0 where
   pub call : service.call ≡ s.call
   pub moment : service.moment ≡ s.moment
   pub refusal : service.refusal ≡ refusal_of s
+  pub deleted : refusal_of s ≡ None → service.deleted ≡ deleted_by s s.function
 
--- a call is in service with so many turns ended: its job suits its drive, and nothing but that drive has changed since it entered
+-- a call is in service with so many turns ended: its drive was that of an image and its job suits it, and nothing but that drive has
+-- changed since it entered
 pub record Serves (images : ℕ → List ℕ) (kept : Kept) (s : Situation) (turns : ℕ) : Type 0 where
   pub service : InService
   pub there : kept.service ≡ Some service
   pub is : IsCallOf service s
+  pub sound : IsSound (drive_at s)
   pub suits : IfSome (job_of s) (Suits (drive_at s))
   pub works : WorksOn (images (drive_number s)) (directory_at kept.mounted (drive_number s)) (drive_at s) (job_of s) turns service.work
   pub same : filing_of kept s.filing.drives ≡ s.filing

@@ -116,6 +116,11 @@ pub record TurnKeeps (old new : Kept) : Type 0 where
   pub places : (number : ℕ) → drive_served old.service ≢ Some number → directory_at new.mounted number ≡ directory_at old.mounted number
   pub labels : (number : ℕ) → option_map labelled (directory_at new.mounted number) ≡ option_map labelled (directory_at old.mounted number)
 
+-- each drive is that of the image of its name, and an image that is no mounted drive's is as it was
+pub record StaysBeside (mounted : List (Option Directory)) (disks now : Disks) : Type 0 where
+  pub names : (number : ℕ) → now.name_of number ≡ disks.name_of number
+  pub others : (name : List ℕ) → ((number : ℕ) → has_directory mounted number ≡ true → disks.name_of number ≢ Some name) → now.image name ≡ disks.image name
+
 -- it changes no image of a mounted drive but that one's
 abbrev pub KeepsImages : Option ℕ → List (Option Directory) → Option Disks → Option Disks → Type 0
 KeepsImages drive mounted disks now =

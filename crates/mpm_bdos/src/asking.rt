@@ -1,4 +1,4 @@
-ghost use Rattle.std.specs.Prelude.{◌≡◌, ℕ, List, Option, slice_index_or, option_map, unwrap_or, IfSome};
+ghost use Rattle.std.specs.Prelude.{◌≡◌, ◌<◌, ℕ, List, Option, unwrap_or, IfSome};
 ghost use Rattle.mpm_fcb.specs.Blocks.{block_of};
 ghost use Rattle.mpm_mount.specs.Drives.{Drive};
 ghost use Rattle.mpm_mount.specs.Directories.{Stands};
@@ -6,6 +6,7 @@ ghost use Rattle.mpm_bdos.specs.Searches.{searched};
 ghost use Rattle.mpm_bdos.specs.Subjects as spec;
 ghost use Rattle.mpm_bdos.specs.Asking.{called, asked_of};
 ghost use Rattle.mpm_bdos.specs.Leaving.{IsOwn};
+ghost use Rattle.mpm_bdos.specs.Serving.{HaveUsers};
 
 use crate::caller::Caller;
 use crate::finding::found;
@@ -82,6 +83,7 @@ pub(crate) fn ask(
     call: &Call,
 ) -> Asked
     ensures caller { result.caller ≡ caller.now }
+    ensures owner { HaveUsers opens.now → caller.now.user < 16 → result.owner < 16 }
     ensures own { IfSome result.item (λ item. IsOwn opens.now caller.now.process item) }
     ensures asked { (image : List ℕ) (drives : List (Option Drive)) (marks moment : List ℕ)
         → Stands image mounted.now (spec.drive_at (called drives protected.now opens.now marks searches.now caller.now function call.now moment))

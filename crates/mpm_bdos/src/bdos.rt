@@ -1,6 +1,6 @@
 ghost use Rattle.std.specs.Prelude.{◌≡◌, ◌≤◌, ◌<◌, ◌+◌, ℕ, suc, false, List, Option, None, Ok, IfOk, IfSome, OnOk, OnErr};
 ghost use Rattle.mpm_port.specs.Causes.{HasCause};
-ghost use Rattle.mpm_port.specs.Disks.{Disks};
+ghost use Rattle.mpm_port.specs.Disks.{Disks, Told};
 ghost use Rattle.mpm_cache.specs.Coherent.{IsCoherent, HasNoAlias};
 ghost use Rattle.mpm_files.specs.declared.turning.Progress.TheVariants as progress;
 ghost use Rattle.mpm_mount.specs.Drives.{Drive};
@@ -8,7 +8,7 @@ ghost use Rattle.mpm_bdos.specs.Direct.{direct_of, direct};
 ghost use Rattle.mpm_bdos.specs.Filing.{Situation};
 ghost use Rattle.mpm_bdos.specs.Outcomes.{left_by, without_search};
 ghost use Rattle.mpm_bdos.specs.Jobs.{call_turns};
-ghost use Rattle.mpm_bdos.specs.Turns.{FitsDrives, KeepsImages, TurnKeeps, StopsWithin, ServesReading, ServesCached, IsIdle, told_images, progress_after, drive_served, has_work};
+ghost use Rattle.mpm_bdos.specs.Turns.{FitsDrives, KeepsImages, StaysBeside, TurnKeeps, StopsWithin, ServesReading, ServesCached, IsIdle, told_images, progress_after, drive_served, has_work};
 
 use crate::direct::do_directly;
 use crate::directories::Directories;
@@ -145,6 +145,7 @@ impl Bdos {
         ensures kept { TurnKeeps self.old self.new }
         ensures fits { FitsDrives D.attached D.disks self.new.mounted self.new.cached drives.new }
         ensures images { KeepsImages (drive_served self.old.service) self.old.mounted (D.disks drives.old) (D.disks drives.new) }
+        ensures beside { Told (StaysBeside self.old.mounted) (D.disks drives.old) (D.disks drives.new) }
         ensures names { D.failed_names drives.new ≡ D.failed_names drives.old }
         ensures attached { (other : ℕ) → D.attached drives.new other ≡ D.attached drives.old other }
         ensures calls { steps.new ≤ steps.old + 20 }

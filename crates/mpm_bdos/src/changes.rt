@@ -135,6 +135,7 @@ pub(crate) fn lock_records(
         → result.moved ≡ (spec.locking drive opens.old (process_of opens.old item) file first count).moved }
     ensures end { (image : List ℕ) (drive : Drive) → Stands image mounted.now drive
         → result.end ≡ (spec.locking drive opens.old (process_of opens.old item) file first count).end }
+    ensures items { opens.new.items ≡ opens.old.items }
 {
     for k in 0..count {
         let n = first + u32::from(k);

@@ -1,4 +1,4 @@
-ghost use Rattle.std.specs.Prelude.{◌≡◌, ◌≤◌, ℕ, List, None, Some, IfSome, if◌then◌else◌};
+ghost use Rattle.std.specs.Prelude.{◌≡◌, ◌≤◌, ◌<◌, ℕ, List, None, Some, IfSome, if◌then◌else◌};
 ghost use Rattle.mpm_mount.specs.Drives.{Drive};
 ghost use Rattle.mpm_mount.specs.Directories.{Stands};
 ghost use Rattle.mpm_mount.specs.Faults.{plain};
@@ -8,6 +8,7 @@ ghost use Rattle.mpm_fcb.specs.Names.{has_f5};
 ghost use Rattle.mpm_fcb.specs.Positions.{random_record};
 ghost use Rattle.mpm_bdos.specs.declared.functions.FileFunction.TheVariants as functions;
 ghost use Rattle.mpm_bdos.specs.Replies.{opened_as};
+ghost use Rattle.mpm_bdos.specs.Serving.{HaveUsers};
 ghost use Rattle.mpm_bdos.specs.Leaving as spec;
 
 use crate::applies::{mode_needed, subject_key};
@@ -29,6 +30,7 @@ fn open_file(opens: &mut Opens, p: Pid, file: FileKey, mode: Mode) -> Option<Ope
     ensures opens { opens.new ≡ added opens.old p file mode }
     ensures opened { result ≡ opened_as mode (items.add_answer opens.old.items p file mode) }
     ensures number { IfSome result (λ made. made.number ≤ 63) }
+    ensures users { HaveUsers opens.old → file.user < 16 → HaveUsers opens.new }
 {
     match opens.add(p, file, mode) {
         Ok(number) => Some(OpenedAs { mode, number }),
@@ -66,6 +68,7 @@ fn lock_by(opens: &mut Opens, mounted: &Mounted, item: &OpenItem, first: u32, co
         → opens.new ≡ (spec.locked_by drive opens.old (process_of opens.old item.now.number) item.now.file first count item.now.mode).opens }
     ensures ended { (image : List ℕ) (drive : Drive) → Stands image mounted.now drive
         → result ≡ spec.ended_of (spec.locked_by drive opens.old (process_of opens.old item.now.number) item.now.file first count item.now.mode) }
+    ensures items { opens.new.items ≡ opens.old.items }
 {
     match item.mode {
         Mode::Unlocked => lock_records(opens, mounted, item.number, item.file, first, count),
@@ -90,6 +93,7 @@ fn lock(
         → opens.new ≡ (spec.locked_where drive opens.old p first count item).opens }
     ensures ended { (image : List ℕ) (drive : Drive) → Stands image mounted.now drive
         → result ≡ spec.ended_of (spec.locked_where drive opens.old p first count item) }
+    ensures items { opens.new.items ≡ opens.old.items }
 {
     match item {
         Some(item) => lock_by(opens, mounted, &item, first, count),
@@ -146,6 +150,7 @@ fn open_asked(opens: &mut Opens, mounted: &Mounted, asked: &Asked) -> Option<Ope
     ensures opened { (image : List ℕ) (drive : Drive) → Stands image mounted.now drive
         → result ≡ spec.opened_for drive opens.old asked.now asked.now.function }
     ensures number { IfSome result (λ made. made.number ≤ 63) }
+    ensures users { HaveUsers opens.old → asked.now.owner < 16 → HaveUsers opens.new }
 {
     match asked.function {
         FileFunction::OpenFile | FileFunction::MakeFile => open_file(
@@ -175,6 +180,7 @@ fn end_records(opens: &mut Opens, mounted: &Mounted, asked: &Asked, work: &Optio
         → opens.new ≡ spec.locked_for drive opens.old asked.now asked.now.function }
     ensures ended { (image : List ℕ) (drive : Drive) → Stands image mounted.now drive → spec.IsInFile asked.now
         → result ≡ spec.ended_for drive opens.old asked.now work.now asked.now.function }
+    ensures items { opens.new.items ≡ opens.old.items }
 {
     match asked.function {
         FileFunction::LockRecord => lock(
@@ -203,6 +209,7 @@ pub(crate) fn grant(
     ensures granted { (image : List ℕ) (drive : Drive) → Stands image mounted.now drive → spec.IsInFile asked.now
         → result ≡ spec.granted_by drive opens.old asked.now work.now }
     ensures number { IfSome result.opened (λ made. made.number ≤ 63) }
+    ensures users { HaveUsers opens.old → asked.now.owner < 16 → HaveUsers opens.new }
 {
     let ended = end_records(opens, mounted, asked, work);
     let opened = open_asked(opens, mounted, asked);

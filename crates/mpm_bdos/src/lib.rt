@@ -6,6 +6,7 @@ mod answering;
 mod answers;
 mod applies;
 mod asking;
+mod at_once;
 mod bdos;
 mod busy;
 mod caller;
@@ -17,6 +18,7 @@ mod driving;
 mod ends;
 mod files;
 mod finding;
+mod finishing;
 mod functions;
 mod granting;
 mod jobs;
@@ -43,6 +45,7 @@ mod sharing;
 mod sizes;
 mod starting;
 mod subjects;
+mod syncing;
 mod telling;
 mod turning;
 
@@ -53,10 +56,3 @@ pub use ends::RecordEnd;
 pub use functions::{DirectFunction, FileFunction};
 pub use places::in_places;
 pub use refusals::{Extended, Refusal, refusals_of};
-
-#[cfg(test)]
-mod bdos_tests;
-#[cfg(test)]
-mod refusal_tests;
-#[cfg(test)]
-mod settings;

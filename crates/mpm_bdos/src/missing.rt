@@ -2,7 +2,7 @@ ghost use Rattle.std.specs.Prelude.{◌≡◌, ◌==◌, ℕ, List, length};
 ghost use Rattle.mpm_mount.specs.Faults.{plain};
 ghost use Rattle.mpm_mount.specs.Drives.{Drive};
 ghost use Rattle.mpm_mount.specs.Directories.{Stands};
-ghost use Rattle.mpm_bdos.specs.Subjects.{extent_count, deleted_in};
+ghost use Rattle.mpm_bdos.specs.Subjects.{deleted_in};
 ghost use Rattle.mpm_bdos.specs.Refusals as spec;
 
 use crate::files::is_there;

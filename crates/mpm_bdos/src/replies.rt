@@ -1,4 +1,4 @@
-ghost use Rattle.std.specs.Prelude.{◌≡◌, ◌≤◌, ◌<◌, ◌/◌, ◌%◌, ℕ, List, length, replicate, if◌then◌else◌};
+ghost use Rattle.std.specs.Prelude.{◌≡◌, ◌≤◌, ◌<◌, ◌/◌, ◌%◌, ℕ, List, length, replicate};
 ghost use Rattle.std.specs.List.{flat_map};
 ghost use Rattle.mpm_files.specs.declared.jobs.Job.{Job};
 ghost use Rattle.mpm_files.specs.Serving.{with_records};

@@ -1,10 +1,11 @@
-ghost use Rattle.std.specs.Prelude.{◌≡◌, ◌≤◌, ℕ, true, List, Option, IfSome, option_map};
+ghost use Rattle.std.specs.Prelude.{◌≡◌, ◌≤◌, ◌<◌, ℕ, List, Option, IfSome, option_map};
 ghost use Rattle.mpm_mount.specs.Drives.{Drive, FileName};
 ghost use Rattle.mpm_mount.specs.Directories.{Stands};
 ghost use Rattle.mpm_opens.specs.Opens.{AreOpen};
 ghost use Rattle.mpm_bdos.specs.Asking.{called, found_as};
 ghost use Rattle.mpm_bdos.specs.Leaving as spec;
 ghost use Rattle.mpm_bdos.specs.Replies as replies;
+ghost use Rattle.mpm_bdos.specs.Serving.{HaveUsers};
 ghost use Rattle.mpm_bdos.specs.Replying.{IsAnswering, IsReplied};
 
 use crate::answering::answer;
@@ -39,6 +40,7 @@ pub(crate) fn answer_mounted(
     requires own { IfSome asked.now.item (λ item. spec.IsOwn opens.old asked.now.caller.process item) }
     requires few { asked.now.caller.multi ≤ 16 }
     ensures sound { AreOpen opens.old }
+    ensures users { HaveUsers opens.old → asked.now.owner < 16 → HaveUsers opens.new }
     ensures opens { (image : List ℕ) (drive : Drive) → Stands image mounted.now drive → spec.IsInFile asked.now
         → opens.new ≡ spec.opens_left drive opens.old asked.now work.now deleted.now }
     ensures reply { (image : List ℕ) (drive : Drive) (records : List (List ℕ)) (entry : Option (FileName × ℕ)) → Stands image mounted.now drive
@@ -68,7 +70,8 @@ pub(crate) fn reply_mounted(
     deleted: &[Option<FileKey>; 64],
 )
     requires { caller.now.multi ≤ 16 }
-    ensures { (image : List ℕ) (drives : List (Option Drive)) (marks moment : List ℕ)
+    ensures users { HaveUsers opens.old → caller.now.user < 16 → HaveUsers opens.new }
+    ensures replied { (image : List ℕ) (drives : List (Option Drive)) (marks moment : List ℕ)
         → IsAnswering (called drives protected.now opens.old marks searches.old caller.now function call.now moment) image mounted.now work.now deleted.now
         → IsReplied (called drives protected.now opens.old marks searches.old caller.now function call.now moment) reply.new opens.new searches.new }
 {

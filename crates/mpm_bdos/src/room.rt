@@ -1,4 +1,4 @@
-ghost use Rattle.std.specs.Prelude.{◌≡◌, ◌≤◌, ℕ, List};
+ghost use Rattle.std.specs.Prelude.{◌≡◌, ℕ, List};
 ghost use Rattle.mpm_mount.specs.Faults.{plain};
 ghost use Rattle.mpm_mount.specs.Drives.{Drive};
 ghost use Rattle.mpm_mount.specs.Directories.{Stands};

@@ -3,6 +3,7 @@ use crate::functions::FileFunction;
 use crate::refusals::Refusal;
 use mpm_base::Call;
 use mpm_files::Work;
+use mpm_opens::FileKey;
 use std::marker::Model;
 
 /// A file call in service, as it was when it entered, and how far its job is.
@@ -22,6 +23,8 @@ pub(crate) struct Service {
     pub(crate) refusal: Option<Refusal>,
     /// The work of its job, if it has one.
     pub(crate) work: Option<Work>,
+    /// Its caller's open files that it deletes, each at the place of its number.
+    pub(crate) deleted: [Option<FileKey>; 64],
 }
 
 impl Model for Service {
@@ -37,6 +40,7 @@ impl Model for Service {
       moment = s.moment;
       refusal = s.refusal;
       work = s.work;
+      deleted = s.deleted;
     } };
 
     ghost invariant = { λ s. IsCaller s.caller };

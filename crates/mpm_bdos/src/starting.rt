@@ -8,9 +8,11 @@ ghost use Rattle.mpm_opens.specs.Opens.{item_of};
 ghost use Rattle.mpm_fcb.specs.Blocks.{block_of};
 ghost use Rattle.mpm_fcb.specs.Positions.{sequential_record};
 ghost use Rattle.mpm_files.specs.Turning.{Suits};
+ghost use Rattle.mpm_bdos.specs.Filing.{Situation, block as block_in};
 ghost use Rattle.mpm_bdos.specs.Subjects as subjects;
 ghost use Rattle.mpm_bdos.specs.Refusals as refusals;
 ghost use Rattle.mpm_bdos.specs.Asking.{called, StandsFor};
+ghost use Rattle.mpm_bdos.specs.Changes as changes;
 ghost use Rattle.mpm_bdos.specs.Functions.{function_of};
 ghost use Rattle.mpm_bdos.specs.Serving.{IsCaller, HaveUsers, StandEach, WorksOn};
 ghost use Rattle.mpm_bdos.specs.Starting as spec;
@@ -25,6 +27,7 @@ use crate::planning::{About, job_by};
 use crate::protected::Protected;
 use crate::refusals::Refusal;
 use crate::refusing::refusal_of;
+use crate::releasing::{Deletion, deleted};
 use crate::searches::Searches;
 use crate::service::Service;
 use crate::subjects::item_number;
@@ -51,7 +54,7 @@ fn read_block(bytes: &[u8; 36]) -> ControlBlock
 }
 
 /// The file control block of a call.
-fn block_taken(call: &Call) -> ControlBlock
+pub(crate) fn block_taken(call: &Call) -> ControlBlock
     ensures block { result ≡ block_of call.now.fcb }
     ensures size { length call.now.fcb ≡ 36 }
 {
@@ -59,7 +62,7 @@ fn block_taken(call: &Call) -> ControlBlock
 }
 
 /// The first of a call's records, or the last position that a block can have, where it is behind that.
-fn first_position(block: &ControlBlock, function: FileFunction) -> u32
+pub(crate) fn first_position(block: &ControlBlock, function: FileFunction) -> u32
     ensures value { result ≡ min (subjects.first_by block.now function) 262271 }
     ensures few { result ≤ 262271 }
     ensures low { sequential_record block.now ≤ 262271 }
@@ -233,6 +236,47 @@ fn copied(call: &Call) -> Call
     }
 }
 
+/// A process's open files that a call deletes on a drive that is mounted.
+#[tactic(auto, unfolding(crate::specs::Changes::deleted_by))]
+fn deleted_on(
+    mounted: &Mounted,
+    opens: &Opens,
+    p: Pid,
+    deletion: &Deletion,
+    function: FileFunction,
+) -> [Option<FileKey>; 64]
+    ensures { (image : List ℕ) (s : Situation) → Stands image mounted.now (subjects.drive_at s) → opens.now ≡ s.filing.opens → p ≡ s.caller.process → deletion.now ≡ changes.deletion s
+        → result ≡ changes.deleted_by s function }
+{
+    match function {
+        FileFunction::DeleteFile => deleted(mounted, opens, p, deletion),
+        _ => [None; 64],
+    }
+}
+
+/// A caller's open files that a call deletes, which isn't refused, by the drive that it names and its block.
+fn deleted_of(
+    mounted: Option<&Mounted>,
+    opens: &Opens,
+    caller: &Caller,
+    drive: u8,
+    block: &ControlBlock,
+    function: FileFunction,
+) -> [Option<FileKey>; 64]
+    ensures { (image : List ℕ) (s : Situation) → StandsFor image (option_copied mounted.entry) s → refusals.refusal_of s ≡ None → opens.now ≡ s.filing.opens → caller.now ≡ s.caller
+        → drive ≡ subjects.drive_number s → block.now ≡ block_in s → function ≡ s.function → result ≡ changes.deleted_by s s.function }
+{
+    let deletion = Deletion {
+        user: caller.user,
+        drive,
+        pattern: block.name,
+    };
+    match mounted {
+        Some(mounted) => deleted_on(mounted, opens, caller.process, &deletion, function),
+        None => [None; 64],
+    }
+}
+
 /// What is kept of a call as it enters service: on a drive, by that drive's directory, where it is mounted.
 fn entered(
     drive: u8,
@@ -259,6 +303,8 @@ fn entered(
     let work = begun_unless(
         refusal, mounted, protected, opens, searches, caller, function, call, moment,
     );
+    let block = block_taken(call);
+    let deleted = deleted_of(mounted, opens, caller, drive, &block, function);
     Service {
         caller: *caller,
         function,
@@ -267,6 +313,7 @@ fn entered(
         moment,
         refusal,
         work,
+        deleted,
     }
 }
 

@@ -3,7 +3,7 @@ ghost use Rattle.mpm_mount.specs.Faults.{plain};
 ghost use Rattle.mpm_mount.specs.Drives.{Drive};
 ghost use Rattle.mpm_mount.specs.Directories.{Stands};
 ghost use Rattle.mpm_opens.specs.Items.{file_named};
-ghost use Rattle.mpm_opens.specs.Opens.{IsLive, IsItemOf};
+ghost use Rattle.mpm_opens.specs.Opens.{IsLive};
 ghost use Rattle.mpm_bdos.specs.Searches.{searched};
 ghost use Rattle.mpm_bdos.specs.Asking.{opened_as, key_of_item};
 ghost use Rattle.mpm_bdos.specs.Leaving.{IsOwn};
@@ -109,7 +109,8 @@ fn named_item(opens: &Opens, p: Pid, number: u8, drive: u8, name: &[u8; 11]) -> 
 
 /// The user of an open file; the caller where there is none.
 fn user_of(item: Option<OpenItem>, user: u8) -> u8
-    ensures { (name : List ℕ) → result ≡ (spec.open_file (record { user = user; name = name }) (option_map key_of_item item)).user }
+    ensures user { (name : List ℕ) → result ≡ (spec.open_file (record { user = user; name = name }) (option_map key_of_item item)).user }
+    ensures low { user < 16 → IfSome item (λ item. item.file.user < 16) → result < 16 }
 {
     match item {
         Some(item) => item.file.user,
@@ -120,8 +121,9 @@ fn user_of(item: Option<OpenItem>, user: u8) -> u8
 /// The user whose file is opened: the caller, or user 0 where it is shared.
 #[tactic(auto, unfolding(crate::specs::Subjects::opened_in))]
 fn user_opened(mounted: &Mounted, user: u8, name: &[u8; 11]) -> u8
-    ensures { (image : List ℕ) (drive : Drive) → Stands image mounted.now drive
+    ensures user { (image : List ℕ) (drive : Drive) → Stands image mounted.now drive
         → result ≡ (spec.opened_in drive (record { user = user; name = plain name.now })).user }
+    ensures low { user < 16 → result < 16 }
 {
     if is_shared(mounted, user, name) {
         0
@@ -139,8 +141,9 @@ pub(crate) fn owner(
     item: Option<OpenItem>,
     function: FileFunction,
 ) -> u8
-    ensures { (image : List ℕ) (drive : Drive) → Stands image mounted.now drive
+    ensures user { (image : List ℕ) (drive : Drive) → Stands image mounted.now drive
         → result ≡ (spec.subject_by drive (record { user = user; name = plain name.now }) (option_map key_of_item item) function).user }
+    ensures low { user < 16 → IfSome item (λ item. item.file.user < 16) → result < 16 }
 {
     match function {
         FileFunction::OpenFile => user_opened(mounted, user, name),

@@ -2,8 +2,7 @@ ghost use Rattle.std.specs.Prelude.{◌≡◌, ◌<◌, ◌≤◌, ℕ, List, So
 ghost use Rattle.mpm_mount.specs.Faults.{plain, extent_of};
 ghost use Rattle.mpm_mount.specs.Drives.{Drive, extents_of, entry_number};
 ghost use Rattle.mpm_mount.specs.Directories.{Stands};
-ghost use Rattle.mpm_fcb.specs.Opening.{opened};
-ghost use Rattle.mpm_fcb.specs.Positions.{extent_of as extent_at, at_position, three_bytes};
+ghost use Rattle.mpm_fcb.specs.Positions.{three_bytes};
 ghost use Rattle.mpm_files.specs.Units.{attributes_of as attributes_there, where_there};
 ghost use Rattle.mpm_mount.specs.Drives.{free_records};
 ghost use Rattle.std.specs.FinMap.{get};

@@ -1,8 +1,8 @@
-ghost use Rattle.std.specs.Prelude.{◌≡◌, ◌≢◌, ℕ, suc, ◌+◌, ◌<◌, ◌≤◌, Option, Some, Ok, IfOk, IfSome, MatchOption, OnOk, OnErr, option_map, is_some, false};
+ghost use Rattle.std.specs.Prelude.{◌≡◌, ◌≢◌, ℕ, suc, ◌+◌, ◌<◌, ◌≤◌, Option, Some, Ok, IfOk, IfSome, OnOk, OnErr, option_map, is_some, false};
 ghost use Rattle.mpm_port.specs.Causes.{HasCause};
+ghost use Rattle.mpm_port.specs.Disks.{Told};
 ghost use Rattle.mpm_blocks.specs.Geometries.{geometry_of};
 ghost use Rattle.mpm_cache.specs.Coherent.{IsCoherent, HasNoAlias};
-ghost use Rattle.mpm_sectors.specs.Disks.{Leaves};
 ghost use Rattle.mpm_mount.specs.Drives.{Drive};
 ghost use Rattle.mpm_files.specs.declared.jobs.Job.{Job};
 ghost use Rattle.mpm_files.specs.declared.jobs.JobKind.TheVariants as kinds;
@@ -10,7 +10,7 @@ ghost use Rattle.mpm_files.specs.declared.turning.Progress.TheVariants as progre
 ghost use Rattle.mpm_files.specs.Plans.{turns_of};
 ghost use Rattle.mpm_files.specs.Turning.{Suits, IsNextCached};
 ghost use Rattle.mpm_bdos.specs.Serving.{directory_at};
-ghost use Rattle.mpm_bdos.specs.Turns.{FitsDrives, KeepsImages, progress_after, labelled, HasLeft, IsWorking, IsWorkingOn, IsContainedAt, IsServing, IsServiceContained, IsReading, IsReadingCached, ServesReading, ServesCached, IsIdle, has_work, drive_served, without_work};
+ghost use Rattle.mpm_bdos.specs.Turns.{FitsDrives, KeepsImages, StaysBeside, progress_after, labelled, HasLeft, IsWorking, IsWorkingOn, IsContainedAt, IsServing, IsServiceContained, IsReading, IsReadingCached, ServesReading, ServesCached, IsIdle, has_work, drive_served, without_work};
 
 use crate::directories::Directories;
 use crate::service::Service;
@@ -54,7 +54,7 @@ pub(crate) fn turn_at<D: Drives, L: Ledger>(
 
 impl Directories {
     /// Does the next unit of a job on the drive of a number, where it is mounted.
-    #[tactic(auto, using(crate::proofs::Fitting::labels_stay, crate::proofs::Fitting::images_after))]
+    #[tactic(auto, using(crate::proofs::Fitting::labels_stay, crate::proofs::Fitting::images_after, crate::proofs::Fitting::stays_after, crate::proofs::Fitting::stays_same))]
     pub(crate) fn turn<D: Drives, L: Ledger>(
         &mut self,
         number: u8,
@@ -74,6 +74,7 @@ impl Directories {
         ensures labels { (other : ℕ) → option_map labelled (directory_at self.new other) ≡ option_map labelled (directory_at self.old other) }
         ensures fits { FitsDrives D.attached D.disks self.new cache.new drives.new }
         ensures images { KeepsImages (Some number) self.old (D.disks drives.old) (D.disks drives.new) }
+        ensures beside { Told (StaysBeside self.old) (D.disks drives.old) (D.disks drives.new) }
         ensures names { D.failed_names drives.new ≡ D.failed_names drives.old }
         ensures attached { (other : ℕ) → D.attached drives.new other ≡ D.attached drives.old other }
         ensures calls { steps.new ≤ steps.old + 20 }
@@ -92,6 +93,7 @@ impl Directories {
 
 impl Service {
     /// Does the next unit of the job, where the call has one.
+    #[tactic(auto, using(crate::proofs::Fitting::stays_same))]
     pub(crate) fn turn<D: Drives, L: Ledger>(
         &mut self,
         mounted: &mut Directories,
@@ -113,6 +115,7 @@ impl Service {
         ensures labels { (other : ℕ) → option_map labelled (directory_at mounted.new other) ≡ option_map labelled (directory_at mounted.old other) }
         ensures fits { FitsDrives D.attached D.disks mounted.new cache.new drives.new }
         ensures images { KeepsImages (Some self.old.drive) mounted.old (D.disks drives.old) (D.disks drives.new) }
+        ensures beside { Told (StaysBeside mounted.old) (D.disks drives.old) (D.disks drives.new) }
         ensures names { D.failed_names drives.new ≡ D.failed_names drives.old }
         ensures attached { (other : ℕ) → D.attached drives.new other ≡ D.attached drives.old other }
         ensures calls { steps.new ≤ steps.old + 20 }
@@ -129,6 +132,7 @@ impl Service {
 }
 
 /// Does the next unit of the job of the call in service, where one is and has one.
+#[tactic(auto, using(crate::proofs::Fitting::stays_same))]
 pub(crate) fn turn_service<D: Drives, L: Ledger>(
     service: &mut Option<Service>,
     mounted: &mut Directories,
@@ -150,6 +154,7 @@ pub(crate) fn turn_service<D: Drives, L: Ledger>(
     ensures labels { (other : ℕ) → option_map labelled (directory_at mounted.new other) ≡ option_map labelled (directory_at mounted.old other) }
     ensures fits { FitsDrives D.attached D.disks mounted.new cache.new drives.new }
     ensures images { KeepsImages (drive_served service.old) mounted.old (D.disks drives.old) (D.disks drives.new) }
+    ensures beside { Told (StaysBeside mounted.old) (D.disks drives.old) (D.disks drives.new) }
     ensures names { D.failed_names drives.new ≡ D.failed_names drives.old }
     ensures attached { (other : ℕ) → D.attached drives.new other ≡ D.attached drives.old other }
     ensures calls { steps.new ≤ steps.old + 20 }

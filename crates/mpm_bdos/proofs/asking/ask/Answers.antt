@@ -6,7 +6,11 @@ use Rattle.mpm_opens.specs.Items.{file_named}
 use Rattle.mpm_bdos.specs.Subjects.{drive_by, drive_number, number_by, item_number, drive_at, subject, subject_by, found, found_by, is_protected}
 use Rattle.mpm_bdos.specs.Asking.{opened_as, key_of_item, found_as, open_item, called}
 use Rattle.mpm_bdos.proofs.AskedLaws.{item_key, mapped_some}
+use Rattle.mpm_bdos.proofs.UserLaws.{own_user}
 use Rattle.mpm_bdos.proofs.asking.ask.Goals as goal
+
+pub returns-clause-owner : goal.returns-clause-owner
+returns-clause-owner c = λ users low. c.owner.ensures.low low (own_user c.args.opens.now c.args.caller.now.process c.open_item-item.result users c.open_item-item.ensures.own)
 
 pub returns-clause-asked : goal.returns-clause-asked
 returns-clause-asked c = λ image drives marks moment stands.
@@ -30,7 +34,7 @@ returns-clause-asked c = λ image drives marks moment stands.
     in
     let key_is = ap (option_map key_of_item) item_is ∙ item_key s in
     let owner_is : c.owner.result ≡ (subject s).user =
-    c.owner.ensures image (drive_at s) stands
+    c.owner.ensures.user image (drive_at s) stands
     ∙ (λ i. (subject_by (drive_at s) (record { user = caller.user; name = plain (block_is i).name }) (key_is i) function).user)
     in
     let found_is : c.is_some.result ≡ is_some (found s) =

@@ -1,4 +1,5 @@
-use Rattle.std.proofs.Common.{ap, arith}
+use Rattle.std.proofs.Common.{◌∙◌, ap, arith}
+use Rattle.mpm_opens.specs.Opens.{OpenFiles}
 use Rattle.mpm_bdos.specs.Records.{Locking}
 use Rattle.mpm_bdos.proofs.Locking.{locked_stop, one_locked_more, all_locked}
 use Rattle.mpm_bdos.proofs.changes.lock_records.Goals as goal
@@ -13,6 +14,7 @@ returns-in-Some c =
       opens = λ image drive stands. ap (λ (l : Locking). l.opens) (all image drive stands);
       moved = λ image drive stands. ap (λ (l : Locking). l.moved) (all image drive stands);
       end = λ image drive stands. ap (λ (l : Locking). l.end) (all image drive stands);
+      items = ap (λ (o : OpenFiles). o.items) c.in-Some.ensures.kept ∙ c.loop-k.invariant.items;
     }
 
 pub loop-k-preserved : goal.loop-k-preserved
@@ -30,4 +32,5 @@ returns c =
       opens = λ image drive stands. ap (λ (l : Locking). l.opens) (all image drive stands);
       moved = λ image drive stands. ap (λ (l : Locking). l.moved) (all image drive stands);
       end = λ image drive stands. ap (λ (l : Locking). l.end) (all image drive stands);
+      items = c.loop-k.invariant.items;
     }

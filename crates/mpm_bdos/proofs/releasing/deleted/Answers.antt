@@ -1,4 +1,4 @@
-use Rattle.std.proofs.Common.{◌+◌, arith}
+use Rattle.std.proofs.Common.{arith}
 use Rattle.mpm_bdos.specs.Changes.{is_deleted_in}
 use Rattle.mpm_bdos.proofs.DeletedFiles.{deleted_all}
 use Rattle.mpm_bdos.proofs.releasing.deleted.Goals as goal

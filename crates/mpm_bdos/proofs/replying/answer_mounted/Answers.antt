@@ -4,6 +4,7 @@ use Rattle.mpm_bdos.specs.Ending.{is_moving, is_reading, IsPlaced}
 use Rattle.mpm_bdos.specs.Asking.{key_asked}
 use Rattle.mpm_bdos.specs.Leaving.{IsOwn, left_by, left_first, granted_by}
 use Rattle.mpm_bdos.specs.Replies.{found_bytes, answer_by}
+use Rattle.mpm_bdos.proofs.UserLaws.{users_kept}
 use Rattle.mpm_bdos.proofs.replying.answer_mounted.Goals as goal
 
 pub grant-granted-requires-clause-item : goal.grant-granted-requires-clause-item
@@ -12,6 +13,11 @@ grant-granted-requires-clause-item c = λ f.
     let a = c.args.asked.now in
     subst (λ opens. IfSome a.item (λ item. IsOwn opens a.caller.process item))
     (sym (c.leave.ensures ∙ ap (left_by c.args.opens.now a c.subject_key-2.result c.moved_by.result c.args.deleted.now) f)) c.requires.own
+
+pub returns-clause-users : goal.returns-clause-users
+returns-clause-users c = λ users low.
+    c.grant-granted.ensures.users
+    (users_kept c.args.opens.now c.leave.new.opens c.args.asked.now c.subject_key-2.result c.moved_by.result c.args.deleted.now c.leave.ensures users) low
 
 pub returns-clause-reply : goal.returns-clause-reply
 returns-clause-reply c = λ image drive records entry stands granted is.

@@ -13,8 +13,11 @@ use Rattle.mpm_bdos.proofs.StillLaws.{moved_drive, asked_still, still_found}
 use Rattle.mpm_bdos.proofs.LastLaws.{answered_so, opens_so}
 use Rattle.mpm_bdos.proofs.replying.reply_mounted.Goals as goal
 
-pub returns : goal.returns
-returns c = λ image drives marks moment answering.
+pub returns-clause-users : goal.returns-clause-users
+returns-clause-users c = λ users low. c.answer_mounted.ensures.users users (c.ask-asked.ensures.owner users low)
+
+pub returns-clause-replied : goal.returns-clause-replied
+returns-clause-replied c = λ image drives marks moment answering.
     let d = c.args.mounted.now in
     let f = c.args.function in
     let user = c.args.caller.now.user in

@@ -1,4 +1,4 @@
-use Rattle.std.proofs.Common.{◌∙◌, ◌+◌, Some, cond, sym, ap, subst, arith}
+use Rattle.std.proofs.Common.{◌∙◌, Some, cond, sym, ap, subst, arith}
 use Rattle.std.specs.Prelude.{bytes_eq}
 use Rattle.mpm_mount.specs.Faults.{plain}
 use Rattle.mpm_mount.specs.Directories.{entry_in}

@@ -1,4 +1,3 @@
-use Rattle.std.proofs.Common.{ℕ}
 use Rattle.std.specs.Prelude.{count_by}
 use Rattle.mpm_mount.specs.Searching.{search_of, is_target}
 use Rattle.mpm_bdos.proofs.SizeLaws.{Walked}

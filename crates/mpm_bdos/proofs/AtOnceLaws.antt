@@ -1,0 +1,131 @@
+-- A call's turns one after another, and what it comes to with them.
+use Rattle.std.proofs.Common.{◌≡◌, ◌≤◌, ℕ, List, [], true, false, Option, Some, None, Result, Ok, Err, refl, sym, ap, subst, ◌∙◌}
+use Rattle.std.specs.Prelude.{is_some, is_err, option_map}
+use Rattle.std.proofs.lemmas.Bool.{true≢false}
+use Rattle.mpm_port.specs.Causes.{Rose, HasCause}
+use Rattle.mpm_port.specs.Disks.{Disks}
+use Rattle.mpm_mount.specs.Drives.{Drive}
+use Rattle.mpm_mount.specs.Directories.{Directory}
+use Rattle.mpm_files.specs.declared.jobs.Job.{Job}
+use Rattle.mpm_files.specs.declared.work.Work.{Work}
+use Rattle.mpm_bdos.proofs.Fitting.{there_label, stays_same, stays_again}
+use Rattle.mpm_base.specs.Calls.{Taken}
+use Rattle.mpm_bdos.specs.declared.caller.Caller.{Caller}
+use Rattle.mpm_bdos.specs.declared.functions.FileFunction.{FileFunction}
+use Rattle.mpm_bdos.specs.Filing.{Situation}
+use Rattle.mpm_bdos.specs.Functions.{function_of}
+use Rattle.mpm_bdos.specs.Starting.{entering}
+use Rattle.mpm_bdos.specs.Subjects.{drive_number, drive_at}
+use Rattle.mpm_bdos.specs.Jobs.{job_of}
+use Rattle.mpm_bdos.specs.Serving.{InService, Kept, Serves, WorksOn, StandsWhere, StandEach, directory_at}
+use Rattle.mpm_bdos.specs.Turns.{FitsDrives, KeepsImages, TurnKeeps, drive_served, has_work, labelled, without_work}
+use Rattle.mpm_bdos.specs.AtOnce.{TurnsLeave, ChangesAlone}
+
+-- a turn leaves the drive in service
+its_drive : (service : Option InService) → drive_served (option_map without_work service) ≡ drive_served service
+its_drive None = refl
+its_drive (Some service) = refl
+
+same_drive : (one other : Option InService) → option_map without_work other ≡ option_map without_work one → drive_served other ≡ drive_served one
+same_drive one other same = sym (its_drive other) ∙ ap drive_served same ∙ its_drive one
+
+still_there : (one other : Option Directory) → option_map labelled other ≡ option_map labelled one → is_some other ≡ is_some one
+still_there one other same = sym (there_label other) ∙ ap is_some same ∙ there_label one
+
+-- what is kept, behind some turns and one more
+kept_again : (old mid new : Kept) → TurnKeeps old mid → TurnKeeps mid new → TurnKeeps old new
+kept_again old mid new first next = record {
+  rest = next.rest ∙ ap (λ (k : Kept). record k { mounted = new.mounted; cached = new.cached; service = new.service }) first.rest;
+  service = next.service ∙ first.service;
+  places = λ number apart. next.places number (λ same. apart (sym (same_drive old.service mid.service first.service) ∙ same)) ∙ first.places number apart;
+  labels = λ number. next.labels number ∙ first.labels number;
+}
+
+images_again : (old mid : Kept) (disks later now : Option Disks) → TurnKeeps old mid → KeepsImages (drive_served old.service) old.mounted disks later → KeepsImages (drive_served mid.service) mid.mounted later now
+    → KeepsImages (drive_served old.service) old.mounted disks now
+images_again old mid disks later now kept first next = λ number apart there.
+    next number (λ same. apart (sym (same_drive old.service mid.service kept.service) ∙ same))
+    (still_there (directory_at old.mounted number) (directory_at mid.mounted number) (kept.labels number) ∙ there)
+    ∙ first number apart there
+
+pub no_turns : {D : Type 0} (attached : D → ℕ → Option ℕ) (disks : D → Option Disks) (failed : D → List (List ℕ)) (kept : Kept) (drives : D) → FitsDrives attached disks kept.mounted kept.cached drives
+    → TurnsLeave attached disks failed kept kept drives drives
+no_turns attached disks failed kept drives fits = record {
+  kept = record { rest = refl; service = refl; places = λ number apart. refl; labels = λ number. refl };
+  fits = fits;
+  images = λ number apart there. refl;
+  beside = stays_same kept.mounted (disks drives);
+  names = refl;
+  attached_are = λ number. refl;
+}
+
+pub one_more_turn : {D : Type 0} (attached : D → ℕ → Option ℕ) (disks : D → Option Disks) (failed : D → List (List ℕ)) (old mid new : Kept) (drives later now : D)
+    → TurnsLeave attached disks failed old mid drives later → TurnsLeave attached disks failed mid new later now → TurnsLeave attached disks failed old new drives now
+one_more_turn attached disks failed old mid new drives later now first next = record {
+  kept = kept_again old mid new first.kept next.kept;
+  fits = next.fits;
+  images = images_again old mid (disks drives) (disks later) (disks now) first.kept first.images next.images;
+  beside = stays_again old.mounted mid.mounted (disks drives) (disks later) (disks now)
+      (λ number. still_there (directory_at old.mounted number) (directory_at mid.mounted number) (first.kept.labels number)) first.beside next.beside;
+  names = next.names ∙ first.names;
+  attached_are = λ number. next.attached_are number ∙ first.attached_are number;
+}
+
+-- the drive of a call in service is the one that its turns change
+pub changes_alone : {D : Type 0} (attached : D → ℕ → Option ℕ) (disks : D → Option Disks) (failed : D → List (List ℕ)) (images : ℕ → List ℕ) (old new : Kept) (drives now : D) (s : Situation) (turns : ℕ)
+    → Serves images old s turns → TurnsLeave attached disks failed old new drives now → ChangesAlone (drive_number s) old.mounted new.mounted (disks drives) (disks now)
+changes_alone attached disks failed images old new drives now s turns serves left =
+    let drive : drive_served old.service ≡ Some (drive_number s) = ap drive_served serves.there ∙ ap (λ n. Some n) serves.is.drive in
+    record {
+      places = λ number apart. left.kept.places number (λ same. apart (sym drive ∙ same));
+      images = λ number apart there. left.images number (λ same. apart (sym drive ∙ same)) there;
+    }
+
+pub alone_still : (drive : ℕ) (first one other last : List (Option Directory)) (disks now : Option Disks) → one ≡ first → last ≡ other → ChangesAlone drive one other disks now → ChangesAlone drive first last disks now
+alone_still drive first one other last disks now same still alone =
+    subst (λ mounted. ChangesAlone drive mounted last disks now) same (subst (λ mounted. ChangesAlone drive one mounted disks now) (sym still) alone)
+
+-- where the count of faults stood until a device failed
+pub cause_since : {A E : Type 0} {error : E} (first before now : ℕ) → before ≡ first → before ≤ now → Rose before now → HasCause {A = A} first now (Err error)
+cause_since first before now same later rose = record {
+  later = subst (λ count. count ≤ now) same later;
+  stays = tt;
+  failed = subst (λ count. Rose count now) same rose;
+}
+
+-- a call doesn't both fail and end well
+pub is_ok_or_err : {A E : Type 0} (result : Result A E) (answer : A) (error : E) → result ≡ Err error → result ≡ Ok answer → ⊥
+is_ok_or_err result answer error failed went = err_ok answer error (sym failed ∙ went)
+  where
+    err_ok : {A E : Type 0} (answer : A) (error : E) → Err error ≡ Ok answer → ⊥
+    err_ok answer error same = true≢false (ap is_err same)
+
+-- where no drive is mounted, a call has no work
+no_place : (image : List ℕ) (before : Drive) (job : Option Job) (j : ℕ) (work : Option Work) → WorksOn image None before job j work → is_some work ≡ false
+no_place image before None j None works = refl
+no_place image before (Some job) j None works = absurd works
+no_place image before None j (Some work) works = absurd works
+no_place image before (Some job) j (Some work) works = absurd works
+
+pub no_work_there : (images : ℕ → List ℕ) (kept : Kept) (s : Situation) (j : ℕ) → ((number : ℕ) → directory_at kept.mounted number ≡ None) → Serves images kept s j → has_work kept.service ≡ false
+no_work_there images kept s j none serves =
+    ap has_work serves.there
+    ∙ no_place (images (drive_number s)) (drive_at s) (job_of s) j serves.service.work
+    (subst (λ directory. WorksOn (images (drive_number s)) directory (drive_at s) (job_of s) j serves.service.work) (none (drive_number s)) serves.works)
+
+-- any images stand for no drives where none is mounted
+pub none_stand : (mounted : List (Option Directory)) → ((number : ℕ) → directory_at mounted number ≡ None) → StandEach (λ _. []) mounted []
+none_stand mounted none = record { each = λ number. subst (λ directory. StandsWhere number [] directory None) (sym (none number)) tt }
+
+-- so it is where one has entered service
+pub nothing_to_do : (old new : Kept) (caller : Caller) (call : Taken) (moment : List ℕ) → is_some (function_of call.function) ≡ true
+    → ((images : ℕ → List ℕ) (drives : List (Option Drive)) (function : FileFunction) → function_of call.function ≡ Some function → StandEach images old.mounted drives
+    → Serves images new (entering old drives caller function call moment) 0)
+    → new ≡ record old { service = new.service } → ((number : ℕ) → directory_at old.mounted number ≡ None) → has_work new.service ≡ false
+nothing_to_do old new caller call moment is serves kept none = by_function (function_of call.function) refl is
+  where
+    by_function : (function : Option FileFunction) → function_of call.function ≡ function → is_some function ≡ true → has_work new.service ≡ false
+    by_function None same is = absurd (true≢false (sym is))
+    by_function (Some function) same is =
+        no_work_there (λ _. []) new (entering old [] caller function call moment) 0 (λ number. ap (λ (k : Kept). directory_at k.mounted number) kept ∙ none number)
+        (serves (λ _. []) [] function same (none_stand old.mounted none))

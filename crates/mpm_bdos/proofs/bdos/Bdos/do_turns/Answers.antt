@@ -1,0 +1,65 @@
+use Rattle.std.proofs.Common.{◌≡◌, suc, ◌+◌, refl, subst, ap, ◌∙◌, arith}
+use Rattle.mpm_bdos.specs.Serving.{Serves}
+use Rattle.mpm_bdos.specs.Turns.{told_images, has_work}
+use Rattle.mpm_bdos.proofs.AtOnceLaws.{no_turns, one_more_turn, cause_since, is_ok_or_err}
+use Rattle.mpm_bdos.proofs.bdos.Bdos.do_turns.Goals as goal
+
+pub loop-turn-init : goal.loop-turn-init
+loop-turn-init g c = record {
+  serves = λ s first few. first;
+  left = no_turns g.D.Drives.attached g.D.Drives.disks g.D.Drives.failed_names c.args.self.now c.args.drives.now c.requires.fits;
+  calls = omega arith;
+  idle = λ none. (refl, none);
+  count = refl;
+}
+
+pub loop-turn-preserved : goal.loop-turn-preserved
+loop-turn-preserved g c =
+    let now = c.turn.new in
+    let does = c.turn.ensures in
+    let so = c.loop-turn.invariant in
+    let more : suc c.loop-turn._turn ≡ c.loop-turn._turn + 1 = omega arith in
+    record {
+      serves = λ s first few. subst (Serves (told_images (g.D.Drives.disks now.drives)) now.self s) more
+          (c.in_default.ensures.ok s c.loop-turn._turn (so.serves s first (omega (arith, few))) (omega (arith, few)));
+      left = one_more_turn g.D.Drives.attached g.D.Drives.disks g.D.Drives.failed_names c.args.self.now c.loop-turn.self now.self c.args.drives.now c.loop-turn.drives now.drives so.left
+          (record { kept = does.kept; fits = does.fits; images = does.images; beside = does.beside; names = does.names; attached_are = does.attached });
+      calls = omega (arith, does.calls, so.calls);
+      idle = λ none. let still = does.idle (so.idle none).1 in (still.drives ∙ (so.idle none).0, ap has_work still.call ∙ (so.idle none).1);
+      count = c.in_default.ensures.cause.stays ∙ so.count;
+    }
+
+pub returns-in-Err : goal.returns-in-Err
+returns-in-Err g c =
+    let now = c.turn.new in
+    let does = c.turn.ensures in
+    let so = c.loop-turn.invariant in
+    record {
+      ok = λ s first few. tt;
+      err = λ s first few. record {
+        turn = c.loop-turn._turn;
+        its = omega (arith, few, c.loop-turn-test.true);
+        stops = c.in-Err.ensures.err s c.loop-turn._turn (so.serves s first (omega (arith, few, c.loop-turn-test.true))) (omega (arith, few, c.loop-turn-test.true));
+      };
+      left = one_more_turn g.D.Drives.attached g.D.Drives.disks g.D.Drives.failed_names c.args.self.now c.loop-turn.self now.self c.args.drives.now c.loop-turn.drives now.drives so.left
+          (record { kept = does.kept; fits = does.fits; images = does.images; beside = does.beside; names = does.names; attached_are = does.attached });
+      calls = omega (arith, does.calls, so.calls, c.loop-turn-test.true);
+      idle = λ none. absurd (is_ok_or_err _ _ _ c.in-Err.is (does.done (so.idle none).1));
+      unfailing = λ none. absurd (is_ok_or_err _ _ _ c.in-Err.is (does.done (so.idle none).1));
+      cause = cause_since (g.D.Drives.faults c.args.drives.now) (g.D.Drives.faults c.loop-turn.drives) (g.D.Drives.faults now.drives) so.count
+          c.in-Err.ensures.cause.later c.in-Err.ensures.cause.failed;
+    }
+
+pub returns : goal.returns
+returns g c =
+    let so = c.loop-turn.invariant in
+    let all : c.loop-turn._turn ≡ c.args.turns = omega (arith, c.loop-turn-test.false, c.loop-turn.auto._turn-end) in
+    record {
+      ok = λ s first few. subst (Serves (told_images (g.D.Drives.disks c.loop-turn.drives)) c.loop-turn.self s) all (so.serves s first (omega (arith, few, all)));
+      err = λ s first few. tt;
+      left = so.left;
+      calls = omega (arith, so.calls, all);
+      idle = λ none. (so.idle none).0;
+      unfailing = λ none. refl;
+      cause = record { later = omega (arith, so.count); stays = so.count; failed = tt };
+    }

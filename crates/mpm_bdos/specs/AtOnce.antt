@@ -1,0 +1,35 @@
+-- A file call that is done at once, its turns one after another.
+use Rattle.std.specs.Prelude.{◌≡◌, ◌≢◌, ℕ, ◌<◌, List, Option, Some}
+use Rattle.mpm_port.specs.Disks.{Disks, Told}
+use Rattle.mpm_mount.specs.Directories.{Directory}
+use Rattle.mpm_bdos.specs.Filing.{Situation}
+use Rattle.mpm_bdos.specs.Jobs.{call_turns}
+use Rattle.mpm_bdos.specs.Serving.{Kept, directory_at}
+use Rattle.mpm_bdos.specs.Turns.{FitsDrives, KeepsImages, StaysBeside, TurnKeeps, StopsWithin, drive_served}
+
+-- what some turns of the call in service leave of what is kept, of the drives and of their images
+pub record TurnsLeave {D : Type 0} (attached : D → ℕ → Option ℕ) (disks : D → Option Disks) (failed : D → List (List ℕ)) (old new : Kept) (drives now : D) : Type 0 where
+  pub kept : TurnKeeps old new
+  pub fits : FitsDrives attached disks new.mounted new.cached now
+  pub images : KeepsImages (drive_served old.service) old.mounted (disks drives) (disks now)
+  pub beside : Told (StaysBeside old.mounted) (disks drives) (disks now)
+  pub names : failed now ≡ failed drives
+  pub attached_are : (number : ℕ) → attached now number ≡ attached drives number
+
+-- where a device failed in one of its turns, the image of the job's drive stands within that turn
+pub record FailsIn (disks : Option Disks) (s : Situation) : Type 0 where
+  pub turn : ℕ
+  pub its : turn < call_turns s
+  pub stops : StopsWithin disks s turn
+
+-- of the drives that are mounted a call changes the directory and the image of one alone
+pub record ChangesAlone (drive : ℕ) (old new : List (Option Directory)) (disks now : Option Disks) : Type 0 where
+  pub places : (number : ℕ) → Some drive ≢ Some number → directory_at new number ≡ directory_at old number
+  pub images : KeepsImages (Some drive) old disks now
+
+-- nothing is done in a call that is none on files and drives
+pub record IsUntouched {R D : Type 0} (old new : Kept) (reply reply' : R) (drives now : D) (steps steps' : ℕ) : Type 0 where
+  pub kept : new ≡ old
+  pub answer : reply' ≡ reply
+  pub device : now ≡ drives
+  pub calls : steps' ≡ steps

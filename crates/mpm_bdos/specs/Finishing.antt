@@ -1,0 +1,40 @@
+-- What a call in service comes to behind its turns. (MP/M II Programmer's Guide, "BDOS Function Calls", "BDOS Error Handling".)
+use Rattle.std.specs.Prelude.{◌≡◌, ℕ, Bool, List, [], Option, Some}
+use Rattle.mpm_base.specs.Calls.{Answer}
+use Rattle.mpm_mount.specs.Directories.{Directory}
+use Rattle.mpm_opens.specs.Opens.{OpenFiles}
+use Rattle.mpm_bdos.specs.declared.refusals.Extended.{Extended}
+use Rattle.mpm_bdos.specs.Filing.{LastSearch, Situation}
+use Rattle.mpm_bdos.specs.Subjects.{found}
+use Rattle.mpm_bdos.specs.Jobs.{call_turns, turned}
+use Rattle.mpm_bdos.specs.Changes.{protected_then, opens_by, marks_by, searches_by, search_of_call}
+use Rattle.mpm_bdos.specs.Replies.{answer_after}
+use Rattle.mpm_bdos.specs.Outcomes.{file_call}
+use Rattle.mpm_bdos.specs.Serving.{InService, Kept, StandEach, filing_of}
+
+-- all that is kept but for what is cached, with a call in service
+abbrev pub serving : List (Option Directory) → List Bool → OpenFiles → List ℕ → List (Option LastSearch) → InService → Kept
+serving mounted protected opens marks searches service = record {
+  mounted = mounted;
+  cached = [];
+  protected = protected;
+  opens = opens;
+  marks = marks;
+  searches = searches;
+  service = Some service;
+}
+
+-- a call that isn't refused has come to this, besides what its turns have made of its drive
+pub record IsFinished (s : Situation) (answer : Answer) (protected : List Bool) (opens : OpenFiles) (marks : List ℕ) (searches : List (Option LastSearch)) : Type 0 where
+  pub answer_is : answer ≡ answer_after s (turned s (call_turns s))
+  pub protected_are : protected ≡ protected_then s
+  pub opens_are : opens ≡ opens_by s (turned s (call_turns s)) s.function
+  pub marks_are : marks ≡ marks_by s.filing.marks s.caller.process s.call.word s.function
+  pub searches_are : searches ≡ searches_by s.filing.searches s.caller.process (search_of_call s) (found s)
+
+-- a call has come to its outcome, for which the images stand
+pub record ComesTo (images : ℕ → List ℕ) (s : Situation) (kept : Kept) (answer : Answer) (extended : Option Extended) : Type 0 where
+  pub answer_is : answer ≡ (file_call s).answer
+  pub extended_is : extended ≡ (file_call s).extended
+  pub filing_is : filing_of kept (file_call s).filing.drives ≡ (file_call s).filing
+  pub stand : StandEach images kept.mounted (file_call s).filing.drives

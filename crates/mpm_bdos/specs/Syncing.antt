@@ -1,0 +1,12 @@
+-- What was written to the mounted drives is brought to where it stays, on one after another.
+use Rattle.std.specs.Prelude.{ℕ, List, Option, IsSome, IfSome, is_some, count_by}
+use Rattle.mpm_mount.specs.Directories.{Directory}
+use Rattle.mpm_bdos.specs.Serving.{directory_at}
+
+-- each of them is attached
+abbrev pub AreAttached : (ℕ → Option ℕ) → List (Option Directory) → Type 0
+AreAttached attached mounted = (number : ℕ) → IfSome (directory_at mounted number) (λ directory. IsSome (attached number))
+
+-- how many there are
+abbrev pub mounted_count : List (Option Directory) → ℕ
+mounted_count mounted = count_by (λ directory. is_some directory) mounted

@@ -1,0 +1,250 @@
+ghost use Rattle.std.specs.Prelude.{◌≡◌, ◌≤◌, ◌<◌, ℕ, true, false, List, [], Option, Some, None, length};
+ghost use Rattle.std.specs.Option.{option_copied};
+ghost use Rattle.mpm_base.specs.Calls.{answering};
+ghost use Rattle.mpm_mount.specs.Directories.{Directory};
+ghost use Rattle.mpm_mount.specs.Drives.{Drive};
+ghost use Rattle.mpm_fcb.specs.Blocks.{block_of};
+ghost use Rattle.mpm_fcb.specs.Positions.{sequential_record};
+ghost use Rattle.mpm_bdos.specs.declared.refusals.Refusal.{Refusal as Refused};
+ghost use Rattle.mpm_bdos.specs.Asking.{called};
+ghost use Rattle.mpm_bdos.specs.Changes.{marks_by, protected_by};
+ghost use Rattle.mpm_bdos.specs.Driving.{freed_by};
+ghost use Rattle.mpm_bdos.specs.Filing.{Situation};
+ghost use Rattle.mpm_bdos.specs.Finishing as spec;
+ghost use Rattle.mpm_bdos.specs.Jobs.{call_turns};
+ghost use Rattle.mpm_bdos.specs.Outcomes as outcomes;
+ghost use Rattle.mpm_bdos.specs.Refusals as refusals;
+ghost use Rattle.mpm_bdos.specs.Replying as replying;
+ghost use Rattle.mpm_bdos.specs.Serving.{IsCaller, HaveUsers, Serves};
+
+use crate::asking::word_of_call;
+use crate::bdos::Bdos;
+use crate::caller::Caller;
+use crate::directories::Directories;
+use crate::driving::{leave_drives, mark_drives, protect_drives};
+use crate::functions::FileFunction;
+use crate::marks::Marks;
+use crate::protected::Protected;
+use crate::refusals::{Extended, Refusal};
+use crate::replying::reply_mounted;
+use crate::searches::Searches;
+use crate::service::Service;
+use crate::starting::{block_taken, first_position};
+use mpm_base::{Call, Reply};
+use mpm_files::Work;
+use mpm_mount::Mounted;
+use mpm_opens::{FileKey, Opens};
+
+/// Whether a call is one on drives, which names none.
+fn is_on_drives(function: FileFunction) -> bool
+    ensures { result ≡ replying.is_on_drives function }
+{
+    match function {
+        FileFunction::ResetDisks
+        | FileFunction::ProtectDisk
+        | FileFunction::ResetDrives
+        | FileFunction::AccessDrives
+        | FileFunction::FreeDrives
+        | FileFunction::FlushBuffers => true,
+        _ => false,
+    }
+}
+
+/// Answers a call that is refused, on a drive.
+fn refuse(reply: &mut Reply, refusal: Refusal, drive: u8) -> Option<Extended>
+    ensures reply { reply.new ≡ answering (outcomes.refused_value (refusals.answered refusal)) }
+    ensures extended { result ≡ outcomes.refused_extended drive (refusals.answered refusal) }
+{
+    let answered = refusal.answer();
+    reply.answer(answered.value());
+    answered.extended(drive)
+}
+
+/// The DMA address of a call.
+fn dma_of_call(call: &Call) -> u16
+    ensures { result ≡ call.now.dma }
+{
+    call.dma
+}
+
+/// The sequential position of a call's file control block.
+fn position_of_call(call: &Call) -> u32
+    ensures size { length call.now.fcb ≡ 36 }
+    ensures low { sequential_record (block_of call.now.fcb) ≤ 262271 }
+{
+    let block = block_taken(call);
+    first_position(&block, FileFunction::ReadSequential)
+}
+
+/// Answers a call on drives that isn't refused, with what it leaves of marks, of open files and of drives that are protected from
+/// writing.
+fn reply_on_drives(
+    reply: &mut Reply,
+    protected: &mut Protected,
+    opens: &mut Opens,
+    marks: &mut Marks,
+    caller: &Caller,
+    is_mounted: bool,
+    word: u16,
+    dma: u16,
+    function: FileFunction,
+)
+    requires { is_mounted ≡ true → caller.now.drive < 16 }
+    ensures reply { reply.new ≡ record { hl = 0; fcb = None; at = dma; bytes = [] } }
+    ensures protected { protected.new ≡ protected_by protected.old is_mounted caller.now.drive word function }
+    ensures opens { opens.new ≡ freed_by opens.old caller.now.process word function }
+    ensures marks { marks.new ≡ marks_by marks.old caller.now.process word function }
+{
+    reply.answer_with(0, dma, &[]);
+    protect_drives(protected, caller.drive, is_mounted, word, function);
+    leave_drives(opens, caller.process, word, function);
+    mark_drives(marks, caller.process, word, function);
+}
+
+/// Answers a call on the drive that it names, where that is mounted.
+fn reply_on(
+    reply: &mut Reply,
+    mounted: Option<&Mounted>,
+    protected: &Protected,
+    opens: &mut Opens,
+    searches: &mut Searches,
+    caller: &Caller,
+    function: FileFunction,
+    call: &Call,
+    work: &Option<Work>,
+    deleted: &[Option<FileKey>; 64],
+)
+    requires { caller.now.multi ≤ 16 }
+    ensures users { HaveUsers opens.old → caller.now.user < 16 → HaveUsers opens.new }
+    ensures replied { (image : List ℕ) (d : Directory) (drives : List (Option Drive)) (marks moment : List ℕ) → option_copied mounted.entry ≡ Some d
+        → replying.IsAnswering (called drives protected.now opens.old marks searches.old caller.now function call.now moment) image d work.now deleted.now
+        → replying.IsReplied (called drives protected.now opens.old marks searches.old caller.now function call.now moment) reply.new opens.new searches.new }
+{
+    match mounted {
+        Some(mounted) => reply_mounted(
+            reply, mounted, protected, opens, searches, caller, function, call, work, deleted,
+        ),
+        None => {}
+    }
+}
+
+/// Answers a call that isn't refused, by what is kept of it.
+fn reply_granted(
+    reply: &mut Reply,
+    mounted: &Directories,
+    protected: &mut Protected,
+    opens: &mut Opens,
+    marks: &mut Marks,
+    searches: &mut Searches,
+    caller: &Caller,
+    function: FileFunction,
+    drive: u8,
+    call: &Call,
+    work: &Option<Work>,
+    deleted: &[Option<FileKey>; 64],
+)
+    requires caller { IsCaller caller.now }
+    requires users { HaveUsers opens.old }
+    ensures users { HaveUsers opens.new }
+    ensures finished { (images : ℕ → List ℕ) (s : Situation) (moment : List ℕ) (refusal : Option Refused)
+        → Serves images (spec.serving mounted.now protected.old opens.old marks.old searches.old (record { caller = caller.now; function = function; drive = drive; call = call.now; moment = moment; refusal = refusal; work = work.now; deleted = deleted.now })) s (call_turns s)
+        → refusals.refusal_of s ≡ None → spec.IsFinished s reply.new protected.new opens.new marks.new searches.new }
+{
+    // Each block has a position that a file can have.
+    let _ = position_of_call(call);
+    if is_on_drives(function) {
+        reply_on_drives(
+            reply,
+            protected,
+            opens,
+            marks,
+            caller,
+            mounted.has(caller.drive),
+            word_of_call(call),
+            dma_of_call(call),
+            function,
+        );
+    } else {
+        reply_on(
+            reply,
+            mounted.get(drive),
+            protected,
+            opens,
+            searches,
+            caller,
+            function,
+            call,
+            work,
+            deleted,
+        );
+    }
+}
+
+/// Answers a call in service, behind its turns.
+fn reply_service(
+    service: &Service,
+    reply: &mut Reply,
+    mounted: &Directories,
+    protected: &mut Protected,
+    opens: &mut Opens,
+    marks: &mut Marks,
+    searches: &mut Searches,
+) -> Option<Extended>
+    requires users { HaveUsers opens.old }
+    ensures users { HaveUsers opens.new }
+    ensures comes { (images : ℕ → List ℕ) (s : Situation)
+        → Serves images (spec.serving mounted.now protected.old opens.old marks.old searches.old service.now) s (call_turns s)
+        → spec.ComesTo images s (spec.serving mounted.now protected.new opens.new marks.new searches.new service.now) reply.new result }
+{
+    match service.refusal {
+        Some(refusal) => refuse(reply, refusal, service.drive),
+        None => {
+            reply_granted(
+                reply,
+                mounted,
+                protected,
+                opens,
+                marks,
+                searches,
+                &service.caller,
+                service.function,
+                service.drive,
+                &service.call,
+                &service.work,
+                &service.deleted,
+            );
+            None
+        }
+    }
+}
+
+impl Bdos {
+    ghost use Rattle.std.specs.Prelude.{◌≡◌, ℕ, List, None};
+    ghost use Rattle.mpm_bdos.specs.Filing.{Situation};
+    ghost use Rattle.mpm_bdos.specs.Finishing.{ComesTo};
+    ghost use Rattle.mpm_bdos.specs.Jobs.{call_turns};
+    ghost use Rattle.mpm_bdos.specs.Serving.{Serves};
+
+    /// Answers the call in service, behind its turns, with its extended error, if it has one; then none is in service. Nothing is
+    /// answered where none was. (MP/M II Programmer's Guide, "BDOS Function Calls", "BDOS Error Handling".)
+    pub fn reply(&mut self, reply: &mut Reply) -> Option<Extended>
+        ensures comes { (images : ℕ → List ℕ) (s : Situation) → Serves images self.old s (call_turns s) → ComesTo images s self.new reply.new result }
+        ensures kept { self.new ≡ record self.old { protected = self.new.protected; opens = self.new.opens; marks = self.new.marks; searches = self.new.searches; service = None } }
+        ensures idle { self.old.service ≡ None → self.new ≡ self.old }
+        ensures no_reply { self.old.service ≡ None → reply.new ≡ reply.old }
+        ensures no_extended { self.old.service ≡ None → result ≡ None }
+    {
+        match self.service.take() {
+            Some(service) => reply_service(
+                &service,
+                reply,
+                &self.mounted,
+                &mut self.protected,
+                &mut self.opens,
+                &mut self.marks,
+                &mut self.searches,
+            ),
+            None => None,
+        }
+    }
+}
