@@ -14,7 +14,7 @@ use Rattle.mpm_banks.specs.Actions.{memory_after}
 use Rattle.mpm_banks.specs.Allocations.{all_released}
 use Rattle.mpm_banks.specs.declared.segment.Allocation.TheVariants.{Free}
 use Rattle.mpm_base.proofs.Choices.{either}
-use Rattle.mpm_base.specs.declared.functions.TheConstants.{ABSOLUTE_MEMORY_REQUEST, RELOCATABLE_MEMORY_REQUEST, MEMORY_FREE, CREATE_PROCESS, ABORT_SPECIFIED_PROCESS}
+use Rattle.mpm_base.specs.declared.functions.TheConstants.{ABSOLUTE_MEMORY_REQUEST, RELOCATABLE_MEMORY_REQUEST, MEMORY_FREE, CREATE_PROCESS, PARSE_FILENAME, ABORT_SPECIFIED_PROCESS, SYSTEM_DATA_ADDRESS, RETURN_PROCESS_DESCRIPTOR_ADDRESS}
 use Rattle.mpm_banks.proofs.SegmentLaws.{SameBytes, reads_alike, same_bytes_itself, same_bytes_both, same_bytes_allocated, same_bytes_reserved, same_bytes_released, same_bytes_all_released}
 use Rattle.mpm_banks.proofs.ActionLaws.{memory_after_other_segment, memory_after_unwritten}
 use Rattle.mpm_gate.specs.Replies.{placed, IsPlacedAt}
@@ -31,8 +31,8 @@ use Rattle.mpm_processor.specs.declared.gate.Gate.{Gate}
 use Rattle.mpm_processor.specs.declared.gate.Gate.TheVariants.{End, Call, Return}
 use Rattle.mpm_machine.specs.State.{Change, IsWhole, speaking}
 use Rattle.mpm_machine.specs.Ending.{ended}
-use Rattle.mpm_machine.specs.Serving.{asked, keeping, Served, served, reserving, releasing, creating, aborted, aborting_this, aborting, said_by, popped, replied, with_entry, reply_at_entry, fulfilling, answering_call, completing, returning, outcome_of, gate_step}
-use Rattle.mpm_residents.specs.Natives.{native_call, native_in}
+use Rattle.mpm_machine.specs.Serving.{asked, keeping, Served, served, reserving, releasing, creating, aborted, aborting_this, aborting, parsing, said_by, popped, replied, with_entry, reply_at_entry, fulfilling, answering_call, completing, returning, outcome_of, gate_step}
+use Rattle.mpm_residents.specs.Natives.{native_call, native_in, asks}
 use Rattle.mpm_residents.specs.declared.native.Native.{Native}
 use Rattle.mpm_kernel.specs.Consoling.{abort_taken}
 use Rattle.mpm_machine.specs.Residing.{native_outcome, native_step, resided}
@@ -40,7 +40,7 @@ use Rattle.mpm_interrupts.specs.Interrupts.{due_taken}
 use Rattle.mpm_machine.specs.Finishing.{finished, completion_dequeued, finishing, all_finished}
 use Rattle.mpm_machine.specs.Due.{is_due, ended_if_due, due_terminated, with_ends, settled}
 use Rattle.mpm_machine.specs.Step.{instructed, illegal, executed, instruction_at, acted_at, gate_before, acted_by, acted, running_segment, coming, key_aborted, happened_to, event_come, interrupted, begun_by, with_settled, counted, step_of}
-use Rattle.mpm_machine.specs.Contained.{placed_reply, PlacesAt, WritesAt, IsWritten, after_begun, Answers, AnswersAmong, AnswersOne, AnswersAtEnd, AnswersAtEnds, IsAnswered, IsContained}
+use Rattle.mpm_machine.specs.Contained.{placed_reply, PlacesAt, WritesAt, IsWritten, after_begun, Answers, AnswersAmong, AnswersOne, AnswersAtEnd, AnswersAtEnds, IsAnsweredAfter, IsContained}
 use Rattle.mpm_machine.proofs.FinishLaws.{first_finished, left_completed, dequeued_lives, home_dequeued}
 use Rattle.mpm_machine.proofs.WholeStepLaws.{whole_counted, whole_after_begun, whole_answered, whole_first, whole_if_due, whole_due_end}
 use Rattle.mpm_kernel.specs.Kernel.{is_resident}
@@ -52,7 +52,7 @@ unfolding vacated_if_empty
 vacated_alike memory procs None = same_bytes_itself memory
 vacated_alike memory procs (Some seg) = either (SameBytes memory) (is_home procs seg) _ _ (λ _. same_bytes_itself memory) (λ _. same_bytes_allocated memory seg Free)
 
-ended_alike : (p : ℕ) (system : System) → SameBytes system.memory (ended p system).memory
+pub ended_alike : (p : ℕ) (system : System) → SameBytes system.memory (ended p system).memory
 unfolding ended memory_without
 ended_alike p system = same_bytes_both system.memory (all_released system.memory p) _ (same_bytes_all_released system.memory p) (vacated_alike (all_released system.memory p) _ _)
 
@@ -69,7 +69,7 @@ aborting_alike (Some other) p system =
     (λ _. same_bytes_itself system.memory) (λ _. aborted_alike other system)
 
 served_alike : (call : Taken) (p : ℕ) (system : System) → SameBytes system.memory (served call p system).system.memory
-unfolding served reserving releasing creating aborting
+unfolding served reserving releasing creating aborting parsing
 served_alike call p system =
     let f = call.function in
     let memory = system.memory in
@@ -78,7 +78,10 @@ served_alike call p system =
     (λ _. either P (f == RELOCATABLE_MEMORY_REQUEST) _ _ (λ _. same_bytes_reserved memory p _)
     (λ _. either P (f == MEMORY_FREE) _ _ (λ _. same_bytes_released memory p _)
     (λ _. either P (f == CREATE_PROCESS) _ _ (λ _. same_bytes_itself memory)
-    (λ _. either P (f == ABORT_SPECIFIED_PROCESS) _ _ (λ _. aborting_alike (target system.kernel.dispatcher.procs p) p system) (λ _. same_bytes_itself memory)))))
+    (λ _. either P (f == ABORT_SPECIFIED_PROCESS) _ _ (λ _. aborting_alike (target system.kernel.dispatcher.procs p) p system)
+    (λ _. either P (f == PARSE_FILENAME) _ _ (λ _. same_bytes_itself memory)
+    (λ _. either P (f == SYSTEM_DATA_ADDRESS) _ _ (λ _. same_bytes_itself memory)
+    (λ _. either P (f == RETURN_PROCESS_DESCRIPTOR_ADDRESS) _ _ (λ _. same_bytes_itself memory) (λ _. same_bytes_itself memory))))))))
 
 illegal_alike : (p : ℕ) (system : System) → SameBytes system.memory (illegal p system).system.memory
 unfolding illegal speaking
@@ -97,7 +100,9 @@ native_alike Retry reply call p system = same_bytes_itself system.memory
 resided_alike : (native : Option Native) (p : ℕ) (system : System) → SameBytes system.memory (resided native p system).system.memory
 unfolding native_step
 resided_alike None p system = same_bytes_itself system.memory
-resided_alike (Some native) p system = native_alike _ _ (native_call native) p _
+resided_alike (Some native) p system =
+    either (λ (change : Change). SameBytes system.memory change.system.memory) (asks native) _ _
+    (λ _. native_alike _ _ (native_call native) p _) (λ _. same_bytes_itself system.memory)
 
 key_alike : (aborts : Option ℕ) (system : System) → SameBytes system.memory (key_aborted aborts system).memory
 key_alike None system = same_bytes_itself system.memory
@@ -337,21 +342,19 @@ ends_common (p ∷ ps) system seg at w above none =
 
 -- so each byte that changes is written by the process that runs, or is of the reply to a held call
 
-settled_segments : (system : System) (seg at : ℕ) → IsWhole system → at < 49152 → (IsAnswered system seg at → ⊥) → IsWhole (after_begun system)
-    → byte_at (settled (after_begun system)).system.memory seg at ≡ byte_at (after_begun system).memory seg at
-unfolding settled with_ends IsAnswered
-settled_segments system seg at w below none afterwards =
-    let begun = after_begun system in
-    ends_segments (range_with_len 0 32) (all_finished begun).system seg at (whole_answered begun _ afterwards refl) below (λ later. none (inr later))
-    ∙ answers_segments begun seg at afterwards below (λ here. none (inl here))
+pub settled_segments : (begun : System) (seg at : ℕ) → IsWhole begun → at < 49152 → (IsAnsweredAfter begun seg at → ⊥)
+    → byte_at (settled begun).system.memory seg at ≡ byte_at begun.memory seg at
+unfolding settled with_ends IsAnsweredAfter
+settled_segments begun seg at w below none =
+    ends_segments (range_with_len 0 32) (all_finished begun).system seg at (whole_answered begun _ w refl) below (λ later. none (inr later))
+    ∙ answers_segments begun seg at w below (λ here. none (inl here))
 
-settled_common : (system : System) (seg at : ℕ) → IsWhole system → 49152 ≤ at → ((home : ℕ) → IsAnswered system home at → ⊥) → IsWhole (after_begun system)
-    → byte_at (settled (after_begun system)).system.memory seg at ≡ byte_at (after_begun system).memory seg at
-unfolding settled with_ends IsAnswered
-settled_common system seg at w above none afterwards =
-    let begun = after_begun system in
-    ends_common (range_with_len 0 32) (all_finished begun).system seg at (whole_answered begun _ afterwards refl) above (λ home later. none home (inr later))
-    ∙ answers_common begun seg at afterwards above (λ home here. none home (inl here))
+pub settled_common : (begun : System) (seg at : ℕ) → IsWhole begun → 49152 ≤ at → ((home : ℕ) → IsAnsweredAfter begun home at → ⊥)
+    → byte_at (settled begun).system.memory seg at ≡ byte_at begun.memory seg at
+unfolding settled with_ends IsAnsweredAfter
+settled_common begun seg at w above none =
+    ends_common (range_with_len 0 32) (all_finished begun).system seg at (whole_answered begun _ w refl) above (λ home later. none home (inr later))
+    ∙ answers_common begun seg at w above (λ home here. none home (inl here))
 
 pub step_is_contained : (system : System) → IsWhole system → IsContained system (step_of system).system
 unfolding step_of with_settled
@@ -359,10 +362,10 @@ step_is_contained system w =
     let afterwards = whole_after_begun (counted system) (after_begun system) (whole_counted system w) refl in
     record {
       segments = λ seg at below unwritten unanswered.
-          settled_segments system seg at w below unanswered afterwards
+          settled_segments (after_begun system) seg at afterwards below unanswered
           ∙ segments_begun (coming (counted system)) system seg at w refl below unwritten;
       common = λ seg at above unwritten unanswered.
-          settled_common system seg at w above unanswered afterwards
+          settled_common (after_begun system) seg at afterwards above unanswered
           ∙ common_begun (coming (counted system)) system seg at w refl above unwritten;
     }
 

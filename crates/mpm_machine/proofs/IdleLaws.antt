@@ -1,12 +1,14 @@
 -- Steps in which nothing is done, as no process runs and none is ready.
-use Rattle.std.proofs.Common.{◌≡◌, ◌∙◌, ℕ, zero, suc, ◌+◌, ◌<◌, false, List, [], ◌++◌, Option, None, sym, ap, subst, arith, add-one}
+use Rattle.std.proofs.Common.{◌≡◌, ◌∙◌, ℕ, zero, suc, ◌+◌, ◌<◌, false, List, [], Option, None, refl, sym, ap, subst, arith, add-one}
 use Rattle.mpm_kernel.specs.Kernel.{Kernel}
-use Rattle.mpm_render.specs.Shown.{Kept}
 use Rattle.mpm_machine.specs.declared.system.System.{System}
-use Rattle.mpm_machine.specs.State.{State, Change, StandsFor, IsWhole, NobodyAborted, silent}
-use Rattle.mpm_machine.specs.Step.{acted_by, acted, running_segment, at_instruction, counted, step_of, next, after, system_after}
+use Rattle.mpm_machine.specs.State.{State, Change, IsWhole, NobodyAborted, silent}
+use Rattle.mpm_machine.specs.Step.{acted_by, acted, running_segment, at_instruction, counted, step_of}
+use Rattle.mpm_machine.specs.After.{next, after, AreSteps}
 use Rattle.mpm_machine.specs.Moving.{IsIdle, later, Quiet}
 use Rattle.mpm_machine.proofs.WholeLaws.{whole_steps}
+use Rattle.mpm_machine.proofs.FileStepLaws.{nobody_calls, is_step_alone}
+use Rattle.mpm_machine.proofs.PlainLaws.{plain_next}
 use Rattle.mpm_machine.proofs.QuietLaws.{none_comes, step_still, picked_same}
 
 -- nothing is done
@@ -34,9 +36,8 @@ idle_step system n on =
 -- so n of them are n steps, which say nothing
 
 idle_next : (s : State) (n : ℕ) → Idles s.system (n + 1) → next (record s { system = later s.system n }) ≡ record s { system = later s.system (n + 1) }
-unfolding next
 idle_next s n on =
-    ap (λ (change : Change). record s { system = change.system; outputs = change.emitted ++ s.outputs }) (idle_step s.system n on)
+    plain_next (record s { system = later s.system n }) (later s.system (n + 1)) (nobody_calls (later s.system n) (on.idle (omega arith)).running) (idle_step s.system n on) refl
 
 fewer : (system : System) (n : ℕ) → Idles system (n + 1) → Idles system n
 fewer system n on = record {
@@ -54,18 +55,28 @@ after_idle (suc n) s on =
     let on_more : Idles s.system (n + 1) = subst (Idles s.system) (sym (add-one n)) on in
     ap next (after_idle n s (fewer s.system n on_more)) ∙ idle_next s n on_more ∙ ap (λ k. record s { system = later s.system k }) (add-one n)
 
--- what a machine stands for after them
-pub idle_stands : (n : ℕ) (old new : System) (kept : Kept) (written : Option (List ℕ)) (s : State) (first : Option (List ℕ))
-    → Idles old n → new ≡ later old n → StandsFor old kept written s first → StandsFor new kept written (after n s) first
-idle_stands n old new kept written s first on is stands =
-    let afterwards = after_idle n s (subst (λ (system : System). Idles system n) stands.parts on) in
-    let whole : new ≡ later s.system n = is ∙ ap (λ system. later system n) stands.parts in
-    let P : State → Type 0 = λ t. StandsFor new kept written t first in
-    subst P (sym afterwards) (record { parts = whole; shown = stands.shown })
+-- what becomes of a state in them
+pub idle_state : (n : ℕ) (old new : System) (s : State) → Idles old n → new ≡ later old n → s.system ≡ old → after n s ≡ record s { system = new }
+idle_state n old new s on is same =
+    after_idle n s (subst (λ (system : System). Idles system n) (sym same) on)
+    ∙ ap (λ system. record s { system = later system n }) same ∙ ap (λ system. record s { system = system }) (sym is)
 
--- and its system is the one after so many steps
-pub idle_system : (n : ℕ) (old new : System) → Idles old n → new ≡ later old n → new ≡ system_after n old
-idle_system n old new on is = is ∙ sym (ap (λ (s : State). s.system) (after_idle n (record { system = old; outputs = []; drives = [] }) on))
+steps_idle : (n : ℕ) (system : System) → IsWhole system → Idles system n → AreSteps n system (silent (later system n))
+unfolding AreSteps
+steps_idle zero system w on = ap (λ (steps : ℕ). silent (record system { steps = steps })) (omega arith)
+steps_idle (suc n) system w on =
+    let on_more : Idles system (n + 1) = subst (Idles system) (sym (add-one n)) on in
+    let here = later system n in
+    let is = is_step_alone here (silent (later system (n + 1))) (whole_steps system (system.steps + n) w) on.no_completions
+    (nobody_calls here (on_more.idle (omega arith)).running) (sym (idle_step system n on_more)) in
+    (silent here, silent (later system (n + 1)), steps_idle n system w (fewer system n on_more), is, ap (λ k. silent (later system k)) (sym (add-one n)))
+
+-- and they are so many steps
+pub idle_steps : (n : ℕ) (old new : System) → IsWhole old → Idles old n → new ≡ later old n → AreSteps n old (silent new)
+idle_steps n old new w on is = subst (λ system. AreSteps n old (silent system)) (sym is) (steps_idle n old w on)
+
+pub idle_settled : (n : ℕ) (old new : System) → Idles old n → new ≡ later old n → NobodyAborted new.kernel
+idle_settled n old new on is = subst (λ (system : System). NobodyAborted system.kernel) (sym is) on.settled
 
 pub idle_whole : (n : ℕ) (old new : System) → IsWhole old → new ≡ later old n → IsWhole new
 idle_whole n old new w is = subst IsWhole (sym is) (whole_steps old (old.steps + n) w)

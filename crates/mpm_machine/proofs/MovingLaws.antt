@@ -20,17 +20,19 @@ use Rattle.mpm_kernel.proofs.HomeLaws.{homes_stay}
 use Rattle.mpm_processor.specs.declared.gate.Gate.{Gate}
 use Rattle.mpm_processor.specs.Gates.{gate_of}
 use Rattle.mpm_processor.specs.Moving.{View, instruction_in, moved, moves, CanMove}
-use Rattle.mpm_render.specs.Shown.{Kept}
 use Rattle.mpm_machine.specs.declared.system.System.{System}
 use Rattle.mpm_machine.specs.Gates.{is_inside}
-use Rattle.mpm_machine.specs.State.{State, Change, StandsFor, IsWhole, NobodyAborted, silent}
+use Rattle.mpm_machine.specs.State.{State, Change, IsWhole, NobodyAborted, silent}
 use Rattle.mpm_machine.specs.Serving.{with_regs}
-use Rattle.mpm_machine.specs.Step.{instructed, executed, instruction_at, acted_at, gate_before, acted_by, acted, running_segment, at_instruction, coming, counted, step_of, next, after, system_after}
+use Rattle.mpm_machine.specs.Step.{instructed, executed, instruction_at, acted_at, gate_before, acted_by, acted, running_segment, at_instruction, coming, counted, step_of}
+use Rattle.mpm_machine.specs.FileCalls.{file_caller}
+use Rattle.mpm_machine.specs.After.{next, after, AreSteps}
 use Rattle.mpm_interrupts.specs.Interrupts.{due}
 use Rattle.mpm_machine.specs.Moving.{Moved, view_of, with_view, RunsOn, Quiet}
 use Rattle.mpm_machine.proofs.HomeLaws.{KeepsHomes, keeps_itself, keeps_both, keeps_acted}
 use Rattle.mpm_machine.proofs.WholeLaws.{same_regs, whole_kernel, whole_memory, whole_regs, whole_steps}
-use Rattle.mpm_machine.proofs.StepLaws.{after_nothing}
+use Rattle.mpm_machine.proofs.FileStepLaws.{gateless, is_step_alone}
+use Rattle.mpm_machine.proofs.PlainLaws.{plain_next}
 use Rattle.mpm_machine.proofs.QuietLaws.{none_comes, step_still, picked_same}
 
 -- a view that a process already has, and one after another
@@ -81,6 +83,23 @@ unfolding executed
 instructed_some None p seg system some = absurd (cc)
 instructed_some (Some outcome) p seg system some = refl
 
+-- no gate stands there
+
+runs_view : (system : System) (p n : ℕ) (view : View) → system.kernel.dispatcher.running ≡ Some p → (with_view system p view n).kernel.dispatcher.running ≡ Some p
+unfolding with_view
+runs_view system p n view running = running
+
+gate_of_view : (system : System) (p seg n : ℕ) (view : View) → p < length system.kernel.dispatcher.procs.processes → CanMove (is_inside system.kernel.dispatcher.procs p) seg view
+    → gate_before p seg (with_view system p view n) ≡ None
+unfolding with_view
+gate_of_view system p seg n view below can =
+    let begun = with_view system p view n in
+    let at = regs_of_view system p n view below in
+    let regs : (process_in begun.kernel.dispatcher.procs p).regs ≡ view.regs = ap (λ (process : Process). process.regs) at in
+    let inside : is_inside begun.kernel.dispatcher.procs p ≡ is_inside system.kernel.dispatcher.procs p = ap (λ (process : Process). is_some process.procedure) at in
+    ap (λ b. gate_of b view.memory seg (process_in begun.kernel.dispatcher.procs p).regs.pc) inside
+    ∙ ap (λ (r : Regs). gate_of (is_inside system.kernel.dispatcher.procs p) view.memory seg r.pc) regs ∙ can.no_gate
+
 -- the step is that instruction
 
 acted_view : (system : System) (p seg n : ℕ) (view : View) → p < length system.kernel.dispatcher.procs.processes → RunsOn system p seg
@@ -127,6 +146,11 @@ nobody_view kernel devices p regs below none = λ q.
     ] in
     ap (λ b. b && (process_in procs q).abort_due) (lives_changed kernel.dispatcher.procs p q process) ∙ ap (λ b. lives kernel.dispatcher.procs q && b) same ∙ none q
 
+settled_view : (system : System) (p n : ℕ) (view : View) → p < length system.kernel.dispatcher.procs.processes → NobodyAborted system.kernel
+    → NobodyAborted (with_view system p view n).kernel
+unfolding with_view
+settled_view system p n view below none = nobody_view system.kernel view.devices p view.regs below none
+
 step_view : (system : System) (p seg n : ℕ) (view : View) → p < length system.kernel.dispatcher.procs.processes → RunsOn system p seg
     → CanMove (is_inside system.kernel.dispatcher.procs p) seg view
     → due (system.steps + n + 1) system.interrupts ≡ None
@@ -141,64 +165,18 @@ step_view system p seg n view below on can quiet =
 
 -- so n of them are n steps, which say nothing
 
-with_system : State → System → State
+abbrev with_system : State → System → State
 with_system s system = record s { system = system }
 
-next_view : (s : State) (p seg n : ℕ) (view : View) → p < length s.system.kernel.dispatcher.procs.processes → RunsOn s.system p seg
-    → CanMove (is_inside s.system.kernel.dispatcher.procs p) seg view
-    → due (s.system.steps + n + 1) s.system.interrupts ≡ None
-    → next (with_system s (with_view s.system p view n)) ≡ with_system s (with_view s.system p (moved seg view) (n + 1))
-unfolding next with_system
-next_view s p seg n view below on can quiet =
-    ap (λ (change : Change). record s { system = change.system; outputs = change.emitted ++ s.outputs }) (step_view s.system p seg n view below on can quiet)
+same_alive : (system : System) (p n m : ℕ) (one other : View) → (with_view system p one n).kernel.dispatcher.procs.alive ≡ (with_view system p other m).kernel.dispatcher.procs.alive
+unfolding with_view with_process
+same_alive system p n m one other = refl
 
-after_moves : (n : ℕ) (s : State) (p seg : ℕ) → p < length s.system.kernel.dispatcher.procs.processes → RunsOn s.system p seg
-    → ((k : ℕ) → k < n → CanMove (is_inside s.system.kernel.dispatcher.procs p) seg (moves k seg (view_of s.system p))) → Quiet n s.system
-    → after n s ≡ with_system s (with_view s.system p (moves n seg (view_of s.system p)) n)
-unfolding moves after with_system
-after_moves zero s p seg below on each quiet = ap (λ system. record s { system = system }) (sym (view_itself s.system p))
-after_moves (suc n) s p seg below on each quiet =
-    let view = moves n seg (view_of s.system p) in
-    ap next (after_moves n s p seg below on (λ k less. each k (omega (arith, less))) (λ k less. quiet k (omega (arith, less))))
-    ∙ next_view s p seg n view below on (each n (omega arith)) (quiet n (omega arith))
-    ∙ ap (λ count. record s { system = with_view s.system p (moved seg view) count }) (add-one n)
-
-pub runs_on : (system : System) (p seg : ℕ) → IsWhole system → system.kernel.dispatcher.running ≡ Some p → first_of (list_at system.kernel.dispatcher.lists ready) ≡ Some p
-    → (process_in system.kernel.dispatcher.procs p).seg ≡ Some seg → system.kernel.dispatcher.completed ≡ [] → system.abort_deferred ≡ false → RunsOn system p seg
-runs_on system p seg w running first home no_completions off =
-    record { running = running; first = first; home = home; no_completions = no_completions; none_deferred = off; settled = w.settled off }
-
--- so many steps in which nothing is due
-pub quiet_steps : (n quiet : ℕ) (system : System) → n ≤ quiet
-    → ((step : ℕ) → step ≤ system.steps + quiet → system.steps < step → due step system.interrupts ≡ None) → Quiet n system
-quiet_steps n quiet system few none = λ k below. none (system.steps + k + 1) (omega (arith, few, below)) (omega arith)
-
--- what a machine stands for after them
-pub moved_stands : (n p seg : ℕ) (old new : System) (kept : Kept) (written : Option (List ℕ)) (s : State) (first : Option (List ℕ))
-    → IsWhole old → RunsOn old p seg → Moved n p seg old new → Quiet n old → StandsFor old kept written s first
-    → StandsFor new kept written (after n s) first
-unfolding with_system
-moved_stands n p seg old new kept written s first w on moved quiet stands =
-    let below : p < length old.kernel.dispatcher.procs.processes =
-    omega (arith, w.sound.slots.processes, lives_below old.kernel.dispatcher.procs p w.sound.slots (runner_lives old.kernel p w.sound on.running)) in
-    let P : System → Type 0 = λ system. (p < length system.kernel.dispatcher.procs.processes) × RunsOn system p seg
-    × ((k : ℕ) → k < n → CanMove (is_inside system.kernel.dispatcher.procs p) seg (moves k seg (view_of system p))) × Quiet n system in
-    let facts : P s.system = subst P stands.parts (below, on, moved.moves.each, quiet) in
-    let afterwards = after_moves n s p seg facts.0 facts.1 facts.2 facts.3 in
-    let whole : new ≡ with_view s.system p (moves n seg (view_of s.system p)) n =
-    moved.is ∙ ap (λ v. with_view old p v n) moved.moves.is ∙ ap (λ system. with_view system p (moves n seg (view_of system p)) n) stands.parts in
-    let Q : State → Type 0 = λ t. StandsFor new kept written t first in
-    subst Q (sym afterwards) (record { parts = whole; shown = stands.shown })
-
--- and its system is the one after so many steps
-pub moved_system : (n p seg : ℕ) (old new : System) → IsWhole old → RunsOn old p seg → Moved n p seg old new → Quiet n old → new ≡ system_after n old
-unfolding with_system
-moved_system n p seg old new w on moved quiet =
-    let start : State = record { system = old; outputs = []; drives = [] } in
-    let below : p < length old.kernel.dispatcher.procs.processes =
-    omega (arith, w.sound.slots.processes, lives_below old.kernel.dispatcher.procs p w.sound.slots (runner_lives old.kernel p w.sound on.running)) in
-    moved.is ∙ ap (λ v. with_view old p v n) moved.moves.is
-    ∙ sym (ap (λ (s : State). s.system) (after_moves n start p seg below on moved.moves.each quiet))
+alone_view : (system : System) (p seg n : ℕ) (view : View) → p < length system.kernel.dispatcher.procs.processes → RunsOn system p seg
+    → CanMove (is_inside system.kernel.dispatcher.procs p) seg view → file_caller (with_view system p view n) ≡ None
+alone_view system p seg n view below on can =
+    let at = regs_of_view system p n view below in
+    gateless (with_view system p view n) p seg (runs_view system p n view on.running) (ap (λ (process : Process). process.seg) at ∙ on.home) (gate_of_view system p seg n view below can)
 
 -- a machine that ran so is whole
 whole_view : (system : System) (p n : ℕ) (view : View) → IsWhole system → Lives system.kernel.dispatcher.procs p → KeepsHomes system.memory view.memory
@@ -218,19 +196,87 @@ keeps_moved (suc n) seg view =
     let before = moves n seg view in
     keeps_both view.memory before.memory _ (keeps_moved n seg view) (keeps_acted (actions_of (instruction_in seg before)) seg before.memory)
 
+next_view : (s : State) (p seg n : ℕ) (view : View) → p < length s.system.kernel.dispatcher.procs.processes → RunsOn s.system p seg
+    → CanMove (is_inside s.system.kernel.dispatcher.procs p) seg view
+    → due (s.system.steps + n + 1) s.system.interrupts ≡ None
+    → next (with_system s (with_view s.system p view n)) ≡ with_system s (with_view s.system p (moved seg view) (n + 1))
+next_view s p seg n view below on can quiet =
+    plain_next (with_system s (with_view s.system p view n)) (with_view s.system p (moved seg view) (n + 1)) (alone_view s.system p seg n view below on can)
+    (step_view s.system p seg n view below on can quiet) (same_alive s.system p (n + 1) n (moved seg view) view)
+
+after_moves : (n : ℕ) (s : State) (p seg : ℕ) → p < length s.system.kernel.dispatcher.procs.processes → RunsOn s.system p seg
+    → ((k : ℕ) → k < n → CanMove (is_inside s.system.kernel.dispatcher.procs p) seg (moves k seg (view_of s.system p))) → Quiet n s.system
+    → after n s ≡ with_system s (with_view s.system p (moves n seg (view_of s.system p)) n)
+unfolding moves after
+after_moves zero s p seg below on each quiet = ap (λ system. record s { system = system }) (sym (view_itself s.system p))
+after_moves (suc n) s p seg below on each quiet =
+    let view = moves n seg (view_of s.system p) in
+    ap next (after_moves n s p seg below on (λ k less. each k (omega (arith, less))) (λ k less. quiet k (omega (arith, less))))
+    ∙ next_view s p seg n view below on (each n (omega arith)) (quiet n (omega arith))
+    ∙ ap (λ count. record s { system = with_view s.system p (moved seg view) count }) (add-one n)
+
+handed_view : (system : System) (p n : ℕ) (view : View) → (with_view system p view n).kernel.dispatcher.completed ≡ system.kernel.dispatcher.completed
+unfolding with_view
+handed_view system p n view = refl
+
+steps_moves : (n : ℕ) (system : System) (p seg : ℕ) → IsWhole system → Lives system.kernel.dispatcher.procs p → p < length system.kernel.dispatcher.procs.processes
+    → RunsOn system p seg → ((k : ℕ) → k < n → CanMove (is_inside system.kernel.dispatcher.procs p) seg (moves k seg (view_of system p))) → Quiet n system
+    → AreSteps n system (silent (with_view system p (moves n seg (view_of system p)) n))
+unfolding moves AreSteps
+steps_moves zero system p seg w h below on each quiet = ap silent (view_itself system p)
+steps_moves (suc n) system p seg w h below on each quiet =
+    let view = moves n seg (view_of system p) in
+    let here = with_view system p view n in
+    let one = with_view system p (moved seg view) (n + 1) in
+    let can = each n (omega arith) in
+    let first = steps_moves n system p seg w h below on (λ k less. each k (omega (arith, less))) (λ k less. quiet k (omega (arith, less))) in
+    let is = is_step_alone here (silent one) (whole_view system p n view w h (keeps_moved n seg (view_of system p)))
+    (handed_view system p n view ∙ on.no_completions) (alone_view system p seg n view below on can) (sym (step_view system p seg n view below on can (quiet n (omega arith)))) in
+    (silent here, silent one, first, is, ap (λ count. silent (with_view system p (moved seg view) count)) (sym (add-one n)))
+
+pub runs_on : (system : System) (p seg : ℕ) → IsWhole system → system.kernel.dispatcher.running ≡ Some p → first_of (list_at system.kernel.dispatcher.lists ready) ≡ Some p
+    → (process_in system.kernel.dispatcher.procs p).seg ≡ Some seg → system.kernel.dispatcher.completed ≡ [] → system.abort_deferred ≡ false → RunsOn system p seg
+runs_on system p seg w running first home no_completions off =
+    record { running = running; first = first; home = home; no_completions = no_completions; none_deferred = off; settled = w.settled off }
+
+-- so many steps in which nothing is due
+pub quiet_steps : (n quiet : ℕ) (system : System) → n ≤ quiet
+    → ((step : ℕ) → step ≤ system.steps + quiet → system.steps < step → due step system.interrupts ≡ None) → Quiet n system
+quiet_steps n quiet system few none = λ k below. none (system.steps + k + 1) (omega (arith, few, below)) (omega arith)
+
+-- what becomes of a state in them
+pub moved_state : (n p seg : ℕ) (old new : System) (s : State) → IsWhole old → RunsOn old p seg → Moved n p seg old new → Quiet n old → s.system ≡ old
+    → after n s ≡ record s { system = new }
+moved_state n p seg old new s w on moved quiet is =
+    let below : p < length old.kernel.dispatcher.procs.processes =
+    omega (arith, w.sound.slots.processes, lives_below old.kernel.dispatcher.procs p w.sound.slots (runner_lives old.kernel p w.sound on.running)) in
+    let P : System → Type 0 = λ system. (p < length system.kernel.dispatcher.procs.processes) × RunsOn system p seg
+    × ((k : ℕ) → k < n → CanMove (is_inside system.kernel.dispatcher.procs p) seg (moves k seg (view_of system p))) × Quiet n system in
+    let facts : P s.system = subst P (sym is) (below, on, moved.moves.each, quiet) in
+    let whole : with_view s.system p (moves n seg (view_of s.system p)) n ≡ new =
+    ap (λ system. with_view system p (moves n seg (view_of system p)) n) is ∙ sym (moved.is ∙ ap (λ v. with_view old p v n) moved.moves.is) in
+    after_moves n s p seg facts.0 facts.1 facts.2 facts.3 ∙ ap (λ system. record s { system = system }) whole
+
+-- and they are so many steps
+pub moved_steps : (n p seg : ℕ) (old new : System) → IsWhole old → RunsOn old p seg → Moved n p seg old new → Quiet n old → AreSteps n old (silent new)
+moved_steps n p seg old new w on moved quiet =
+    let lives = runner_lives old.kernel p w.sound on.running in
+    let below : p < length old.kernel.dispatcher.procs.processes = omega (arith, w.sound.slots.processes, lives_below old.kernel.dispatcher.procs p w.sound.slots lives) in
+    subst (λ system. AreSteps n old (silent system)) (sym (moved.is ∙ ap (λ v. with_view old p v n) moved.moves.is))
+    (steps_moves n old p seg w lives below on moved.moves.each quiet)
+
+-- nobody's end is due behind them
+pub moved_settled : (n p seg : ℕ) (old new : System) → IsWhole old → RunsOn old p seg → Moved n p seg old new → NobodyAborted new.kernel
+moved_settled n p seg old new w on moved =
+    let lives = runner_lives old.kernel p w.sound on.running in
+    let below : p < length old.kernel.dispatcher.procs.processes = omega (arith, w.sound.slots.processes, lives_below old.kernel.dispatcher.procs p w.sound.slots lives) in
+    subst (λ (system : System). NobodyAborted system.kernel) (sym moved.is) (settled_view old p n moved.view below on.settled)
+
 pub whole_moved : (n p seg : ℕ) (old new : System) → IsWhole old → Lives old.kernel.dispatcher.procs p → Moved n p seg old new → IsWhole new
 whole_moved n p seg old new w h on =
     let keeps : KeepsHomes old.memory on.view.memory =
     subst (λ (view : View). KeepsHomes old.memory view.memory) (sym on.moves.is) (keeps_moved n seg (view_of old p)) in
     subst IsWhole (sym on.is) (whole_view old p n on.view w h keeps)
-
--- nothing was done
-
-pub stands_still : (system : System) (kept : Kept) (written : Option (List ℕ)) (s : State) (first : Option (List ℕ)) → StandsFor system kept written s first
-    → StandsFor system kept written (after 0 s) first
-stands_still system kept written s first stands =
-    let P : State → Type 0 = λ t. StandsFor system kept written t first in
-    subst P (sym (after_nothing s)) stands
 
 pub steps_moved : (n p seg : ℕ) (old new : System) → Moved n p seg old new → new.steps ≡ old.steps + n
 unfolding with_view

@@ -21,12 +21,12 @@ use Rattle.mpm_kernel.proofs.HoldingLaws.{still_held}
 use Rattle.mpm_xdos.specs.Aborting.{waits_to_end}
 use Rattle.mpm_xdos.specs.Procedures.{entering, entered}
 use Rattle.mpm_machine.specs.declared.system.System.{System}
-use Rattle.mpm_machine.specs.State.{Change, IsWhole}
+use Rattle.mpm_machine.specs.State.{Change, IsWhole, NobodyAborted}
 use Rattle.mpm_machine.specs.Ending.{ended}
 use Rattle.mpm_machine.specs.Serving.{is_entry, with_entry, reply_at_entry, fulfilling, answering_call, replied}
 use Rattle.mpm_machine.specs.Finishing.{finished, completion_dequeued, finishing, all_finished}
 use Rattle.mpm_machine.specs.Due.{is_due, NobodyDue, ended_if_due, due_terminated, all_due_terminated, with_ends, settled}
-use Rattle.mpm_machine.specs.Step.{coming, begun_by, instruction_unless, with_settled, counted, step_of}
+use Rattle.mpm_machine.specs.Step.{coming, begun_by, instruction_unless, with_settled, counted, dispatched as step_dispatched, step_of}
 use Rattle.mpm_machine.proofs.FinishLaws.{first_finished}
 use Rattle.mpm_machine.proofs.WholeStepLaws.{due_lives, whole_if_due, whole_due_terminated, whole_answered, whole_counted, whole_after_begun}
 
@@ -184,14 +184,18 @@ due_picked : (instruction : Bool) (kernel : Kernel) → NobodyDue kernel → Nob
 unfolding NobodyDue
 due_picked instruction kernel none = λ p. none p
 
+pub nobody_due_dispatched : (instruction : Bool) (change : Change) → IsWhole change.system
+    → NobodyDue (step_dispatched instruction (with_settled change)).system.kernel
+unfolding with_settled
+nobody_due_dispatched instruction change w = due_picked instruction (settled change.system).system.kernel (due_settled change.system w)
+
+pub none_aborted_due : (kernel : Kernel) → NobodyAborted kernel → NobodyDue kernel
+unfolding NobodyDue
+none_aborted_due kernel none = λ p. ap (λ b. b && not (waits_to_end kernel p false)) (none p)
+
 pub nobody_due_step : (system : System) → IsWhole system → NobodyDue (step_of system).system.kernel
-unfolding step_of with_settled
+unfolding step_of
 nobody_due_step system w =
     let begun = counted system in
-    let first = (begun_by (coming begun) begun).system in
-    due_picked (instruction_unless (coming begun) begun) (settled first).system.kernel
-    (due_settled first (whole_after_begun begun first (whole_counted system w) refl))
-
-pub nobody_due_stepped : (old new : System) → IsWhole old → new ≡ (step_of old).system → NobodyDue new.kernel
-nobody_due_stepped old new w is =
-    let P : System → Type 0 = λ s. NobodyDue s.kernel in subst P (sym is) (nobody_due_step old w)
+    nobody_due_dispatched (instruction_unless (coming begun) begun) (begun_by (coming begun) begun)
+    (whole_after_begun begun (begun_by (coming begun) begun).system (whole_counted system w) refl)

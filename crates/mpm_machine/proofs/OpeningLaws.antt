@@ -24,7 +24,7 @@ use Rattle.mpm_script.specs.declared.event.Timed.{Timed}
 use Rattle.mpm_machine_file.specs.declared.machine_file.MachineFile.{MachineFile}
 use Rattle.mpm_machine.specs.declared.system.System.{System}
 use Rattle.mpm_machine.specs.State.{IsWhole}
-use Rattle.mpm_machine.specs.Opening.{resident_process, with_interpreter, terminal_name, with_terminal, with_terminals, command_queue, with_command_queue, begun_by_interpreter, with_residents, moment_of, booted, opened}
+use Rattle.mpm_machine.specs.Opening.{resident_process, with_interpreter, terminal_name, with_terminal, with_terminals, command_queue, with_command_queue, begun_by_interpreter, with_interpreting, with_residents, moment_of, booted, opened}
 use Rattle.mpm_machine.proofs.WholeLaws.{whole_kernel, whole_residents}
 
 -- what is so of a kernel in which a resident begins, whose process is then another one of no segment
@@ -140,10 +140,16 @@ begun_kernel system kernel w b = record {
   steps = refl;
 }
 
-pub first_begun : (system : System) → IsWhole system → OnlySystems system.kernel → make_error system.kernel.queues command_queue 130 15 ≡ None
+first_begun : (system : System) → IsWhole system → OnlySystems system.kernel → make_error system.kernel.queues command_queue 130 15 ≡ None
     → Begun system (begun_by_interpreter system)
 unfolding begun_by_interpreter
 first_begun system w only none = begun_kernel system _ w (begins_first system.kernel w.sound only none)
+
+pub interpreting_begun : (consoles : ℕ) (system : System) → IsWhole system → OnlySystems system.kernel → make_error system.kernel.queues command_queue 130 15 ≡ None
+    → Begun system (with_interpreting consoles (begun_by_interpreter system))
+interpreting_begun consoles system w only none =
+    let first = first_begun system w only none in
+    record { whole = whole_residents _ _ first.whole; completed = first.completed; consoles = first.consoles; steps = first.steps }
 
 -- a terminal message processor
 
@@ -314,11 +320,11 @@ no_terminal old now console new is none =
 
 -- all of it
 
-pub first_here : (old afterwards : System) → IsWhole old → OnlySystems old.kernel → make_error old.kernel.queues command_queue 130 15 ≡ None
-    → afterwards ≡ begun_by_interpreter old → Begun old afterwards
-first_here old afterwards w only none is = subst (λ s. Begun old s) (sym is) (first_begun old w only none)
+pub first_here : (old afterwards : System) (consoles : ℕ) → IsWhole old → OnlySystems old.kernel → make_error old.kernel.queues command_queue 130 15 ≡ None
+    → afterwards ≡ with_interpreting consoles (begun_by_interpreter old) → Begun old afterwards
+first_here old afterwards consoles w only none is = subst (λ s. Begun old s) (sym is) (interpreting_begun consoles old w only none)
 
-pub residents_here : (old first afterwards : System) (kernel : Kernel) (consoles : ℕ) → first ≡ begun_by_interpreter old → afterwards ≡ with_terminals consoles first
+pub residents_here : (old first afterwards : System) (kernel : Kernel) (consoles : ℕ) → first ≡ with_interpreting consoles (begun_by_interpreter old) → afterwards ≡ with_terminals consoles first
     → kernel ≡ dispatched (picked false) afterwards.kernel → record afterwards { kernel = kernel } ≡ with_residents consoles old
 unfolding with_residents
 residents_here old first afterwards kernel consoles is was picks =

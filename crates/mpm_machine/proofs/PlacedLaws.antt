@@ -38,7 +38,8 @@ use Rattle.mpm_processor.specs.Gates.{IsHome}
 use Rattle.mpm_machine.specs.declared.system.System.{System}
 use Rattle.mpm_interrupts.specs.declared.interrupts.Interrupts.{Interrupts}
 use Rattle.mpm_machine.specs.State.{IsOccupied, IsWhole}
-use Rattle.mpm_machine.specs.Opening.{base_page, laid_out, placed_process, moment_of, booted, program_file, is_lived_in, is_occupied, IsBare, MayPlace, with_placed, opening_system}
+use Rattle.mpm_command.specs.BasePages.{base_page}
+use Rattle.mpm_machine.specs.Opening.{laid_out, placed_process, moment_of, booted, program_file, is_lived_in, is_occupied, IsBare, MayPlace, with_placed, opening_system}
 use Rattle.mpm_machine.proofs.WholeLaws.{nobody_more}
 use Rattle.mpm_machine.proofs.HomeLaws.{KeepsHomes, keeps_same, keeps_both, keeps_occupied}
 
@@ -48,10 +49,10 @@ unfolding laid_out
 same_segments_laid_out memory seg program =
     let base = (segment_of memory seg).base in
     let page = last_page memory seg in
-    let first = with_bytes memory seg (256 * base) (base_page page) in
+    let first = with_bytes memory seg (256 * base) (base_page page []) in
     let second = with_bytes first seg (256 * base + 256) program in
     same_segments_both memory second _
-    (same_segments_both memory first second (same_segments_with_bytes (base_page page) memory seg (256 * base)) (same_segments_with_bytes program first seg (256 * base + 256)))
+    (same_segments_both memory first second (same_segments_with_bytes (base_page page []) memory seg (256 * base)) (same_segments_with_bytes program first seg (256 * base + 256)))
     (same_segments_with_bytes _ second seg (256 * page - 2))
 
 pub laid_out_is_there : (memory : Memory) (seg : ℕ) (program : List ℕ) → HasSegment memory seg → HasSegment (laid_out memory seg program) seg
@@ -60,11 +61,11 @@ laid_out_is_there memory seg program there = omega (arith, (same_segments_laid_o
 -- the system is whole
 
 -- what is so of the segment in which a process begins, and of those in which others live, is so of each one's
-homes_admitted : (P : ℕ → Type 0) (kernel : Kernel) (p seg : ℕ) (new : NewProcess) → HasSlots kernel.dispatcher.procs → lowest_free kernel.dispatcher.procs ≡ Some p
+pub homes_begun : (P : ℕ → Type 0) (kernel : Kernel) (p seg : ℕ) (new : NewProcess) → HasSlots kernel.dispatcher.procs → lowest_free kernel.dispatcher.procs ≡ Some p
     → new.seg ≡ Some seg → P seg
     → ((q other : ℕ) → Lives kernel.dispatcher.procs q → (process_in kernel.dispatcher.procs q).seg ≡ Some other → P other)
     → (q other : ℕ) → Lives (added kernel.dispatcher.procs p new) q → (process_in (added kernel.dispatcher.procs p new) q).seg ≡ Some other → P other
-homes_admitted P kernel p seg new slots free is home homes q other living there = elim (cases_eq q p) [
+homes_begun P kernel p seg new slots free is home homes q other living there = elim (cases_eq q p) [
   | inl equal ↦
       let at : process_in (added kernel.dispatcher.procs p new) q ≡ opening new =
       ap (process_in (added kernel.dispatcher.procs p new)) equal
@@ -95,9 +96,9 @@ whole_placed system p seg name priority console program may free =
     let same : (dispatched (picked false) kernel).dispatcher.procs ≡ begun.dispatcher.procs = procs_gave console None (Some p) begun in
     let laid = same_segments_laid_out system.memory seg program in
     let here : IsOccupied (occupied memory seg) seg = allocation_of_allocated memory seg Occupied (omega (arith, laid.count, may.home.exists)) in
-    let homes = homes_admitted (IsHome (occupied memory seg)) system.kernel p seg new w.sound.slots free refl (keeps.all seg may.home)
+    let homes = homes_begun (IsHome (occupied memory seg)) system.kernel p seg new w.sound.slots free refl (keeps.all seg may.home)
     (λ q other living there. keeps.all other (w.homes q other living there)) in
-    let lived = homes_admitted (IsOccupied (occupied memory seg)) system.kernel p seg new w.sound.slots free refl here
+    let lived = homes_begun (IsOccupied (occupied memory seg)) system.kernel p seg new w.sound.slots free refl here
     (λ q other living there. keeps.lived other (w.homes q other living there) (w.lived q other living there)) in
     let alive = λ (q : ℕ) (living : Lives (dispatched (picked false) kernel).dispatcher.procs q). ap (λ procs. lives procs q) (sym same) ∙ living in
     record {

@@ -1,5 +1,5 @@
 -- The step of a resident: its call is asked, done, and what its outcome brings about follows.
-use Rattle.std.proofs.Common.{◌≡◌, ◌∙◌, ℕ, true, false, List, Option, Some, None, is_some, refl, sym, ap, subst}
+use Rattle.std.proofs.Common.{◌≡◌, ◌∙◌, ℕ, true, false, if◌then◌else◌, List, Option, Some, None, is_some, refl, sym, ap, subst}
 use Rattle.std.proofs.lemmas.Bool.{false≢true}
 use Rattle.mpm_base.specs.Calls.{Taken, Answer}
 use Rattle.mpm_base.specs.declared.call.Outcome.{Outcome}
@@ -7,7 +7,7 @@ use Rattle.mpm_procs.specs.Table.{Lives, call_of}
 use Rattle.mpm_dispatcher.specs.Dispatch.{IsReady}
 use Rattle.mpm_kernel.specs.Kernel.{Kernel}
 use Rattle.mpm_kernel.specs.Calls.{called}
-use Rattle.mpm_residents.specs.Natives.{native_call, native_in, answer_taken}
+use Rattle.mpm_residents.specs.Natives.{native_call, asks, native_in, asks_if_there, answer_taken}
 use Rattle.mpm_residents.specs.declared.native.Native.{Native}
 use Rattle.mpm_machine.specs.declared.system.System.{System}
 use Rattle.mpm_machine.specs.State.{IsWhole, silent, speaking}
@@ -47,10 +47,10 @@ pub record Concludes (p : ℕ) (old done : System) (outcome : Outcome) (reply : 
   pub change : after_echo (call_of done.kernel.dispatcher.procs p) p done (native_outcome outcome reply (call_of done.kernel.dispatcher.procs p) p done)
       ≡ resided (native_in old.residents p) p old
 
-concludes : (native : Native) (p : ℕ) (old asked done : System) (outcome : Outcome) (reply : Answer) → Asks native p old asked → IsReady old.kernel.dispatcher p
+concludes : (native : Native) (p : ℕ) (old asked done : System) (outcome : Outcome) (reply : Answer) → Asks native p old asked → asks native ≡ true → IsReady old.kernel.dispatcher p
     → done ≡ (calling p asked).system → outcome ≡ (calling p asked).outcome → reply ≡ (calling p asked).reply → Concludes p old done outcome reply
 unfolding native_step
-concludes native p old asked done outcome reply a ready system how what =
+concludes native p old asked done outcome reply a makes ready system how what =
     let call = native_call native in
     let result = calling p (asking p call old) in
     let same : calling p asked ≡ result = ap (calling p) a.is in
@@ -66,25 +66,31 @@ concludes native p old asked done outcome reply a ready system how what =
           ∙ ap (λ o. after_echo call p done (native_outcome o reply call p done)) (how ∙ ap (λ (r : Served). r.outcome) same)
           ∙ ap (λ r. after_echo call p done (native_outcome result.outcome r call p done)) (what ∙ ap (λ (r : Served). r.reply) same)
           ∙ ap (λ s. after_echo call p s (native_outcome result.outcome result.reply call p s)) (system ∙ ap (λ (r : Served). r.system) same)
+          ∙ sym (ap (λ b. if b then native_step native p old else silent old) makes)
           ∙ sym (ap (λ o. resided o p old) a.here);
     }
 
 pub call_concludes : (p : ℕ) (old asked : System) (kernel : Kernel) (outcome : Outcome) (reply : Answer) → IsWhole old → Lives old.kernel.dispatcher.procs p
-    → is_some (native_in old.residents p) ≡ true → asked ≡ asked_by (native_in old.residents p) p old → IsReady old.kernel.dispatcher p
+    → is_some (native_in old.residents p) ≡ true → asks_if_there (native_in old.residents p) ≡ true
+    → asked ≡ asked_by (native_in old.residents p) p old → IsReady old.kernel.dispatcher p
     → kernel ≡ (called p asked.kernel).kernel → outcome ≡ (called p asked.kernel).outcome → reply ≡ (called p asked.kernel).reply
     → Concludes p old (record asked { kernel = kernel }) outcome reply
-call_concludes p old asked kernel outcome reply w h has is ready done how what =
+call_concludes p old asked kernel outcome reply w h has makes is ready done how what =
     let a = asks_by (native_in old.residents p) p old asked w h refl has is in
-    concludes a.0 p old asked (record asked { kernel = kernel }) outcome reply a.1 ready (ap (λ k. record asked { kernel = k }) done) how what
+    concludes a.0 p old asked (record asked { kernel = kernel }) outcome reply a.1 (sym (ap asks_if_there a.1.here) ∙ makes) ready (ap (λ k. record asked { kernel = k }) done) how what
 
--- where no resident acts in a slot, nothing happens
-pub nobody_resides : (p : ℕ) (system : System) → is_some (native_in system.residents p) ≡ false → resided (native_in system.residents p) p system ≡ silent system
-nobody_resides p system none = nobody_by (native_in system.residents p) p system none where
-  nobody_by : (o : Option Native) (p : ℕ) (system : System) → is_some o ≡ false → resided o p system ≡ silent system
+-- where no resident makes a call in a slot, nothing happens
+pub nobody_asks : (p : ℕ) (system : System) → asks_if_there (native_in system.residents p) ≡ false → resided (native_in system.residents p) p system ≡ silent system
+nobody_asks p system none = nobody_by (native_in system.residents p) p system none where
+  nobody_by : (o : Option Native) (p : ℕ) (system : System) → asks_if_there o ≡ false → resided o p system ≡ silent system
   nobody_by None p system none = refl
-  nobody_by (Some native) p system none = absurd (false≢true (sym none))
+  nobody_by (Some native) p system none = ap (λ b. if b then native_step native p system else silent system) none
 
--- nor does anybody take an answer
+pub who_asks_is_there : (o : Option Native) → asks_if_there o ≡ true → is_some o ≡ true
+who_asks_is_there None e = absurd (false≢true e)
+who_asks_is_there (Some native) e = refl
+
+-- where none acts there, nobody takes an answer
 pub nobody_takes : (reply : Answer) (p : ℕ) (natives : List Native) → is_some (native_in natives p) ≡ false
     → natives ≡ answer_taken (native_in natives p) reply p natives
 nobody_takes reply p natives none = nobody_by (native_in natives p) none where

@@ -1,10 +1,11 @@
 -- A call is served by what it took and by who has which segment, and never by the bytes of memory.
-use Rattle.std.proofs.Common.{◌≡◌, ◌∙◌, ℕ, suc, cond, not, ◌+◌, Bool, true, false, List, [], ◌∷◌, Option, Some, None, ◌&&◌, ◌==◌, nat_le, nat_lt, length, get_or, if◌then◌else◌, inl, inr, refl, sym, ap, subst, arith, ◌||◌}
+use Rattle.std.proofs.Common.{◌≡◌, ◌∙◌, ℕ, zero, suc, cond, not, ◌+◌, Bool, true, false, List, [], ◌∷◌, ◌++◌, Option, Some, None, ◌&&◌, ◌==◌, nat_le, nat_lt, length, get_or, if◌then◌else◌, inl, inr, refl, sym, ap, subst, arith, ◌||◌}
 use Rattle.std.specs.List.{position_or_len}
 use Rattle.std.proofs.lemmas.Bool.{cases_eq, cases_lt}
 use Rattle.std.proofs.Math.ListN.{get_or-eq_default, get_or-map as map_at}
+use Rattle.mpm_base.specs.Lists.{zeros}
 use Rattle.mpm_base.specs.Calls.{Taken, byte_in}
-use Rattle.mpm_base.specs.declared.functions.TheConstants.{ABSOLUTE_MEMORY_REQUEST, RELOCATABLE_MEMORY_REQUEST, MEMORY_FREE, CREATE_PROCESS, ABORT_SPECIFIED_PROCESS}
+use Rattle.mpm_base.specs.declared.functions.TheConstants.{ABSOLUTE_MEMORY_REQUEST, RELOCATABLE_MEMORY_REQUEST, MEMORY_FREE, CREATE_PROCESS, PARSE_FILENAME, ABORT_SPECIFIED_PROCESS, SYSTEM_DATA_ADDRESS, RETURN_PROCESS_DESCRIPTOR_ADDRESS}
 use Rattle.mpm_banks.specs.Memory.{Memory, no_segment, SameSegments, segment_of}
 use Rattle.mpm_banks.specs.MemoryLaws.{field_stays}
 use Rattle.mpm_banks.specs.declared.segment.Segment.{Segment}
@@ -15,11 +16,12 @@ use Rattle.mpm_banks.proofs.SegmentLaws.{count_allocated, count_all_released, al
 use Rattle.mpm_procs.specs.Table.{Table, process_in}
 use Rattle.mpm_kernel.specs.Kernel.{Kernel, is_resident}
 use Rattle.mpm_kernel.specs.Calls.{called}
+use Rattle.mpm_xdos.specs.Copies.{segment_descriptor, segment_descriptors, with_zeros, system_page, system_answer, descriptor_answer}
 use Rattle.mpm_xdos.specs.Creating.{home_base, created, create_answer}
 use Rattle.mpm_xdos.specs.Ending.{is_home, vacated_if_empty, memory_without}
 use Rattle.mpm_xdos.specs.Aborting.{waits_to_end, target, memory_after_abort}
 use Rattle.mpm_machine.specs.declared.system.System.{System}
-use Rattle.mpm_machine.specs.Serving.{asked, keeping, Served, reserve_reply, descriptor_of, base_asked, reserving, releasing, creating, aborted, aborting_this, aborting, calling, served, gate_step}
+use Rattle.mpm_machine.specs.Serving.{asked, keeping, Served, reserve_reply, base_asked, reserving, releasing, creating, aborted, aborting_this, aborting, parsing, calling, served, gate_step, telling_system, telling_descriptor}
 use Rattle.mpm_processor.specs.declared.gate.Gate.{Gate}
 use Rattle.mpm_machine.specs.State.{Change}
 use Rattle.mpm_machine.specs.Step.{acted_at, acted_by, acted, running_segment, is_no_gate, instruction_by, at_instruction, begun_by, instruction_unless, with_settled, counted, dispatched, step_of}
@@ -110,7 +112,7 @@ released_alike one other owner seg same =
 
 -- so the call is served alike
 
-descriptor_alike : (one other : Memory) (seg : ℕ) → SameSegments one other → descriptor_of other seg ≡ descriptor_of one seg
+descriptor_alike : (one other : Memory) (seg : ℕ) → SameSegments one other → segment_descriptor other seg ≡ segment_descriptor one seg
 descriptor_alike one other seg same =
     ap (λ base. base ∷ (segment_of other seg).pages ∷ 128 ∷ seg ∷ []) (same.base seg) ∙ ap (λ pages. (segment_of one seg).base ∷ pages ∷ 128 ∷ seg ∷ []) (same.pages seg)
 
@@ -227,12 +229,49 @@ aborting_alike p one other d =
     let P : Kernel → Type 0 = λ kernel. ServedAlike (aborting p one) (aborting p (record other { kernel = kernel })) in
     subst P (sym d.kernel) (aborting_with (target one.kernel.dispatcher.procs p) p one other d.segments)
 
+parsing_alike : (call : Taken) (one other : System) → DiffersInBytes one other → ServedAlike (parsing call one) (parsing call other)
+unfolding parsing
+parsing_alike call one other d = record { kernel = d.kernel; segments = d.segments; outcome = refl; reply = refl }
+
 calling_alike : (p : ℕ) (one other : System) → DiffersInBytes one other → ServedAlike (calling p one) (calling p other)
 calling_alike p one other d = record {
   kernel = ap (λ kernel. (called p kernel).kernel) d.kernel;
   segments = d.segments;
   outcome = ap (λ kernel. (called p kernel).outcome) d.kernel;
   reply = ap (λ kernel. (called p kernel).reply) d.kernel;
+}
+
+-- the same is told
+
+descriptors_alike : (n : ℕ) (one other : Memory) → SameSegments one other → segment_descriptors n other ≡ segment_descriptors n one
+unfolding segment_descriptors
+descriptors_alike zero one other same = refl
+descriptors_alike (suc n) one other same =
+    ap (λ below. below ++ segment_descriptor other n) (descriptors_alike n one other same)
+    ∙ ap (λ bytes. segment_descriptors n one ++ bytes) (descriptor_alike one other n same)
+
+page_alike : (consoles : ℕ) (one other : Memory) → SameSegments one other → system_page consoles other ≡ system_page consoles one
+unfolding system_page
+page_alike consoles one other same =
+    let page : ℕ → List ℕ → List ℕ = λ count descriptors. 255 ∷ consoles ∷ (zeros 13 ++ (count ∷ with_zeros descriptors)) in
+    ap (λ count. page count (segment_descriptors count other)) same.count
+    ∙ ap (page (length one.segments)) (descriptors_alike (length one.segments) one other same)
+
+telling_system_alike : (one other : System) → DiffersInBytes one other → ServedAlike (telling_system one) (telling_system other)
+telling_system_alike one other d = record {
+  kernel = d.kernel;
+  segments = d.segments;
+  outcome = refl;
+  reply = ap (λ (kernel : Kernel). system_answer (length kernel.units.consoles) other.memory) d.kernel
+      ∙ ap (λ bytes. record { hl = 65280; fcb = None; at = 65280; bytes = bytes }) (page_alike (length one.kernel.units.consoles) one.memory other.memory d.segments);
+}
+
+telling_descriptor_alike : (p : ℕ) (one other : System) → DiffersInBytes one other → ServedAlike (telling_descriptor p one) (telling_descriptor p other)
+telling_descriptor_alike p one other d = record {
+  kernel = d.kernel;
+  segments = d.segments;
+  outcome = refl;
+  reply = ap (λ (kernel : Kernel). descriptor_answer p (process_in kernel.dispatcher.procs p)) d.kernel;
 }
 
 -- whatever bytes stand in memory, a call does the same, and answers the same
@@ -245,7 +284,10 @@ serves_alike call p one other d =
     (alike_if (f == MEMORY_FREE) _ _ _ _ (releasing_alike call p one other d)
     (alike_if (f == CREATE_PROCESS) _ _ _ _ (creating_alike p one other d)
     (alike_if (f == ABORT_SPECIFIED_PROCESS) _ _ _ _ (aborting_alike p one other d)
-    (calling_alike p one other d)))))
+    (alike_if (f == PARSE_FILENAME) _ _ _ _ (parsing_alike call one other d)
+    (alike_if (f == SYSTEM_DATA_ADDRESS) _ _ _ _ (telling_system_alike one other d)
+    (alike_if (f == RETURN_PROCESS_DESCRIPTOR_ADDRESS) _ _ _ _ (telling_descriptor_alike p one other d)
+    (calling_alike p one other d))))))))
 
 -- a step in which a process calls is that of its gate
 

@@ -1,5 +1,5 @@
 -- The residents of a machine as it is run stand in their slots.
-use Rattle.std.proofs.Common.{◌≡◌, ◌≢◌, ◌∙◌, ℕ, zero, suc, ◌+◌, ◌-◌, ◌<◌, ◌≤◌, ◌==◌, Bool, true, false, not, List, [], ◌∷◌, ◌++◌, length, Option, Some, None, if◌then◌else◌, inl, inr, codes, refl, sym, ap, subst, arith, add-one}
+use Rattle.std.proofs.Common.{◌≡◌, ◌≢◌, ◌∙◌, ℕ, zero, suc, ◌+◌, ◌<◌, ◌≤◌, Bool, true, false, not, List, [], ◌∷◌, ◌++◌, length, Option, Some, None, if◌then◌else◌, inl, inr, codes, refl, sym, ap, subst, arith, add-one}
 use Rattle.std.specs.Prelude.{slice_get, nat_lt}
 use Rattle.std.proofs.lemmas.Bool.{cases_lt}
 use Rattle.std.proofs.lemmas.Bool.Decides.{nat_tests}
@@ -16,15 +16,15 @@ use Rattle.mpm_kernel.specs.Queueing.{with_queue, with_system_queue}
 use Rattle.mpm_kernel.proofs.SoundLaws.{free_is_unlisted}
 use Rattle.mpm_residents.specs.Terminals.{opening}
 use Rattle.mpm_residents.specs.declared.native.Native.{Native}
-use Rattle.mpm_residents.specs.declared.native.Native.TheVariants.{Tmp}
+use Rattle.mpm_residents.specs.declared.native.Native.TheVariants.{Tmp, Cli}
+use Rattle.mpm_cli.specs.Interpreters.{opening as opening_interpreter}
 use Rattle.mpm_script.specs.declared.event.Timed.{Timed}
 use Rattle.mpm_machine_file.specs.declared.machine_file.MachineFile.{MachineFile}
 use Rattle.mpm_machine.specs.declared.system.System.{System}
 use Rattle.mpm_machine.specs.State.{IsWhole}
-use Rattle.mpm_machine.specs.Opening.{resident_process, with_interpreter, terminal_name, with_terminal, with_terminals, with_command_queue, begun_by_interpreter, with_residents, moment_of, booted, opened}
-use Rattle.mpm_residents.specs.Natives.{native_in}
+use Rattle.mpm_machine.specs.Opening.{resident_process, with_interpreter, terminal_name, with_terminal, with_terminals, with_command_queue, begun_by_interpreter, with_interpreting, with_residents, moment_of, booted, opened}
 use Rattle.mpm_machine.specs.Slots.{HasInterpreter, HasTerminal, HasResidents}
-use Rattle.mpm_machine.proofs.OpeningLaws.{Begun, first_begun, terminal_begun, boots}
+use Rattle.mpm_machine.proofs.OpeningLaws.{Begun, interpreting_begun, terminal_begun, boots}
 
 -- the lowest free slot, where all below it have a process
 if_in : (b : Bool) (p : ℕ) → b ≡ true → (if b then Some p else None) ≡ Some p
@@ -39,14 +39,6 @@ lowest_is table p within below free =
     ∙ if_in (nat_lt p (length table.alive)) p (grind (arith, nat_tests, within))
 
 -- the residents by slot
-
-else_is : (b : Bool) (o : Option Native) → b ≡ false → (if b then None else o) ≡ o
-else_is true o e = absurd (cc)
-else_is false o e = refl
-
-at_slot : (natives : List Native) (p k : ℕ) → p ≡ k + 1 → native_in natives p ≡ slice_get natives k
-at_slot natives p k e =
-    else_is (p == 0) (slice_get natives (p - 1)) (grind (arith, nat_tests, e)) ∙ ap (slice_get natives) (omega (arith, e))
 
 front : (xs ys : List Native) (i : ℕ) (x : Native) → slice_get xs i ≡ Some x → slice_get (xs ++ ys) i ≡ Some x
 front [] ys i x e = absurd (cc)
@@ -84,21 +76,21 @@ unfolding opening_process
 name_there table p new slots within = ap (λ (x : Process). x.name) (process_added table p new (omega (arith, within, slots.processes)))
 
 -- some of the terminal message processors have begun
-pub record Lodges (n : ℕ) (system : System) : Type 0 where
-  pub interpreter : HasInterpreter system
+pub record Lodges (consoles n : ℕ) (system : System) : Type 0 where
+  pub interpreter : HasInterpreter consoles system
   pub terminals : (console : ℕ) → console < n → HasTerminal console system
   pub free : (q : ℕ) → n < q → lives system.kernel.dispatcher.procs q ≡ false
-  pub residents : length system.residents ≡ n
+  pub residents : length system.residents ≡ n + 1
 
 -- all slots below have one
-taken_below : (n : ℕ) (system : System) → Lodges n system → (k : ℕ) → k < n + 1 → lives system.kernel.dispatcher.procs k ≡ true
-taken_below n system has zero less = has.interpreter.lives
-taken_below n system has (suc k) less =
+taken_below : (consoles n : ℕ) (system : System) → Lodges consoles n system → (k : ℕ) → k < n + 1 → lives system.kernel.dispatcher.procs k ≡ true
+taken_below consoles n system has zero less = has.interpreter.lives
+taken_below consoles n system has (suc k) less =
     ap (λ j. lives system.kernel.dispatcher.procs j) (sym (add-one k)) ∙ (has.terminals k (omega (arith, less))).lives
 
-next_slot : (n : ℕ) (system : System) → HasSlots system.kernel.dispatcher.procs → n < 8 → Lodges n system → lowest_free system.kernel.dispatcher.procs ≡ Some (n + 1)
-next_slot n system slots few has =
-    lowest_is system.kernel.dispatcher.procs (n + 1) (omega (arith, few, slots.alive)) (taken_below n system has) (has.free (n + 1) (omega arith))
+next_slot : (consoles n : ℕ) (system : System) → HasSlots system.kernel.dispatcher.procs → n < 8 → Lodges consoles n system → lowest_free system.kernel.dispatcher.procs ≡ Some (n + 1)
+next_slot consoles n system slots few has =
+    lowest_is system.kernel.dispatcher.procs (n + 1) (omega (arith, few, slots.alive)) (taken_below consoles n system has) (has.free (n + 1) (omega arith))
 
 not_last : (k n : ℕ) → k < n → k + 1 ≢ n + 1
 not_last k n less = λ e. absurd (omega (arith, less, e))
@@ -106,10 +98,10 @@ not_last k n less = λ e. absurd (omega (arith, less, e))
 not_zero : (n : ℕ) → 0 ≢ n + 1
 not_zero n = λ e. absurd (omega (arith, e))
 
-newest : (n k : ℕ) (system : System) → IsWhole system → n < 8 → Lodges n system → k ≡ n
+newest : (consoles n k : ℕ) (system : System) → IsWhole system → n < 8 → Lodges consoles n system → k ≡ n
     → HasTerminal k (with_terminal (Some (n + 1)) n system)
 unfolding with_terminal resident_process
-newest n k system w few has e =
+newest consoles n k system w few has e =
     let p = n + 1 in
     let table = system.kernel.dispatcher.procs in
     let slots = w.sound.slots in
@@ -119,14 +111,13 @@ newest n k system w few has e =
     subst P (sym e) (record {
       lives = lives_there table p new process (omega (arith, few, slots.alive));
       name = ap (λ (x : Process). x.name) (same_there table p new process slots (omega (arith, few))) ∙ name_there table p new slots (omega (arith, few));
-      resident = at_slot _ (n + 1) n refl
-          ∙ ap (slice_get (system.residents ++ Tmp (opening n) ∷ [])) (sym has.residents) ∙ last system.residents (Tmp (opening n));
+      resident = ap (slice_get (system.residents ++ Tmp (opening n) ∷ [])) (sym has.residents) ∙ last system.residents (Tmp (opening n));
     })
 
-lodges_at : (n : ℕ) (system : System) → IsWhole system → n < 8 → lowest_free system.kernel.dispatcher.procs ≡ Some (n + 1) → Lodges n system
-    → Lodges (n + 1) (with_terminal (Some (n + 1)) n system)
+lodges_at : (consoles n : ℕ) (system : System) → IsWhole system → n < 8 → lowest_free system.kernel.dispatcher.procs ≡ Some (n + 1) → Lodges consoles n system
+    → Lodges consoles (n + 1) (with_terminal (Some (n + 1)) n system)
 unfolding with_terminal resident_process
-lodges_at n system w few free has =
+lodges_at consoles n system w few free has =
     let p = n + 1 in
     let table = system.kernel.dispatcher.procs in
     let slots = w.sound.slots in
@@ -138,38 +129,38 @@ lodges_at n system w few free has =
         name = ap (λ (x : Process). x.name) (same_as_before table p 0 new process (not_zero n)) ∙ has.interpreter.name;
         unlisted = list_of_inserted_other system.kernel.dispatcher.lists ready (record { slot = p; priority = 198 }) 0 w.sound.table (omega arith)
             (omega (arith, few)) (free_is_unlisted system.kernel p w.sound free) (grind (arith, nat_tests)) ∙ has.interpreter.unlisted;
+        resident = front system.residents (Tmp (opening n) ∷ []) 0 (Cli (opening_interpreter consoles)) has.interpreter.resident;
       };
       terminals = λ k less. elim (cases_lt k n) [
         | inl below ↦ record {
           lives = lives_as_before table p (k + 1) new process (not_last k n below) ∙ (has.terminals k below).lives;
           name = ap (λ (x : Process). x.name) (same_as_before table p (k + 1) new process (not_last k n below)) ∙ (has.terminals k below).name;
-          resident = at_slot _ (k + 1) k refl
-              ∙ front system.residents (Tmp (opening n) ∷ []) k (Tmp (opening k)) (sym (at_slot system.residents (k + 1) k refl) ∙ (has.terminals k below).resident);
+          resident = front system.residents (Tmp (opening n) ∷ []) (k + 1) (Tmp (opening k)) (has.terminals k below).resident;
         }
-        | inr past ↦ newest n k system w few has (omega (arith, less, past))
+        | inr past ↦ newest consoles n k system w few has (omega (arith, less, past))
       ];
       free = λ q more. lives_as_before table p q new process (λ e. absurd (omega (arith, e, more))) ∙ has.free q (omega (arith, more));
       residents = one_more system.residents (Tmp (opening n)) ∙ ap (λ m. m + 1) has.residents;
     }
 
-lodges_more : (n : ℕ) (system : System) → IsWhole system → n < 8 → Lodges n system
-    → Lodges (n + 1) (with_terminal (lowest_free system.kernel.dispatcher.procs) n system)
-lodges_more n system w few has =
-    let free = next_slot n system w.sound.slots few has in
-    let P : Option ℕ → Type 0 = λ o. Lodges (n + 1) (with_terminal o n system) in
-    subst P (sym free) (lodges_at n system w few free has)
+lodges_more : (consoles n : ℕ) (system : System) → IsWhole system → n < 8 → Lodges consoles n system
+    → Lodges consoles (n + 1) (with_terminal (lowest_free system.kernel.dispatcher.procs) n system)
+lodges_more consoles n system w few has =
+    let free = next_slot consoles n system w.sound.slots few has in
+    let P : Option ℕ → Type 0 = λ o. Lodges consoles (n + 1) (with_terminal o n system) in
+    subst P (sym free) (lodges_at consoles n system w few free has)
 
 -- as many as there are consoles
 
-record LodgesWhole (n : ℕ) (start system : System) : Type 0 where
+record LodgesWhole (consoles n : ℕ) (start system : System) : Type 0 where
   pub begun : Begun start system
-  pub lodges : Lodges n system
+  pub lodges : Lodges consoles n system
 
-all_lodge : (n : ℕ) (start : System) → IsWhole start → n ≤ length start.kernel.units.consoles → Lodges 0 start → LodgesWhole n start (with_terminals n start)
+all_lodge : (consoles n : ℕ) (start : System) → IsWhole start → n ≤ length start.kernel.units.consoles → Lodges consoles 0 start → LodgesWhole consoles n start (with_terminals n start)
 unfolding with_terminals
-all_lodge zero start w few has = record { begun = record { whole = w; completed = refl; consoles = refl; steps = refl }; lodges = has }
-all_lodge (suc n) start w few has =
-    let others = all_lodge n start w (omega (arith, few)) has in
+all_lodge consoles zero start w few has = record { begun = record { whole = w; completed = refl; consoles = refl; steps = refl }; lodges = has }
+all_lodge consoles (suc n) start w few has =
+    let others = all_lodge consoles n start w (omega (arith, few)) has in
     let system = with_terminals n start in
     let whole = others.begun.whole in
     let more = terminal_begun n system whole (omega (arith, few, others.begun.consoles)) in
@@ -180,14 +171,17 @@ all_lodge (suc n) start w few has =
         consoles = more.consoles ∙ others.begun.consoles;
         steps = more.steps ∙ others.begun.steps;
       };
-      lodges = subst (λ k. Lodges k (with_terminal (lowest_free system.kernel.dispatcher.procs) n system)) (add-one n)
-          (lodges_more n system whole (omega (arith, few, whole.sound.units.consoles, others.begun.consoles)) others.lodges);
+      lodges = subst (λ k. Lodges consoles k (with_terminal (lowest_free system.kernel.dispatcher.procs) n system)) (add-one n)
+          (lodges_more consoles n system whole (omega (arith, few, whole.sound.units.consoles, others.begun.consoles)) others.lodges);
     }
 
 -- before them, the interpreter alone
 
 placed : (file : MachineFile) (events : List Timed)
-    → Lodges 0 (record (booted file events) { kernel = with_interpreter (Some 0) (with_command_queue (new_kernel file.consoles file.printers (moment_of file))) })
+    → Lodges file.consoles 0 (record (booted file events) {
+      kernel = with_interpreter (Some 0) (with_command_queue (new_kernel file.consoles file.printers (moment_of file)));
+      residents = Cli (opening_interpreter file.consoles) ∷ [];
+    })
 unfolding booted new_kernel new_dispatcher with_system_queue with_queue with_interpreter resident_process
 placed file events =
     let new = resident_process (record { 0 = codes "cli     " }) 190 0 in
@@ -197,25 +191,26 @@ placed file events =
         lives = lives_there no_processes 0 new process (omega (arith, slots_none.alive));
         name = ap (λ (x : Process). x.name) (same_there no_processes 0 new process slots_none (omega arith)) ∙ name_there no_processes 0 new slots_none (omega arith);
         unlisted = list_of_none 0;
+        resident = refl;
       };
       terminals = λ k less. absurd (omega (arith, less));
       free = λ q more. lives_as_before no_processes 0 q new process (λ e. absurd (omega (arith, e, more))) ∙ nobody_lives q;
       residents = refl;
     }
 
-interpreter_first : (file : MachineFile) (events : List Timed) → Lodges 0 (begun_by_interpreter (booted file events))
+interpreter_first : (file : MachineFile) (events : List Timed) → Lodges file.consoles 0 (with_interpreting file.consoles (begun_by_interpreter (booted file events)))
 unfolding begun_by_interpreter booted new_kernel new_dispatcher with_system_queue with_queue
 interpreter_first file events =
     let free = lowest_is no_processes 0 (omega (arith, slots_none.alive)) (λ k less. absurd (omega (arith, less))) (nobody_lives 0) in
     let kernel = with_command_queue (new_kernel file.consoles file.printers (moment_of file)) in
-    let P : Option ℕ → Type 0 = λ o. Lodges 0 (record (booted file events) { kernel = with_interpreter o kernel }) in
+    let P : Option ℕ → Type 0 = λ o. Lodges file.consoles 0 (record (booted file events) { kernel = with_interpreter o kernel; residents = Cli (opening_interpreter file.consoles) ∷ [] }) in
     subst P (sym free) (placed file events)
 
 -- and so after the dispatcher
 
-picked_too : (n : ℕ) (system : System) → Lodges n system → HasResidents n (record system { kernel = dispatched (picked false) system.kernel })
+picked_too : (n : ℕ) (system : System) → Lodges n n system → HasResidents n (record system { kernel = dispatched (picked false) system.kernel })
 picked_too n system has = record {
-  interpreter = record { lives = has.interpreter.lives; name = has.interpreter.name; unlisted = has.interpreter.unlisted };
+  interpreter = record { lives = has.interpreter.lives; name = has.interpreter.name; unlisted = has.interpreter.unlisted; resident = has.interpreter.resident };
   terminals = λ k less.
       let there = has.terminals k less in record { lives = there.lives; name = there.name; resident = there.resident };
 }
@@ -224,9 +219,9 @@ opened_lodges : (file : MachineFile) (events : List Timed) → IsWhole (booted f
 unfolding opened with_residents
 opened_lodges file events w =
     let boots_so = boots file events (booted file events) refl in
-    let first = first_begun (booted file events) w boots_so.queues boots_so.room in
-    let all = all_lodge file.consoles (begun_by_interpreter (booted file events)) first.whole (omega (arith, boots_so.consoles, first.consoles)) (interpreter_first file events) in
-    picked_too file.consoles (with_terminals file.consoles (begun_by_interpreter (booted file events))) all.lodges
+    let first = interpreting_begun file.consoles (booted file events) w boots_so.queues boots_so.room in
+    let all = all_lodge file.consoles file.consoles (with_interpreting file.consoles (begun_by_interpreter (booted file events))) first.whole (omega (arith, boots_so.consoles, first.consoles)) (interpreter_first file events) in
+    picked_too file.consoles (with_terminals file.consoles (with_interpreting file.consoles (begun_by_interpreter (booted file events)))) all.lodges
 
 pub has_residents : (file : MachineFile) (events : List Timed) (bare afterwards : System) → bare ≡ booted file events → IsWhole bare
     → afterwards ≡ opened file events → HasResidents file.consoles afterwards

@@ -3,7 +3,7 @@ use Rattle.std.proofs.Common.{◌≡◌, ℕ, ◌≤◌, length, subst, le_trans
 use Rattle.z80_regs.specs.declared.regs.Regs.{Regs}
 use Rattle.z80_regs.specs.Words.{word_of}
 use Rattle.mpm_base.specs.Calls.{Taken}
-use Rattle.mpm_base.specs.declared.functions.TheConstants.{CREATE_PROCESS}
+use Rattle.mpm_base.specs.declared.functions.TheConstants.{CREATE_PROCESS, PARSE_FILENAME}
 use Rattle.mpm_gate.specs.Calls.{taken_call}
 use Rattle.mpm_gate.specs.Reads.{reads_of, most_read}
 use Rattle.mpm_gate.proofs.ReadsLaws.{length_read, more_records}
@@ -19,5 +19,12 @@ call_is_taken regs memory dma multi h =
 pub few_descriptors : (call : Taken) → IsTaken call → call.function ≡ CREATE_PROCESS → length call.bytes ≤ 576
 unfolding reads_of
 few_descriptors call taken is =
+    let P : ℕ → Type 0 = λ function. length call.bytes ≤ most_read (reads_of function) 16 in
+    subst P is taken
+
+-- and function 152 two words, and a text of 128 bytes
+pub short_text : (call : Taken) → IsTaken call → call.function ≡ PARSE_FILENAME → length call.bytes ≤ 132
+unfolding reads_of
+short_text call taken is =
     let P : ℕ → Type 0 = λ function. length call.bytes ≤ most_read (reads_of function) 16 in
     subst P is taken

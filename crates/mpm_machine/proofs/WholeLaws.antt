@@ -9,7 +9,7 @@ use Rattle.z80_regs.specs.declared.regs.Regs.{Regs}
 use Rattle.mpm_base.specs.Calls.{Taken, Answer}
 use Rattle.mpm_base.specs.declared.call.Outcome.{Outcome as Ended_how}
 use Rattle.mpm_base.specs.declared.call.Outcome.TheVariants.{Done, Held, Retry, Ended}
-use Rattle.mpm_base.specs.declared.functions.TheConstants.{ABSOLUTE_MEMORY_REQUEST, RELOCATABLE_MEMORY_REQUEST, MEMORY_FREE, CREATE_PROCESS, ABORT_SPECIFIED_PROCESS}
+use Rattle.mpm_base.specs.declared.functions.TheConstants.{ABSOLUTE_MEMORY_REQUEST, RELOCATABLE_MEMORY_REQUEST, MEMORY_FREE, CREATE_PROCESS, PARSE_FILENAME, ABORT_SPECIFIED_PROCESS, SYSTEM_DATA_ADDRESS, RETURN_PROCESS_DESCRIPTOR_ADDRESS}
 use Rattle.z80_ext.specs.Instruction.{registers_after, actions_of}
 use Rattle.mpm_banks.specs.Memory.{Memory, HasSegment, segment_of, byte_at}
 use Rattle.mpm_banks.specs.Allocations.{lowest_free}
@@ -39,10 +39,10 @@ use Rattle.mpm_machine.specs.declared.system.System.{System}
 use Rattle.mpm_processor.specs.declared.gate.Gate.{Gate}
 use Rattle.mpm_processor.specs.declared.gate.Gate.TheVariants.{End, Call, Return}
 use Rattle.mpm_processor.specs.Gates.{IsHome}
-use Rattle.mpm_machine.specs.State.{IsWhole, NobodyAborted, speaking}
+use Rattle.mpm_machine.specs.State.{Change, IsWhole, NobodyAborted, speaking}
 use Rattle.mpm_machine.specs.Ending.{ended}
-use Rattle.mpm_machine.specs.Serving.{with_regs, asked, keeping, Served, reserving, releasing, creating, aborted, aborting_this, aborting, calling, served, string_of, said_by, popped, replied, completion, is_entry, with_entry, reply_at_entry, fulfilling, answering_call, completing, returning, outcome_of, gate_step}
-use Rattle.mpm_residents.specs.Natives.{native_call, native_in}
+use Rattle.mpm_machine.specs.Serving.{with_regs, asked, keeping, Served, reserving, releasing, creating, aborted, aborting_this, aborting, parsing, calling, served, string_of, said_by, popped, replied, completion, is_entry, with_entry, reply_at_entry, fulfilling, answering_call, completing, returning, outcome_of, gate_step}
+use Rattle.mpm_residents.specs.Natives.{native_call, native_in, asks}
 use Rattle.mpm_residents.specs.declared.native.Native.{Native}
 use Rattle.mpm_machine.specs.Residing.{asking, native_outcome, native_step, resided}
 use Rattle.mpm_output.specs.Texts.{illegal_text}
@@ -215,7 +215,7 @@ pub whole_popped : (p seg : ℕ) (system : System) → IsWhole system → Lives 
 unfolding popped
 whole_popped p seg system w h = whole_regs p (returned (byte_at system.memory seg) (process_in system.kernel.dispatcher.procs p).regs) system w h
 
-whole_replied : (reply : Answer) (call : Taken) (p seg : ℕ) (system : System) → IsWhole system → Lives system.kernel.dispatcher.procs p
+pub whole_replied : (reply : Answer) (call : Taken) (p seg : ℕ) (system : System) → IsWhole system → Lives system.kernel.dispatcher.procs p
     → StaysWhole p system (answering_call reply call p seg system).system
 unfolding answering_call replied
 whole_replied reply call p seg system w h =
@@ -420,15 +420,19 @@ whole_calling p system w h ready = record {
 
 pub whole_served : (call : Taken) (p : ℕ) (system : System) → IsWhole system → Lives system.kernel.dispatcher.procs p → IsReady system.kernel.dispatcher p
     → StaysWhole p system (served call p system).system
-unfolding served reserving releasing
+unfolding served reserving releasing parsing
 whole_served call p system w h ready =
     let f = call.function in
     let P : Served → Type 0 = λ s. StaysWhole p system s.system in
+    let stays : StaysWhole p system system = record { whole = w; lives = h; call = refl } in
     either P (f == ABSOLUTE_MEMORY_REQUEST) _ _ (λ _. whole_banks p _ system w h (keeps_reserved system.memory p _ _))
     (λ _. either P (f == RELOCATABLE_MEMORY_REQUEST) _ _ (λ _. whole_banks p _ system w h (keeps_reserved system.memory p _ _))
     (λ _. either P (f == MEMORY_FREE) _ _ (λ _. whole_banks p _ system w h (keeps_released system.memory p _))
     (λ _. either P (f == CREATE_PROCESS) _ _ (λ _. whole_creating p system w h)
-    (λ _. either P (f == ABORT_SPECIFIED_PROCESS) _ _ (λ _. whole_aborting p system w h ready) (λ _. whole_calling p system w h ready)))))
+    (λ _. either P (f == ABORT_SPECIFIED_PROCESS) _ _ (λ _. whole_aborting p system w h ready)
+    (λ _. either P (f == PARSE_FILENAME) _ _ (λ _. record { whole = w; lives = h; call = refl })
+    (λ _. either P (f == SYSTEM_DATA_ADDRESS) _ _ (λ _. stays)
+    (λ _. either P (f == RETURN_PROCESS_DESCRIPTOR_ADDRESS) _ _ (λ _. stays) (λ _. whole_calling p system w h ready))))))))
 
 -- a call is taken: the process keeps it, is ready as before, and has its segment
 pub record Keeps (p : ℕ) (taken : Taken) (old new : System) : Type 0 where
@@ -508,7 +512,7 @@ whole_resided None p system w h ready = w
 whole_resided (Some native) p system w h ready =
     let kept = keeps_asked p (native_call native) system w h in
     let done = whole_calling p (asking p (native_call native) system) kept.whole kept.lives (kept.ready ready) in
-    whole_native _ _ (native_call native) p _ done.whole done.lives
+    either (λ (change : Change). IsWhole change.system) (asks native) _ _ (λ _. whole_native _ _ (native_call native) p _ done.whole done.lives) (λ _. w)
 
 -- what the running process does
 whole_acted_at : (gate : Option Gate) (p seg : ℕ) (system : System) → IsWhole system → Lives system.kernel.dispatcher.procs p → IsReady system.kernel.dispatcher p

@@ -26,7 +26,7 @@ use Rattle.mpm_interrupts.specs.Interrupts.{due, due_taken}
 use Rattle.mpm_interrupts.specs.declared.interrupts.Interrupts.{Interrupts}
 use Rattle.mpm_machine.specs.Finishing.{finished, completion_dequeued, finishing, all_finished}
 use Rattle.mpm_machine.specs.Due.{is_due, ended_if_due, due_terminated, is_any_aborted, noted, with_ends, settled}
-use Rattle.mpm_machine.specs.Step.{counted, lets_in, coming, unhalted, key_aborted, happened_to, event_come, interrupted, begun_by, instruction_unless, with_settled, step_of}
+use Rattle.mpm_machine.specs.Step.{counted, lets_in, coming, unhalted, key_aborted, happened_to, event_come, interrupted, begun_by, instruction_unless, with_settled, dispatched as step_dispatched, step_of}
 use Rattle.mpm_machine.proofs.InterruptLaws.{due_may}
 use Rattle.mpm_interrupts.proofs.InterruptLaws.{script_after_due}
 use Rattle.mpm_machine.proofs.FinishLaws.{first_finished, left_completed}
@@ -211,18 +211,20 @@ whole_with_ends : (system : System) → IsWhole system → IsWhole (with_ends sy
 unfolding with_ends
 whole_with_ends system w = whole_noted _ (whole_due_terminated (range_with_len 0 32) system w)
 
-whole_settled : (system : System) → IsWhole system → IsWhole (settled system).system
+pub whole_settled : (system : System) → IsWhole system → IsWhole (settled system).system
 unfolding settled
 whole_settled system w = whole_with_ends _ (whole_finishing system.kernel.dispatcher.completed system w refl)
+
+-- so a step ends
+pub whole_dispatched : (instruction : Bool) (change : Change) → IsWhole change.system → IsWhole (step_dispatched instruction (with_settled change)).system
+unfolding with_settled
+whole_dispatched instruction change w =
+    let afterwards = whole_settled change.system w in
+    whole_kernel _ _ afterwards (sound_picked _ instruction afterwards.sound) afterwards.live (homes_stay _ _ refl)
 
 -- a step
 pub whole_counted : (system : System) → IsWhole system → IsWhole (counted system)
 whole_counted system w = whole_steps system (system.steps + 1) w
-
-whole_settled_all : (event : Option Event) (system : System) → IfSome event MayCome → IsWhole system
-    → IsWhole (with_settled (begun_by event system)).system
-unfolding with_settled
-whole_settled_all event system may w = whole_settled (begun_by event system).system (whole_begun event system may w)
 
 -- the event that comes may come
 
@@ -255,6 +257,4 @@ whole_step system w =
     let begun = counted system in
     let event = coming begun in
     let counts = whole_counted system w in
-    let instruction = instruction_unless event begun in
-    let afterwards = whole_settled_all event begun (coming_may begun counts) counts in
-    whole_kernel _ _ afterwards (sound_picked _ instruction afterwards.sound) afterwards.live (homes_stay _ _ refl)
+    whole_dispatched (instruction_unless event begun) (begun_by event begun) (whole_begun event begun (coming_may begun counts) counts)

@@ -1,5 +1,5 @@
 -- What a step may write of memory, what a listed instruction changes, and what a call takes from memory.
-use Rattle.std.specs.Prelude.{◌≡◌, ℕ, ◌+◌, ◌<◌, ◌≤◌, ◌⊎◌, true, false, List, [], ◌∷◌, Bool, Option, Some, None, IsSome, slice_index_or}
+use Rattle.std.specs.Prelude.{◌≡◌, ℕ, ◌+◌, ◌<◌, ◌≤◌, ◌⊎◌, ◌==◌, ◌||◌, true, false, List, [], ◌∷◌, Bool, Option, Some, None, IsSome, slice_index_or}
 use Rattle.std.specs.List.{list_any, range_with_len}
 use Rattle.z80_regs.specs.declared.regs.Regs.{Regs}
 use Rattle.z80_ext.specs.Instruction.{actions_of}
@@ -19,6 +19,9 @@ use Rattle.mpm_machine.specs.Ending.{ended}
 use Rattle.mpm_machine.specs.Finishing.{finished, completion_dequeued, all_finished}
 use Rattle.mpm_machine.specs.Due.{is_due, ended_if_due, with_ends}
 use Rattle.mpm_machine.specs.Step.{instruction_at, gate_before, coming, begun_by, with_settled, counted, dispatched}
+use Rattle.mpm_bdos.specs.declared.refusals.Extended.{Extended}
+use Rattle.mpm_bdos.specs.Direct.{Directly}
+use Rattle.mpm_machine.specs.FileCalls.{file_caller, call_made, concluded}
 
 -- the reply that is placed where a call is done: for one that enters a resident procedure the gate that it pushes
 abbrev pub placed_reply : Answer → Taken → ℕ → ℕ → System → Answer
@@ -80,10 +83,12 @@ unfoldable pub AnswersAtEnds : List ℕ → System → ℕ → ℕ → Type 0
 AnswersAtEnds [] system seg at = ⊥
 AnswersAtEnds (p ∷ ps) system seg at = AnswersAtEnd p system seg at ⊎ AnswersAtEnds ps (ended_if_due p system).system seg at
 
--- in this step such a call is completed, by what the step begins with or by an end that is due
-unfoldable pub IsAnswered : System → ℕ → ℕ → Type 0
-IsAnswered system seg at =
-    AnswersOne (after_begun system) seg at ⊎ AnswersAtEnds (range_with_len 0 32) (all_finished (after_begun system)).system seg at
+-- such a call is completed by what a step begins with, which left this system, or by an end that is due
+unfoldable pub IsAnsweredAfter : System → ℕ → ℕ → Type 0
+IsAnsweredAfter begun seg at = AnswersOne begun seg at ⊎ AnswersAtEnds (range_with_len 0 32) (all_finished begun).system seg at
+
+abbrev pub IsAnswered : System → ℕ → ℕ → Type 0
+IsAnswered system seg at = IsAnsweredAfter (after_begun system) seg at
 
 -- a byte of a segment stays unless a process that lives there writes it or has its call's reply placed there, and a byte of
 -- common memory, whoever reads it, unless some process does
@@ -92,6 +97,32 @@ pub record IsContained (old new : System) : Type 0 where
       → byte_at new.memory seg at ≡ byte_at old.memory seg at
   pub common : (seg at : ℕ) → 49152 ≤ at → ((home : ℕ) → IsWritten old home at → ⊥) → ((home : ℕ) → IsAnswered old home at → ⊥)
       → byte_at new.memory seg at ≡ byte_at old.memory seg at
+
+-- a file call is answered, unless its extended error ends its process
+abbrev pub is_answered : Option Extended → ℕ → Bool
+is_answered None mode = true
+is_answered (Some error) mode = mode == 255 || mode == 254
+
+-- a process that lives in that segment makes a file call in this step, whose reply is placed at the address
+pub record IsFiled (told : Directly) (p : ℕ) (system : System) (seg at : ℕ) : Type 0 where
+  pub home : (process_in system.kernel.dispatcher.procs p).seg ≡ Some seg
+  pub answers : is_answered told.extended (process_in system.kernel.dispatcher.procs p).error_mode ≡ true
+  pub places : IsPlacedAt told.answer (call_of system.kernel.dispatcher.procs p).word at
+
+-- the same of a step by what a file call comes to, if one is made in it
+abbrev pub after_begun_by : Option ℕ → Directly → System → System
+after_begun_by None told system = after_begun system
+after_begun_by (Some p) told system = (concluded told p (call_made p system)).system
+
+abbrev pub IsWrittenBy : Option ℕ → Directly → System → ℕ → ℕ → Type 0
+IsWrittenBy None told system seg at = IsWritten system seg at
+IsWrittenBy (Some p) told system seg at = IsFiled told p (call_made p system) seg at
+
+pub record IsContainedBy (told : Directly) (old new : System) : Type 0 where
+  pub segments : (seg at : ℕ) → at < 49152 → (IsWrittenBy (file_caller old) told old seg at → ⊥)
+      → (IsAnsweredAfter (after_begun_by (file_caller old) told old) seg at → ⊥) → byte_at new.memory seg at ≡ byte_at old.memory seg at
+  pub common : (seg at : ℕ) → 49152 ≤ at → ((home : ℕ) → IsWrittenBy (file_caller old) told old home at → ⊥)
+      → ((home : ℕ) → IsAnsweredAfter (after_begun_by (file_caller old) told old) home at → ⊥) → byte_at new.memory seg at ≡ byte_at old.memory seg at
 
 -- no event comes in this step, and the process that runs lives in that segment, and a listed instruction stands at its PC,
 -- and no gate

@@ -1,10 +1,10 @@
 -- How a program is laid out in its segment, and how its process begins. (MP/M II System Guide, "Memory Segment Base Page
 -- Initialization".)
 use Rattle.std.specs.Prelude.{◌≡◌, ℕ, zero, suc, ◌+◌, ◌-◌, ◌*◌, ◌<◌, ◌≤◌, Bool, true, false, List, [], ◌∷◌, ◌++◌, Option, Some, None, length, count_by, codes}
-use Rattle.mpm_base.specs.Lists.{zeros}
 use Rattle.mpm_base.specs.declared.number.Name8.{Name8}
 use Rattle.mpm_base.specs.declared.segment.SegmentSpec.{SegmentSpec}
-use Rattle.mpm_banks.specs.Gates.{last_page, end_gate, call_gate}
+use Rattle.mpm_banks.specs.Gates.{last_page}
+use Rattle.mpm_command.specs.BasePages.{base_page}
 use Rattle.mpm_banks.specs.Memory.{Memory, segment_of, with_bytes}
 use Rattle.mpm_banks.specs.Allocations.{new_memory, occupied, spec_of}
 use Rattle.mpm_banks.specs.declared.segment.Segment.{Segment}
@@ -18,7 +18,8 @@ use Rattle.mpm_kernel.specs.Joining.{joined}
 use Rattle.mpm_kernel.specs.Queueing.{with_system_queue}
 use Rattle.mpm_kernel.specs.Consoling.{given}
 use Rattle.mpm_residents.specs.Terminals.{opening}
-use Rattle.mpm_residents.specs.declared.native.Native.TheVariants.{Tmp}
+use Rattle.mpm_cli.specs.Interpreters.{opening as opening_interpreter}
+use Rattle.mpm_residents.specs.declared.native.Native.TheVariants.{Tmp, Cli}
 use Rattle.mpm_clock.specs.declared.moment.Moment.{Moment}
 use Rattle.mpm_script.specs.declared.event.Timed.{Timed}
 use Rattle.mpm_machine_file.specs.declared.machine_file.MachineFile.{MachineFile}
@@ -26,25 +27,13 @@ use Rattle.mpm_processor.specs.Gates.{IsHome}
 use Rattle.mpm_machine.specs.declared.system.System.{System}
 use Rattle.mpm_machine.specs.State.{IsWhole}
 
--- the jumps to the gates of a last page: at 00h to the one that ends the process, at 05h to the one that calls the kernel
-abbrev pub gate_jumps : ℕ → List ℕ
-gate_jumps page = 195 ∷ end_gate ∷ page ∷ 0 ∷ 0 ∷ 195 ∷ call_gate ∷ page ∷ []
-
--- the first bytes of a file control block without a name: the drive, eleven spaces, four zeros
-abbrev pub no_name : List ℕ
-no_name = 0 ∷ 32 ∷ 32 ∷ 32 ∷ 32 ∷ 32 ∷ 32 ∷ 32 ∷ 32 ∷ 32 ∷ 32 ∷ 32 ∷ 0 ∷ 0 ∷ 0 ∷ 0 ∷ []
-
--- the base page: the jumps, two file control blocks without names at 5Ch and 6Ch, and an empty command tail at 80h
-unfoldable pub base_page : ℕ → List ℕ
-base_page page = gate_jumps page ++ (zeros 84 ++ (no_name ++ (no_name ++ zeros 132)))
-
--- a segment with a program: its base page, the program behind it, and below the last page the word on which the stack
--- begins, the address of the base page
+-- a segment with a program: its base page, with an empty command tail, the program behind it, and below the last page the word
+-- on which the stack begins, the address of the base page
 unfoldable pub laid_out : Memory → ℕ → List ℕ → Memory
 laid_out memory seg program =
     let base = (segment_of memory seg).base in
     let page = last_page memory seg in
-    with_bytes (with_bytes (with_bytes memory seg (256 * base) (base_page page)) seg (256 * base + 256) program) seg (256 * page - 2) (0 ∷ base ∷ [])
+    with_bytes (with_bytes (with_bytes memory seg (256 * base) (base_page page [])) seg (256 * base + 256) program) seg (256 * page - 2) (0 ∷ base ∷ [])
 
 -- the process of a program: it begins behind the base page, with user 0 and drive A
 unfoldable pub placed_process : SegmentSpec → ℕ → Name8 → ℕ → ℕ → NewProcess
@@ -175,11 +164,15 @@ begun_by_interpreter system =
     let queued = with_command_queue system.kernel in
     record system { kernel = with_interpreter (lowest_free queued.dispatcher.procs) queued }
 
+-- it is the resident of that slot
+abbrev pub with_interpreting : ℕ → System → System
+with_interpreting consoles system = record system { residents = system.residents ++ Cli (opening_interpreter consoles) ∷ [] }
+
 -- what a machine has as it is run, beside what its file says: these, and a terminal message processor for each console behind
 -- them; the first of the ready list runs
 unfoldable pub with_residents : ℕ → System → System
 with_residents consoles system =
-    let begun = with_terminals consoles (begun_by_interpreter system) in
+    let begun = with_terminals consoles (with_interpreting consoles (begun_by_interpreter system)) in
     record begun { kernel = dispatched (picked false) begun.kernel }
 
 -- the machine of a machine file and of the events of its script, as it is run

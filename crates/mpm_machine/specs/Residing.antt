@@ -1,12 +1,12 @@
 -- Residents: processes of the system that run no instructions. In its step each makes one call, whose bytes it has itself, and
--- goes on by the answer; it reads and writes no memory. (MP/M II System Guide, "Resident System Processes"; User's Guide,
+-- goes on by the answer; it reads and writes no memory. What a command line interpreter hands over isn't taken yet. (MP/M II System Guide, "Resident System Processes"; User's Guide,
 -- "Terminal Message Processor".)
-use Rattle.std.specs.Prelude.{ℕ, Option, Some, None}
+use Rattle.std.specs.Prelude.{ℕ, if◌then◌else◌, Option, Some, None}
 use Rattle.mpm_base.specs.Calls.{Taken, Answer}
 use Rattle.mpm_base.specs.declared.call.Outcome.{Outcome}
 use Rattle.mpm_base.specs.declared.call.Outcome.TheVariants.{Done, Held, Retry, Ended}
 use Rattle.mpm_procs.specs.Table.{with_call}
-use Rattle.mpm_residents.specs.Natives.{native_call, native_in, answer_taken}
+use Rattle.mpm_residents.specs.Natives.{native_call, asks, native_in, answer_taken}
 use Rattle.mpm_residents.specs.declared.native.Native.{Native}
 use Rattle.mpm_machine.specs.declared.system.System.{System}
 use Rattle.mpm_machine.specs.State.{Change, silent}
@@ -45,7 +45,7 @@ native_step native p system =
     let done = calling p (asking p call system) in
     after_echo call p done.system (native_outcome done.outcome done.reply call p done.system)
 
--- a process without a segment takes its step as the resident of its slot, if one acts there
+-- a process without a segment takes its step as the resident of its slot, if one acts there and makes a call
 abbrev pub resided : Option Native → ℕ → System → Change
 resided None p system = silent system
-resided (Some native) p system = native_step native p system
+resided (Some native) p system = if asks native then native_step native p system else silent system

@@ -1,13 +1,14 @@
 -- The gate step of a kernel call: what it reads is taken, it is done, and its reply is placed. (MP/M II Programmer's Guide,
 -- "BDOS Calling Conventions"; functions 128 to 130, memory segments; 144, create process; 151, call resident system
--- procedure; 157, abort specified process.)
-use Rattle.std.specs.Prelude.{ℕ, ◌≤◌, length, Bool, true, false, not, List, [], ◌∷◌, ◌++◌, Option, Some, None, ◌==◌, ◌&&◌, ◌||◌, nat_lt, if◌then◌else◌}
+-- procedure; 152, parse filename; 154, return address of system data page; 156, return process descriptor address; 157, abort
+-- specified process.)
+use Rattle.std.specs.Prelude.{ℕ, ◌≤◌, length, Bool, true, false, not, List, [], ◌∷◌, ◌++◌, Option, Some, None, ◌==◌, ◌&&◌, ◌||◌, nat_lt, drop, if◌then◌else◌}
 use Rattle.z80_regs.specs.declared.regs.Regs.{Regs}
-use Rattle.z80_regs.specs.Words.{word_of}
-use Rattle.mpm_base.specs.Calls.{Taken, Answer, answering, byte_in}
+use Rattle.z80_regs.specs.Words.{word_of, onward}
+use Rattle.mpm_base.specs.Calls.{Taken, Answer, answering, byte_in, word_at}
 use Rattle.mpm_base.specs.declared.call.Outcome.{Outcome}
 use Rattle.mpm_base.specs.declared.call.Outcome.TheVariants.{Done, Held, Retry, Ended}
-use Rattle.mpm_base.specs.declared.functions.TheConstants.{CONSOLE_OUTPUT, LIST_OUTPUT, PRINT_STRING, ABSOLUTE_MEMORY_REQUEST, RELOCATABLE_MEMORY_REQUEST, MEMORY_FREE, CREATE_PROCESS, CALL_RESIDENT_SYSTEM_PROCEDURE, ABORT_SPECIFIED_PROCESS}
+use Rattle.mpm_base.specs.declared.functions.TheConstants.{CONSOLE_OUTPUT, LIST_OUTPUT, PRINT_STRING, ABSOLUTE_MEMORY_REQUEST, RELOCATABLE_MEMORY_REQUEST, MEMORY_FREE, CREATE_PROCESS, CALL_RESIDENT_SYSTEM_PROCEDURE, PARSE_FILENAME, ABORT_SPECIFIED_PROCESS, SYSTEM_DATA_ADDRESS, RETURN_PROCESS_DESCRIPTOR_ADDRESS}
 use Rattle.mpm_banks.specs.Memory.{Memory, segment_of, byte_at}
 use Rattle.mpm_banks.specs.Allocations.{lowest_free, reserved, is_reserved, released}
 use Rattle.mpm_gate.specs.Calls.{taken_call}
@@ -15,6 +16,9 @@ use Rattle.mpm_gate.specs.Reads.{reads_of, most_read}
 use Rattle.mpm_gate.specs.Replies.{answered, placed, returned}
 use Rattle.mpm_gate.specs.Texts.{text_from}
 use Rattle.mpm_gate.specs.declared.take.TextEnd.TheVariants.{Dollar}
+use Rattle.mpm_names.specs.Spellings.{parsed}
+use Rattle.mpm_names.specs.declared.file_name.Parsed.{Parsed}
+use Rattle.mpm_command.specs.FileBlocks.{file_block}
 use Rattle.mpm_procs.specs.Table.{process_in, with_call}
 use Rattle.mpm_kernel.specs.Kernel.{Kernel, with_changed, dispatched}
 use Rattle.mpm_kernel.specs.Calls.{called, does_echo, failure_code}
@@ -23,6 +27,7 @@ use Rattle.mpm_kernel.specs.Called.{low_parameter}
 use Rattle.mpm_kernel.specs.ConsoleInput.{writes}
 use Rattle.mpm_xdos.specs.Creating.{home_base, created, create_answer}
 use Rattle.mpm_xdos.specs.Aborting.{waits_to_end, target, abort_done, memory_after_abort}
+use Rattle.mpm_xdos.specs.Copies.{segment_descriptor, system_answer, descriptor_answer}
 use Rattle.mpm_xdos.specs.Procedures.{entered, entry_reply, returned_from_procedure}
 use Rattle.mpm_render.specs.declared.unit.Unit2.TheVariants.{Printer}
 use Rattle.mpm_render.specs.Outputs.{Output, Completed, said}
@@ -59,14 +64,10 @@ pub record Served : Type 0 where
   pub outcome : Outcome
   pub reply : Answer
 
--- a memory descriptor that a call read: base page, pages, attributes, bank
-abbrev pub descriptor_of : Memory → ℕ → List ℕ
-descriptor_of memory seg = (segment_of memory seg).base ∷ (segment_of memory seg).pages ∷ 128 ∷ seg ∷ []
-
 -- the reply to a call that reserves a segment: the descriptor of the one that was found, where the call's parameter points
 abbrev pub reserve_reply : Memory → Taken → Option ℕ → Answer
 reserve_reply memory call None = answering failure_code
-reserve_reply memory call (Some seg) = record (answering 0) { at = call.word; bytes = descriptor_of memory seg }
+reserve_reply memory call (Some seg) = record (answering 0) { at = call.word; bytes = segment_descriptor memory seg }
 
 -- a segment is reserved, of the base page that is given
 unfoldable pub reserving : Option ℕ → Taken → ℕ → System → Served
@@ -116,6 +117,31 @@ aborting_this (Some other) p system =
 unfoldable pub aborting : ℕ → System → Served
 aborting p system = aborting_this (target system.kernel.dispatcher.procs p) p system
 
+-- a file name is parsed: the call's first word is the address of its text, and its second that at which the file control block
+-- comes. The value is the address of what follows the name, 0 where nothing does, and FFFFh where there is no name
+abbrev pub address_of_next : ℕ → Option ℕ → ℕ
+address_of_next address None = 0
+address_of_next address (Some place) = onward address place
+
+abbrev pub parse_reply : Taken → Option Parsed → Answer
+parse_reply call None = answering 65535
+parse_reply call (Some name) =
+    record (answering (address_of_next (word_at call 0) name.next)) { at = word_at call 2; bytes = file_block name }
+
+unfoldable pub parsing : Taken → System → Served
+parsing call system = record { system = system; outcome = Done; reply = parse_reply call (parsed (drop 4 call.bytes)) }
+
+-- a call is answered, and nothing else becomes of it: what it tells is a copy in common memory
+abbrev pub telling : Answer → System → Served
+telling reply system = record { system = system; outcome = Done; reply = reply }
+
+-- the system data page is told, and the descriptor of the process that asks
+abbrev pub telling_system : System → Served
+telling_system system = telling (system_answer (length system.kernel.units.consoles) system.memory) system
+
+abbrev pub telling_descriptor : ℕ → System → Served
+telling_descriptor p system = telling (descriptor_answer p (process_in system.kernel.dispatcher.procs p)) system
+
 -- a call that concerns the kernel alone
 abbrev pub calling : ℕ → System → Served
 calling p system =
@@ -134,7 +160,10 @@ served call p system =
     else (if call.function == MEMORY_FREE then releasing call p system
     else (if call.function == CREATE_PROCESS then creating p system
     else (if call.function == ABORT_SPECIFIED_PROCESS then aborting p system
-    else (calling p system)))))
+    else (if call.function == PARSE_FILENAME then parsing call system
+    else (if call.function == SYSTEM_DATA_ADDRESS then telling_system system
+    else (if call.function == RETURN_PROCESS_DESCRIPTOR_ADDRESS then telling_descriptor p system
+    else (calling p system))))))))
 
 -- what a call writes to its process's console: functions 2 and 9 with tabs expanded, the byte in E or a string, and
 -- functions 4 and 6 the byte in E as it is

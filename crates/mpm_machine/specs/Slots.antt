@@ -4,16 +4,18 @@ use Rattle.std.specs.Prelude.{◌≡◌, ℕ, ◌+◌, ◌<◌, Some, None, code
 use Rattle.mpm_ready.specs.Tables.{list_of}
 use Rattle.mpm_procs.specs.Table.{Lives, process_in}
 use Rattle.mpm_residents.specs.Terminals.{opening}
-use Rattle.mpm_residents.specs.declared.native.Native.TheVariants.{Tmp}
+use Rattle.mpm_residents.specs.declared.native.Native.TheVariants.{Tmp, Cli}
+use Rattle.mpm_cli.specs.Interpreters.{opening as opening_interpreter}
 use Rattle.mpm_machine.specs.declared.system.System.{System}
 use Rattle.mpm_machine.specs.Opening.{terminal_name}
 use Rattle.mpm_residents.specs.Natives.{native_in}
 
--- slot 0 has the process of the command line interpreter, which stands in no list
-pub record HasInterpreter (system : System) : Type 0 where
+-- slot 0 has the process of the command line interpreter, which is at its opening and stands in no list
+pub record HasInterpreter (consoles : ℕ) (system : System) : Type 0 where
   pub lives : Lives system.kernel.dispatcher.procs 0
   pub name : (process_in system.kernel.dispatcher.procs 0).name ≡ record { 0 = codes "cli     " }
   pub unlisted : list_of system.kernel.dispatcher.lists 0 ≡ None
+  pub resident : native_in system.residents 0 ≡ Some (Cli (opening_interpreter consoles))
 
 -- the slot behind the number of a console has the process of its terminal message processor, which is at its opening
 pub record HasTerminal (console : ℕ) (system : System) : Type 0 where
@@ -23,5 +25,5 @@ pub record HasTerminal (console : ℕ) (system : System) : Type 0 where
 
 -- the interpreter, and a terminal message processor for each of so many consoles
 pub record HasResidents (consoles : ℕ) (system : System) : Type 0 where
-  pub interpreter : HasInterpreter system
+  pub interpreter : HasInterpreter consoles system
   pub terminals : (console : ℕ) → console < consoles → HasTerminal console system

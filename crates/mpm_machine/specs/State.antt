@@ -1,5 +1,5 @@
 -- The machine as a kernel model: its state, and when a machine stands for a state.
-use Rattle.std.specs.Prelude.{◌≡◌, ℕ, false, List, [], All, Option, Some}
+use Rattle.std.specs.Prelude.{◌≡◌, ℕ, false, List, [], All, Option, Some, None}
 use Rattle.mpm_banks.specs.Memory.{Memory, segment_of}
 use Rattle.mpm_banks.specs.declared.segment.Allocation.TheVariants.{Occupied}
 use Rattle.mpm_procs.specs.Table.{Lives, process_in}
@@ -10,16 +10,18 @@ use Rattle.mpm_kernel.specs.Columns.{spoke}
 use Rattle.mpm_render.specs.Outputs.{Output}
 use Rattle.mpm_render.specs.Shown.{Kept, Shows}
 use Rattle.mpm_port.specs.Disks.{Disks}
-use Rattle.mpm_drives.specs.Mounted.{NumberedDrive, StandEach}
+use Rattle.mpm_bdos.specs.Filing.{Filing}
+use Rattle.mpm_bdos.specs.Serving.{Kept as Filed, StandEach, filing_of}
+use Rattle.mpm_bdos.specs.Turns.{FitsDrives, told_images}
 use Rattle.mpm_machine.specs.declared.system.System.{System}
 use Rattle.mpm_machine.specs.declared.machine.Machine.{Machine}
 use Rattle.mpm_output.specs.Writing.{spoken}
 
--- the system, all outputs so far, newest first, and the drives by what is on them, in order of their numbers
+-- the system, all outputs so far, newest first, and what file calls find and leave, the drives by what is on them
 pub record State : Type 0 where
   pub system : System
   pub outputs : List Output
-  pub drives : List NumberedDrive
+  pub filing : Filing
 
 -- what a part of a step makes of the system, and the outputs that it adds, newest first
 pub record Change : Type 0 where
@@ -40,11 +42,22 @@ pub record StandsFor (system : System) (kept : Kept) (written : Option (List ℕ
   pub parts : system ≡ s.system
   pub shown : Shows kept written s.outputs first
 
--- a machine, its renderer, its sink and its drives stand for a state: the directory in memory and the image of each mounted
--- drive stand for the files on the state's drive
+-- what is kept of file calls, the directory in memory of each mounted drive, and its image, as it is told, stand for what file
+-- calls find
+pub record StandsForFiles (kept : Filed) (disks : Option Disks) (filing : Filing) : Type 0 where
+  pub filing_is : filing_of kept filing.drives ≡ filing
+  pub stand : StandEach (told_images disks) kept.mounted filing.drives
+
+-- a machine, its renderer, its sink and its drives stand for a state
 pub record StandsWithDrives (machine : Machine) (kept : Kept) (written : Option (List ℕ)) (disks : Option Disks) (s : State) (first : Option (List ℕ)) : Type 0 where
   pub system : StandsFor machine.system kept written s first
-  pub drives : StandEach disks machine.drives s.drives
+  pub files : StandsForFiles machine.bdos disks s.filing
+
+-- between steps no call is in service; and each mounted drive is attached to an image of its kind's size, and what is cached is
+-- what the images have
+pub record HoldsDrives {D : Type 0} (attached : D → ℕ → Option ℕ) (disks : D → Option Disks) (kept : Filed) (drives : D) : Type 0 where
+  pub idle : kept.service ≡ None
+  pub fits : FitsDrives attached disks kept.mounted kept.cached drives
 
 -- processes live in the segment
 abbrev pub IsOccupied : Memory → ℕ → Type 0

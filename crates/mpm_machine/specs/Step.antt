@@ -1,5 +1,5 @@
--- One step, and n steps.
-use Rattle.std.specs.Prelude.{ℕ, zero, suc, ◌+◌, ◌-◌, ◌<◌, ◌≤◌, Bool, true, false, not, ◌&&◌, ◌||◌, if◌then◌else◌, List, [], ◌++◌, Option, Some, None, is_none}
+-- What a step makes of a system in which no file call is made.
+use Rattle.std.specs.Prelude.{ℕ, ◌+◌, Bool, true, false, not, ◌&&◌, ◌||◌, if◌then◌else◌, List, [], ◌++◌, Option, Some, None, is_none}
 use Rattle.z80_regs.specs.Outcome.{Outcome}
 use Rattle.z80_ext.specs.Instruction.{instruction, registers_after, actions_of}
 use Rattle.mpm_banks.specs.Memory.{byte_at}
@@ -12,7 +12,7 @@ use Rattle.mpm_kernel.specs.Kernel.{Kernel, dispatched as with_dispatcher}
 use Rattle.mpm_dispatcher.specs.Dispatch.{picked}
 use Rattle.mpm_kernel.specs.Events.{happened}
 use Rattle.mpm_kernel.specs.Consoling.{abort_taken}
-use Rattle.mpm_render.specs.Outputs.{Output, rendered}
+use Rattle.mpm_render.specs.Outputs.{Output}
 use Rattle.mpm_processor.specs.Gates.{gate_of}
 use Rattle.mpm_processor.specs.declared.gate.Gate.{Gate}
 use Rattle.mpm_processor.specs.declared.gate.Gate.TheVariants.{End, Call, Return}
@@ -20,9 +20,7 @@ use Rattle.mpm_machine.specs.Gates.{is_inside}
 use Rattle.mpm_machine.specs.declared.system.System.{System}
 use Rattle.mpm_output.specs.Writing.{spoken}
 use Rattle.mpm_output.specs.Texts.{illegal_text}
-use Rattle.mpm_machine.specs.State.{State, Change, silent, speaking}
-use Rattle.mpm_machine.specs.declared.machine.StepFault.{StepFault}
-use Rattle.mpm_machine.specs.Faults.{EndsBy}
+use Rattle.mpm_machine.specs.State.{Change, silent, speaking}
 use Rattle.mpm_machine.specs.Ending.{ended}
 use Rattle.mpm_machine.specs.Serving.{with_regs, aborted, gate_step, returning}
 use Rattle.mpm_residents.specs.Natives.{native_in}
@@ -175,24 +173,3 @@ unfoldable pub step_of : System → Change
 step_of system =
     let begun = counted system in
     dispatched (instruction_unless (coming begun) begun) (with_settled (begun_by (coming begun) begun))
-
--- one step
-unfoldable pub next : State → State
-next s = record s { system = (step_of s.system).system; outputs = (step_of s.system).emitted ++ s.outputs }
-
--- n steps
-unfoldable pub after : ℕ → State → State
-after zero s = s
-after (suc n) s = next (after n s)
-
--- a system after n steps, whatever was written before them
-abbrev pub system_after : ℕ → System → System
-system_after n system = (after n (record { system = system; outputs = []; drives = [] })).system
-
--- it stopped in that step, one of the n steps after a state: all of the steps before it was written, and then, where the sink
--- failed, a first part of what it writes, which isn't empty
-pub record EndsInStep (fault : StepFault) (trace : Bool) (written first : Option (List ℕ)) (s : State) (n step : ℕ) : Type 0 where
-  pub later : s.system.steps < step
-  pub within : step ≤ s.system.steps + n
-  pub text : EndsBy fault written first (rendered trace (after (step - 1 - s.system.steps) s).outputs)
-      (rendered trace (after (step - s.system.steps) s).outputs)

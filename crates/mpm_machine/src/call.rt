@@ -18,7 +18,7 @@ const ALLOCATED: u8 = 0x80;
 impl System {
     ghost use Rattle.mpm_banks.specs.Allocations.{released, is_reserved};
     ghost use Rattle.mpm_machine.specs.State.{IsWhole};
-    ghost use Rattle.mpm_machine.specs.Serving.{asked, keeping, IsTaken, served, reserving, releasing, creating, base_asked, string_of, said_by, echo_of, popped, replied, answering_call, fulfilling, completing, completion, outcome_of, gate_step};
+    ghost use Rattle.mpm_machine.specs.Serving.{asked, keeping, IsTaken, served, reserving, releasing, creating, telling_system, telling_descriptor, base_asked, string_of, said_by, echo_of, popped, replied, answering_call, fulfilling, completing, completion, outcome_of, gate_step};
     ghost use Rattle.mpm_machine.specs.Ending.{ended};
 
     /// The gate step of a kernel call of a process of a segment.
@@ -74,7 +74,7 @@ impl System {
 
     /// Takes the call that a process asks at the gate: what it reads is kept, and an EI takes effect.
     #[tactic(auto, using(mpm_procs::proofs::MapLaws::lives_changed), unfolding(crate::specs::Serving::keeping, crate::specs::Serving::asked))]
-    fn take_call(&mut self, p: Pid, seg: Seg)
+    pub fn take_call(&mut self, p: Pid, seg: Seg)
         requires whole { IsWhole self.old }
         requires lives { Lives self.old.kernel.dispatcher.procs p }
         ensures { self.new ≡ keeping p (asked p seg self.old) self.old }
@@ -89,7 +89,7 @@ impl System {
     }
 
     /// Does the call that a process keeps.
-    #[tactic(auto, using(crate::proofs::TakenLaws::few_descriptors), unfolding(crate::specs::Serving::served))]
+    #[tactic(auto, using(crate::proofs::TakenLaws::few_descriptors, crate::proofs::TakenLaws::short_text), unfolding(crate::specs::Serving::served))]
     fn serve(&mut self, p: Pid, reply: &mut Reply) -> Outcome
         requires whole { IsWhole self.old }
         requires lives { Lives self.old.kernel.dispatcher.procs p }
@@ -106,6 +106,9 @@ impl System {
             functions::MEMORY_FREE => self.release(p, reply),
             functions::CREATE_PROCESS => self.create(p, reply),
             functions::ABORT_SPECIFIED_PROCESS => self.abort(p, reply),
+            functions::PARSE_FILENAME => self.parse(p, reply),
+            functions::SYSTEM_DATA_ADDRESS => self.tell_system(reply),
+            functions::RETURN_PROCESS_DESCRIPTOR_ADDRESS => self.tell_descriptor(p, reply),
             _ => self.kernel.call(p, reply),
         }
     }
@@ -176,6 +179,25 @@ impl System {
         Outcome::Done
     }
 
+    /// Function 154: tells the system data page.
+    fn tell_system(&self, reply: &mut Reply) -> Outcome
+        ensures outcome { result ≡ (telling_system self.now).outcome }
+        ensures reply { reply.new ≡ (telling_system self.now).reply }
+    {
+        mpm_xdos::tell_system(&self.kernel, &self.memory, reply);
+        Outcome::Done
+    }
+
+    /// Function 156: tells the descriptor of the process that asks.
+    fn tell_descriptor(&self, p: Pid, reply: &mut Reply) -> Outcome
+        requires lives { Lives self.now.kernel.dispatcher.procs p }
+        ensures outcome { result ≡ (telling_descriptor p self.now).outcome }
+        ensures reply { reply.new ≡ (telling_descriptor p self.now).reply }
+    {
+        mpm_xdos::tell_descriptor(&self.kernel, p, reply);
+        Outcome::Done
+    }
+
     /// The call that a process keeps is done: its text comes out, its reply is placed, its record is written.
     #[tactic(auto, unfolding(crate::specs::Serving::completing))]
     fn complete<S: Sink>(
@@ -220,7 +242,7 @@ impl System {
     /// The reply to the call that a process keeps is placed, and its record is written.
     #[inline(always)]
     #[tactic(auto, unfolding(crate::specs::Serving::answering_call))]
-    fn answer<S: Sink>(
+    pub fn answer<S: Sink>(
         &mut self,
         p: Pid,
         seg: Seg,
@@ -331,7 +353,7 @@ impl System {
 
     /// The return address of a call is taken from its caller's stack.
     #[tactic(auto, unfolding(crate::specs::Serving::popped))]
-    fn pop(&mut self, p: Pid, seg: Seg)
+    pub fn pop(&mut self, p: Pid, seg: Seg)
         requires lives { Lives self.old.kernel.dispatcher.procs p }
         ensures { self.new ≡ popped p seg self.old }
     {

@@ -92,7 +92,7 @@ impl System {
 
     /// The resident of a slot, if one acts there, takes the answer to its call.
     #[tactic(auto, using(crate::proofs::ResidingLaws::nobody_takes))]
-    fn take_answer(&mut self, p: Pid, reply: &Reply)
+    pub fn take_answer(&mut self, p: Pid, reply: &Reply)
         ensures { self.new ≡ taking reply.now p self.old }
     {
         if self.residents.has(p) {

@@ -105,7 +105,7 @@ impl System {
 
     /// Whether an interrupt may come: no process runs, or a resident, or the process that runs doesn't hold it off.
     #[tactic(auto, using(mpm_kernel::proofs::SoundLaws::runner_lives))]
-    fn lets_in(&self) -> bool
+    pub fn lets_in(&self) -> bool
         requires whole { IsWhole self.now }
         ensures { result ≡ lets_in self.now.kernel.dispatcher.running self.now.kernel }
     {

@@ -4,12 +4,17 @@
 mod abort;
 mod call;
 mod due;
+mod file_calls;
+mod filing;
 mod finish;
 mod interrupts;
+mod loading;
 mod machine;
 mod opening;
+mod parsing;
 mod procedures;
 mod residing;
+mod sending;
 mod system;
 
 pub use machine::{Machine, RunFault, StepFault};

@@ -1,15 +1,18 @@
-ghost use Rattle.std.specs.Prelude.{◌≡◌, ℕ, ◌+◌, ◌<◌, ◌≤◌, List, [], Option, Some, None, IfOk, OnOk, IfErr, MatchOption, length, option_map};
+ghost use Rattle.std.specs.Prelude.{◌≡◌, ℕ, ◌+◌, ◌-◌, ◌<◌, ◌≤◌, List, [], Option, Some, None, IfOk, OnOk, IfErr, MatchOption, length, option_map};
 ghost use Rattle.mpm_script.specs.declared.line.TheConstants.{GREATEST_STEP};
 ghost use Rattle.mpm_port.specs.Texts.{appended};
 
-use crate::opening::{moment_of, program_file};
+use crate::filing::{call_files, leave_files, living};
+use crate::opening::{bdos_of, moment_of, program_file};
 use crate::system::System;
 use mpm_banks::Banks;
 use mpm_base::{Name8, Pid, Reply, Seg, Steps};
+use mpm_bdos::{Bdos, Extended};
 use mpm_drives::{BootError, MountedDrives};
 use mpm_interrupts::Schedule;
 use mpm_kernel::Kernel;
 use mpm_machine_file::MachineFile;
+use mpm_mount::Mounted;
 use mpm_port::{Drives, Failed, Sink};
 use mpm_render::Render;
 use mpm_residents::Residents;
@@ -34,35 +37,42 @@ pub struct RunFault {
     pub fault: StepFault,
 }
 
-/// A machine: its processes, their memory segments and consoles, the kernel behind the gates, and its mounted drives.
+/// A machine: its processes, their memory segments and consoles, the kernel behind the gates, and what is kept of files and
+/// drives.
 #[derive(Drop)]
 pub struct Machine {
     system: System,
-    drives: MountedDrives,
+    bdos: Bdos,
     reply: Reply,
 }
 
 impl Machine {
     ghost use Rattle.mpm_banks.specs.Memory.{byte_at};
-    ghost use Rattle.mpm_procs.specs.Table.{process_at, lowest_free};
+    ghost use Rattle.mpm_procs.specs.Table.{Lives, process_at, lowest_free, call_of};
     ghost use Rattle.mpm_kernel.specs.Kernel.{HasConsole};
     ghost use Rattle.mpm_consoles.specs.Consoles.{console_at};
-    ghost use Rattle.mpm_render.specs.Outputs.{rendered, closed};
-    ghost use Rattle.mpm_render.specs.Shown.{Kept};
+    ghost use Rattle.mpm_render.specs.Outputs.{Output, rendered, closed};
+    ghost use Rattle.mpm_render.specs.Shown.{Shows};
     ghost use Rattle.mpm_machine_file.specs.MachineFiles.{IsMachine};
     ghost use Rattle.mpm_mount.specs.Mounting.{SameDrives};
     ghost use Rattle.mpm_drives.specs.Images.{image_named};
-    ghost use Rattle.mpm_drives.specs.Mounted.{AreMounted, AreAttached, SameBeside};
+    ghost use Rattle.mpm_drives.specs.Mounted.{SameBeside};
     ghost use Rattle.mpm_drives.specs.Stopping.{Stops};
-    ghost use Rattle.mpm_machine.specs.State.{State, StandsFor, StandsWithDrives, IsWhole};
+    ghost use Rattle.mpm_bdos.specs.Filing.{Filing};
+    ghost use Rattle.mpm_bdos.specs.Serving.{nothing_kept, in_places};
+    ghost use Rattle.mpm_bdos.specs.Syncing.{mounted_count};
+    ghost use Rattle.mpm_output.specs.Outside.{seen};
+    ghost use Rattle.mpm_output.specs.Writing.{Stopped};
+    ghost use Rattle.mpm_machine.specs.State.{State, silent, StandsForFiles, StandsWithDrives, HoldsDrives, IsWhole};
     ghost use Rattle.mpm_machine.specs.Faults.{counts, HaveCause, itself, of_run, EndsBy, OnDiskFault, OnWriteFault};
     ghost use Rattle.mpm_machine.specs.Due.{NobodyDue};
     ghost use Rattle.mpm_machine.specs.Slots.{HasResidents};
     ghost use Rattle.mpm_machine.specs.Opening.{booted, opened, IsBare, MayPlace, with_placed, opening_system, command_queue, with_residents};
     ghost use Rattle.mpm_kernel.specs.Queueing.{OnlySystems};
     ghost use Rattle.mpm_queues.specs.Queues.{make_error};
-    ghost use Rattle.mpm_machine.specs.Contained.{IsContained, Instructs, OnlyInstructed, Calls, ServedByValue};
-    ghost use Rattle.mpm_machine.specs.Step.{step_of, next, after, system_after, EndsInStep};
+    ghost use Rattle.mpm_machine.specs.FileCalls.{file_caller, told_of, step_concluded, stepped};
+    ghost use Rattle.mpm_machine.specs.After.{next, after, IsNextOf, AreSteps, HasRun, HasStepped, HasConcluded, HasFiled, StopsBy, ShowsBefore, EndsInStep};
+    ghost use Rattle.mpm_machine.specs.Mounting.{HasMounted, HasNoDrive};
 
     /// The machine of a machine file, and of its script's events, as it is run: the command queue, the command line
     /// interpreter, and a terminal message processor for each console. Its drives are attached to their images and mounted,
@@ -83,7 +93,8 @@ impl Machine {
         ensures start { IfOk result (λ machine. machine.system.steps ≡ 0) }
         ensures whole { IfOk result (λ machine. IsWhole machine.system) }
         ensures no_completions { IfOk result (λ machine. machine.system.kernel.dispatcher.completed ≡ []) }
-        ensures mounted { IfOk result (λ machine. AreMounted (D.attached drives.new) (D.disks drives.new) (image_named (D.disks drives.old)) file.now.drives machine.drives) }
+        ensures mounted { IfOk result (λ machine. HasMounted (D.attached drives.new) (D.disks drives.new) (image_named (D.disks drives.old)) file.now.drives machine.bdos) }
+        ensures holds { IfOk result (λ machine. HoldsDrives D.attached D.disks machine.bdos drives.new) }
         ensures count { OnOk result (D.faults drives.new ≡ D.faults drives.old) }
         ensures names { OnOk result (D.failed_names drives.new ≡ D.failed_names drives.old) }
         ensures err { IfErr result (λ error. Stops (image_named (D.disks drives.old)) file.now.drives
@@ -117,7 +128,7 @@ impl Machine {
         ensures whole { OnOk result (IsWhole self.new.system) }
         ensures no_completions { OnOk result (self.new.system.kernel.dispatcher.completed ≡ []) }
         ensures steps { OnOk result (self.new.system.steps ≡ self.old.system.steps) }
-        ensures drives { self.new.drives ≡ self.old.drives }
+        ensures bdos { self.new.bdos ≡ self.old.bdos }
     {
         self.system.begin_residents(consoles)
     }
@@ -136,7 +147,8 @@ impl Machine {
         requires { IsMachine file.now }
         ensures booted { IfOk result (λ machine. machine.system ≡ booted file.now script) }
         ensures bare { IfOk result (λ machine. IsBare machine.system) }
-        ensures mounted { IfOk result (λ machine. AreMounted (D.attached drives.new) (D.disks drives.new) (image_named (D.disks drives.old)) file.now.drives machine.drives) }
+        ensures mounted { IfOk result (λ machine. HasMounted (D.attached drives.new) (D.disks drives.new) (image_named (D.disks drives.old)) file.now.drives machine.bdos) }
+        ensures holds { IfOk result (λ machine. HoldsDrives D.attached D.disks machine.bdos drives.new) }
         ensures count { OnOk result (D.faults drives.new ≡ D.faults drives.old) }
         ensures names { OnOk result (D.failed_names drives.new ≡ D.failed_names drives.old) }
         ensures err { IfErr result (λ error. Stops (image_named (D.disks drives.old)) file.now.drives
@@ -150,13 +162,14 @@ impl Machine {
             Ok(mounted) => mounted,
             Err(error) => return Err(error),
         };
-        match Machine::bare(alloc, file, script, mounted) {
+        match Machine::bare(alloc, file, script, mounted.into_mounted()) {
             Ok(machine) => Ok(machine),
             Err(AllocError) => Err(BootError::OutOfMemory),
         }
     }
 
-    /// The machine of a machine file, and of its script's events, without processes, and with these drives.
+    /// The machine of a machine file, and of its script's events, without processes, and with these drives. Nothing is open,
+    /// locked, marked, sought or protected.
     ///
     /// # Errors
     /// Where no memory is found.
@@ -165,15 +178,16 @@ impl Machine {
         alloc: Global,
         file: &MachineFile,
         script: Script,
-        drives: MountedDrives,
+        mounted: Vec<Mounted>,
     ) -> Result<Machine, AllocError>
         requires { IsMachine file.now }
         ensures booted { IfOk result (λ machine. machine.system ≡ booted file.now script) }
         ensures bare { IfOk result (λ machine. IsBare machine.system) }
-        ensures drives { IfOk result (λ machine. machine.drives ≡ drives) }
+        ensures bdos { IfOk result (λ machine. machine.bdos ≡ nothing_kept (in_places mounted.items)) }
     {
         let kernel = Kernel::new(alloc, file.consoles, file.printers, moment_of(file))?;
         let memory = Banks::new(alloc, file.segments.as_slice())?;
+        let bdos = bdos_of(alloc, mounted)?;
         Ok(Machine {
             system: System {
                 steps: 0,
@@ -183,7 +197,7 @@ impl Machine {
                 abort_deferred: false,
                 residents: Residents::none(alloc),
             },
-            drives,
+            bdos,
             reply: Reply::new(),
         })
     }
@@ -200,19 +214,14 @@ impl Machine {
         ensures start { IfOk result (λ machine. machine.system.steps ≡ 0) }
         ensures whole { IfOk result (λ machine. IsWhole machine.system) }
         ensures no_completions { IfOk result (λ machine. machine.system.kernel.dispatcher.completed ≡ []) }
-        ensures drives { IfOk result (λ machine. machine.drives ≡ []) }
+        ensures bdos { IfOk result (λ machine. machine.bdos ≡ nothing_kept (in_places [])) }
         ensures memory { IfErr result (λ error. error ≡ BootError.OutOfMemory) }
     {
         let file = match program_file(alloc) {
             Ok(file) => file,
             Err(AllocError) => return Err(BootError::OutOfMemory),
         };
-        let bare = Machine::bare(
-            alloc,
-            &file,
-            Script::empty(alloc),
-            MountedDrives::none(alloc),
-        );
+        let bare = Machine::bare(alloc, &file, Script::empty(alloc), Vec::new(alloc));
         let mut machine = match bare {
             Ok(machine) => machine,
             Err(AllocError) => return Err(BootError::OutOfMemory),
@@ -229,7 +238,7 @@ impl Machine {
         ensures slot { lowest_free self.old.system.kernel.dispatcher.procs ≡ Some result }
         ensures system { self.new.system ≡ with_placed self.old.system result seg name priority console program.now }
         ensures bare { IsBare self.new.system }
-        ensures drives { self.new.drives ≡ self.old.drives }
+        ensures bdos { self.new.bdos ≡ self.old.bdos }
     {
         self.system.place(seg, name, priority, console, program)
     }
@@ -265,8 +274,8 @@ impl Machine {
         self.system.kernel.lost(console)
     }
 
-    /// One step. After an error the machine isn't stepped again. No function on files is there yet, so that no step calls the
-    /// drives.
+    /// One step. After an error the machine isn't stepped again. A function on files is done in the step in which it is called.
+    /// What the images hold is told by `ok`; the other clauses are so whether they are told or not.
     pub fn step<D: Drives, S: Sink, L: Ledger>(
         &mut self,
         drives: &mut D,
@@ -277,30 +286,168 @@ impl Machine {
         requires most { self.old.system.steps < GREATEST_STEP }
         requires whole { IsWhole self.old.system }
         requires no_completions { self.old.system.kernel.dispatcher.completed ≡ [] }
+        requires holds { HoldsDrives D.attached D.disks self.old.bdos drives.old }
         ensures ok { (s : State) (first : Option (List ℕ)) → StandsWithDrives self.old render.old (S.written sink.old) (D.disks drives.old) s first
             → OnOk result (StandsWithDrives self.new render.new (S.written sink.new) (D.disks drives.new) (next s) first) }
         ensures err { (s : State) (first : Option (List ℕ)) → StandsWithDrives self.old render.old (S.written sink.old) (D.disks drives.old) s first
             → IfErr result (λ fault. EndsBy fault (S.written sink.new) first (rendered render.old.trace s.outputs) (rendered render.old.trace (next s).outputs)) }
-        ensures system { OnOk result (self.new.system ≡ (step_of self.old.system).system) }
-        ensures contained { OnOk result (IsContained self.old.system self.new.system) }
-        ensures instruction { (p seg : ℕ) → Instructs self.old.system p seg → OnOk result (OnlyInstructed p self.old.system self.new.system) }
-        ensures calls { (p seg : ℕ) → Calls self.old.system p seg → OnOk result (ServedByValue p seg self.old.system self.new.system) }
+        ensures shown { (s : State) (first : Option (List ℕ)) → StandsWithDrives self.old render.old (S.written sink.old) (D.disks drives.old) s first
+            → IfErr result (λ fault. ShowsBefore fault render.new (S.written sink.new) s first) }
+        ensures step { OnOk result (HasStepped (seen S.written S.faults render.old sink.old) (seen S.written S.faults render.new sink.new) self.old.system self.new.system) }
         ensures due { OnOk result (NobodyDue self.new.system.kernel) }
         ensures whole { OnOk result (IsWhole self.new.system) }
         ensures no_completions { OnOk result (self.new.system.kernel.dispatcher.completed ≡ []) }
         ensures count { OnOk result (self.new.system.steps ≡ self.old.system.steps + 1) }
         ensures trace { render.new.trace ≡ render.old.trace }
         ensures cause { HaveCause itself (counts S.faults D.faults sink.old drives.old) (counts S.faults D.faults sink.new drives.new) result }
+        ensures holds { HoldsDrives D.attached D.disks self.new.bdos drives.new }
+        ensures names { D.failed_names drives.new ≡ D.failed_names drives.old }
+        ensures attached { (number : ℕ) → D.attached drives.new number ≡ D.attached drives.old number }
+        ensures bare { HasNoDrive self.old.bdos.mounted → HasNoDrive self.new.bdos.mounted }
+        ensures none { HasNoDrive self.old.bdos.mounted → drives.new ≡ drives.old }
+        ensures unfailing { HasNoDrive self.old.bdos.mounted → IfErr result (λ fault. fault ≡ StepFault.WriteFault) }
 
-        // No drive is called.
+        // A step without a call on files calls no drive.
+        ensures sink { file_caller self.old.system ≡ None → IfErr result (λ fault. fault ≡ StepFault.WriteFault) }
+        ensures drives { file_caller self.old.system ≡ None → drives.new ≡ drives.old }
+        ensures device_calls { file_caller self.old.system ≡ None → steps.new ≡ steps.old }
+    {
+        let before = living(&self.system.kernel);
+        match self.take_step(drives, render, sink, steps) {
+            Ok(()) => {
+                leave_files(&mut self.bdos, &before, &self.system.kernel);
+                Ok(())
+            }
+            Err(fault) => Err(fault),
+        }
+    }
+
+    /// One step but for what those leave who end in it: their open files and marks are still theirs.
+    fn take_step<D: Drives, S: Sink, L: Ledger>(
+        &mut self,
+        drives: &mut D,
+        render: &mut Render,
+        sink: &mut S,
+        steps: &mut Steps<L>,
+    ) -> Result<(), StepFault>
+        requires most { self.old.system.steps < GREATEST_STEP }
+        requires whole { IsWhole self.old.system }
+        requires no_completions { self.old.system.kernel.dispatcher.completed ≡ [] }
+        requires holds { HoldsDrives D.attached D.disks self.old.bdos drives.old }
+        ensures ok { (filing : Filing) → StandsForFiles self.old.bdos (D.disks drives.old) filing
+            → OnOk result (HasFiled filing (seen S.written S.faults render.old sink.old) (seen S.written S.faults render.new sink.new) self.old.system self.new.system self.new.bdos (D.disks drives.new)) }
+        ensures err { (filing : Filing) → StandsForFiles self.old.bdos (D.disks drives.old) filing
+            → IfErr result (λ fault. StopsBy fault (seen S.written S.faults render.old sink.old) (seen S.written S.faults render.new sink.new) (stepped self.old.system filing).change.emitted) }
+        ensures step { OnOk result (HasStepped (seen S.written S.faults render.old sink.old) (seen S.written S.faults render.new sink.new) self.old.system self.new.system) }
+        ensures trace { render.new.trace ≡ render.old.trace }
+        ensures cause { HaveCause itself (counts S.faults D.faults sink.old drives.old) (counts S.faults D.faults sink.new drives.new) result }
+        ensures holds { HoldsDrives D.attached D.disks self.new.bdos drives.new }
+        ensures names { D.failed_names drives.new ≡ D.failed_names drives.old }
+        ensures attached { (number : ℕ) → D.attached drives.new number ≡ D.attached drives.old number }
+        ensures bare { HasNoDrive self.old.bdos.mounted → HasNoDrive self.new.bdos.mounted }
+        ensures none { HasNoDrive self.old.bdos.mounted → drives.new ≡ drives.old }
+        ensures unfailing { HasNoDrive self.old.bdos.mounted → IfErr result (λ fault. fault ≡ StepFault.WriteFault) }
+        ensures sink { file_caller self.old.system ≡ None → IfErr result (λ fault. fault ≡ StepFault.WriteFault) }
+        ensures drives { file_caller self.old.system ≡ None → drives.new ≡ drives.old }
+        ensures device_calls { file_caller self.old.system ≡ None → steps.new ≡ steps.old }
+    {
+        match self.system.file_caller() {
+            Some(p) => self.step_with_files(p, drives, render, sink, steps),
+            None => self.step_alone(drives, render, sink),
+        }
+    }
+
+    /// A step in which no function on files is called.
+    fn step_alone<D: Drives, S: Sink>(
+        &mut self,
+        drives: &D,
+        render: &mut Render,
+        sink: &mut S,
+    ) -> Result<(), StepFault>
+        requires most { self.old.system.steps < GREATEST_STEP }
+        requires whole { IsWhole self.old.system }
+        requires no_completions { self.old.system.kernel.dispatcher.completed ≡ [] }
+        requires none { file_caller self.old.system ≡ None }
+        ensures ok { (filing : Filing) → StandsForFiles self.old.bdos (D.disks drives.now) filing
+            → OnOk result (HasFiled filing (seen S.written S.faults render.old sink.old) (seen S.written S.faults render.new sink.new) self.old.system self.new.system self.new.bdos (D.disks drives.now)) }
+        ensures err { (filing : Filing)
+            → IfErr result (λ fault. StopsBy fault (seen S.written S.faults render.old sink.old) (seen S.written S.faults render.new sink.new) (stepped self.old.system filing).change.emitted) }
+        ensures step { OnOk result (HasStepped (seen S.written S.faults render.old sink.old) (seen S.written S.faults render.new sink.new) self.old.system self.new.system) }
+        ensures trace { render.new.trace ≡ render.old.trace }
+        ensures cause { HaveCause itself (counts S.faults D.faults sink.old drives.now) (counts S.faults D.faults sink.new drives.now) result }
         ensures sink { IfErr result (λ fault. fault ≡ StepFault.WriteFault) }
-        ensures drives { drives.new ≡ drives.old }
-        ensures mounted { self.new.drives ≡ self.old.drives }
-        ensures device_calls { steps.new ≡ steps.old }
+        ensures bdos { self.new.bdos ≡ self.old.bdos }
     {
         let _ = drives;
-        let _ = steps;
         match self.system.step(&mut self.reply, render, sink) {
+            Ok(()) => Ok(()),
+            Err(Failed) => Err(StepFault::WriteFault),
+        }
+    }
+
+    /// A step in which a process calls a function on files: the call is done, and then the step ends by what it came to.
+    fn step_with_files<D: Drives, S: Sink, L: Ledger>(
+        &mut self,
+        p: Pid,
+        drives: &mut D,
+        render: &mut Render,
+        sink: &mut S,
+        steps: &mut Steps<L>,
+    ) -> Result<(), StepFault>
+        requires most { self.old.system.steps < GREATEST_STEP }
+        requires whole { IsWhole self.old.system }
+        requires no_completions { self.old.system.kernel.dispatcher.completed ≡ [] }
+        requires holds { HoldsDrives D.attached D.disks self.old.bdos drives.old }
+        requires caller { file_caller self.old.system ≡ Some p }
+        requires lives { Lives self.old.system.kernel.dispatcher.procs p }
+        ensures ok { (filing : Filing) → StandsForFiles self.old.bdos (D.disks drives.old) filing
+            → OnOk result (HasFiled filing (seen S.written S.faults render.old sink.old) (seen S.written S.faults render.new sink.new) self.old.system self.new.system self.new.bdos (D.disks drives.new)) }
+        ensures err { (filing : Filing) → StandsForFiles self.old.bdos (D.disks drives.old) filing
+            → IfErr result (λ fault. StopsBy fault (seen S.written S.faults render.old sink.old) (seen S.written S.faults render.new sink.new) (stepped self.old.system filing).change.emitted) }
+        ensures step { OnOk result (HasStepped (seen S.written S.faults render.old sink.old) (seen S.written S.faults render.new sink.new) self.old.system self.new.system) }
+        ensures trace { render.new.trace ≡ render.old.trace }
+        ensures cause { HaveCause itself (counts S.faults D.faults sink.old drives.old) (counts S.faults D.faults sink.new drives.new) result }
+        ensures holds { HoldsDrives D.attached D.disks self.new.bdos drives.new }
+        ensures names { D.failed_names drives.new ≡ D.failed_names drives.old }
+        ensures attached { (number : ℕ) → D.attached drives.new number ≡ D.attached drives.old number }
+        ensures bare { HasNoDrive self.old.bdos.mounted → HasNoDrive self.new.bdos.mounted }
+        ensures none { HasNoDrive self.old.bdos.mounted → drives.new ≡ drives.old }
+        ensures unfailing { HasNoDrive self.old.bdos.mounted → IfErr result (λ fault. fault ≡ StepFault.WriteFault) }
+    {
+        self.system.make_file_call(p);
+        match call_files(
+            &self.system,
+            &mut self.bdos,
+            p,
+            &mut self.reply,
+            drives,
+            steps,
+        ) {
+            Ok(extended) => self.conclude(p, extended, render, sink),
+            Err(Failed) => Err(StepFault::DiskFault),
+        }
+    }
+
+    /// The end of a step in which a process called a function on files, by what that came to.
+    fn conclude<S: Sink>(
+        &mut self,
+        p: Pid,
+        extended: Option<Extended>,
+        render: &mut Render,
+        sink: &mut S,
+    ) -> Result<(), StepFault>
+        requires whole { IsWhole self.old.system }
+        requires lives { Lives self.old.system.kernel.dispatcher.procs p }
+        ensures ok { OnOk result (HasConcluded (told_of (call_of self.old.system.kernel.dispatcher.procs p) self.old.reply extended) p
+            (seen S.written S.faults render.old sink.old) (seen S.written S.faults render.new sink.new) self.old.system self.new.system) }
+        ensures err { IfErr result (λ fault. (fault ≡ StepFault.WriteFault) × Stopped (seen S.written S.faults render.old sink.old) (seen S.written S.faults render.new sink.new)
+            (step_concluded (told_of (call_of self.old.system.kernel.dispatcher.procs p) self.old.reply extended) p self.old.system).emitted) }
+        ensures bdos { self.new.bdos ≡ self.old.bdos }
+    {
+        match self
+            .system
+            .conclude_file_step(p, extended, &mut self.reply, render, sink)
+        {
             Ok(()) => Ok(()),
             Err(Failed) => Err(StepFault::WriteFault),
         }
@@ -319,28 +466,27 @@ impl Machine {
         requires most { self.old.system.steps + n ≤ GREATEST_STEP }
         requires whole { IsWhole self.old.system }
         requires no_completions { self.old.system.kernel.dispatcher.completed ≡ [] }
+        requires holds { HoldsDrives D.attached D.disks self.old.bdos drives.old }
         ensures ok { (s : State) (first : Option (List ℕ)) → StandsWithDrives self.old render.old (S.written sink.old) (D.disks drives.old) s first
             → OnOk result (StandsWithDrives self.new render.new (S.written sink.new) (D.disks drives.new) (after n s) first) }
         ensures err { (s : State) (first : Option (List ℕ)) → StandsWithDrives self.old render.old (S.written sink.old) (D.disks drives.old) s first
             → IfErr result (λ error. EndsInStep error.fault render.old.trace (S.written sink.new) first s n error.step) }
-        ensures system { OnOk result (self.new.system ≡ system_after n self.old.system) }
-        ensures contained { (k : ℕ) → k < n → IsContained (system_after k self.old.system) (system_after (k + 1) self.old.system) }
-        ensures instruction { (k p seg : ℕ) → k < n → Instructs (system_after k self.old.system) p seg
-            → OnlyInstructed p (system_after k self.old.system) (system_after (k + 1) self.old.system) }
-        ensures calls { (k p seg : ℕ) → k < n → Calls (system_after k self.old.system) p seg
-            → ServedByValue p seg (system_after k self.old.system) (system_after (k + 1) self.old.system) }
+        ensures shown { (s : State) (first : Option (List ℕ)) → StandsWithDrives self.old render.old (S.written sink.old) (D.disks drives.old) s first
+            → IfErr result (λ error. ShowsBefore error.fault render.new (S.written sink.new) (after (error.step - 1 - s.system.steps) s) first) }
+        ensures steps { OnOk result (HasRun n (seen S.written S.faults render.old sink.old) (seen S.written S.faults render.new sink.new) self.old.system self.new.system) }
+        ensures each { (s : State) → s.system ≡ self.old.system → (k : ℕ) → k < n → IsNextOf (after k s) (after (k + 1) s) }
         ensures due { 0 < n → OnOk result (NobodyDue self.new.system.kernel) }
         ensures whole { OnOk result (IsWhole self.new.system) }
         ensures no_completions { OnOk result (self.new.system.kernel.dispatcher.completed ≡ []) }
         ensures count { OnOk result (self.new.system.steps ≡ self.old.system.steps + n) }
         ensures trace { render.new.trace ≡ render.old.trace }
         ensures cause { HaveCause of_run (counts S.faults D.faults sink.old drives.old) (counts S.faults D.faults sink.new drives.new) result }
-
-        // No drive is called.
-        ensures sink { IfErr result (λ error. error.fault ≡ StepFault.WriteFault) }
-        ensures drives { drives.new ≡ drives.old }
-        ensures mounted { self.new.drives ≡ self.old.drives }
-        ensures device_calls { steps.new ≡ steps.old }
+        ensures holds { HoldsDrives D.attached D.disks self.new.bdos drives.new }
+        ensures names { D.failed_names drives.new ≡ D.failed_names drives.old }
+        ensures attached { (number : ℕ) → D.attached drives.new number ≡ D.attached drives.old number }
+        ensures bare { HasNoDrive self.old.bdos.mounted → HasNoDrive self.new.bdos.mounted }
+        ensures none { HasNoDrive self.old.bdos.mounted → drives.new ≡ drives.old }
+        ensures unfailing { HasNoDrive self.old.bdos.mounted → IfErr result (λ error. error.fault ≡ StepFault.WriteFault) }
     {
         let mut done = 0;
         while done < n {
@@ -365,11 +511,15 @@ impl Machine {
         requires room { self.old.system.steps + most ≤ GREATEST_STEP }
         requires whole { IsWhole self.old.system }
         requires no_completions { self.old.system.kernel.dispatcher.completed ≡ [] }
+        requires holds { HoldsDrives D.attached D.disks self.old.bdos drives.old }
         ensures ok { (s : State) (first : Option (List ℕ)) → StandsWithDrives self.old render.old (S.written sink.old) (D.disks drives.old) s first
             → IfOk result (λ more. StandsWithDrives self.new render.new (S.written sink.new) (D.disks drives.new) (after more s) first) }
         ensures err { (s : State) (first : Option (List ℕ)) → StandsWithDrives self.old render.old (S.written sink.old) (D.disks drives.old) s first
             → IfErr result (λ error. EndsInStep error.fault render.old.trace (S.written sink.new) first s most error.step) }
-        ensures system { IfOk result (λ more. self.new.system ≡ system_after more self.old.system) }
+        ensures shown { (s : State) (first : Option (List ℕ)) → StandsWithDrives self.old render.old (S.written sink.old) (D.disks drives.old) s first
+            → IfErr result (λ error. ShowsBefore error.fault render.new (S.written sink.new) (after (error.step - 1 - s.system.steps) s) first) }
+        ensures steps { IfOk result (λ more. HasRun more (seen S.written S.faults render.old sink.old) (seen S.written S.faults render.new sink.new) self.old.system self.new.system) }
+        ensures due { OnOk result (NobodyDue self.new.system.kernel) }
         ensures some { IfOk result (λ more. 0 < more) }
         ensures few { IfOk result (λ more. more ≤ most) }
         ensures whole { OnOk result (IsWhole self.new.system) }
@@ -377,10 +527,12 @@ impl Machine {
         ensures count { IfOk result (λ more. self.new.system.steps ≡ self.old.system.steps + more) }
         ensures trace { render.new.trace ≡ render.old.trace }
         ensures cause { HaveCause of_run (counts S.faults D.faults sink.old drives.old) (counts S.faults D.faults sink.new drives.new) result }
-        ensures sink { IfErr result (λ error. error.fault ≡ StepFault.WriteFault) }
-        ensures drives { drives.new ≡ drives.old }
-        ensures mounted { self.new.drives ≡ self.old.drives }
-        ensures device_calls { steps.new ≡ steps.old }
+        ensures holds { HoldsDrives D.attached D.disks self.new.bdos drives.new }
+        ensures names { D.failed_names drives.new ≡ D.failed_names drives.old }
+        ensures attached { (number : ℕ) → D.attached drives.new number ≡ D.attached drives.old number }
+        ensures bare { HasNoDrive self.old.bdos.mounted → HasNoDrive self.new.bdos.mounted }
+        ensures none { HasNoDrive self.old.bdos.mounted → drives.new ≡ drives.old }
+        ensures unfailing { HasNoDrive self.old.bdos.mounted → IfErr result (λ error. error.fault ≡ StepFault.WriteFault) }
     {
         let done = self.run_on(most);
         if done == most {
@@ -399,13 +551,13 @@ impl Machine {
         requires no_completions { self.old.system.kernel.dispatcher.completed ≡ [] }
         requires room { self.old.system.steps + most ≤ GREATEST_STEP }
         ensures count { result ≤ most }
-        ensures stands { (s : State) (kept : Kept) (written : Option (List ℕ)) (first : Option (List ℕ)) → StandsFor self.old.system kept written s first
-            → StandsFor self.new.system kept written (after result s) first }
-        ensures system { self.new.system ≡ system_after result self.old.system }
+        ensures states { (s : State) → s.system ≡ self.old.system → after result s ≡ record s { system = self.new.system } }
+        ensures steps { AreSteps result self.old.system (silent self.new.system) }
+        ensures due { 0 < result → NobodyDue self.new.system.kernel }
         ensures whole { IsWhole self.new.system }
         ensures no_completions { self.new.system.kernel.dispatcher.completed ≡ [] }
-        ensures steps { self.new.system.steps ≡ self.old.system.steps + result }
-        ensures mounted { self.new.drives ≡ self.old.drives }
+        ensures done { self.new.system.steps ≡ self.old.system.steps + result }
+        ensures bdos { self.new.bdos ≡ self.old.bdos }
     {
         self.system.run_on(most)
     }
@@ -419,27 +571,27 @@ impl Machine {
         sink: &mut S,
         steps: &mut Steps<L>,
     ) -> Result<(), StepFault>
-        requires { AreAttached (D.attached drives.old) self.old.drives }
-        ensures ok { (s : State) (first : Option (List ℕ)) → StandsWithDrives self.old render.old (S.written sink.old) (D.disks drives.old) s first
-            → OnOk result (S.written sink.new ≡ appended first (closed render.old.trace s.outputs)) }
-        ensures err { (s : State) (first : Option (List ℕ)) → StandsWithDrives self.old render.old (S.written sink.old) (D.disks drives.old) s first
-            → IfErr result (λ fault. EndsBy fault (S.written sink.new) first (rendered render.old.trace s.outputs) (closed render.old.trace s.outputs)) }
+        requires { HoldsDrives D.attached D.disks self.old.bdos drives.old }
+        ensures ok { (outputs : List Output) (first : Option (List ℕ)) → Shows render.old (S.written sink.old) outputs first
+            → OnOk result (S.written sink.new ≡ appended first (closed render.old.trace outputs)) }
+        ensures err { (outputs : List Output) (first : Option (List ℕ)) → Shows render.old (S.written sink.old) outputs first
+            → IfErr result (λ fault. EndsBy fault (S.written sink.new) first (rendered render.old.trace outputs) (closed render.old.trace outputs)) }
         ensures machine { self.new ≡ self.old }
         ensures trace { render.new.trace ≡ render.old.trace }
         ensures cause { HaveCause itself (counts S.faults D.faults sink.old drives.old) (counts S.faults D.faults sink.new drives.new) result }
 
         // A drive that failed leaves what was written and what is kept to be written.
         ensures unwritten { IfErr result (λ fault. OnDiskFault fault ((render.new ≡ render.old) × (sink.new ≡ sink.old))) }
-        ensures some { IfErr result (λ fault. OnDiskFault fault (0 < length self.old.drives)) }
+        ensures some { IfErr result (λ fault. OnDiskFault fault (0 < mounted_count self.old.bdos.mounted)) }
 
         // Each drive is called once, or up to the first that fails, and its image stays as it was.
-        ensures device_calls { steps.new ≤ steps.old + length self.old.drives }
-        ensures synced { OnOk result (steps.new ≡ steps.old + length self.old.drives) }
-        ensures synced_first { IfErr result (λ fault. OnWriteFault fault (steps.new ≡ steps.old + length self.old.drives)) }
+        ensures device_calls { steps.new ≤ steps.old + mounted_count self.old.bdos.mounted }
+        ensures synced { OnOk result (steps.new ≡ steps.old + mounted_count self.old.bdos.mounted) }
+        ensures synced_first { IfErr result (λ fault. OnWriteFault fault (steps.new ≡ steps.old + mounted_count self.old.bdos.mounted)) }
         ensures drives { SameDrives D.attached D.disks D.failed_names drives.old drives.new }
-        ensures none { self.old.drives ≡ [] → drives.new ≡ drives.old }
+        ensures none { mounted_count self.old.bdos.mounted ≡ 0 → drives.new ≡ drives.old }
     {
-        if let Err(Failed) = self.drives.sync(drives, steps) {
+        if let Err(Failed) = self.bdos.sync(drives, steps) {
             return Err(StepFault::DiskFault);
         }
         match render.finish(sink) {

@@ -6,16 +6,20 @@ ghost use Rattle.mpm_dispatcher.specs.Dispatch.{admitted, picked};
 ghost use Rattle.mpm_kernel.specs.Consoling.{given};
 ghost use Rattle.mpm_kernel.specs.Queueing.{OnlySystems};
 ghost use Rattle.mpm_queues.specs.Queues.{make_error};
+ghost use Rattle.mpm_bdos.specs.Serving.{nothing_kept, in_places as in_their_places};
 ghost use Rattle.mpm_machine.specs.State.{IsWhole};
-ghost use Rattle.mpm_machine.specs.Opening.{IsBare, MayPlace, with_placed, base_page as base_page_of, laid_out, placed_process as process_placed, moment_of as moment_said, program_file as program_said, command_queue, terminal_name as name_of_terminal, resident_process as process_of_resident, begun_by_interpreter, with_terminal, with_terminals, with_residents};
+ghost use Rattle.mpm_machine.specs.Opening.{IsBare, MayPlace, with_placed, laid_out, placed_process as process_placed, moment_of as moment_said, program_file as program_said, command_queue, terminal_name as name_of_terminal, resident_process as process_of_resident, begun_by_interpreter, with_interpreting, with_terminal, with_terminals, with_residents};
 
 use crate::system::System;
-use mpm_banks::{Banks, CALL_GATE, END_GATE, last_page};
+use mpm_banks::{Banks, last_page};
 use mpm_base::{Name8, Pid, Seg, SegmentSpec};
+use mpm_bdos::{Bdos, in_places};
 use mpm_clock::Moment;
+use mpm_command::base_page;
 use mpm_gate::put_bytes;
 use mpm_kernel::Kernel;
 use mpm_machine_file::{DriveSpecs, MachineFile, Segments};
+use mpm_mount::Mounted;
 use mpm_procs::{NewProcess, NoSlot};
 use std::alloc::{AllocError, Global};
 
@@ -51,9 +55,25 @@ impl System {
         ensures no_completions { OnOk result (self.new.kernel.dispatcher.completed ≡ []) }
         ensures steps { OnOk result (self.new.steps ≡ self.old.steps) }
     {
-        self.begin_interpreter();
+        self.begin_interpreting(consoles)?;
         self.begin_terminals(consoles)?;
         self.kernel.pick(false);
+        Ok(())
+    }
+
+    /// The command line interpreter begins, for so many consoles: its process, and what acts in it.
+    ///
+    /// # Errors
+    /// Where no memory is found.
+    fn begin_interpreting(&mut self, consoles: u8) -> Result<(), AllocError>
+        requires whole { IsWhole self.old }
+        requires queues { OnlySystems self.old.kernel }
+        requires room { make_error self.old.kernel.queues command_queue 130 15 ≡ None }
+        requires some { 0 < consoles }
+        ensures { OnOk result (self.new ≡ with_interpreting consoles (begun_by_interpreter self.old)) }
+    {
+        self.begin_interpreter();
+        self.residents.add_interpreter(consoles)?;
         Ok(())
     }
 
@@ -188,21 +208,6 @@ pub(crate) fn program_file(alloc: Global) -> Result<MachineFile, AllocError>
     })
 }
 
-/// The first bytes of a file control block without a name.
-const NO_NAME: [u8; 16] = [0, 32, 32, 32, 32, 32, 32, 32, 32, 32, 32, 32, 0, 0, 0, 0];
-
-/// The base page of a segment with that last page.
-#[tactic(auto, unfolding(crate::specs::Opening::base_page, mpm_base::specs::Lists::zeros))]
-fn base_page(last_page: u8) -> [u8; 256]
-    ensures { result ≡ base_page_of last_page }
-{
-    let mut page = [0; 256];
-    page[0x6C..0x7C].copy_from_slice(&NO_NAME);
-    page[0x5C..0x6C].copy_from_slice(&NO_NAME);
-    page[..8].copy_from_slice(&[0xC3, END_GATE, last_page, 0, 0, 0xC3, CALL_GATE, last_page]);
-    page
-}
-
 /// Lays out a program in its segment: the base page, the program behind it, and the word on which the stack begins.
 #[tactic(auto, unfolding(crate::specs::Opening::laid_out))]
 pub(crate) fn lay_out(banks: &mut Banks, seg: Seg, program: &[u8])
@@ -215,7 +220,7 @@ pub(crate) fn lay_out(banks: &mut Banks, seg: Seg, program: &[u8])
     let spec = banks.spec(seg);
     let page = last_page(spec);
     let first = u16::from_le_bytes([0, spec.base]);
-    put_bytes(&base_page(page), banks, seg, first);
+    put_bytes(&base_page(page, b""), banks, seg, first);
     put_bytes(program, banks, seg, first + 0x0100);
     let stack = u16::from_le_bytes([0, page]) - 2;
     put_bytes(&[0, spec.base], banks, seg, stack);
@@ -266,5 +271,19 @@ pub(crate) fn begin(kernel: &mut Kernel, new: NewProcess) -> Pid
             p
         }
         Err(NoSlot) => unreachable!(),
+    }
+}
+
+/// What is kept of files and drives as a machine begins, with these directories of its drives.
+pub(crate) fn bdos_of(alloc: Global, mounted: Vec<Mounted>) -> Result<Bdos, AllocError>
+    ensures { IfOk result (λ bdos. bdos ≡ nothing_kept (in_their_places mounted.items)) }
+{
+    let places = match in_places(alloc, mounted) {
+        Ok(places) => places,
+        Err(_) => return Err(AllocError),
+    };
+    match Bdos::new(alloc, places) {
+        Ok(bdos) => Ok(bdos),
+        Err(_) => Err(AllocError),
     }
 }

@@ -12,10 +12,11 @@ use mpm_render::Render;
 impl System {
     ghost use Rattle.mpm_machine.specs.State.{IsWhole};
     ghost use Rattle.mpm_machine.specs.Serving.{said_by};
-    ghost use Rattle.mpm_residents.specs.Natives.{native_in};
+    ghost use Rattle.mpm_residents.specs.Natives.{native_in, asks_if_there};
     ghost use Rattle.mpm_machine.specs.Residing.{asked_by, resided, native_outcome};
 
-    /// The step of a process that has no segment: that of the resident of its slot, if one acts there.
+    /// The step of a process that has no segment: that of the resident of its slot, if one acts there that makes a call.
+    #[tactic(auto, using(crate::proofs::ResidingLaws::who_asks_is_there))]
     pub fn reside<S: Sink>(
         &mut self,
         p: Pid,
@@ -29,7 +30,7 @@ impl System {
         ensures system { OnOk result (self.new ≡ (resided (native_in self.old.residents p) p self.old).system) }
         ensures wrote { Writes S.written S.faults render.old sink.old render.new sink.new (resided (native_in self.old.residents p) p self.old).emitted result }
     {
-        if self.residents.has(p) {
+        if self.residents.asks(p) {
             self.make_call(p, reply, render, sink)
         } else {
             Ok(())
@@ -48,6 +49,7 @@ impl System {
         requires lives { Lives self.old.kernel.dispatcher.procs p }
         requires ready { IsReady self.old.kernel.dispatcher p }
         requires has { is_some (native_in self.old.residents p) ≡ true }
+        requires asks { asks_if_there (native_in self.old.residents p) ≡ true }
         ensures system { OnOk result (self.new ≡ (resided (native_in self.old.residents p) p self.old).system) }
         ensures wrote { Writes S.written S.faults render.old sink.old render.new sink.new (resided (native_in self.old.residents p) p self.old).emitted result }
     {
@@ -57,13 +59,23 @@ impl System {
         self.conclude_residing(outcome, p, reply, render, sink)
     }
 
+    /// The resident of a slot, if one acts there, asks the call that it makes next, and its process keeps it.
+    pub fn ask_next(&mut self, p: Pid)
+        requires { Lives self.old.kernel.dispatcher.procs p }
+        ensures { self.new ≡ asked_by (native_in self.old.residents p) p self.old }
+    {
+        if self.residents.has(p) {
+            self.ask_call(p);
+        }
+    }
+
     /// The resident of a slot asks the call that it makes next, and its process keeps it.
     fn ask_call(&mut self, p: Pid)
         requires lives { Lives self.old.kernel.dispatcher.procs p }
         requires has { is_some (native_in self.old.residents p) ≡ true }
         ensures { self.new ≡ asked_by (native_in self.old.residents p) p self.old }
     {
-        self.residents.ask(p, self.kernel.call_mut(p));
+        let _ = self.residents.ask(p, self.kernel.call_mut(p));
     }
 
     /// What the outcome of a resident's call brings about.

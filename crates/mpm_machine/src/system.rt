@@ -2,7 +2,6 @@ ghost use Rattle.std.specs.Prelude.{◌≡◌, ◌<◌, ◌≤◌, ◌+◌, ℕ,
 ghost use Rattle.mpm_script.specs.declared.line.TheConstants.{GREATEST_STEP};
 ghost use Rattle.mpm_procs.specs.Table.{Lives, process_in};
 ghost use Rattle.mpm_dispatcher.specs.Dispatch.{IsReady};
-ghost use Rattle.mpm_render.specs.Shown.{Kept};
 ghost use Rattle.mpm_output.specs.Writing.{Writes};
 
 use mpm_banks::Banks;
@@ -31,14 +30,16 @@ pub(crate) struct System {
 impl System {
     ghost use Rattle.mpm_processor.specs.Gates.{IsHome};
     ghost use Rattle.mpm_machine.specs.Gates.{is_inside};
-    ghost use Rattle.mpm_machine.specs.State.{State, StandsFor, IsWhole};
+    ghost use Rattle.mpm_machine.specs.State.{State, silent, IsWhole};
+    ghost use Rattle.mpm_machine.specs.Due.{NobodyDue};
+    ghost use Rattle.mpm_machine.specs.After.{after, AreSteps};
     ghost use Rattle.mpm_ready.specs.Order.{first_of};
     ghost use Rattle.mpm_ready.specs.Tables.{list_at};
     ghost use Rattle.mpm_dispatcher.specs.Dispatch.{ready};
     ghost use Rattle.mpm_machine.specs.Moving.{Moved, IsIdle, later};
     ghost use Rattle.mpm_interrupts.specs.Interrupts.{due};
     ghost use Rattle.mpm_processor.specs.declared.gate.Gate.TheVariants.{Return};
-    ghost use Rattle.mpm_machine.specs.Step.{acted, acted_at, at_instruction, gate_before, is_no_gate, coming, begun_by, instruction_unless, step_of, instruction_at, instructed, executed, illegal, after, system_after};
+    ghost use Rattle.mpm_machine.specs.Step.{acted, acted_at, at_instruction, gate_before, is_no_gate, coming, begun_by, instruction_unless, step_of, instruction_at, instructed, executed, illegal};
 
     /// Steps at most so many, that need no look at anything between them. Answers how many were done. They are instructions of
     /// the running process, up to a gate or an unlisted opcode, as long as it runs on; where no process runs and none is
@@ -48,12 +49,12 @@ impl System {
         requires no_completions { self.old.kernel.dispatcher.completed ≡ [] }
         requires room { self.old.steps + most ≤ GREATEST_STEP }
         ensures count { result ≤ most }
-        ensures stands { (s : State) (kept : Kept) (written : Option (List ℕ)) (first : Option (List ℕ)) → StandsFor self.old kept written s first
-            → StandsFor self.new kept written (after result s) first }
-        ensures system { self.new ≡ system_after result self.old }
+        ensures states { (s : State) → s.system ≡ self.old → after result s ≡ record s { system = self.new } }
+        ensures steps { AreSteps result self.old (silent self.new) }
+        ensures due { 0 < result → NobodyDue self.new.kernel }
         ensures whole { IsWhole self.new }
         ensures no_completions { self.new.kernel.dispatcher.completed ≡ [] }
-        ensures steps { self.new.steps ≡ self.old.steps + result }
+        ensures done { self.new.steps ≡ self.old.steps + result }
     {
         if self.abort_deferred {
             return 0;
@@ -230,7 +231,7 @@ impl System {
 
     /// The gate at which a process of a segment stands, if any.
     #[tactic(auto, using(mpm_processor::proofs::GateLaws::returns_inside))]
-    fn gate(&self, p: Pid, seg: Seg) -> Option<Gate>
+    pub fn gate(&self, p: Pid, seg: Seg) -> Option<Gate>
         requires lives { Lives self.now.kernel.dispatcher.procs p }
         requires home { IsHome self.now.memory seg }
         ensures gate { result ≡ gate_before p seg self.now }

@@ -1,6 +1,6 @@
 //! File calls on drives in memory, turn by turn: what is left of a disk whichever call of its drive fails, and what the calls come to.
 mod calls;
-mod disks;
+pub(crate) mod disks;
 mod entries;
 mod records;
 mod scene;

@@ -1,13 +1,12 @@
 -- With what a machine file's bytes begin.
 use Rattle.std.proofs.Common.{◌≡◌, ◌∙◌, ℕ, List, [], Option, Some, None, ◌∷◌, ap, sym, subst, refl, IsSome, IfSome, Result, Ok, Err, IfOk, option_map, option_and_then, inl, inr}
 use Rattle.std.specs.Option.{option_map_or}
-use Rattle.std.specs.Prelude.{MatchResult}
+use Rattle.std.specs.Prelude.{MatchResult, IfErr}
 use Rattle.mpm_script.specs.declared.event.Timed.{Timed}
 use Rattle.mpm_machine_file.specs.declared.machine_file.MachineFile.{MachineFile}
 use Rattle.mpm_machine_file.specs.MachineFiles.{machine_of_text}
 use Rattle.mpm_machine.specs.declared.system.System.{System}
 use Rattle.mpm_port.specs.Disks.{Disks}
-use Rattle.mpm_mount.specs.Directories.{Directory}
 use Rattle.mpm_machine.specs.declared.machine.Machine.{Machine}
 use Rattle.mpm_machine.specs.Opening.{opened, opening_system}
 use Rattle.mpm_top.specs.declared.words.Form.{Form}
@@ -18,10 +17,14 @@ use Rattle.mpm_machine_file.specs.declared.lists.DriveSpec.{DriveSpec}
 use Rattle.mpm_drives.specs.declared.error.BootError.{BootError}
 use Rattle.mpm_drives.specs.declared.error.BootError.TheVariants.{Image, DiskFault as DriveFailed, OutOfMemory as NoMemory}
 use Rattle.mpm_drives.specs.Images.{Images}
-use Rattle.mpm_drives.specs.Mounted.{NumberedDrive, AreDrivesOf, drives_on}
-use Rattle.mpm_drives.proofs.Opening.{none_are}
+use Rattle.mpm_drives.specs.Mounted.{NumberedDrive, AreDrivesOf, AreTold, drives_on, placed}
+use Rattle.mpm_drives.proofs.Opening.{drives_are}
+use Rattle.mpm_bdos.specs.Serving.{Kept as Filed, nothing_kept, in_places}
+use Rattle.mpm_machine.specs.State.{State, StandsForFiles}
+use Rattle.mpm_machine.specs.Mounting.{HasMounted, HasNoDrive, untouched}
+use Rattle.mpm_top.proofs.Placing.{mounted_stand, none_mounted, none_on, none_stand}
 use Rattle.mpm_drives.specs.Stopping.{Failures, StopsAt, IsFirst, Stops}
-use Rattle.mpm_top.specs.Runs.{Host, Failed, system_of, script_name, drives_listed, begun, input_of, Holds, Scripted, Begins, BeginsOf, Unread, LacksDrive, EndsAfter, IsNoMachine, IsRefusal, IsEarly, status_of, UnlessDiskFault}
+use Rattle.mpm_top.specs.Runs.{Host, Failed, system_of, script_name, drives_listed, begun, input_of, Holds, Scripted, Starts, StartsOf, Begins, BeginsOf, Unread, LacksScript, LacksDrive, Ends, EndsAfter, IsNoMachine, IsRefusal, IsEarly, status_of, UnlessDiskFault}
 
 pub no_system : (bytes : List ℕ) (events : List Timed) → machine_of_text bytes ≡ None → system_of Run bytes events ≡ None
 unfolding system_of
@@ -60,9 +63,29 @@ begins_of_file host bytes file events system drives is scripted was are = record
   contents_are = refl;
   scripted = subst (λ (script : Option (List ℕ)). Scripted host.contents script events) (sym (script_of_file bytes file is)) scripted;
   is = system_of_file bytes events file is ∙ ap Some (sym was);
+  on = drives;
   drives = subst (λ (specs : List DriveSpec). AreDrivesOf host.images specs drives) (sym (drives_of_file bytes file is)) are;
+  filing = refl;
   outputs = refl;
 }
+
+-- its machine, with its drives mounted
+pub starts_of_file : (host : Host) (bytes : List ℕ) (file : MachineFile) (events : List Timed) (system : System) (a : ℕ → Option ℕ) (x : Option Disks) (kept : Filed)
+    → machine_of_text bytes ≡ Some file → Scripted host.contents file.script events → system ≡ opened file events → HasMounted a x host.images file.drives kept
+    → StartsOf host Run (λ content. content ≡ bytes) system kept x
+unfolding drives_on begins_of_file
+starts_of_file host bytes file events system a x kept is scripted was has =
+    let ds = has.directories in
+    let drives = drives_on x ds in
+    record {
+      drives = drives;
+      begins = begins_of_file host bytes file events system drives is scripted was (drives_are a x host.images file.drives ds has.mounted);
+      same = refl;
+      files = λ told.
+          let stand = mounted_stand a x host.images file.drives ds has.mounted (subst (AreTold host.images) (drives_of_file bytes file is) told) in
+          subst (λ (k : Filed). StandsForFiles k x (untouched (placed drives))) (sym has.is) (record { filing_is = refl; stand = stand });
+      bare = λ none. subst (λ (k : Filed). HasNoDrive k.mounted) (sym has.is) (none_on x ds none);
+    }
 
 -- the script that a machine file names wasn't read
 
@@ -152,34 +175,124 @@ unfolding script_name
 program_names_nothing Program bytes script is named = absurd (cc)
 program_names_nothing Run bytes script is named = absurd (cc)
 
-pub begins_with_contents : (host : Host) (form : Form) (name bytes : List ℕ) (disks : Option Disks) (result : Result Machine Status) → form ≡ Program
+-- a file holds such bytes
+pub starts_of_contents : (host : Host) (form : Form) (name bytes : List ℕ) (system : System) (kept : Filed) (disks : Option Disks) → Holds host.contents (input_of form) name bytes
+    → StartsOf host form (λ content. content ≡ bytes) system kept disks → Starts host form name system kept disks
+starts_of_contents host form name bytes system kept disks from_file starts = record {
+  drives = starts.drives;
+  begins = record {
+    bytes = starts.begins.bytes;
+    events = starts.begins.events;
+    contents_are = subst (Holds host.contents (input_of form) name) (sym starts.begins.contents_are) from_file;
+    scripted = starts.begins.scripted;
+    is = starts.begins.is;
+    on = starts.begins.on;
+    drives = starts.begins.drives;
+    filing = starts.begins.filing;
+    outputs = starts.begins.outputs;
+  };
+  same = starts.same;
+  files = starts.files;
+  bare = starts.bare;
+}
+
+pub starts_with_contents : (host : Host) (form which : Form) (name bytes : List ℕ) (disks : Option Disks) (result : Result Machine Status) → form ≡ which
     → Holds host.contents (input_of form) name bytes
-    → IfOk result (λ machine. BeginsOf host Program (λ content. content ≡ bytes) (begun machine.system (drives_on disks machine.drives)))
-    → IfOk result (λ machine. Begins host form name (begun machine.system (drives_on disks machine.drives)))
-begins_with_contents host Run name bytes disks result is from_file begins = absurd (cc)
-begins_with_contents host Program name bytes disks (Err status) is from_file begins = begins
-begins_with_contents host Program name bytes disks (Ok machine) is from_file begins = record {
+    → IfOk result (λ machine. StartsOf host which (λ content. content ≡ bytes) machine.system machine.bdos disks)
+    → IfOk result (λ machine. Starts host form name machine.system machine.bdos disks)
+starts_with_contents host form which name bytes disks (Err status) is from_file starts = tt
+starts_with_contents host form which name bytes disks (Ok machine) is from_file starts =
+    subst (λ (f : Form). Starts host f name machine.system machine.bdos disks) (sym is)
+    (starts_of_contents host which name bytes machine.system machine.bdos disks (subst (λ (f : Form). Holds host.contents (input_of f) name bytes) is from_file) starts)
+
+-- so it is of how it ends
+
+begins_of_contents : (host : Host) (form : Form) (name bytes : List ℕ) (s : State) → Holds host.contents (input_of form) name bytes
+    → BeginsOf host form (λ content. content ≡ bytes) s → Begins host form name s
+begins_of_contents host form name bytes s from_file begins = record {
   bytes = begins.bytes;
   events = begins.events;
-  contents_are = subst (Holds host.contents (input_of Program) name) (sym begins.contents_are) from_file;
+  contents_are = subst (Holds host.contents (input_of form) name) (sym begins.contents_are) from_file;
   scripted = begins.scripted;
   is = begins.is;
+  on = begins.on;
   drives = begins.drives;
+  filing = begins.filing;
   outputs = begins.outputs;
 }
 
+script_lacks : (host : Host) (form : Form) (name bytes : List ℕ) (old new : List (List ℕ)) (status : Status) → Holds host.contents (input_of form) name bytes
+    → LacksScript host.contents form (λ content. content ≡ bytes) old new status → LacksScript host.contents form (Holds host.contents (input_of form) name) old new status
+script_lacks host form name bytes old new status from_file lacks = record {
+  bytes = lacks.bytes;
+  contents_are = subst (Holds host.contents (input_of form) name) (sym lacks.contents_are) from_file;
+  script = lacks.script;
+  named = lacks.named;
+  unread = lacks.unread;
+}
+
+drive_lacks : (host : Host) (form : Form) (name bytes : List ℕ) (old new : Failed) (error : BootError) → Holds host.contents (input_of form) name bytes
+    → LacksDrive host form (λ content. content ≡ bytes) old new error → LacksDrive host form (Holds host.contents (input_of form) name) old new error
+drive_lacks host form name bytes old new error from_file lacks = record {
+  bytes = lacks.bytes;
+  events = lacks.events;
+  system = lacks.system;
+  contents_are = subst (Holds host.contents (input_of form) name) (sym lacks.contents_are) from_file;
+  scripted = lacks.scripted;
+  is = lacks.is;
+  stops = lacks.stops;
+}
+
+ends_after : (host : Host) (form : Form) (name bytes : List ℕ) (old new : Failed) (status : Status) → Holds host.contents (input_of form) name bytes
+    → EndsAfter host form (λ content. content ≡ bytes) old new status → EndsAfter host form (Holds host.contents (input_of form) name) old new status
+unfolding begins_of_contents
+ends_after host form name bytes old new Ran from_file ends = (ends.0, begins_of_contents host form name bytes ends.0 from_file ends.1)
+ends_after host form name bytes old new Usage from_file ends = ends
+ends_after host form name bytes old new MachineFault from_file ends =
+    record { bytes = ends.bytes; contents_are = subst (Holds host.contents (input_of form) name) (sym ends.contents_are) from_file; none = ends.none }
+ends_after host form name bytes old new (ScriptFault line) from_file ends = script_lacks host form name bytes old.files new.files (ScriptFault line) from_file ends
+ends_after host form name bytes old new (ImageFault drive cause place) from_file ends = drive_lacks host form name bytes old new (Image drive cause place) from_file ends
+ends_after host form name bytes old new (TooLong what) from_file ends = script_lacks host form name bytes old.files new.files (TooLong what) from_file ends
+ends_after host form name bytes old new ReadFault from_file ends = script_lacks host form name bytes old.files new.files ReadFault from_file ends
+ends_after host form name bytes old new (DiskFault step) from_file (inl ends) = inl (ends.0, drive_lacks host form name bytes old new DriveFailed from_file ends.1)
+ends_after host form name bytes old new (DiskFault step) from_file (inr loses) = inr (record {
+  start = loses.start;
+  begins = begins_of_contents host form name bytes loses.start from_file loses.begins;
+  some = loses.some;
+  rose = loses.rose;
+  names = loses.names;
+})
+ends_after host form name bytes old new (WriteFault step) from_file ends = (ends.0, begins_of_contents host form name bytes ends.0 from_file ends.1)
+ends_after host form name bytes old new OutOfMemory from_file ends = tt
+
+pub ends_with_contents : (host : Host) (form which : Form) (name bytes : List ℕ) (old new : Failed) {M : Type 0} (result : Result M Status) → form ≡ which
+    → Holds host.contents (input_of form) name bytes
+    → IfErr result (λ status. EndsAfter host which (λ content. content ≡ bytes) old new status) → IfErr result (λ status. Ends host form name old new status)
+ends_with_contents host form which name bytes old new (Ok machine) is from_file ends = tt
+ends_with_contents host form which name bytes old new (Err status) is from_file ends =
+    subst (λ (f : Form). Ends host f name old new status) (sym is)
+    (inr (ends_after host which name bytes old new status (subst (λ (f : Form). Holds host.contents (input_of f) name bytes) is from_file) ends))
+
 -- a program's machine has no drive
-pub program_begins : (host : Host) (bytes : List ℕ) (disks : Option Disks) (system : System) (mounted : List Directory) → system ≡ opening_system bytes → mounted ≡ []
-    → BeginsOf host Program (λ content. content ≡ bytes) (begun system (drives_on disks mounted))
+pub program_starts : (host : Host) (bytes : List ℕ) (disks : Option Disks) (system : System) (kept : Filed) → system ≡ opening_system bytes → kept ≡ nothing_kept (in_places [])
+    → StartsOf host Program (λ content. content ≡ bytes) system kept disks
 unfolding system_of script_name drives_listed
-program_begins host bytes disks system mounted is none = record {
-  bytes = bytes;
-  events = [];
-  contents_are = refl;
-  scripted = refl;
-  is = ap Some (sym is);
-  drives = none_are disks host.images mounted none;
-  outputs = refl;
+program_starts host bytes disks system kept is none = record {
+  drives = [];
+  begins = record {
+    bytes = bytes;
+    events = [];
+    contents_are = refl;
+    scripted = refl;
+    is = ap Some (sym is);
+    on = [];
+    drives = tt;
+    filing = refl;
+    outputs = refl;
+  };
+  same = refl;
+  files = λ told. subst (λ (k : Filed). StandsForFiles k disks (untouched (placed []))) (sym none) (record { filing_is = refl; stand = none_stand disks });
+  bare = λ nothing. subst (λ (k : Filed). HasNoDrive k.mounted) (sym none) none_mounted;
 }
 
 -- where no drive was called, that is so of each ending

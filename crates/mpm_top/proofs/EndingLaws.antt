@@ -244,7 +244,7 @@ read_says host form name file bytes events system status holds scripted stands t
 begins_says : (host : Host) (form : Form) (name file : List ℕ) (s : State) (status : Status) → Begins host form name s
     → host.contents name ≡ Some file → ending host form name ≡ Some status → status ≡ Ran
 begins_says host form name file s status begins told e =
-    drives_run host.images (drives_listed form begins.bytes) s.drives status begins.drives
+    drives_run host.images (drives_listed form begins.bytes) begins.on status begins.drives
     (read_says host form name file begins.bytes begins.events s.system status begins.contents_are begins.scripted begins.is told e)
 
 image_says : (host : Host) (form : Form) (name file : List ℕ) (old new : Failed) (drive cause place : ℕ) (status : Status)

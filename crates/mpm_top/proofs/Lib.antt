@@ -2,4 +2,5 @@ pub mod CommandLaws
 pub mod RunLaws
 pub mod Examples
 pub mod EndingLaws
+pub mod Placing
 pub mod BootLaws

@@ -1,52 +1,68 @@
 -- Laws of a run from its beginning to its end.
-use Rattle.std.proofs.Common.{◌≡◌, ◌∙◌, ◌<◌, ℕ, Bool, List, [], length, Option, Result, Ok, Err, refl, sym, ap, subst, inl, inr}
-use Rattle.std.specs.Prelude.{OnOk, OnErr}
-use Rattle.mpm_port.specs.Causes.{HasCause}
-use Rattle.mpm_port.specs.Disks.{Disks}
+use Rattle.std.proofs.Common.{◌≡◌, ◌∙◌, ◌<◌, ◌-◌, ℕ, suc, Bool, List, [], ◌∷◌, length, Option, Some, None, Result, Ok, Err, refl, sym, ap, subst, inl, inr, arith}
+use Rattle.std.specs.Prelude.{OnOk, OnErr, slice_index_or, unwrap_or}
+use Rattle.mpm_port.specs.Causes.{Rose, HasCause}
+use Rattle.mpm_port.specs.Disks.{Disks, SameDisks, Told}
+use Rattle.mpm_blocks.proofs.ToldImages.{told_image_same}
+use Rattle.mpm_mount.specs.Drives.{Drive}
+use Rattle.mpm_bdos.specs.Serving.{StandsWhere, StandEach, directory_at}
+use Rattle.mpm_bdos.specs.Turns.{told_images}
 use Rattle.mpm_port.specs.Texts.{appended}
 use Rattle.mpm_render.specs.Shown.{Kept, Shows, EndsBetween}
 use Rattle.mpm_render.specs.Outputs.{Output, rendered, closed}
-use Rattle.mpm_drives.specs.Images.{Images}
-use Rattle.mpm_drives.specs.Mounted.{NumberedDrive, StandEach, AreDrivesOf}
-use Rattle.mpm_drives.proofs.Opening.{are_drives_by}
+use Rattle.mpm_mount.specs.Directories.{Directory}
+use Rattle.mpm_drives.specs.Mounted.{NumberedDrive, AreTold, placed}
+use Rattle.mpm_bdos.specs.Syncing.{mounted_count}
 use Rattle.mpm_machine.specs.declared.machine.Machine.{Machine}
 use Rattle.mpm_machine.specs.declared.machine.StepFault.{StepFault}
 use Rattle.mpm_machine.specs.declared.machine.StepFault.TheVariants.{WriteFault as SinkFailed, DiskFault as SyncFailed}
-use Rattle.mpm_mount.specs.Mounting.{SameDrives}
-use Rattle.mpm_mount.proofs.Telling.{same_itself}
 use Rattle.mpm_machine.specs.Faults.{Counts, HasFailed, EndsBy, OnDiskFault}
-use Rattle.mpm_machine.specs.State.{State, StandsWithDrives}
-use Rattle.mpm_machine.specs.Step.{after, EndsInStep}
-use Rattle.mpm_machine.proofs.DriveLaws.{same_drives}
+use Rattle.mpm_machine.specs.State.{State, StandsForFiles, StandsWithDrives}
+use Rattle.mpm_machine.specs.Mounting.{HasNoDrive, untouched}
+use Rattle.mpm_machine.specs.After.{after, ShowsBefore, EndsInStep}
 use Rattle.mpm_top.specs.declared.words.Form.{Form}
 use Rattle.mpm_top.specs.declared.status.Status.{Status}
 use Rattle.mpm_top.specs.declared.status.Status.TheVariants.{DiskFault, WriteFault}
 use Rattle.mpm_top.specs.Words.{Command}
-use Rattle.mpm_top.specs.Runs.{Host, Failed, begun, drives_listed, Begins, Ends, StopsAt, StopsRun, Closes, Causes, ended_by, WritesAll, WritesClosed}
+use Rattle.mpm_top.specs.Runs.{Host, Failed, begun, drives_listed, Begins, Ends, StopsAt, StopsRun, Closes, ClosesAfter, ClosesAt, Causes, ended_by, WritesPart, WritesClosed, HaveImages, IsRefusal}
 
 -- a machine that begins, and a renderer that shows nothing yet, stand for its beginning
-pub stands_begun : (machine : Machine) (drives : List NumberedDrive) (kept : Kept) (written : Option (List ℕ)) (disks : Option Disks) → Shows kept written [] written
-    → StandEach disks machine.drives drives → StandsWithDrives machine kept written disks (begun machine.system drives) written
-stands_begun machine drives kept written disks shows stand = record { system = record { parts = refl; shown = shows }; drives = stand }
+pub stands_begun : (machine : Machine) (on : List NumberedDrive) (kept : Kept) (written : Option (List ℕ)) (disks : Option Disks) → Shows kept written [] written
+    → StandsForFiles machine.bdos disks (untouched (placed on)) → StandsWithDrives machine kept written disks (begun machine.system on) written
+stands_begun machine on kept written disks shows stand = record { system = record { parts = refl; shown = shows }; files = stand }
 
--- a run stops in a step, where the sink failed, or as lines are closed
-pub stops_in_step : (fault : StepFault) (trace : Bool) (s : State) (steps : ℕ) (first written : Option (List ℕ)) (before now step : ℕ) → fault ≡ SinkFailed
-    → EndsInStep fault trace written first s steps step → StopsRun fault trace s steps first written before now step
-stops_in_step fault trace s steps first written before now step is ends =
-    let P : StepFault → Type 0 = λ f. StopsRun f trace s steps first written before now step in
-    let Q : StepFault → Type 0 = λ f. EndsInStep f trace written first s steps step in
-    subst P (sym is) (inl (subst Q is ends))
+-- a run stops in a step, where the sink failed or a drive
+pub stops_in_step : (fault : StepFault) (trace trace' : Bool) (s : State) (steps : ℕ) (first written written' : Option (List ℕ)) (before now step : ℕ)
+    → (fault ≡ SinkFailed → written' ≡ written) → trace ≡ trace' → EndsInStep fault trace' written first s steps step
+    → ClosesAfter fault trace (after (step - 1 - s.system.steps) s) first written' before now → StopsRun fault trace s steps first written' before now step
+stops_in_step SinkFailed trace trace' s steps first written written' before now step same traces ends closes =
+    let P : Option (List ℕ) → Type 0 = λ w. EndsInStep SinkFailed trace w first s steps step in
+    let Q : Bool → Type 0 = λ t. EndsInStep SinkFailed t written first s steps step in
+    inl (subst P (sym (same refl)) (subst Q (sym traces) ends))
+stops_in_step SyncFailed trace trace' s steps first written written' before now step same traces ends closes =
+    inl (record { later = ends.later; within = ends.within; text = closes })
 
-pub stops_closing : (trace : Bool) (s : State) (steps : ℕ) (first written : Option (List ℕ))
-    → EndsBetween written first (rendered trace (after steps s).outputs) (closed trace (after steps s).outputs) → StopsAt trace s steps first written steps
-stops_closing trace s steps first written ends = inr (refl, ends)
+-- or at the end, as drives were synced or lines closed
+pub stops_at_end : (fault : StepFault) (trace : Bool) (s : State) (steps : ℕ) (first written written' : Option (List ℕ)) (before now : ℕ)
+    → (fault ≡ SinkFailed → written' ≡ written) → EndsBy fault written first (rendered trace (after steps s).outputs) (closed trace (after steps s).outputs)
+    → ClosesAfter fault trace (after steps s) first written' before now → StopsRun fault trace s steps first written' before now steps
+stops_at_end SinkFailed trace s steps first written written' before now same ends closes =
+    let P : Option (List ℕ) → Type 0 = λ w. EndsBetween w first (rendered trace (after steps s).outputs) (closed trace (after steps s).outputs) in
+    inr (refl, subst P (sym (same refl)) ends)
+stops_at_end SyncFailed trace s steps first written written' before now same ends closes = inr (refl, closes)
+
+-- what is kept to be written stays where a drive couldn't be synced
+pub still_shows : (fault : StepFault) (kept kept' : Kept) (written written' : Option (List ℕ)) (s : State) (first : Option (List ℕ))
+    → OnDiskFault fault ((kept' ≡ kept) × (written' ≡ written)) → Shows kept written s.outputs first → ShowsBefore fault kept' written' s first
+still_shows SinkFailed kept kept' written written' s first same shows = tt
+still_shows SyncFailed kept kept' written written' s first same shows =
+    subst (λ (k : Kept). Shows k written' s.outputs first) (sym same.0) (subst (λ (w : Option (List ℕ)). Shows kept w s.outputs first) (sym same.1) shows)
+
+pub on_both : (fault : StepFault) (P Q : Type 0) → (P → Q) → OnDiskFault fault P → OnDiskFault fault Q
+on_both SinkFailed P Q so p = tt
+on_both SyncFailed P Q so p = so p
 
 -- a drive failed: the unfinished lines are closed, or the sink fails too
-
-by_trace : (trace trace' : Bool) (s : State) (first written : Option (List ℕ)) (before now : ℕ) → trace ≡ trace' → Closes trace s first written before now
-    → Closes trace' s first written before now
-by_trace trace trace' s first written before now same closes =
-    let P : Bool → Type 0 = λ t. Closes t s first written before now in subst P same closes
 
 closes_by : {A E : Type 0} (r : Result A E) (trace : Bool) (s : State) (first written : Option (List ℕ)) (before now : ℕ) → HasCause before now r
     → OnOk r (written ≡ appended first (closed trace s.outputs)) → OnErr r (EndsBetween written first (rendered trace s.outputs) (closed trace s.outputs))
@@ -54,64 +70,56 @@ closes_by : {A E : Type 0} (r : Result A E) (trace : Bool) (s : State) (first wr
 closes_by (Ok x) trace s first written before now cause ok err = inl ok
 closes_by (Err e) trace s first written before now cause ok err = inr (cause.failed, err)
 
-pub closes : {A E : Type 0} (r : Result A E) (kept kept' : Kept) (trace : Bool) (s : State) (first written written' after_closing : Option (List ℕ)) (before middle now : ℕ)
-    → Shows kept written s.outputs first → kept' ≡ kept → written' ≡ written → kept.trace ≡ trace → middle ≡ before → HasCause middle now r
-    → ((os : List Output) (f : Option (List ℕ)) → Shows kept' written' os f → OnOk r (after_closing ≡ appended f (closed kept'.trace os)))
-    → ((os : List Output) (f : Option (List ℕ)) → Shows kept' written' os f
-    → OnErr r (EndsBetween after_closing f (rendered kept'.trace os) (closed kept'.trace os)))
-    → Closes trace s first after_closing before now
-closes r kept kept' trace s first written written' after_closing before middle now shows same_kept same_written is same_count cause ok err =
-    let P : Kept → Type 0 = λ k. Shows k written s.outputs first in
-    let Q : Option (List ℕ) → Type 0 = λ w. Shows kept' w s.outputs first in
-    let shown : Shows kept' written' s.outputs first = subst Q (sym same_written) (subst P (sym same_kept) shows) in
-    let R : ℕ → Type 0 = λ k. HasCause k now r in
-    by_trace kept'.trace trace s first after_closing before now (ap (λ (k : Kept). k.trace) same_kept ∙ is)
-    (closes_by r kept'.trace s first after_closing before now (subst R same_count cause) (ok s.outputs first shown) (err s.outputs first shown))
+pub closes_after : {A E : Type 0} (r : Result A E) (fault : StepFault) (kept : Kept) (s : State) (first written written' : Option (List ℕ)) (before now : ℕ)
+    → ShowsBefore fault kept written s first → HasCause before now r
+    → ((os : List Output) (f : Option (List ℕ)) → Shows kept written os f → OnOk r (written' ≡ appended f (closed kept.trace os)))
+    → ((os : List Output) (f : Option (List ℕ)) → Shows kept written os f → OnErr r (EndsBetween written' f (rendered kept.trace os) (closed kept.trace os)))
+    → ClosesAfter fault kept.trace s first written' before now
+closes_after r SinkFailed kept s first written written' before now shows cause ok err = tt
+closes_after r SyncFailed kept s first written written' before now shows cause ok err =
+    closes_by r kept.trace s first written' before now cause (ok s.outputs first shows) (err s.outputs first shows)
+
+pub closed_alike : (fault : StepFault) (trace trace' : Bool) (s : State) (first written : Option (List ℕ)) (before before' now : ℕ) → trace ≡ trace' → (fault ≡ SyncFailed → before ≡ before')
+    → ClosesAfter fault trace s first written before now → ClosesAfter fault trace' s first written before' now
+closed_alike SinkFailed trace trace' s first written before before' now traces counts closes = tt
+closed_alike SyncFailed trace trace' s first written before before' now traces counts closes =
+    subst (λ t. Closes t s first written before' now) traces (subst (λ n. Closes trace s first written n now) (counts refl) closes)
+
+pub sink_stays : (fault : StepFault) (old new : Counts) → HasFailed fault old new → fault ≡ SyncFailed → new.sink ≡ old.sink
+sink_stays SinkFailed old new failed is = absurd (cc)
+sink_stays SyncFailed old new failed is = failed.1
 
 -- which count rose
 
-pub causes_in_step : (fault : StepFault) (old new : Counts) → fault ≡ SinkFailed → HasFailed fault old new → Causes fault old new
-causes_in_step fault old new is failed =
-    let P : StepFault → Type 0 = λ f. HasFailed f old new in
-    let Q : StepFault → Type 0 = λ f. Causes f old new in
-    let sink : HasFailed SinkFailed old new = subst P is failed in
-    subst Q (sym is) sink
+pub causes_stopped : (fault : StepFault) (old mid new : Counts) → mid.drives ≡ old.drives → mid.sink ≡ old.sink
+    → HasFailed fault mid new → Causes fault old new
+causes_stopped SinkFailed old mid new drives sink failed =
+    (subst (λ n. Rose n new.sink) sink failed.0, failed.1 ∙ drives)
+causes_stopped SyncFailed old mid new drives sink failed = subst (λ n. Rose n new.drives) drives failed.0
 
-pub no_drive_failed : (fault : StepFault) (P : Type 0) → fault ≡ SinkFailed → OnDiskFault fault P
-no_drive_failed fault P is = subst (λ (f : StepFault). OnDiskFault f P) (sym is) tt
-
--- by the fault that a call tells
-
-pub on_disk_fault : (fault : StepFault) (P : Type 0) → fault ≡ SyncFailed → OnDiskFault fault P → P
-on_disk_fault fault P is so = subst (λ (f : StepFault). OnDiskFault f P) is so
-
-pub failed_as : (fault other : StepFault) (old new : Counts) → fault ≡ other → HasFailed fault old new → HasFailed other old new
-failed_as fault other old new is failed = subst (λ (f : StepFault). HasFailed f old new) is failed
-
-pub ends_as : (fault other : StepFault) (written first : Option (List ℕ)) (from to : List ℕ) → fault ≡ other → EndsBy fault written first from to
-    → EndsBy other written first from to
-ends_as fault other written first from to is ends = subst (λ (f : StepFault). EndsBy f written first from to) is ends
-
--- the drives after two calls
-
-pub same_when : {D : Type 0} (attached : D → ℕ → Option ℕ) (disks : D → Option Disks) (names : D → List (List ℕ)) (a b : D) → b ≡ a → SameDrives attached disks names a b
-same_when attached disks names a b same = subst (λ d. SameDrives attached disks names a d) (sym same) (same_itself attached disks names a)
-
-pub same_after : {D : Type 0} (attached : D → ℕ → Option ℕ) (disks : D → Option Disks) (names : D → List (List ℕ)) (a b c : D) → b ≡ a
-    → SameDrives attached disks names b c → SameDrives attached disks names a c
-same_after attached disks names a b c same drives = subst (λ d. SameDrives attached disks names d c) same drives
+pub causes_closed : (fault : StepFault) (old new : Counts) (now : ℕ) → (fault ≡ SinkFailed → now ≡ new.sink) → Causes fault old new
+    → Causes fault old (record { sink = now; drives = new.drives })
+causes_closed SinkFailed old new now same causes = (subst (λ n. Rose old.sink n) (sym (same refl)) causes.0, causes.1)
+causes_closed SyncFailed old new now same causes = causes
 
 -- how a command ends whose run stopped, by the fault
 
-ends_stopped : (host : Host) (form : Form) (name : List ℕ) (s : State) (old new : Failed) (fault : StepFault) (step sink sink' : ℕ) → Begins host form name s
-    → OnDiskFault fault (0 < length s.drives) → Causes fault (record { sink = sink; drives = old.drives.faults }) (record { sink = sink'; drives = new.drives.faults })
+some_drive : (on : List NumberedDrive) → (on ≡ [] → ⊥) → 0 < length on
+some_drive [] none = absurd (none refl)
+some_drive (d ∷ on) none = omega arith
+
+ends_stopped : (host : Host) (form : Form) (name : List ℕ) (s : State) (old new : Failed) (fault : StepFault) (step sink sink' : ℕ) (begins : Begins host form name s)
+    → (begins.on ≡ [] → fault ≡ SinkFailed) → Causes fault (record { sink = sink; drives = old.drives.faults }) (record { sink = sink'; drives = new.drives.faults })
     → new.drives.names ≡ old.drives.names → Ends host form name old new (ended_by fault step)
 ends_stopped host form name s old new SinkFailed step sink sink' begins some causes names = inr (s, begins)
 ends_stopped host form name s old new SyncFailed step sink sink' begins some causes names =
-    inr (inr (record { start = s; begins = begins; some = some; rose = causes; names = names }))
+    inr (inr (record { start = s; begins = begins; some = some_drive begins.on (λ none. no_sink (some none)); rose = causes; names = names }))
+  where
+    no_sink : SyncFailed ≡ SinkFailed → ⊥
+    no_sink e = cc
 
 pub ends_by_fault : (host : Host) (form : Form) (name : List ℕ) (s : State) (old new : Failed) (fault : StepFault) (step sink sink' : ℕ) (status : Status)
-    → status ≡ ended_by fault step → Begins host form name s → OnDiskFault fault (0 < length s.drives)
+    → status ≡ ended_by fault step → (begins : Begins host form name s) → (begins.on ≡ [] → fault ≡ SinkFailed)
     → Causes fault (record { sink = sink; drives = old.drives.faults }) (record { sink = sink'; drives = new.drives.faults })
     → new.drives.names ≡ old.drives.names → Ends host form name old new status
 ends_by_fault host form name s old new fault step sink sink' status is begins some causes names =
@@ -123,26 +131,67 @@ same_disk : (step said : ℕ) → DiskFault step ≡ DiskFault said → step ≡
 same_disk step said e = cc
 
 pub disk_closed : (host : Host) (command : Command) (s : State) (fault : StepFault) (step said : ℕ) (status : Status) (first written : Option (List ℕ)) (before now : ℕ)
-    → status ≡ ended_by fault step → status ≡ DiskFault said → Begins host command.form command.name s
-    → StopsRun fault command.trace s command.steps first written before now step → WritesClosed host command first written before now said
+    → status ≡ ended_by fault step → status ≡ DiskFault said → (begins : Begins host command.form command.name s)
+    → (AreTold host.images (drives_listed command.form begins.bytes) → StopsRun fault command.trace s command.steps first written before now step)
+    → WritesClosed host command first written before now said
 disk_closed host command s SinkFailed step said status first written before now is disk begins stops =
     let no : WriteFault step ≡ DiskFault said = sym is ∙ disk in absurd (cc)
 disk_closed host command s SyncFailed step said status first written before now is disk begins stops = record {
   start = s;
   begins = begins;
-  last = sym (same_disk step said (sym is ∙ disk)) ∙ stops.0;
-  text = stops.1;
+  text = λ told. subst (λ k. ClosesAt command.trace s command.steps first written before now k) (same_disk step said (sym is ∙ disk)) (stops told);
 }
 
--- all is done
+same_write : (step said : ℕ) → WriteFault step ≡ WriteFault said → step ≡ said
+same_write step said e = cc
 
-pub writes_all : (host : Host) (images : Images) (command : Command) (s : State) (first written : Option (List ℕ)) → Begins host command.form command.name s
-    → written ≡ appended first (closed command.trace (after command.steps s).outputs) → ((name : List ℕ) → images name ≡ host.images name)
-    → WritesAll host images command first written
-writes_all host images command s first written begins text same = record {
+pub writes_part : (host : Host) (command : Command) (s : State) (fault : StepFault) (step said : ℕ) (status : Status) (first written : Option (List ℕ)) (before now : ℕ)
+    → status ≡ ended_by fault step → status ≡ WriteFault said → (begins : Begins host command.form command.name s)
+    → (AreTold host.images (drives_listed command.form begins.bytes) → StopsRun fault command.trace s command.steps first written before now step)
+    → WritesPart host command first written said
+writes_part host command s SyncFailed step said status first written before now is wrote begins stops =
+    let no : DiskFault step ≡ WriteFault said = sym is ∙ wrote in absurd (cc)
+writes_part host command s SinkFailed step said status first written before now is wrote begins stops = record {
   start = s;
   begins = begins;
-  text = text;
-  drives = subst (λ (ds : List NumberedDrive). AreDrivesOf images (drives_listed command.form begins.bytes) ds) (sym (same_drives command.steps s))
-      (are_drives_by host.images images (drives_listed command.form begins.bytes) s.drives (λ name. sym (same name)) begins.drives);
+  text = λ told. subst (λ k. StopsAt command.trace s command.steps first written k) (same_write step said (sym is ∙ wrote)) (stops told);
 }
+
+no_refusal : (fault : StepFault) (step : ℕ) → IsRefusal (ended_by fault step) → ⊥
+no_refusal SinkFailed step refusal = refusal
+no_refusal SyncFailed step refusal = refusal
+
+pub stopped_late : (fault : StepFault) (step : ℕ) (status : Status) → status ≡ ended_by fault step → IsRefusal status → ⊥
+stopped_late fault step status is refusal = no_refusal fault step (subst IsRefusal is refusal)
+
+-- where no drive is mounted none fails as drives are synced
+
+none_counted : (places : List (Option Directory)) → HasNoDrive places → mounted_count places ≡ 0
+none_counted [] none = refl
+none_counted (None ∷ places) none = none_counted places (λ number. none (suc number))
+none_counted (Some d ∷ places) none = absurd (never (none 0))
+  where
+    never : Some d ≡ None → ⊥
+    never e = cc
+
+pub none_synced : (places : List (Option Directory)) → HasNoDrive places → mounted_count places ≡ 0
+none_synced places none = none_counted places none
+
+pub sink_alone : (fault : StepFault) (places : List (Option Directory)) → OnDiskFault fault (0 < mounted_count places) → HasNoDrive places → fault ≡ SinkFailed
+sink_alone SinkFailed places some none = refl
+sink_alone SyncFailed places some none = absurd (omega (arith, some, none_counted places none))
+
+-- syncing leaves the images
+
+stands_alike : (x y : Option Disks) (directories : List (Option Directory)) (drives : List (Option Drive)) → Told SameDisks x y → StandEach (told_images x) directories drives
+    → StandEach (told_images y) directories drives
+unfolding told_images
+stands_alike x y directories drives same stand = record {
+  each = λ number.
+      subst (λ (told : Option (List ℕ)). StandsWhere number (unwrap_or told []) (directory_at directories number) (slice_index_or drives number None))
+      (sym (told_image_same x y number same)) (stand.each number);
+}
+
+pub has_images : (x y : Option Disks) (directories : List (Option Directory)) (drives : List (Option Drive)) → Told SameDisks x y → StandEach (told_images x) directories drives
+    → HaveImages y drives
+has_images x y directories drives same stand = record { directories = directories; stand = stands_alike x y directories drives same stand }

@@ -1,5 +1,5 @@
 -- With what a command begins, and what it writes, by the machine's model.
-use Rattle.std.specs.Prelude.{◌≡◌, ℕ, ◌<◌, ◌≤◌, ◌⊎◌, Bool, List, [], ◌∷◌, ◌++◌, Option, Some, None, Result, Ok, Err, length, MatchOption, ⊤, option_map, option_and_then, nat_lt, if◌then◌else◌}
+use Rattle.std.specs.Prelude.{◌≡◌, ℕ, ◌+◌, ◌-◌, ◌<◌, ◌≤◌, ◌⊎◌, Bool, List, [], ◌∷◌, ◌++◌, Option, Some, None, Result, Ok, Err, length, MatchOption, ⊤, option_map, option_and_then, nat_lt, if◌then◌else◌}
 use Rattle.std.specs.Option.{option_map_or}
 use Rattle.mpm_port.specs.Causes.{Rose}
 use Rattle.mpm_port.specs.Disks.{Disks}
@@ -16,12 +16,16 @@ use Rattle.mpm_mount.specs.Images.{files_of}
 use Rattle.mpm_drives.specs.declared.error.BootError.{BootError}
 use Rattle.mpm_drives.specs.declared.error.BootError.TheVariants.{Image, DiskFault as DriveFailed, OutOfMemory as NoMemory}
 use Rattle.mpm_drives.specs.Images.{ToldImage, Untold, Missing, Bytes, Images, image_named}
-use Rattle.mpm_drives.specs.Mounted.{NumberedDrive, AreDrivesOf, number_of}
+use Rattle.mpm_drives.specs.Mounted.{NumberedDrive, AreDrivesOf, AreTold, number_of, placed}
 use Rattle.mpm_drives.specs.Stopping.{Failures, Stops}
 use Rattle.mpm_machine.specs.declared.system.System.{System}
-use Rattle.mpm_machine.specs.State.{State}
+use Rattle.mpm_mount.specs.Directories.{Directory}
+use Rattle.mpm_bdos.specs.Serving.{Kept as Filed, StandEach}
+use Rattle.mpm_bdos.specs.Turns.{told_images}
+use Rattle.mpm_machine.specs.State.{State, StandsForFiles}
+use Rattle.mpm_machine.specs.Mounting.{HasNoDrive, untouched}
 use Rattle.mpm_machine.specs.Opening.{opening_system, opened}
-use Rattle.mpm_machine.specs.Step.{after, EndsInStep}
+use Rattle.mpm_machine.specs.After.{after, EndsInStep}
 use Rattle.mpm_machine.specs.declared.machine.StepFault.{StepFault}
 use Rattle.mpm_machine.specs.declared.machine.StepFault.TheVariants.{WriteFault as SinkFailed, DiskFault as SyncFailed}
 use Rattle.mpm_machine.specs.declared.machine.RunFault.{RunFault}
@@ -86,9 +90,9 @@ unfoldable pub drives_listed : Form → List ℕ → List DriveSpec
 drives_listed Program bytes = []
 drives_listed Run bytes = option_map_or (λ file. file.drives) (machine_of_text bytes) []
 
--- the state of a system that begins with drives: nothing is said yet
+-- the state of a system that begins with drives: nothing is said yet, and nothing open
 abbrev pub begun : System → List NumberedDrive → State
-begun system drives = record { system = system; outputs = []; drives = drives }
+begun system drives = record { system = system; outputs = []; filing = untouched (placed drives) }
 
 -- a file holds these bytes, or, where it isn't told, it may have held them, and it isn't too long as that input
 pub record Holds (contents : Contents) (input : Input) (name bytes : List ℕ) : Type 0 where
@@ -114,20 +118,39 @@ pub record BeginsOf (host : Host) (form : Form) (Of : List ℕ → Type 0) (s : 
   pub contents_are : Of bytes
   pub scripted : Scripted host.contents (script_name form bytes) events
   pub is : system_of form bytes events ≡ Some s.system
-  pub drives : AreDrivesOf host.images (drives_listed form bytes) s.drives
+  pub on : List NumberedDrive
+  pub drives : AreDrivesOf host.images (drives_listed form bytes) on
+  pub filing : s.filing ≡ untouched (placed on)
   pub outputs : s.outputs ≡ []
 
 -- a command of a form and a file begins with that state
 abbrev pub Begins : Host → Form → List ℕ → State → Type 0
 Begins host form name s = BeginsOf host form (Holds host.contents (input_of form) name) s
 
--- after the first text stands the closed text of the outputs of all steps, and nothing else, and the images stand for what is
--- on the drives after these
-pub record WritesAll (host : Host) (images : Images) (command : Command) (first written : Option (List ℕ)) : Type 0 where
+-- with that a machine begins: where its images are told, what is kept of files, and the images, stand for what is on the
+-- drives
+pub record StartsOf (host : Host) (form : Form) (Of : List ℕ → Type 0) (system : System) (kept : Filed) (disks : Option Disks) : Type 0 where
+  pub drives : List NumberedDrive
+  pub begins : BeginsOf host form Of (begun system drives)
+  pub same : begins.on ≡ drives
+  pub files : AreTold host.images (drives_listed form begins.bytes) → StandsForFiles kept disks (untouched (placed drives))
+  pub bare : drives ≡ [] → HasNoDrive kept.mounted
+
+abbrev pub Starts : Host → Form → List ℕ → System → Filed → Option Disks → Type 0
+Starts host form name system kept disks = StartsOf host form (Holds host.contents (input_of form) name) system kept disks
+
+-- each image stands, with some directory, for what is on its drive
+pub record HaveImages (disks : Option Disks) (drives : List (Option Drive)) : Type 0 where
+  pub directories : List (Option Directory)
+  pub stand : StandEach (told_images disks) directories drives
+
+-- where the images of its drives are told, after the first text stands the closed text of the outputs of all steps, and nothing
+-- else, and the images stand for what is on the drives after these
+pub record WritesAll (host : Host) (disks : Option Disks) (command : Command) (first written : Option (List ℕ)) : Type 0 where
   pub start : State
   pub begins : Begins host command.form command.name start
-  pub text : written ≡ appended first (closed command.trace (after command.steps start).outputs)
-  pub drives : AreDrivesOf images (drives_listed command.form begins.bytes) (after command.steps start).drives
+  pub text : AreTold host.images (drives_listed command.form begins.bytes) → written ≡ appended first (closed command.trace (after command.steps start).outputs)
+  pub images : AreTold host.images (drives_listed command.form begins.bytes) → HaveImages disks (after command.steps start).filing.drives
 
 -- writing stopped at a step of so many after a state, in the text of that step, or as the unfinished lines were closed
 abbrev pub StopsAt : Bool → State → ℕ → Option (List ℕ) → Option (List ℕ) → ℕ → Type 0
@@ -139,7 +162,7 @@ StopsAt trace s steps first written step =
 pub record WritesPart (host : Host) (command : Command) (first written : Option (List ℕ)) (step : ℕ) : Type 0 where
   pub start : State
   pub begins : Begins host command.form command.name start
-  pub text : StopsAt command.trace start command.steps first written step
+  pub text : AreTold host.images (drives_listed command.form begins.bytes) → StopsAt command.trace start command.steps first written step
 
 -- all steps are done, and the unfinished lines were closed; or the sink failed besides, and a first part of that was written
 abbrev pub Closes : Bool → State → Option (List ℕ) → Option (List ℕ) → ℕ → ℕ → Type 0
@@ -147,12 +170,27 @@ Closes trace s first written before now =
     (written ≡ appended first (closed trace s.outputs))
     ⊎ (Rose before now × EndsBetween written first (rendered trace s.outputs) (closed trace s.outputs))
 
--- a drive failed as it was synced, after all steps
+-- where a drive failed, that is so behind a state
+abbrev pub ClosesAfter : StepFault → Bool → State → Option (List ℕ) → Option (List ℕ) → ℕ → ℕ → Type 0
+ClosesAfter SinkFailed trace s first written before now = ⊤
+ClosesAfter SyncFailed trace s first written before now = Closes trace s first written before now
+
+-- a drive failed in that step, and the unfinished lines of the steps before it were closed
+pub record ClosesBefore (trace : Bool) (s : State) (steps : ℕ) (first written : Option (List ℕ)) (before now step : ℕ) : Type 0 where
+  pub later : s.system.steps < step
+  pub within : step ≤ s.system.steps + steps
+  pub text : Closes trace (after (step - 1 - s.system.steps) s) first written before now
+
+-- or as it was synced, after all steps
+abbrev pub ClosesAt : Bool → State → ℕ → Option (List ℕ) → Option (List ℕ) → ℕ → ℕ → ℕ → Type 0
+ClosesAt trace s steps first written before now step =
+    ClosesBefore trace s steps first written before now step ⊎ ((step ≡ steps) × Closes trace (after steps s) first written before now)
+
+-- a drive failed later
 pub record WritesClosed (host : Host) (command : Command) (first written : Option (List ℕ)) (before now step : ℕ) : Type 0 where
   pub start : State
   pub begins : Begins host command.form command.name start
-  pub last : step ≡ command.steps
-  pub text : Closes command.trace (after command.steps start) first written before now
+  pub text : AreTold host.images (drives_listed command.form begins.bytes) → ClosesAt command.trace start command.steps first written before now step
 
 -- why a file wasn't fetched as an input: it is longer than it may be, its name joined the failed names, or there was no
 -- memory. A file that isn't told may have been longer
@@ -215,7 +253,7 @@ pub record LacksDrive (host : Host) (form : Form) (Of : List ℕ → Type 0) (ol
 pub record LosesDrive (host : Host) (form : Form) (Of : List ℕ → Type 0) (old new : Failed) : Type 0 where
   pub start : State
   pub begins : BeginsOf host form Of start
-  pub some : 0 < length start.drives
+  pub some : 0 < length begins.on
   pub rose : Rose old.drives.faults new.drives.faults
   pub names : new.drives.names ≡ old.drives.names
 
@@ -325,7 +363,7 @@ stopped_by error = ended_by error.fault error.step
 -- what was written where a run stopped
 abbrev pub StopsRun : StepFault → Bool → State → ℕ → Option (List ℕ) → Option (List ℕ) → ℕ → ℕ → ℕ → Type 0
 StopsRun SinkFailed trace s steps first written before now step = StopsAt trace s steps first written step
-StopsRun SyncFailed trace s steps first written before now step = (step ≡ steps) × Closes trace (after steps s) first written before now
+StopsRun SyncFailed trace s steps first written before now step = ClosesAt trace s steps first written before now step
 
 -- which count rose where a run stopped
 abbrev pub Causes : StepFault → Counts → Counts → Type 0

@@ -1,9 +1,8 @@
-ghost use Rattle.std.specs.Prelude.{[], ◌≡◌, ◌≤◌, ◌↔◌, ℕ, List, Option, Some, IsSome, IfSome, IfOk, IfErr, MatchResult, length};
-ghost use Rattle.mpm_port.specs.Disks.{Disks};
+ghost use Rattle.std.specs.Prelude.{[], ◌≡◌, ◌≤◌, ◌↔◌, ℕ, List, Some, IsSome, IfSome, IfOk, IfErr, MatchResult, length};
 ghost use Rattle.mpm_drives.specs.Images.{image_named};
-ghost use Rattle.mpm_drives.specs.Mounted.{AreAttached, StandEach, drives_on};
-ghost use Rattle.mpm_machine.specs.State.{IsWhole};
-ghost use Rattle.mpm_top.specs.Runs.{input_of as input_said, room_for, script_name, Host, host, failed, begun, status_of, Holds, HoldsEvents, Begins, BeginsOf, Scripted, Unfetched, Unread, Ends, EndsAfter, IsRefusal, IsEarly, UnlessReadFault, UnlessDiskFault, EndsAs};
+ghost use Rattle.mpm_machine.specs.State.{HoldsDrives, IsWhole};
+ghost use Rattle.mpm_machine.specs.Mounting.{HasNoDrive};
+ghost use Rattle.mpm_top.specs.Runs.{input_of as input_said, room_for, script_name, Host, host, failed, status_of, Holds, HoldsEvents, Starts, StartsOf, Scripted, Unfetched, Unread, Ends, EndsAfter, IsRefusal, IsEarly, UnlessReadFault, UnlessDiskFault, EndsAs};
 
 use crate::status::{Input, Status};
 use crate::words::Form;
@@ -33,9 +32,8 @@ pub(crate) fn boot<F: Files, D: Drives>(
     files: &mut F,
     drives: &mut D,
 ) -> Result<Machine, Status>
-    ensures begins { IfOk result (λ machine. Begins (host F.contents D.disks files.old drives.old) form name.now (begun machine.system (drives_on (D.disks drives.new) machine.drives))) }
-    ensures stand { IfOk result (λ machine. StandEach (D.disks drives.new) machine.drives (drives_on (D.disks drives.new) machine.drives)) }
-    ensures attached { IfOk result (λ machine. AreAttached (D.attached drives.new) machine.drives) }
+    ensures starts { IfOk result (λ machine. Starts (host F.contents D.disks files.old drives.old) form name.now machine.system machine.bdos (D.disks drives.new)) }
+    ensures holds { IfOk result (λ machine. HoldsDrives D.attached D.disks machine.bdos drives.new) }
     ensures whole { IfOk result (λ machine. IsWhole machine.system) }
     ensures no_completions { IfOk result (λ machine. machine.system.kernel.dispatcher.completed ≡ []) }
     ensures start { IfOk result (λ machine. machine.system.steps ≡ 0) }
@@ -54,14 +52,14 @@ pub(crate) fn boot<F: Files, D: Drives>(
         (λ status. UnlessDiskFault status (D.faults drives.new ≡ D.faults drives.old)) }
     ensures images { (image : List ℕ) → image_named (D.disks drives.new) image ≡ image_named (D.disks drives.old) image }
     ensures program { form ≡ Form.Program → drives.new ≡ drives.old }
-    ensures no_drive { form ≡ Form.Program → IfOk result (λ machine. machine.drives ≡ []) }
+    ensures no_drive { form ≡ Form.Program → IfOk result (λ machine. HasNoDrive machine.bdos.mounted) }
 {
     let bytes = match fetch(alloc, name, form.input(), files) {
         Ok(bytes) => bytes,
         Err(status) => return Err(status),
     };
     match form {
-        Form::Program => boot_program(alloc, bytes.as_slice()),
+        Form::Program => boot_program(alloc, bytes.as_slice(), drives),
         Form::Run => boot_machine(alloc, bytes.as_slice(), files, drives),
     }
 }
@@ -91,19 +89,18 @@ fn fetch<F: Files>(
     }
 }
 
-/// The machine of a program's bytes.
-fn boot_program(alloc: Global, bytes: &[u8]) -> Result<Machine, Status>
+/// The machine of a program's bytes. No drive is mounted.
+fn boot_program<D: Drives>(alloc: Global, bytes: &[u8], drives: &D) -> Result<Machine, Status>
     requires { length bytes.now ≤ 48512 }
-    ensures begins { (host : Host) (disks : Option Disks)
-        → IfOk result (λ machine. BeginsOf host Form.Program (λ content. content ≡ bytes.now) (begun machine.system (drives_on disks machine.drives))) }
-    ensures stand { (disks : Option Disks) → IfOk result (λ machine. StandEach disks machine.drives (drives_on disks machine.drives)) }
-    ensures attached { (attached : ℕ → Option ℕ) → IfOk result (λ machine. AreAttached attached machine.drives) }
-    ensures drives { IfOk result (λ machine. machine.drives ≡ []) }
+    ensures starts { (host : Host) → IfOk result (λ machine. StartsOf host Form.Program (λ content. content ≡ bytes.now) machine.system machine.bdos (D.disks drives.now)) }
+    ensures holds { IfOk result (λ machine. HoldsDrives D.attached D.disks machine.bdos drives.now) }
+    ensures no_drive { IfOk result (λ machine. HasNoDrive machine.bdos.mounted) }
     ensures whole { IfOk result (λ machine. IsWhole machine.system) }
     ensures no_completions { IfOk result (λ machine. machine.system.kernel.dispatcher.completed ≡ []) }
     ensures start { IfOk result (λ machine. machine.system.steps ≡ 0) }
     ensures memory { IfErr result (λ status. status ≡ Status.OutOfMemory) }
 {
+    let _ = drives;
     match Machine::boot_program(alloc, bytes) {
         Ok(machine) => Ok(machine),
         Err(_) => Err(Status::OutOfMemory),
@@ -117,10 +114,9 @@ fn boot_machine<F: Files, D: Drives>(
     files: &mut F,
     drives: &mut D,
 ) -> Result<Machine, Status>
-    ensures begins { IfOk result (λ machine. BeginsOf (host F.contents D.disks files.old drives.old) Form.Run (λ content. content ≡ bytes.now)
-        (begun machine.system (drives_on (D.disks drives.new) machine.drives))) }
-    ensures stand { IfOk result (λ machine. StandEach (D.disks drives.new) machine.drives (drives_on (D.disks drives.new) machine.drives)) }
-    ensures attached { IfOk result (λ machine. AreAttached (D.attached drives.new) machine.drives) }
+    ensures starts { IfOk result (λ machine. StartsOf (host F.contents D.disks files.old drives.old) Form.Run (λ content. content ≡ bytes.now)
+        machine.system machine.bdos (D.disks drives.new)) }
+    ensures holds { IfOk result (λ machine. HoldsDrives D.attached D.disks machine.bdos drives.new) }
     ensures whole { IfOk result (λ machine. IsWhole machine.system) }
     ensures no_completions { IfOk result (λ machine. machine.system.kernel.dispatcher.completed ≡ []) }
     ensures start { IfOk result (λ machine. machine.system.steps ≡ 0) }

@@ -1,16 +1,16 @@
-ghost use Rattle.std.specs.Prelude.{◌≡◌, ◌≢◌, ◌≤◌, ◌<◌, ◌⊎◌, ◌↔◌, [], ℕ, List, Some, None, IfOk, OnOk, IfErr, MatchResult, length, slice_index_or};
+ghost use Rattle.std.specs.Prelude.{◌≡◌, ◌≢◌, ◌≤◌, ◌<◌, ◌⊎◌, ◌↔◌, [], ℕ, List, Option, Some, None, IfOk, OnOk, IfErr, MatchResult, length, slice_index_or};
 ghost use Rattle.mpm_script.specs.declared.line.TheConstants.{GREATEST_STEP};
 ghost use Rattle.mpm_port.specs.Causes.{Rose};
 ghost use Rattle.mpm_port.specs.Texts.{appended};
 ghost use Rattle.mpm_render.specs.Outputs.{closed};
-ghost use Rattle.mpm_mount.specs.Mounting.{SameDrives};
 ghost use Rattle.mpm_drives.specs.Images.{image_named};
-ghost use Rattle.mpm_drives.specs.Mounted.{NumberedDrive, AreAttached, StandEach};
-ghost use Rattle.mpm_machine.specs.State.{IsWhole};
-ghost use Rattle.mpm_machine.specs.Faults.{counts, OnDiskFault};
-ghost use Rattle.mpm_machine.specs.Step.{after};
+ghost use Rattle.mpm_drives.specs.Mounted.{NumberedDrive, placed};
+ghost use Rattle.mpm_machine.specs.State.{State, StandsForFiles, HoldsDrives, IsWhole};
+ghost use Rattle.mpm_machine.specs.Faults.{counts};
+ghost use Rattle.mpm_machine.specs.Mounting.{HasNoDrive, untouched};
+ghost use Rattle.mpm_machine.specs.After.{after, ShowsBefore};
 ghost use Rattle.mpm_top.specs.Words.{Command, texts, command_of};
-ghost use Rattle.mpm_top.specs.Runs.{command_on, input_of as input_said, room_for, script_name, host, failed, begun, StopsRun, Causes, stopped_by, WritesAll, WritesPart, WritesClosed, Ends, EndsAs, ending, IsRefusal, UnlessWriteFault, UnlessReadFault, UnlessDiskFault};
+ghost use Rattle.mpm_top.specs.Runs.{command_on, input_of as input_said, room_for, script_name, host, failed, begun, HaveImages, StopsRun, ClosesAfter, Causes, stopped_by, WritesAll, WritesPart, WritesClosed, Ends, EndsAs, ending, IsRefusal, UnlessWriteFault, UnlessReadFault, UnlessDiskFault};
 
 use crate::boot::boot;
 use crate::status::Status;
@@ -39,7 +39,7 @@ pub fn run_words<F: Files, D: Drives, S: Sink>(
     // Ran: what the sink was given is exactly the text of the outputs after those steps, the images stand for what is on the
     // drives after them, and nothing failed.
     ensures ran { (command : Command) → command_of (texts words.now) ≡ Some command → result ≡ Status.Ran
-        → WritesAll (host F.contents D.disks files.old drives.old) (image_named (D.disks drives.new)) command (S.written sink.old) (S.written sink.new) }
+        → WritesAll (host F.contents D.disks files.old drives.old) (D.disks drives.new) command (S.written sink.old) (S.written sink.new) }
 
     // Every ending has its reason in what the files hold and in the images, or in what failed: MachineFault, ScriptFault,
     // ImageFault, TooLong, ReadFault and DiskFault among them.
@@ -72,14 +72,15 @@ pub fn run_words<F: Files, D: Drives, S: Sink>(
         → WritesPart (host F.contents D.disks files.old drives.old) command (S.written sink.old) (S.written sink.new) step }
     ensures count { UnlessWriteFault result (S.faults sink.new ≡ S.faults sink.old) }
 
-    // DiskFault comes as the drives are mounted, with nothing written, or as they are synced, after all steps.
+    // DiskFault comes as the drives are mounted, with nothing written, or in the step that it says, or as they are synced, after
+    // all steps.
     ensures disk_text { (command : Command) → command_of (texts words.now) ≡ Some command → (step : ℕ) → result ≡ Status.DiskFault step
         → ((step ≡ 0) × (sink.new ≡ sink.old)) ⊎ WritesClosed (host F.contents D.disks files.old drives.old) command (S.written sink.old) (S.written sink.new)
         (S.faults sink.old) (S.faults sink.new) step }
 
-    // After a refusal nothing is written. Images are as they were, and so is what the files hold; `program` has no drive.
+    // After a refusal nothing is written, and images are as they were. So is what the files hold; `program` has no drive.
     ensures nothing { IsRefusal result → sink.new ≡ sink.old }
-    ensures images { (image : List ℕ) → image_named (D.disks drives.new) image ≡ image_named (D.disks drives.old) image }
+    ensures images { IsRefusal result → (image : List ℕ) → image_named (D.disks drives.new) image ≡ image_named (D.disks drives.old) image }
     ensures files { (other : List ℕ) → F.contents files.new other ≡ F.contents files.old other }
     ensures program { (command : Command) → command_of (texts words.now) ≡ Some command → command.form ≡ Form.Program → drives.new ≡ drives.old }
 {
@@ -109,7 +110,7 @@ fn run_command<F: Files, D: Drives, S: Sink>(
     requires { asked.steps ≤ GREATEST_STEP }
     ensures usage { result ≢ Status.Usage }
     ensures ran { result ≡ Status.Ran
-        → WritesAll (host F.contents D.disks files.old drives.old) (image_named (D.disks drives.new)) (command_on name.now asked) (S.written sink.old) (S.written sink.new) }
+        → WritesAll (host F.contents D.disks files.old drives.old) (D.disks drives.new) (command_on name.now asked) (S.written sink.old) (S.written sink.new) }
     ensures reason { Ends (host F.contents D.disks files.old drives.old) asked.form name.now
         (failed F.failed_names D.faults D.failed_names files.old drives.old) (failed F.failed_names D.faults D.failed_names files.new drives.new) result }
     ensures names { UnlessReadFault result (F.failed_names files.new ≡ F.failed_names files.old) }
@@ -126,7 +127,7 @@ fn run_command<F: Files, D: Drives, S: Sink>(
         → ((step ≡ 0) × (sink.new ≡ sink.old)) ⊎ WritesClosed (host F.contents D.disks files.old drives.old) (command_on name.now asked) (S.written sink.old) (S.written sink.new)
         (S.faults sink.old) (S.faults sink.new) step }
     ensures nothing { IsRefusal result → sink.new ≡ sink.old }
-    ensures images { (image : List ℕ) → image_named (D.disks drives.new) image ≡ image_named (D.disks drives.old) image }
+    ensures images { IsRefusal result → (image : List ℕ) → image_named (D.disks drives.new) image ≡ image_named (D.disks drives.old) image }
     ensures files { (other : List ℕ) → F.contents files.new other ≡ F.contents files.old other }
     ensures program { asked.form ≡ Form.Program → drives.new ≡ drives.old }
 {
@@ -151,7 +152,22 @@ fn stopped(error: RunFault) -> Status
     }
 }
 
-/// Runs a machine that begins for so many steps, syncs its drives, and closes the unfinished lines.
+/// Closes the unfinished lines where a drive failed; where the sink did nothing is written any more.
+fn close<S: Sink>(fault: StepFault, render: &mut Render, sink: &mut S)
+    ensures left { fault ≡ StepFault.WriteFault → sink.new ≡ sink.old }
+    ensures closes { (s : State) (first : Option (List ℕ)) → ShowsBefore fault render.old (S.written sink.old) s first
+        → ClosesAfter fault render.old.trace s first (S.written sink.new) (S.faults sink.old) (S.faults sink.new) }
+{
+    match fault {
+        StepFault::DiskFault => {
+            let _ = render.finish(sink);
+        }
+        StepFault::WriteFault => {}
+    }
+}
+
+/// Runs a machine that begins for so many steps, syncs its drives, and closes the unfinished lines. Where a drive fails these
+/// are closed too.
 fn run_to_end<D: Drives, S: Sink, L: Ledger>(
     machine: &mut Machine,
     asked: Asked,
@@ -162,39 +178,41 @@ fn run_to_end<D: Drives, S: Sink, L: Ledger>(
     requires whole { IsWhole machine.old.system }
     requires no_completions { machine.old.system.kernel.dispatcher.completed ≡ [] }
     requires start { machine.old.system.steps ≡ 0 }
-    requires attached { AreAttached (D.attached drives.old) machine.old.drives }
+    requires holds { HoldsDrives D.attached D.disks machine.old.bdos drives.old }
     requires limit { asked.steps ≤ GREATEST_STEP }
     requires name { blank.name ≡ L.name }
     requires parts { blank.parts ≡ L.parts }
     requires some_part { 0 < L.parts }
-    ensures ok { (ds : List NumberedDrive) → StandEach (D.disks drives.old) machine.old.drives ds
-        → OnOk result (S.written sink.new ≡ appended (S.written sink.old) (closed asked.trace (after asked.steps (begun machine.old.system ds)).outputs)) }
-    ensures err { (ds : List NumberedDrive) → StandEach (D.disks drives.old) machine.old.drives ds
-        → IfErr result (λ error. StopsRun error.fault asked.trace (begun machine.old.system ds) asked.steps (S.written sink.old) (S.written sink.new)
+    ensures ok { (on : List NumberedDrive) → StandsForFiles machine.old.bdos (D.disks drives.old) (untouched (placed on))
+        → OnOk result (S.written sink.new ≡ appended (S.written sink.old) (closed asked.trace (after asked.steps (begun machine.old.system on)).outputs)) }
+    ensures images { (on : List NumberedDrive) → StandsForFiles machine.old.bdos (D.disks drives.old) (untouched (placed on))
+        → OnOk result (HaveImages (D.disks drives.new) (after asked.steps (begun machine.old.system on)).filing.drives) }
+    ensures err { (on : List NumberedDrive) → StandsForFiles machine.old.bdos (D.disks drives.old) (untouched (placed on))
+        → IfErr result (λ error. StopsRun error.fault asked.trace (begun machine.old.system on) asked.steps (S.written sink.old) (S.written sink.new)
         (S.faults sink.old) (S.faults sink.new) error.step) }
     ensures cause { MatchResult result (λ _. counts S.faults D.faults sink.new drives.new ≡ counts S.faults D.faults sink.old drives.old)
         (λ error. Causes error.fault (counts S.faults D.faults sink.old drives.old) (counts S.faults D.faults sink.new drives.new)) }
-    ensures some { IfErr result (λ error. OnDiskFault error.fault (0 < length machine.old.drives)) }
-    ensures drives { SameDrives D.attached D.disks D.failed_names drives.old drives.new }
-    ensures none { machine.old.drives ≡ [] → drives.new ≡ drives.old }
+    ensures names { D.failed_names drives.new ≡ D.failed_names drives.old }
+    ensures none { HasNoDrive machine.old.bdos.mounted → drives.new ≡ drives.old }
+    ensures unfailing { HasNoDrive machine.old.bdos.mounted → IfErr result (λ error. error.fault ≡ StepFault.WriteFault) }
 {
     let mut steps = Steps::<L>::new(blank);
     let mut render = Render::new(asked.trace);
-    if let Err(error) = machine.run(asked.steps, drives, &mut render, sink, &mut steps) {
-        return Err(error);
+    match machine.run(asked.steps, drives, &mut render, sink, &mut steps) {
+        Ok(()) => {}
+        Err(error) => {
+            close(error.fault, &mut render, sink);
+            return Err(error);
+        }
     }
     match machine.settle(drives, &mut render, sink, &mut steps) {
         Ok(()) => Ok(()),
-        Err(StepFault::DiskFault) => {
-            let _ = render.finish(sink);
+        Err(fault) => {
+            close(fault, &mut render, sink);
             Err(RunFault {
                 step: asked.steps,
-                fault: StepFault::DiskFault,
+                fault,
             })
         }
-        Err(StepFault::WriteFault) => Err(RunFault {
-            step: asked.steps,
-            fault: StepFault::WriteFault,
-        }),
     }
 }

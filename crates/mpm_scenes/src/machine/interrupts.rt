@@ -32,6 +32,7 @@ fn a_tick_comes_between_two_transfers_of_an_ldir(rt: HostRuntime) -> Result<(), 
         // LD A,(C101h); LD B,A; LD A,(C102h).
         second: b"\x3A\x01\xC1\x47\x3A\x02\xC1",
         trace: true,
+        disk: None,
     };
     scene.shows(
         rt.alloc(),
@@ -48,6 +49,7 @@ fn an_event_comes_after_the_instruction_that_follows_ei(rt: HostRuntime) -> Resu
         first: b"\xF3\xFB\x76",
         second: WAITING,
         trace: true,
+        disk: None,
     };
     scene.shows(
         rt.alloc(),
@@ -67,6 +69,7 @@ fn a_poll_is_held_until_its_device_is_ready(rt: HostRuntime) -> Result<(), Fail>
         first: b"\x0E\x83\x1E\x03\xCD\x05\x40\xDB\x83\x0E\x83\x1E\x03\xCD\x05\x40\x76",
         second: ENDING,
         trace: true,
+        disk: None,
     };
     scene.shows(
         rt.alloc(),
@@ -87,6 +90,7 @@ fn a_clock_of_sixty_ticks_a_second_is_told(rt: HostRuntime) -> Result<(), Fail> 
         first: b"\x0E\x84\x1E\x04\xCD\x05\x40\x0E\x69\x11\x00\x42\xCD\x05\x40\x76",
         second: ENDING,
         trace: true,
+        disk: None,
     };
     scene.shows(
         rt.alloc(),
@@ -121,6 +125,7 @@ fn a_message_comes_into_the_memory_of_who_waits_for_it(rt: HostRuntime) -> Resul
         // Function 139 with the block at 410Fh, which names 411Bh; function 142; JR to itself; the block; the message.
         second: b"\x0E\x8B\x11\x0F\x41\xCD\x05\x40\x0E\x8E\xCD\x05\x40\x18\xFE\x01\0\x1B\x41QUEUE   \x55\x66",
         trace: true,
+        disk: None,
     };
     let text =
         b"t 5 0 134 00 0086 4115 0000\nt 15 1 139 00 008B 410F 0000\nt 15 0 137 00 0089 4123 0000\nt 19 1 142 00 008E 410F 0000\n";

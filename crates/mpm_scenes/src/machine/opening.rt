@@ -41,6 +41,7 @@ fn a_second_program_is_placed(rt: HostRuntime) -> Result<(), Fail> {
         first: b"\x00",
         second: b"\x76",
         trace: false,
+        disk: None,
     };
     scene.shows(
         rt.alloc(),

@@ -83,6 +83,7 @@ fn alone(program: &[u8]) -> Scene {
         first: program,
         second: b"",
         trace: true,
+        disk: None,
     }
 }
 

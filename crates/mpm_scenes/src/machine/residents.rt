@@ -25,6 +25,7 @@ fn typed<'a>(script: &'a [u8], program: &'a [u8]) -> Scene<'a> {
         first: program,
         second: b"",
         trace: false,
+        disk: None,
     }
 }
 
@@ -95,6 +96,7 @@ fn shared<'a>(script: &'a [u8], first: &'a [u8], second: &'a [u8]) -> Scene<'a> 
         first,
         second,
         trace: true,
+        disk: None,
     }
 }
 

@@ -1,13 +1,13 @@
 //! Scenes: runs of one or two programs, and what is seen of the machine after so many steps.
-ghost use Rattle.std.specs.Prelude.{ℕ, ◌≡◌, ◌<◌, ◌≤◌, ◌+◌, ◌*◌, [], OnOk, length, get_or};
+ghost use Rattle.std.specs.Prelude.{ℕ, ◌≡◌, ◌<◌, ◌≤◌, ◌+◌, ◌*◌, [], Some, OnOk, length, get_or};
 ghost use Rattle.std.specs.Bool.{OnTrue};
 ghost use Rattle.mpm_machine_file.specs.MachineFiles.{IsMachine};
-ghost use Rattle.mpm_port.specs.MemoryDisks.{size_of};
-ghost use Rattle.mpm_drives.specs.Mounted.{AreAttached};
-ghost use Rattle.mpm_machine.specs.State.{IsWhole};
+ghost use Rattle.mpm_port.specs.MemoryDisks.{size_of, disks_of};
+ghost use Rattle.mpm_machine.specs.State.{IsWhole, HoldsDrives};
 ghost use Rattle.mpm_machine.specs.Opening.{IsBare, MayPlace};
 
-use mpm_base::{Name8, Pid, Seg, Steps};
+use crate::files::disks::{Entry, image};
+use mpm_base::{Kind, Name8, Pid, Seg, Steps};
 use mpm_machine::Machine;
 use mpm_machine_file::{MachineFile, read_machine};
 use mpm_port::{MemoryDrives, MemorySink};
@@ -41,6 +41,8 @@ pub(super) struct Scene<'a> {
     pub first: &'a [u8],
     pub second: &'a [u8],
     pub trace: bool,
+    /// The directory entries of the floppy disk whose image is `a.img`, if there is one.
+    pub disk: Option<&'a [Entry]>,
 }
 
 /// What is looked at of the registers of a process.
@@ -66,6 +68,8 @@ pub(super) enum Sight {
     Has(u8, Register, u16),
     /// The byte that an address names in a segment.
     Byte(u8, u16, u8),
+    /// The word that an address and the next one name in a segment.
+    Word(u8, u16, u16),
     /// How many keys of console 0 were lost.
     Lost(u64),
 }
@@ -82,6 +86,7 @@ pub(super) fn traced<'a>(first: &'a [u8], second: &'a [u8]) -> Scene<'a> {
         first,
         second,
         trace: true,
+        disk: None,
     }
 }
 
@@ -137,7 +142,7 @@ impl Scene<'_> {
             return Err(Fail::from("the script is too long"));
         }
         let script = read_script(alloc, self.script)?;
-        let mut drives = MemoryDrives::new(alloc);
+        let mut drives = self.drives(alloc)?;
         match Machine::boot_bare(alloc, file, script, &mut drives) {
             Ok(mut machine) => {
                 let placed = place_both(&mut machine, file, self.first, self.second);
@@ -146,6 +151,16 @@ impl Scene<'_> {
             }
             Err(error) => Err(Fail::from(error)),
         }
+    }
+
+    /// The drives with the scene's disk, if it has one.
+    fn drives(&self, alloc: Global) -> Result<MemoryDrives, Fail> {
+        let mut drives = MemoryDrives::new(alloc);
+        if let Some(entries) = self.disk {
+            let image = image(alloc, Kind::Ibm3740, entries)?;
+            drives.add("a.img", image.as_slice())?;
+        }
+        Ok(drives)
     }
 
     /// Whether a machine that has done no step, with its programs placed or not, shows what is said of its run.
@@ -162,7 +177,7 @@ impl Scene<'_> {
         requires whole { IsWhole machine.old.system }
         requires no_completions { machine.old.system.kernel.dispatcher.completed ≡ [] }
         requires start { machine.old.system.steps ≡ 0 }
-        requires attached { AreAttached (size_of drives.old) machine.old.drives }
+        requires holds { HoldsDrives size_of (λ d. Some (disks_of d)) machine.old.bdos drives.old }
         requires name { blank.name ≡ L.name }
         requires parts { blank.parts ≡ L.parts }
         requires some { 0 < L.parts }
@@ -211,7 +226,7 @@ fn place_both(machine: &mut Machine, file: &MachineFile, first: &[u8], second: &
     requires free { (seg size : ℕ) → seg < length file.now.segments → size + 640 ≤ 256 * (get_or file.now.segments seg (record { base = 0; pages = 0 })).pages
         → MayPlace machine.old.system seg 0 size }
     ensures bare { IsBare machine.new.system }
-    ensures drives { machine.new.drives ≡ machine.old.drives }
+    ensures bdos { machine.new.bdos ≡ machine.old.bdos }
 {
     if first.is_empty() {
         return true;
@@ -244,9 +259,9 @@ fn go<L: Ledger>(
     requires whole { IsWhole machine.old.system }
     requires no_completions { machine.old.system.kernel.dispatcher.completed ≡ [] }
     requires start { machine.old.system.steps ≡ 0 }
+    requires holds { HoldsDrives size_of (λ d. Some (disks_of d)) machine.old.bdos drives.old }
     ensures whole { OnOk result (IsWhole machine.new.system) }
-    ensures drives { drives.new ≡ drives.old }
-    ensures mounted { machine.new.drives ≡ machine.old.drives }
+    ensures holds { OnOk result (HoldsDrives size_of (λ d. Some (disks_of d)) machine.new.bdos drives.new) }
 {
     if 10000 < steps {
         return Err(Fail::from("there are too many steps"));
@@ -277,8 +292,16 @@ fn sees(machine: &Machine, sight: Sight) -> bool
             }
         }
         Sight::Byte(seg, address, byte) => seg < 16 && machine.byte(Seg(seg), address) == byte,
+        Sight::Word(seg, address, word) => seg < 16 && word_at(machine, Seg(seg), address) == word,
         Sight::Lost(count) => machine.lost(0) == count,
     }
+}
+
+/// The word that an address and the next one name in a segment.
+fn word_at(machine: &Machine, seg: Seg, address: u16) -> u16 {
+    let low = machine.byte(seg, address);
+    let high = machine.byte(seg, address.wrapping_add(1));
+    u16::from_le_bytes([low, high])
 }
 
 /// The value of a register.

@@ -1,23 +1,20 @@
-use Rattle.std.proofs.Common.{sym, subst, refl}
+use Rattle.std.proofs.Common.{◌≡◌, ℕ, List, IfOk, sym, subst, refl}
+use Rattle.std.proofs.Math.Path.{fun_ext}
+use Rattle.std.specs.Prelude.{IfErr}
 use Rattle.mpm_top.specs.declared.status.Input.{Input}
-use Rattle.mpm_top.specs.Runs.{host, Holds}
-use Rattle.mpm_top.proofs.BootLaws.{program_names_nothing, begins_with_contents, unless_disk_always, either_way, refusal_early}
+use Rattle.mpm_top.specs.declared.words.Form.TheVariants.{Program, Run}
+use Rattle.mpm_top.specs.Runs.{Contents, host, failed, Holds, StartsOf, EndsAfter}
+use Rattle.mpm_top.proofs.BootLaws.{program_names_nothing, starts_with_contents, ends_with_contents, unless_disk_always, either_way, refusal_early}
 use Rattle.mpm_top.proofs.boot.boot.Goals as goal
 
-pub returns-in-Program-clause-begins : goal.returns-in-Program-clause-begins
-returns-in-Program-clause-begins g c =
+pub returns-in-Program-clause-starts : goal.returns-in-Program-clause-starts
+returns-in-Program-clause-starts g c =
     let found = host g.F.Files.contents g.D.Drives.disks c.args.files.now c.args.drives.now in
     let disks = g.D.Drives.disks c.args.drives.now in
     let from_file = subst (Holds found.contents c.input.result c.args.name.now) (sym c.as_slice.ensures.value) c.in-Ok.ensures.contents_are in
     let P : Input → Type 0 = λ input. Holds found.contents input c.args.name.now c.as_slice.result.now in
-    begins_with_contents found c.args.form c.args.name.now c.as_slice.result.now disks c.boot_program.result c.in-Program.is (subst P c.input.ensures from_file)
-    (c.boot_program.ensures.begins found disks)
-
-pub returns-in-Program-clause-stand : goal.returns-in-Program-clause-stand
-returns-in-Program-clause-stand g c = c.boot_program.ensures.stand (g.D.Drives.disks c.args.drives.now)
-
-pub returns-in-Program-clause-attached : goal.returns-in-Program-clause-attached
-returns-in-Program-clause-attached g c = c.boot_program.ensures.attached (g.D.Drives.attached c.args.drives.now)
+    starts_with_contents found c.args.form Program c.args.name.now c.as_slice.result.now disks c.boot_program.result c.in-Program.is (subst P c.input.ensures from_file)
+    (c.boot_program.ensures.starts found)
 
 pub returns-in-Program-clause-drive_names : goal.returns-in-Program-clause-drive_names
 returns-in-Program-clause-drive_names g c = either_way c.boot_program.result _ refl
@@ -37,3 +34,29 @@ returns-in-Err-clause-drive_names g c = unless_disk_always c.in-Err.status _ ref
 
 pub returns-in-Err-clause-drive_faults : goal.returns-in-Err-clause-drive_faults
 returns-in-Err-clause-drive_faults g c = unless_disk_always c.in-Err.status _ refl
+
+pub returns-clause-starts : goal.returns-clause-starts
+returns-clause-starts g c =
+    let found = host g.F.Files.contents g.D.Drives.disks c.args.files.now c.args.drives.now in
+    let from_file = subst (Holds found.contents c.input.result c.args.name.now) (sym c.as_slice-in-Run.ensures.value) c.in-Ok.ensures.contents_are in
+    let P : Input → Type 0 = λ input. Holds found.contents input c.args.name.now c.as_slice-in-Run.result.now in
+    starts_with_contents found c.args.form Run c.args.name.now c.as_slice-in-Run.result.now (g.D.Drives.disks c.boot_machine.new.drives) c.boot_machine.result c.in-Run.is
+    (subst P c.input.ensures from_file)
+    (subst (λ (contents : Contents). IfOk c.boot_machine.result (λ machine. StartsOf (record found { contents = contents }) Run (λ content. content ≡ c.as_slice-in-Run.result.now)
+    machine.system machine.bdos (g.D.Drives.disks c.boot_machine.new.drives))) (fun_ext c.in-Ok.ensures.files) c.boot_machine.ensures.starts)
+
+pub returns-clause-reason : goal.returns-clause-reason
+returns-clause-reason g c =
+    let found = host g.F.Files.contents g.D.Drives.disks c.args.files.now c.args.drives.now in
+    let from_file = subst (Holds found.contents c.input.result c.args.name.now) (sym c.as_slice-in-Run.ensures.value) c.in-Ok.ensures.contents_are in
+    let P : Input → Type 0 = λ input. Holds found.contents input c.args.name.now c.as_slice-in-Run.result.now in
+    ends_with_contents found c.args.form Run c.args.name.now c.as_slice-in-Run.result.now
+    (failed g.F.Files.failed_names g.D.Drives.faults g.D.Drives.failed_names c.args.files.now c.args.drives.now)
+    (failed g.F.Files.failed_names g.D.Drives.faults g.D.Drives.failed_names c.boot_machine.new.files c.boot_machine.new.drives) c.boot_machine.result c.in-Run.is
+    (subst P c.input.ensures from_file)
+    (subst (λ (names : List (List ℕ)). IfErr c.boot_machine.result (λ status. EndsAfter found Run (λ content. content ≡ c.as_slice-in-Run.result.now)
+    (record { files = names; drives = record { faults = g.D.Drives.faults c.args.drives.now; names = g.D.Drives.failed_names c.args.drives.now } })
+    (failed g.F.Files.failed_names g.D.Drives.faults g.D.Drives.failed_names c.boot_machine.new.files c.boot_machine.new.drives) status)) c.in-Ok.ensures.names
+    (subst (λ (contents : Contents). IfErr c.boot_machine.result (λ status. EndsAfter (record found { contents = contents }) Run (λ content. content ≡ c.as_slice-in-Run.result.now)
+    (failed g.F.Files.failed_names g.D.Drives.faults g.D.Drives.failed_names c.fetch.new.files c.args.drives.now)
+    (failed g.F.Files.failed_names g.D.Drives.faults g.D.Drives.failed_names c.boot_machine.new.files c.boot_machine.new.drives) status)) (fun_ext c.in-Ok.ensures.files) c.boot_machine.ensures.reason))

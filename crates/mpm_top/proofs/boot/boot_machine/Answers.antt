@@ -1,10 +1,8 @@
 use Rattle.std.proofs.Common.{◌∙◌, Err, sym, ap, refl}
 use Rattle.mpm_drives.specs.Images.{image_named}
-use Rattle.mpm_drives.specs.Mounted.{drives_on}
 use Rattle.mpm_drives.specs.Stopping.{Failures}
-use Rattle.mpm_drives.proofs.Opening.{drives_stand, drives_are, are_attached}
 use Rattle.mpm_top.specs.Runs.{host, failed}
-use Rattle.mpm_top.proofs.BootLaws.{no_machine, names_nothing, script_of_file, begins_of_file, ends_unread, ends_unmounted, unless_disk, unless_disk_always, refusal_early}
+use Rattle.mpm_top.proofs.BootLaws.{no_machine, names_nothing, script_of_file, starts_of_file, ends_unread, ends_unmounted, unless_disk, unless_disk_always, refusal_early}
 use Rattle.mpm_top.proofs.boot.boot_machine.Goals as goal
 
 pub returns-in-Err-Fault-clause-reason : goal.returns-in-Err-Fault-clause-reason
@@ -33,23 +31,11 @@ returns-in-Err-clause-drive_names g c = unless_disk_always c.in-Err.status _ ref
 pub returns-in-Err-clause-drive_faults : goal.returns-in-Err-clause-drive_faults
 returns-in-Err-clause-drive_faults g c = unless_disk_always c.in-Err.status _ refl
 
-pub returns-in-Ok-boot-clause-begins : goal.returns-in-Ok-boot-clause-begins
-returns-in-Ok-boot-clause-begins g c =
-    let disks = g.D.Drives.disks c.boot.new.drives in
-    begins_of_file (host g.F.Files.contents g.D.Drives.disks c.args.files.now c.args.drives.now) c.args.bytes.now c.in-Ok.file c.in-Ok-read_script_of.script
-    c.in-Ok-boot.machine.system (drives_on disks c.in-Ok-boot.machine.drives) c.in-Ok.ensures.ok
-    c.in-Ok-read_script_of.ensures.scripted c.in-Ok-boot.ensures.opening
-    (drives_are (g.D.Drives.attached c.boot.new.drives) disks _ c.in-Ok.file.drives c.in-Ok-boot.machine.drives c.in-Ok-boot.ensures.mounted)
-
-pub returns-in-Ok-boot-clause-stand : goal.returns-in-Ok-boot-clause-stand
-returns-in-Ok-boot-clause-stand g c =
-    drives_stand (g.D.Drives.attached c.boot.new.drives) (g.D.Drives.disks c.boot.new.drives) (image_named (g.D.Drives.disks c.args.drives.now)) c.in-Ok.file.drives
-    c.in-Ok-boot.machine.drives c.in-Ok-boot.ensures.mounted
-
-pub returns-in-Ok-boot-clause-attached : goal.returns-in-Ok-boot-clause-attached
-returns-in-Ok-boot-clause-attached g c =
-    are_attached (g.D.Drives.attached c.boot.new.drives) (g.D.Drives.disks c.boot.new.drives) (image_named (g.D.Drives.disks c.args.drives.now)) c.in-Ok.file.drives
-    c.in-Ok-boot.machine.drives c.in-Ok-boot.ensures.mounted
+pub returns-in-Ok-boot-clause-starts : goal.returns-in-Ok-boot-clause-starts
+returns-in-Ok-boot-clause-starts g c =
+    starts_of_file (host g.F.Files.contents g.D.Drives.disks c.args.files.now c.args.drives.now) c.args.bytes.now c.in-Ok.file c.in-Ok-read_script_of.script
+    c.in-Ok-boot.machine.system (g.D.Drives.attached c.boot.new.drives) (g.D.Drives.disks c.boot.new.drives) c.in-Ok-boot.machine.bdos c.in-Ok.ensures.ok
+    c.in-Ok-read_script_of.ensures.scripted c.in-Ok-boot.ensures.opening c.in-Ok-boot.ensures.mounted
 
 pub returns-in-Ok-boot-clause-missing : goal.returns-in-Ok-boot-clause-missing
 returns-in-Ok-boot-clause-missing g c script named missing =

@@ -1,13 +1,17 @@
-use Rattle.mpm_drives.proofs.Opening.{none_stand, none_attached}
-use Rattle.mpm_top.proofs.BootLaws.{program_begins}
+use Rattle.std.proofs.Common.{sym, subst}
+use Rattle.mpm_bdos.specs.Serving.{Kept}
+use Rattle.mpm_machine.specs.Mounting.{HasNoDrive}
+use Rattle.mpm_machine.proofs.MountedLaws.{holds_nothing}
+use Rattle.mpm_top.proofs.Placing.{none_mounted}
+use Rattle.mpm_top.proofs.BootLaws.{program_starts}
 use Rattle.mpm_top.proofs.boot.boot_program.Goals as goal
 
-pub returns-in-Ok-clause-begins : goal.returns-in-Ok-clause-begins
-returns-in-Ok-clause-begins c host disks =
-    program_begins host c.args.bytes.now disks c.in-Ok.machine.system c.in-Ok.machine.drives c.in-Ok.ensures.opening c.in-Ok.ensures.drives
+pub returns-in-Ok-clause-starts : goal.returns-in-Ok-clause-starts
+returns-in-Ok-clause-starts g c host =
+    program_starts host c.args.bytes.now (g.D.Drives.disks c.args.drives.now) c.in-Ok.machine.system c.in-Ok.machine.bdos c.in-Ok.ensures.opening c.in-Ok.ensures.bdos
 
-pub returns-in-Ok-clause-stand : goal.returns-in-Ok-clause-stand
-returns-in-Ok-clause-stand c disks = none_stand disks c.in-Ok.machine.drives c.in-Ok.ensures.drives
+pub returns-in-Ok-clause-holds : goal.returns-in-Ok-clause-holds
+returns-in-Ok-clause-holds g c = holds_nothing g.D.Drives.attached g.D.Drives.disks c.in-Ok.machine.bdos c.args.drives.now c.in-Ok.ensures.bdos
 
-pub returns-in-Ok-clause-attached : goal.returns-in-Ok-clause-attached
-returns-in-Ok-clause-attached c attached = none_attached attached c.in-Ok.machine.drives c.in-Ok.ensures.drives
+pub returns-in-Ok-clause-no_drive : goal.returns-in-Ok-clause-no_drive
+returns-in-Ok-clause-no_drive g c = subst (λ (k : Kept). HasNoDrive k.mounted) (sym c.in-Ok.ensures.bdos) none_mounted

@@ -1,5 +1,6 @@
-use Rattle.std.proofs.Common.{sym, subst, length}
+use Rattle.std.proofs.Common.{◌∙◌, ap, sym, subst, length}
 use Rattle.mpm_machine.specs.declared.system.System.{System}
+use Rattle.mpm_bdos.specs.Serving.{nothing_kept, in_places}
 use Rattle.mpm_machine.specs.Opening.{MayPlace}
 use Rattle.mpm_machine.proofs.PlacedLaws.{booted_program, may_place_program, opening_is}
 use Rattle.mpm_machine.proofs.machine.Machine.boot_program.Goals as goal
@@ -14,3 +15,6 @@ pub returns-clause-opening : goal.returns-clause-opening
 returns-clause-opening c =
     let is = booted_program c.in-Ok.file c.empty.result c.in-Ok-bare.machine.system c.in-Ok-bare.ensures.booted c.in-Ok.ensures c.empty.ensures in
     opening_is c.args.program.now c.place-p.result c.place-p.new.self.system c.in-Ok-bare.machine.system is c.place-p.ensures.slot c.place-p.ensures.system
+
+pub returns-clause-bdos : goal.returns-clause-bdos
+returns-clause-bdos c = c.place-p.ensures.bdos ∙ c.in-Ok-bare.ensures.bdos ∙ ap (λ items. nothing_kept (in_places items)) c.new.ensures.items

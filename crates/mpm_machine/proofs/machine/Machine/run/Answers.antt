@@ -1,9 +1,8 @@
 use Rattle.std.proofs.Common.{◌∙◌, ◌-◌, sym, subst, refl, arith, Bool}
 use Rattle.mpm_machine.specs.State.{State, StandsWithDrives}
 use Rattle.mpm_machine.specs.Faults.{Counts, counts, HasFailed}
-use Rattle.mpm_machine.specs.Step.{after, EndsInStep}
-use Rattle.mpm_machine.proofs.StepLaws.{after_nothing, after_both, system_after_nothing, system_after_both, ends_later}
-use Rattle.mpm_machine.proofs.AfterLaws.{nobody_due_run, contained_in_run, instructed_in_run, served_in_run}
+use Rattle.mpm_machine.specs.After.{after, EndsInStep}
+use Rattle.mpm_machine.proofs.NextLaws.{after_nothing, after_both, ends_later, shows_later, run_nothing, run_both, next_in_run}
 use Rattle.mpm_machine.proofs.machine.Machine.run.Goals as goal
 
 pub loop-done-init : goal.loop-done-init
@@ -11,16 +10,19 @@ loop-done-init g c = record {
   stands = λ s first stands.
       let P : State → Type 0 = λ t. StandsWithDrives c.args.self.now c.args.render.now (g.S.Sink.written c.args.sink.now) (g.D.Drives.disks c.args.drives.now) t first in
       subst P (sym (after_nothing s)) stands;
-  system = system_after_nothing c.args.self.now.system;
+  ran = run_nothing _ c.args.self.now.system;
+  due = λ some. absurd (omega (arith, some));
   few = omega arith;
   whole = c.requires.whole;
   no_completions = c.requires.no_completions;
   steps = omega arith;
   faults = refl;
   trace = refl;
-  drives = refl;
-  mounted = refl;
-  device_calls = refl;
+  holds = c.requires.holds;
+  names = refl;
+  bare = λ none. none;
+  none = λ none. refl;
+  attached = λ number. refl;
 }
 
 pub loop-done-preserved : goal.loop-done-preserved
@@ -29,17 +31,19 @@ loop-done-preserved g c = record {
       let P : State → Type 0 = λ t. StandsWithDrives c.advance.new.self c.advance.new.render (g.S.Sink.written c.advance.new.sink) (g.D.Drives.disks c.advance.new.drives) t first in
       subst P (sym (after_both c.loop-done.done c.in-Ok.more s))
       (c.in-Ok.ensures.ok (after c.loop-done.done s) first (c.loop-done.invariant.stands s first stands));
-  system = system_after_both c.loop-done.done c.in-Ok.more c.args.self.now.system c.loop-done.self.system c.advance.new.self.system
-      c.loop-done.invariant.system c.in-Ok.ensures.system;
+  ran = run_both c.loop-done.done c.in-Ok.more _ _ _ c.args.self.now.system c.loop-done.self.system c.advance.new.self.system c.loop-done.invariant.ran c.in-Ok.ensures.steps;
+  due = λ some. c.in-Ok.ensures.due;
   few = omega (arith, c.in-Ok.ensures.few, c.loop-done.invariant.few);
   whole = c.in-Ok.ensures.whole;
   no_completions = c.in-Ok.ensures.no_completions;
   steps = omega (arith, c.in-Ok.ensures.count, c.loop-done.invariant.steps);
   faults = c.in-Ok.ensures.cause.stays ∙ c.loop-done.invariant.faults;
   trace = c.in-Ok.ensures.trace ∙ c.loop-done.invariant.trace;
-  drives = c.in-Ok.ensures.drives ∙ c.loop-done.invariant.drives;
-  mounted = c.in-Ok.ensures.mounted ∙ c.loop-done.invariant.mounted;
-  device_calls = c.in-Ok.ensures.device_calls ∙ c.loop-done.invariant.device_calls;
+  holds = c.in-Ok.ensures.holds;
+  names = c.in-Ok.ensures.names ∙ c.loop-done.invariant.names;
+  bare = λ none. c.in-Ok.ensures.bare (c.loop-done.invariant.bare none);
+  none = λ none. c.in-Ok.ensures.none (c.loop-done.invariant.bare none) ∙ c.loop-done.invariant.none none;
+  attached = λ number. c.in-Ok.ensures.attached number ∙ c.loop-done.invariant.attached number;
 }
 
 pub returns-in-Err-clause-err : goal.returns-in-Err-clause-err
@@ -51,27 +55,13 @@ returns-in-Err-clause-err g c s first stands =
     (subst P c.loop-done.invariant.trace (c.in-Err.ensures.err (after done s) first (c.loop-done.invariant.stands s first stands)))
 
 pub returns-clause-due : goal.returns-clause-due
-returns-clause-due g c some =
-    nobody_due_run c.loop-done.done c.args.self.now.system c.loop-done.self.system c.requires.whole c.loop-done.invariant.system
-    (omega (arith, some, c.loop-done-test.false))
+returns-clause-due g c some = c.loop-done.invariant.due (omega (arith, some, c.loop-done-test.false))
 
-pub returns-in-Err-clause-contained : goal.returns-in-Err-clause-contained
-returns-in-Err-clause-contained g c k below = contained_in_run k c.args.self.now.system c.requires.whole
+pub returns-in-Err-clause-each : goal.returns-in-Err-clause-each
+returns-in-Err-clause-each g c s is k below = next_in_run k s c.args.self.now.system is c.requires.whole c.requires.no_completions
 
-pub returns-in-Err-clause-instruction : goal.returns-in-Err-clause-instruction
-returns-in-Err-clause-instruction g c k p seg below stands = instructed_in_run k p seg c.args.self.now.system c.requires.no_completions stands
-
-pub returns-in-Err-clause-calls : goal.returns-in-Err-clause-calls
-returns-in-Err-clause-calls g c k p seg below calls = served_in_run k p seg c.args.self.now.system calls
-
-pub returns-clause-contained : goal.returns-clause-contained
-returns-clause-contained g c k below = contained_in_run k c.args.self.now.system c.requires.whole
-
-pub returns-clause-instruction : goal.returns-clause-instruction
-returns-clause-instruction g c k p seg below stands = instructed_in_run k p seg c.args.self.now.system c.requires.no_completions stands
-
-pub returns-clause-calls : goal.returns-clause-calls
-returns-clause-calls g c k p seg below calls = served_in_run k p seg c.args.self.now.system calls
+pub returns-clause-each : goal.returns-clause-each
+returns-clause-each g c s is k below = next_in_run k s c.args.self.now.system is c.requires.whole c.requires.no_completions
 
 pub returns-in-Err-clause-cause : goal.returns-in-Err-clause-cause
 returns-in-Err-clause-cause g c = record {
@@ -79,3 +69,19 @@ returns-in-Err-clause-cause g c = record {
   failed = subst (λ (old : Counts). HasFailed c.in-Err.error.fault old (counts g.S.Sink.faults g.D.Drives.faults c.advance.new.sink c.advance.new.drives))
       c.loop-done.invariant.faults c.in-Err.ensures.cause.failed;
 }
+
+pub returns-in-Err-clause-shown : goal.returns-in-Err-clause-shown
+returns-in-Err-clause-shown g c s first stands =
+    let done = c.loop-done.done in
+    let there = c.loop-done.invariant.stands s first stands in
+    shows_later c.in-Err.error.fault c.advance.new.render (g.S.Sink.written c.advance.new.sink) first s done c.in-Err.error.step
+    (c.in-Err.ensures.err (after done s) first there).later (c.in-Err.ensures.shown (after done s) first there)
+
+pub returns-in-Err-clause-bare : goal.returns-in-Err-clause-bare
+returns-in-Err-clause-bare g c none = c.in-Err.ensures.bare (c.loop-done.invariant.bare none)
+
+pub returns-in-Err-clause-none : goal.returns-in-Err-clause-none
+returns-in-Err-clause-none g c none = c.in-Err.ensures.none (c.loop-done.invariant.bare none) ∙ c.loop-done.invariant.none none
+
+pub returns-in-Err-clause-unfailing : goal.returns-in-Err-clause-unfailing
+returns-in-Err-clause-unfailing g c none = c.in-Err.ensures.unfailing (c.loop-done.invariant.bare none)

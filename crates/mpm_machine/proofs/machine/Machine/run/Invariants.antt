@@ -1,7 +1,10 @@
-use Rattle.std.proofs.Common.{◌≡◌, ◌≤◌, ◌+◌, ◌-◌, ℕ, List, [], Option}
-use Rattle.mpm_machine.specs.State.{State, IsWhole, StandsWithDrives}
+use Rattle.std.proofs.Common.{◌≡◌, ◌≤◌, ◌<◌, ◌+◌, ◌-◌, ℕ, List, [], Option}
+use Rattle.mpm_output.specs.Outside.{seen}
+use Rattle.mpm_machine.specs.State.{State, IsWhole, StandsWithDrives, HoldsDrives}
+use Rattle.mpm_machine.specs.Due.{NobodyDue}
+use Rattle.mpm_machine.specs.Mounting.{HasNoDrive}
 use Rattle.mpm_machine.specs.Faults.{counts}
-use Rattle.mpm_machine.specs.Step.{after, system_after}
+use Rattle.mpm_machine.specs.After.{after, HasRun}
 use Rattle.mpm_machine.proofs.machine.Machine.run.Given as goal
 
 abbrev pub invariant-loop-done : goal.invariant-loop-done
@@ -9,16 +12,19 @@ invariant-loop-done g l = record {
   stands : (s : State) (first : Option (List ℕ))
       → StandsWithDrives l.initial.self l.initial.render (g.S.Sink.written l.initial.sink) (g.D.Drives.disks l.initial.drives) s first
       → StandsWithDrives l.self l.render (g.S.Sink.written l.sink) (g.D.Drives.disks l.drives) (after l.done s) first;
-  system : l.self.system ≡ system_after l.done l.initial.self.system;
+  ran : HasRun l.done (seen g.S.Sink.written g.S.Sink.faults l.initial.render l.initial.sink) (seen g.S.Sink.written g.S.Sink.faults l.render l.sink) l.initial.self.system l.self.system;
+  due : 0 < l.done → NobodyDue l.self.system.kernel;
   few : l.done ≤ l.n;
   whole : IsWhole l.self.system;
   no_completions : l.self.system.kernel.dispatcher.completed ≡ [];
   steps : l.self.system.steps ≡ l.initial.self.system.steps + l.done;
   faults : counts g.S.Sink.faults g.D.Drives.faults l.sink l.drives ≡ counts g.S.Sink.faults g.D.Drives.faults l.initial.sink l.initial.drives;
   trace : l.render.trace ≡ l.initial.render.trace;
-  drives : l.drives ≡ l.initial.drives;
-  mounted : l.self.drives ≡ l.initial.self.drives;
-  device_calls : l.steps ≡ l.initial.steps;
+  holds : HoldsDrives g.D.Drives.attached g.D.Drives.disks l.self.bdos l.drives;
+  names : g.D.Drives.failed_names l.drives ≡ g.D.Drives.failed_names l.initial.drives;
+  bare : HasNoDrive l.initial.self.bdos.mounted → HasNoDrive l.self.bdos.mounted;
+  none : HasNoDrive l.initial.self.bdos.mounted → l.drives ≡ l.initial.drives;
+  attached : (number : ℕ) → g.D.Drives.attached l.drives number ≡ g.D.Drives.attached l.initial.drives number;
 }
 
 abbrev pub decreases-loop-done : goal.decreases-loop-done

@@ -1,22 +1,25 @@
-use Rattle.std.proofs.Common.{◌∙◌, sym}
+use Rattle.std.proofs.Common.{◌∙◌, sym, arith}
 use Rattle.mpm_machine.proofs.OpeningLaws.{first_here, residents_here, whole_picked, no_completions_picked}
 use Rattle.mpm_machine.proofs.system.System.begin_residents.Goals as goal
 
+pub begin_interpreting-requires-clause-some : goal.begin_interpreting-requires-clause-some
+begin_interpreting-requires-clause-some c = omega (arith, c.requires.consoles, c.requires.whole.sound.units.some)
+
 pub begin_terminals-requires-clause-whole : goal.begin_terminals-requires-clause-whole
 begin_terminals-requires-clause-whole c =
-    (first_here c.args.self.now c.begin_interpreter.new.self c.requires.whole c.requires.queues c.requires.room c.begin_interpreter.ensures).whole
+    (first_here c.args.self.now c.begin_interpreting.new.self c.args.consoles c.requires.whole c.requires.queues c.requires.room c.in_ok-begin_interpreting.ensures).whole
 
 pub begin_terminals-requires-clause-consoles : goal.begin_terminals-requires-clause-consoles
 begin_terminals-requires-clause-consoles c =
     c.requires.consoles
-    ∙ sym (first_here c.args.self.now c.begin_interpreter.new.self c.requires.whole c.requires.queues c.requires.room c.begin_interpreter.ensures).consoles
+    ∙ sym (first_here c.args.self.now c.begin_interpreting.new.self c.args.consoles c.requires.whole c.requires.queues c.requires.room c.in_ok-begin_interpreting.ensures).consoles
 
 pub pick-requires : goal.pick-requires
 pick-requires c = c.in_ok-begin_terminals.ensures.whole.sound
 
 pub returns-clause-system : goal.returns-clause-system
 returns-clause-system c =
-    residents_here c.args.self.now c.begin_interpreter.new.self c.begin_terminals.new.self c.pick.new.self c.args.consoles c.begin_interpreter.ensures
+    residents_here c.args.self.now c.begin_interpreting.new.self c.begin_terminals.new.self c.pick.new.self c.args.consoles c.in_ok-begin_interpreting.ensures
     c.in_ok-begin_terminals.ensures.system c.pick.ensures.kernel
 
 pub returns-clause-whole : goal.returns-clause-whole
@@ -26,10 +29,10 @@ pub returns-clause-no_completions : goal.returns-clause-no_completions
 returns-clause-no_completions c =
     no_completions_picked c.begin_terminals.new.self.kernel c.pick.new.self c.pick.ensures.kernel
     (c.in_ok-begin_terminals.ensures.completed
-    ∙ (first_here c.args.self.now c.begin_interpreter.new.self c.requires.whole c.requires.queues c.requires.room c.begin_interpreter.ensures).completed
+    ∙ (first_here c.args.self.now c.begin_interpreting.new.self c.args.consoles c.requires.whole c.requires.queues c.requires.room c.in_ok-begin_interpreting.ensures).completed
     ∙ c.requires.no_completions)
 
 pub returns-clause-steps : goal.returns-clause-steps
 returns-clause-steps c =
     c.in_ok-begin_terminals.ensures.steps
-    ∙ (first_here c.args.self.now c.begin_interpreter.new.self c.requires.whole c.requires.queues c.requires.room c.begin_interpreter.ensures).steps
+    ∙ (first_here c.args.self.now c.begin_interpreting.new.self c.args.consoles c.requires.whole c.requires.queues c.requires.room c.in_ok-begin_interpreting.ensures).steps

@@ -21,42 +21,42 @@ call-outcome-requires-clause-ready g c =
 pub put_echo-requires-clause-whole : goal.put_echo-requires-clause-whole
 put_echo-requires-clause-whole g c =
     let done = call_concludes c.args.p c.args.self.now c.ask_call.new.self c.call-outcome.new.self c.call-outcome.result c.call-outcome.new.reply
-    c.requires.whole c.requires.lives c.requires.has c.ask_call.ensures c.requires.ready
+    c.requires.whole c.requires.lives c.requires.has c.requires.asks c.ask_call.ensures c.requires.ready
     c.call-outcome.ensures.kernel c.call-outcome.ensures.outcome c.call-outcome.ensures.reply in
     done.whole
 
 pub put_echo-requires-clause-lives : goal.put_echo-requires-clause-lives
 put_echo-requires-clause-lives g c =
     let done = call_concludes c.args.p c.args.self.now c.ask_call.new.self c.call-outcome.new.self c.call-outcome.result c.call-outcome.new.reply
-    c.requires.whole c.requires.lives c.requires.has c.ask_call.ensures c.requires.ready
+    c.requires.whole c.requires.lives c.requires.has c.requires.asks c.ask_call.ensures c.requires.ready
     c.call-outcome.ensures.kernel c.call-outcome.ensures.outcome c.call-outcome.ensures.reply in
     done.lives
 
 pub conclude_residing-requires-clause-whole : goal.conclude_residing-requires-clause-whole
 conclude_residing-requires-clause-whole g c =
     let done = call_concludes c.args.p c.args.self.now c.ask_call.new.self c.call-outcome.new.self c.call-outcome.result c.call-outcome.new.reply
-    c.requires.whole c.requires.lives c.requires.has c.ask_call.ensures c.requires.ready
+    c.requires.whole c.requires.lives c.requires.has c.requires.asks c.ask_call.ensures c.requires.ready
     c.call-outcome.ensures.kernel c.call-outcome.ensures.outcome c.call-outcome.ensures.reply in
     done.whole
 
 pub conclude_residing-requires-clause-lives : goal.conclude_residing-requires-clause-lives
 conclude_residing-requires-clause-lives g c =
     let done = call_concludes c.args.p c.args.self.now c.ask_call.new.self c.call-outcome.new.self c.call-outcome.result c.call-outcome.new.reply
-    c.requires.whole c.requires.lives c.requires.has c.ask_call.ensures c.requires.ready
+    c.requires.whole c.requires.lives c.requires.has c.requires.asks c.ask_call.ensures c.requires.ready
     c.call-outcome.ensures.kernel c.call-outcome.ensures.outcome c.call-outcome.ensures.reply in
     done.lives
 
 pub conclude_residing-requires-clause-has : goal.conclude_residing-requires-clause-has
 conclude_residing-requires-clause-has g c =
     let done = call_concludes c.args.p c.args.self.now c.ask_call.new.self c.call-outcome.new.self c.call-outcome.result c.call-outcome.new.reply
-    c.requires.whole c.requires.lives c.requires.has c.ask_call.ensures c.requires.ready
+    c.requires.whole c.requires.lives c.requires.has c.requires.asks c.ask_call.ensures c.requires.ready
     c.call-outcome.ensures.kernel c.call-outcome.ensures.outcome c.call-outcome.ensures.reply in
     done.has
 
 pub returns-in_err-put_echo-clause-wrote : goal.returns-in_err-put_echo-clause-wrote
 returns-in_err-put_echo-clause-wrote g c =
     let done = call_concludes c.args.p c.args.self.now c.ask_call.new.self c.call-outcome.new.self c.call-outcome.result c.call-outcome.new.reply
-    c.requires.whole c.requires.lives c.requires.has c.ask_call.ensures c.requires.ready
+    c.requires.whole c.requires.lives c.requires.has c.requires.asks c.ask_call.ensures c.requires.ready
     c.call-outcome.ensures.kernel c.call-outcome.ensures.outcome c.call-outcome.ensures.reply in
     passes_on _ _ _ _ c.from_residual.ensures.0
     (fails_as TheSink _ _ _ _ done.change (fails_before TheSink _ _ _ _ c.in_err-put_echo.ensures.wrote.err))
@@ -64,7 +64,7 @@ returns-in_err-put_echo-clause-wrote g c =
 pub returns : goal.returns
 returns g c =
     let done = call_concludes c.args.p c.args.self.now c.ask_call.new.self c.call-outcome.new.self c.call-outcome.result c.call-outcome.new.reply
-    c.requires.whole c.requires.lives c.requires.has c.ask_call.ensures c.requires.ready
+    c.requires.whole c.requires.lives c.requires.has c.requires.asks c.ask_call.ensures c.requires.ready
     c.call-outcome.ensures.kernel c.call-outcome.ensures.outcome c.call-outcome.ensures.reply in
     let P : Change → Type 0 = λ change. OnOk c.conclude_residing.result (c.conclude_residing.new.self ≡ change.system) in
     record {

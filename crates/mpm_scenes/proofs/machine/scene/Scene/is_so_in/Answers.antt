@@ -1,12 +1,10 @@
-use Rattle.std.proofs.Common.{ℕ, ◌<◌, ◌≤◌, ◌+◌, ◌*◌, List, length, get_or, sym, subst, arith}
+use Rattle.std.proofs.Common.{ℕ, ◌<◌, ◌≤◌, ◌+◌, ◌*◌, List, Some, length, get_or, sym, subst, arith}
 use Rattle.mpm_script.specs.declared.event.Timed.{Timed}
 use Rattle.mpm_machine_file.specs.declared.machine_file.MachineFile.{MachineFile}
 use Rattle.mpm_machine_file.specs.MachineFiles.{IsMachine}
-use Rattle.mpm_port.specs.MemoryDisks.{size_of}
-use Rattle.mpm_mount.specs.Directories.{Directory}
-use Rattle.mpm_drives.specs.Mounted.{AreAttached}
-use Rattle.mpm_drives.proofs.Opening.{are_attached}
+use Rattle.mpm_port.specs.MemoryDisks.{size_of, disks_of}
 use Rattle.mpm_machine.specs.declared.system.System.{System}
+use Rattle.mpm_machine.specs.State.{HoldsDrives}
 use Rattle.mpm_machine.specs.Opening.{booted, IsBare, MayPlace}
 use Rattle.mpm_machine.proofs.PlacedLaws.{may_place_booted}
 use Rattle.mpm_scenes.proofs.machine.scene.Scene.is_so_in.Goals as goal
@@ -24,8 +22,7 @@ place_both-placed-requires-clause-free c =
     λ seg size there room. subst (λ (system : System). MayPlace system seg 0 size) (sym c.in-Ok.ensures.booted)
     (may_place c.args.file.now c.in_ok-script.script seg size c.requires (subst IsBare c.in-Ok.ensures.booted c.in-Ok.ensures.bare) there room)
 
--- its drives are attached, whether programs were placed or not
-pub is_seen-requires-clause-attached : goal.is_seen-requires-clause-attached
-is_seen-requires-clause-attached c =
-    subst (λ (ds : List Directory). AreAttached (size_of c.boot_bare.new.drives) ds) (sym c.place_both-placed.ensures.drives)
-    (are_attached _ _ _ _ _ c.in-Ok.ensures.mounted)
+-- its drives are held, whether programs were placed or not
+pub is_seen-requires-clause-holds : goal.is_seen-requires-clause-holds
+is_seen-requires-clause-holds c =
+    subst (λ kept. HoldsDrives size_of (λ d. Some (disks_of d)) kept c.boot_bare.new.drives) (sym c.place_both-placed.ensures.bdos) c.in-Ok.ensures.holds

@@ -1,0 +1,210 @@
+-- File calls: a system stays whole through the parts of the step in which one is made, and what is said in them.
+use Rattle.std.proofs.Common.{◌≡◌, ◌∙◌, ℕ, Bool, true, false, not, ◌==◌, [], Option, Some, None, Result, refl, sym, ap, subst}
+use Rattle.std.specs.Prelude.{is_some, is_none}
+use Rattle.std.proofs.lemmas.Bool.{false≢true}
+use Rattle.mpm_base.proofs.Choices.{either}
+use Rattle.mpm_base.specs.Calls.{Answer}
+use Rattle.mpm_procs.specs.Table.{lives, Lives, process_in, call_of}
+use Rattle.mpm_procs.proofs.MapLaws.{lives_changed, call_after}
+use Rattle.mpm_dispatcher.specs.Dispatch.{picked}
+use Rattle.mpm_kernel.specs.Kernel.{IsSound, with_changed, dispatched as with_dispatcher}
+use Rattle.mpm_kernel.proofs.SoundLaws.{sound_process, live_kept}
+use Rattle.mpm_kernel.proofs.HomeLaws.{homes_changed}
+use Rattle.mpm_residents.specs.declared.native.Native.{Native}
+use Rattle.mpm_residents.specs.Natives.{native_call, native_in}
+use Rattle.mpm_output.specs.Outside.{Outside, Device}
+use Rattle.mpm_output.specs.Writing.{Wrote, Fails, Emits}
+use Rattle.mpm_output.specs.Texts.{error_text}
+use Rattle.mpm_output.proofs.WritingLaws.{fails_before, emits_after}
+use Rattle.mpm_bdos.specs.declared.refusals.Extended.{Extended}
+use Rattle.mpm_bdos.specs.Outcomes.{CallerChange, Stays, Selects, Resets}
+use Rattle.mpm_bdos.specs.Direct.{Directly}
+use Rattle.mpm_machine.specs.declared.system.System.{System}
+use Rattle.mpm_machine.specs.State.{Change, IsWhole}
+use Rattle.mpm_machine.specs.Serving.{asked, popped, answering_call}
+use Rattle.mpm_machine.specs.Residing.{asked_by}
+use Rattle.mpm_machine.specs.Due.{settled, NobodyDue}
+use Rattle.mpm_machine.specs.Step.{with_settled, counted}
+use Rattle.mpm_machine.specs.FileCalls.{made_by, call_made, first_dma, with_caller, reply_by, file_replied, error_told, told_then, error_met, answered_by, concluded, step_concluded}
+use Rattle.mpm_machine.proofs.WholeLaws.{StaysWhole, whole_kernel, whole_speaking, whole_ended, whole_popped, whole_replied, whole_residents, keeps_call, keeps_asked}
+use Rattle.mpm_machine.proofs.WholeStepLaws.{whole_counted, whole_settled, whole_dispatched, no_completions_step}
+use Rattle.mpm_machine.proofs.NobodyDueLaws.{nobody_due_dispatched}
+
+-- the call is made
+pub record Made (p : ℕ) (old new : System) : Type 0 where
+  pub whole : IsWhole new
+  pub lives : Lives new.kernel.dispatcher.procs p
+  pub home : (process_in new.kernel.dispatcher.procs p).seg ≡ (process_in old.kernel.dispatcher.procs p).seg
+
+made_at : (seg : Option ℕ) (native : Option Native) (p : ℕ) (system : System) → IsWhole system → Lives system.kernel.dispatcher.procs p
+    → native_in system.residents p ≡ native → Made p system (made_by seg p system)
+made_at (Some seg) native p system w h here =
+    let kept = keeps_call p (asked p seg system) system w h in record { whole = kept.whole; lives = kept.lives; home = kept.home }
+made_at None None p system w h here = subst (λ o. Made p system (asked_by o p system)) (sym here) (record { whole = w; lives = h; home = refl })
+made_at None (Some native) p system w h here =
+    let kept = keeps_asked p (native_call native) system w h in
+    subst (λ o. Made p system (asked_by o p system)) (sym here) (record { whole = kept.whole; lives = kept.lives; home = kept.home })
+
+pub makes : (p : ℕ) (system : System) → IsWhole system → Lives system.kernel.dispatcher.procs p → Made p system (call_made p system)
+unfolding call_made
+makes p system w h =
+    let made = made_at (process_in system.kernel.dispatcher.procs p).seg _ p (counted system) (whole_counted system w) h refl in
+    record { whole = made.whole; lives = made.lives; home = made.home }
+
+-- its caller changes, where it isn't refused by an extended error
+
+pub granted_is : (granted : Bool) (error : Option Extended) → is_some error ≡ not granted → granted ≡ is_none error
+granted_is true None e = refl
+granted_is true (Some error) e = absurd (false≢true (sym e))
+granted_is false None e = absurd (false≢true e)
+granted_is false (Some error) e = refl
+
+whole_placed : (p drive dma : ℕ) (system : System) → IsWhole system → Lives system.kernel.dispatcher.procs p
+    → StaysWhole p system (record system { kernel = with_changed system.kernel p (record (process_in system.kernel.dispatcher.procs p) { drive = drive; dma = dma }) })
+whole_placed p drive dma system w h =
+    let process = record (process_in system.kernel.dispatcher.procs p) { drive = drive; dma = dma } in
+    record {
+      whole = whole_kernel system _ w
+          (sound_process system.kernel p process w.sound h refl refl refl refl)
+          (live_kept system.kernel (with_changed system.kernel p process) refl (λ q living. lives_changed system.kernel.dispatcher.procs p q process ∙ living) w.live)
+          (homes_changed system.kernel p process w.sound.slots h refl refl);
+      lives = lives_changed system.kernel.dispatcher.procs p p process ∙ h;
+      call = call_after system.kernel.dispatcher.procs p p process;
+    }
+
+pub whole_caller : (change : CallerChange) (p : ℕ) (system : System) → IsWhole system → Lives system.kernel.dispatcher.procs p
+    → StaysWhole p system (with_caller change p system)
+unfolding with_caller
+whole_caller Stays p system w h = record { whole = w; lives = h; call = refl }
+whole_caller (Selects drive) p system w h = whole_placed p drive (process_in system.kernel.dispatcher.procs p).dma system w h
+whole_caller Resets p system w h = whole_placed p 0 (first_dma system.memory (process_in system.kernel.dispatcher.procs p).seg) system w h
+
+pub caller_stays : (change : CallerChange) (p : ℕ) (old new : System) → IsWhole old → Lives old.kernel.dispatcher.procs p → new ≡ with_caller change p old
+    → StaysWhole p old new
+caller_stays change p old new w h is = subst (StaysWhole p old) (sym is) (whole_caller change p old w h)
+
+-- it is answered
+
+-- behind its return address its process lives, and keeps its call
+pub lives_popped : (p seg : ℕ) (old behind : System) → Lives old.kernel.dispatcher.procs p → behind ≡ popped p seg old → Lives behind.kernel.dispatcher.procs p
+unfolding popped
+lives_popped p seg old behind h is =
+    ap (λ (s : System). lives s.kernel.dispatcher.procs p) is ∙ lives_changed old.kernel.dispatcher.procs p p _ ∙ h
+
+call_popped : (p seg : ℕ) (system : System) → call_of (popped p seg system).kernel.dispatcher.procs p ≡ call_of system.kernel.dispatcher.procs p
+unfolding popped
+call_popped p seg system = call_after system.kernel.dispatcher.procs p p _
+
+pub answers_behind : (reply : Answer) (p seg : ℕ) (old behind : System) → behind ≡ popped p seg old
+    → answering_call reply (call_of behind.kernel.dispatcher.procs p) p seg behind ≡ reply_by (Some seg) reply p old
+answers_behind reply p seg old behind is =
+    ap (λ (s : System). answering_call reply (call_of s.kernel.dispatcher.procs p) p seg s) is
+    ∙ ap (λ call. answering_call reply call p seg (popped p seg old)) (call_popped p seg old)
+
+whole_reply_by : (seg : Option ℕ) (reply : Answer) (p : ℕ) (system : System) → IsWhole system → Lives system.kernel.dispatcher.procs p
+    → IsWhole (reply_by seg reply p system).system
+whole_reply_by (Some seg) reply p system w h =
+    let behind = whole_popped p seg system w h in
+    (whole_replied reply (call_of system.kernel.dispatcher.procs p) p seg (popped p seg system) behind.whole behind.lives).whole
+whole_reply_by None reply p system w h = whole_residents system _ w
+
+whole_file_replied : (reply : Answer) (p : ℕ) (system : System) → IsWhole system → Lives system.kernel.dispatcher.procs p
+    → IsWhole (file_replied reply p system).system
+unfolding file_replied
+whole_file_replied reply p system w h = whole_reply_by (process_in system.kernel.dispatcher.procs p).seg reply p system w h
+
+-- or its extended error is told
+
+pub whole_told : (error : Extended) (p : ℕ) (system : System) → IsWhole system → Lives system.kernel.dispatcher.procs p
+    → StaysWhole p system (error_told error p system).system
+unfolding error_told
+whole_told error p system w h =
+    whole_speaking (process_in system.kernel.dispatcher.procs p).console p (error_text error.code error.drive) system w h
+
+pub told_stays : (error : Extended) (p : ℕ) (old told : System) → IsWhole old → Lives old.kernel.dispatcher.procs p → told ≡ (error_told error p old).system
+    → StaysWhole p old told
+told_stays error p old told w h is = subst (StaysWhole p old) (sym is) (whole_told error p old w h)
+
+whole_told_then : (answers : Bool) (error : Extended) (reply : Answer) (p : ℕ) (system : System) → IsWhole system → Lives system.kernel.dispatcher.procs p
+    → IsWhole (told_then answers error reply p system).system
+unfolding told_then
+whole_told_then true error reply p system w h =
+    let told = whole_told error p system w h in whole_file_replied reply p (error_told error p system).system told.whole told.lives
+whole_told_then false error reply p system w h =
+    let told = whole_told error p system w h in whole_ended p (error_told error p system).system told.whole told.lives
+
+whole_met : (error : Extended) (reply : Answer) (p : ℕ) (system : System) → IsWhole system → Lives system.kernel.dispatcher.procs p
+    → IsWhole (error_met error reply p system).system
+unfolding error_met
+whole_met error reply p system w h =
+    let mode = (process_in system.kernel.dispatcher.procs p).error_mode in
+    either (λ (c : Change). IsWhole c.system) (mode == 255) _ _ (λ _. whole_file_replied reply p system w h)
+    (λ _. whole_told_then (mode == 254) error reply p system w h)
+
+whole_answered_by : (error : Option Extended) (reply : Answer) (p : ℕ) (system : System) → IsWhole system → Lives system.kernel.dispatcher.procs p
+    → IsWhole (answered_by error reply p system).system
+whole_answered_by None reply p system w h = whole_file_replied reply p system w h
+whole_answered_by (Some error) reply p system w h = whole_met error reply p system w h
+
+pub whole_concluded : (told : Directly) (p : ℕ) (system : System) → IsWhole system → Lives system.kernel.dispatcher.procs p
+    → IsWhole (concluded told p system).system
+unfolding concluded
+whole_concluded told p system w h =
+    let changed = whole_caller told.caller p system w h in
+    whole_answered_by told.extended told.answer p (with_caller told.caller p system) changed.whole changed.lives
+
+pub whole_concluded_here : (told : Directly) (p : ℕ) (system afterwards : System) → IsWhole system → Lives system.kernel.dispatcher.procs p
+    → afterwards ≡ (concluded told p system).system → IsWhole afterwards
+whole_concluded_here told p system afterwards w h is = subst IsWhole (sym is) (whole_concluded told p system w h)
+
+-- and the step ends
+
+pub sound_settled_here : (begun afterwards : System) → IsWhole begun → afterwards ≡ (settled begun).system → IsSound afterwards.kernel
+sound_settled_here begun afterwards w is =
+    let P : System → Type 0 = λ s. IsSound s.kernel in subst P (sym is) (whole_settled begun w).sound
+
+pub whole_step_concluded : (told : Directly) (p : ℕ) (system : System) → IsWhole system → Lives system.kernel.dispatcher.procs p
+    → IsWhole (step_concluded told p system).system
+unfolding step_concluded
+whole_step_concluded told p system w h = whole_dispatched false (concluded told p system) (whole_concluded told p system w h)
+
+pub no_completions_concluded : (told : Directly) (p : ℕ) (system : System) → (step_concluded told p system).system.kernel.dispatcher.completed ≡ []
+unfolding step_concluded with_settled
+no_completions_concluded told p system =
+    let begun = (concluded told p system).system in
+    let afterwards = (settled begun).system in
+    no_completions_step begun afterwards (with_dispatcher (picked false) afterwards.kernel) false refl refl
+
+pub nobody_due_concluded : (told : Directly) (p : ℕ) (system : System) → IsWhole system → Lives system.kernel.dispatcher.procs p
+    → NobodyDue (step_concluded told p system).system.kernel
+unfolding step_concluded
+nobody_due_concluded told p system w h = nobody_due_dispatched false (concluded told p system) (whole_concluded told p system w h)
+
+-- what is said: where a part fails, and what comes behind it
+
+pub told_fails : (device : Device) (answers : Bool) (error : Extended) (reply : Answer) (p : ℕ) (system : System) (o n : Outside)
+    → Fails device o n (error_told error p system).emitted → Fails device o n (told_then answers error reply p system).emitted
+unfolding told_then
+told_fails device answers error reply p system o n failed = fails_before device o n _ _ failed
+
+pub told_answers : {A E : Type 0} (device : E → Device) (r : Result A E) (answers : Bool) (error : Extended) (reply : Answer) (p : ℕ) (system told : System)
+    (o m n : Outside) → answers ≡ true → told ≡ (error_told error p system).system → Wrote o m (error_told error p system).emitted
+    → Emits device m n (file_replied reply p told).emitted r → Emits device o n (told_then answers error reply p system).emitted r
+unfolding told_then
+told_answers device r true error reply p system told o m n answers is wrote emits =
+    let P : System → Type 0 = λ s. Emits device m n (file_replied reply p s).emitted r in
+    emits_after device o m n _ _ r wrote (subst P is emits)
+told_answers device r false error reply p system told o m n answers is wrote emits = absurd (false≢true answers)
+
+pub concluded_fails : (device : Device) (told : Directly) (p : ℕ) (system : System) (o n : Outside) → Fails device o n (concluded told p system).emitted
+    → Fails device o n (step_concluded told p system).emitted
+unfolding step_concluded with_settled
+concluded_fails device told p system o n failed = fails_before device o n _ _ failed
+
+pub concluded_settles : {A E : Type 0} (device : E → Device) (r : Result A E) (told : Directly) (p : ℕ) (system begun : System) (o m n : Outside)
+    → begun ≡ (concluded told p system).system → Wrote o m (concluded told p system).emitted → Emits device m n (settled begun).emitted r
+    → Emits device o n (step_concluded told p system).emitted r
+unfolding step_concluded with_settled
+concluded_settles device r told p system begun o m n is wrote emits =
+    let P : System → Type 0 = λ s. Emits device m n (settled s).emitted r in
+    emits_after device o m n _ _ r wrote (subst P is emits)

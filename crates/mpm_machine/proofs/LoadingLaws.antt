@@ -1,0 +1,182 @@
+-- What the command line interpreter hands over leaves a whole system.
+use Rattle.std.proofs.Common.{◌≡◌, ◌∙◌, ℕ, ◌<◌, true, List, [], ◌∷◌, Option, Some, None, length, refl, sym, ap, subst, arith}
+use Rattle.std.proofs.lemmas.Bool.{false≢true}
+use Rattle.std.proofs.lemmas.List.FromFn.{length-map-range_with_len}
+use Rattle.z80_regs.specs.Words.{onward}
+use Rattle.mpm_banks.specs.Memory.{Memory, HasSegment, byte_at, with_bytes}
+use Rattle.mpm_banks.specs.Ranges.{range_of, range_bytes, put_range}
+use Rattle.mpm_banks.specs.Allocations.{occupied}
+use Rattle.mpm_banks.specs.declared.range.Range.{Range}
+use Rattle.mpm_banks.specs.declared.segment.Allocation.TheVariants.{Occupied}
+use Rattle.mpm_banks.proofs.WrittenBytes.{with_bytes_unwritten, with_bytes_other_segment, same_segments_with_bytes}
+use Rattle.mpm_banks.proofs.RangeBytes.{range_bytes_is, put_range_is}
+use Rattle.mpm_banks.proofs.WindowLaws.{same_segments_put_range}
+use Rattle.mpm_banks.proofs.SegmentLaws.{allocation_of_allocated, reads_alike, same_bytes_allocated}
+use Rattle.mpm_prl.specs.Relocation.{relocated, relocated_byte}
+use Rattle.mpm_procs.specs.Table.{Lives, lives, process_in, lowest_free}
+use Rattle.mpm_procs.specs.declared.process.NewProcess.{NewProcess}
+use Rattle.mpm_procs.proofs.MapLaws.{free_below, lives_added}
+use Rattle.mpm_dispatcher.specs.Dispatch.{admitted, in_slot}
+use Rattle.mpm_kernel.specs.Kernel.{Kernel, is_aborted, dispatched}
+use Rattle.mpm_kernel.specs.Consoling.{given}
+use Rattle.mpm_kernel.proofs.SoundLaws.{sound_admitted, live_kept}
+use Rattle.mpm_kernel.proofs.HomeLaws.{homes_stay, aborts_admitted, lives_on}
+use Rattle.mpm_kernel.proofs.GivingLaws.{sound_gave, procs_gave, completed_gave}
+use Rattle.mpm_processor.specs.Gates.{IsHome}
+use Rattle.mpm_machine.specs.declared.system.System.{System}
+use Rattle.mpm_machine.specs.State.{IsOccupied, IsWhole}
+use Rattle.mpm_machine.specs.Loading.{moved, is_slot, begun_for, ChangesOnly}
+use Rattle.mpm_machine.proofs.HomeLaws.{KeepsHomes, keeps_itself, keeps_same, keeps_both, keeps_occupied}
+use Rattle.mpm_machine.proofs.PlacedLaws.{homes_begun}
+use Rattle.mpm_machine.proofs.WholeLaws.{nobody_more, whole_kernel}
+
+-- bytes change, and no segment's place or size, nor who has it
+whole_memory : (old : System) (memory : Memory) → IsWhole old → KeepsHomes old.memory memory → IsWhole (record old { memory = memory })
+whole_memory old memory w keeps = record {
+  sound = w.sound;
+  live = w.live;
+  script = w.script;
+  settled = w.settled;
+  homes = λ p seg living there. keeps.all seg (w.homes p seg living there);
+  lived = λ p seg living there. keeps.lived seg (w.homes p seg living there) (w.lived p seg living there);
+}
+
+pub whole_with_bytes : (old : System) (memory : Memory) (seg address : ℕ) (bytes : List ℕ) → IsWhole old → memory ≡ with_bytes old.memory seg address bytes
+    → IsWhole (record old { memory = memory })
+whole_with_bytes old memory seg address bytes w is =
+    whole_memory old memory w (subst (KeepsHomes old.memory) (sym is) (keeps_same _ _ (same_segments_with_bytes bytes old.memory seg address)))
+
+keeps_moved : (range : Option Range) (marks : List ℕ) (page : ℕ) (memory : Memory) → KeepsHomes memory (moved range marks page memory)
+keeps_moved None marks page memory = keeps_itself memory
+keeps_moved (Some range) marks page memory = keeps_same memory _ (same_segments_put_range memory range _)
+
+pub whole_moved : (old : System) (memory : Memory) (seg address count : ℕ) (marks : List ℕ) (page : ℕ) → IsWhole old
+    → memory ≡ moved (range_of old.memory seg address count) marks page old.memory → IsWhole (record old { memory = memory })
+whole_moved old memory seg address count marks page w is =
+    whole_memory old memory w (subst (KeepsHomes old.memory) (sym is) (keeps_moved (range_of old.memory seg address count) marks page old.memory))
+
+-- a console passes on
+pub whole_gave : (old : System) (kernel : Kernel) (console p : ℕ) → IsWhole old → console < length old.kernel.units.consoles
+    → kernel ≡ given console (Some p) None old.kernel → IsWhole (record old { kernel = kernel })
+whole_gave old kernel console p w below is =
+    let gave = given console (Some p) None old.kernel in
+    let same : gave.dispatcher.procs ≡ old.kernel.dispatcher.procs = procs_gave console (Some p) None old.kernel in
+    subst (λ k. IsWhole (record old { kernel = k })) (sym is)
+    (whole_kernel old gave w (sound_gave console (Some p) None old.kernel w.sound below tt)
+    (live_kept old.kernel gave (completed_gave console (Some p) None old.kernel) (λ q living. ap (λ procs. lives procs q) same ∙ living) w.live)
+    (homes_stay old.kernel gave same))
+
+-- a process begins in a home, which is lived in from now on
+
+begun_whole : (old : System) (p q seg address base : ℕ) (new : NewProcess) → IsWhole old → new.console < length old.kernel.units.consoles → IsHome old.memory seg
+    → new.seg ≡ Some seg → lowest_free old.kernel.dispatcher.procs ≡ Some q
+    → IsWhole (record old {
+      kernel = begun_for p new (Some q) old.kernel;
+      memory = occupied (with_bytes old.memory seg address (0 ∷ base ∷ [])) seg;
+    })
+begun_whole old p q seg address base new w below home is free =
+    let written = with_bytes old.memory seg address (0 ∷ base ∷ []) in
+    let laid = same_segments_with_bytes (0 ∷ base ∷ []) old.memory seg address in
+    let memory = occupied written seg in
+    let keeps : KeepsHomes old.memory memory = keeps_both _ written _ (keeps_same _ _ laid) (keeps_occupied written seg) in
+    let begun = dispatched (admitted q new) old.kernel in
+    let kernel = given new.console (Some p) (Some q) begun in
+    let same : kernel.dispatcher.procs ≡ begun.dispatcher.procs = procs_gave new.console (Some p) (Some q) begun in
+    let here : IsOccupied memory seg = allocation_of_allocated written seg Occupied (omega (arith, laid.count, home.exists)) in
+    let homes = homes_begun (IsHome memory) old.kernel q seg new w.sound.slots free is (keeps.all seg home)
+    (λ r other living there. keeps.all other (w.homes r other living there)) in
+    let lived = homes_begun (IsOccupied memory) old.kernel q seg new w.sound.slots free is here
+    (λ r other living there. keeps.lived other (w.homes r other living there) (w.lived r other living there)) in
+    let alive = λ (r : ℕ) (living : Lives kernel.dispatcher.procs r). ap (λ procs. lives procs r) (sym same) ∙ living in
+    let kept = λ (r : ℕ) (living : Lives old.kernel.dispatcher.procs r). ap (λ procs. lives procs r) same ∙ lives_on old.kernel new (Some q) r free living in
+    record {
+      sound = sound_gave new.console (Some p) (Some q) begun (sound_admitted old.kernel q new w.sound free below) below
+          (lives_added old.kernel.dispatcher.procs q new (free_below old.kernel.dispatcher.procs q free));
+      live = live_kept old.kernel kernel (completed_gave new.console (Some p) (Some q) begun) kept w.live;
+      script = w.script;
+      settled = λ off. nobody_more old.kernel kernel
+          (λ r due. aborts_admitted old.kernel q new w.sound.slots free r (ap (λ procs. is_aborted procs r) (sym same) ∙ due)) (w.settled off);
+      homes = λ r other living there. homes r other (alive r living) (ap (λ procs. (process_in procs r).seg) (sym same) ∙ there);
+      lived = λ r other living there. lived r other (alive r living) (ap (λ procs. (process_in procs r).seg) (sym same) ∙ there);
+    }
+
+begun_by : (slot : Option ℕ) (old : System) (p seg address base : ℕ) (new : NewProcess) → IsWhole old → new.console < length old.kernel.units.consoles
+    → IsHome old.memory seg → new.seg ≡ Some seg → lowest_free old.kernel.dispatcher.procs ≡ slot → is_slot slot ≡ true
+    → IsWhole (record old {
+      kernel = begun_for p new slot old.kernel;
+      memory = occupied (with_bytes old.memory seg address (0 ∷ base ∷ [])) seg;
+    })
+begun_by None old p seg address base new w below home is free some = absurd (false≢true some)
+begun_by (Some q) old p seg address base new w below home is free some = begun_whole old p q seg address base new w below home is free
+
+pub whole_program : (old : System) (kernel : Kernel) (written memory : Memory) (p seg address base : ℕ) (new : NewProcess) → IsWhole old
+    → new.console < length old.kernel.units.consoles → IsHome old.memory seg → new.seg ≡ Some seg
+    → is_slot (lowest_free old.kernel.dispatcher.procs) ≡ true → kernel ≡ begun_for p new (lowest_free old.kernel.dispatcher.procs) old.kernel
+    → written ≡ with_bytes old.memory seg address (0 ∷ base ∷ []) → memory ≡ occupied written seg → IsWhole (record old { kernel = kernel; memory = memory })
+whole_program old kernel written memory p seg address base new w below home is some begun laid lived =
+    let slot = lowest_free old.kernel.dispatcher.procs in
+    let there = lived ∙ ap (λ m. occupied m seg) laid in
+    subst (λ k. IsWhole (record old { kernel = k; memory = memory })) (sym begun)
+    (subst (λ m. IsWhole (record old { kernel = begun_for p new slot old.kernel; memory = m })) (sym there)
+    (begun_by slot old p seg address base new w below home is refl some))
+
+-- a process that has begun leaves the others as they were
+pub lives_there : (old now : Kernel) (p q : ℕ) (new : NewProcess) → Lives old.dispatcher.procs p → lowest_free old.dispatcher.procs ≡ Some q
+    → now ≡ dispatched (in_slot new (lowest_free old.dispatcher.procs)) old → Lives now.dispatcher.procs p
+lives_there old now p q new living free is =
+    let P : Kernel → Type 0 = λ k. Lives k.dispatcher.procs p in
+    subst P (sym is) (lives_on old new (lowest_free old.dispatcher.procs) p refl living)
+
+-- where no slot is free nothing changes
+pub whole_unchanged : (old : System) (kernel : Kernel) → IsWhole old → kernel ≡ old.kernel → IsWhole (record old { kernel = kernel })
+whole_unchanged old kernel w same = subst (λ k. IsWhole (record old { kernel = k })) (sym same) w
+
+-- a segment is there as before
+pub written_is_there : (old now : Memory) (seg address : ℕ) (bytes : List ℕ) → HasSegment old seg → now ≡ with_bytes old seg address bytes → HasSegment now seg
+written_is_there old now seg address bytes there is =
+    subst (λ m. HasSegment m seg) (sym is) (omega (arith, (same_segments_with_bytes bytes old seg address).count, there))
+
+-- of memory only those bytes change
+
+pub changes_nothing : (seg address count : ℕ) (old now : Memory) → now ≡ old → ChangesOnly seg address count old now
+changes_nothing seg address count old now is =
+    subst (ChangesOnly seg address count old) (sym is) (record { others = λ other at apart below. refl; rest = λ at apart. refl })
+
+pub changes_written : (seg address : ℕ) (bytes : List ℕ) (old now : Memory) → now ≡ with_bytes old seg address bytes → ChangesOnly seg address (length bytes) old now
+changes_written seg address bytes old now is =
+    subst (ChangesOnly seg address (length bytes) old) (sym is) (record {
+      others = λ other at apart below. with_bytes_other_segment bytes old seg address other at apart below;
+      rest = λ at apart. with_bytes_unwritten bytes old seg address at apart;
+    })
+
+moved_length : (code marks : List ℕ) (page : ℕ) → length (relocated code marks page) ≡ length code
+unfolding relocated
+moved_length code marks page = length-map-range_with_len (relocated_byte code marks page) 0 (length code)
+
+changes_in_range : (range : Option Range) (seg address count : ℕ) (marks : List ℕ) (page : ℕ) (memory : Memory) → range_of memory seg address count ≡ range
+    → ChangesOnly seg address count memory (moved range marks page memory)
+changes_in_range None seg address count marks page memory is = changes_nothing seg address count memory memory refl
+changes_in_range (Some range) seg address count marks page memory is =
+    let code = range_bytes memory range in
+    let new = relocated code marks page in
+    let size : length new ≡ count =
+    moved_length code marks page
+    ∙ ap (λ (bytes : List ℕ). length bytes) (range_bytes_is memory seg address count range is)
+    ∙ length-map-range_with_len (λ k. byte_at memory seg (onward address k)) 0 count in
+    subst (λ n. ChangesOnly seg address n memory (put_range memory range new)) size
+    (changes_written seg address new memory (put_range memory range new) (put_range_is memory seg address count range new is size))
+
+pub changes_moved : (seg address count : ℕ) (marks : List ℕ) (page : ℕ) (old now : Memory) → now ≡ moved (range_of old seg address count) marks page old
+    → ChangesOnly seg address count old now
+changes_moved seg address count marks page old now is =
+    subst (ChangesOnly seg address count old) (sym is) (changes_in_range (range_of old seg address count) seg address count marks page old refl)
+
+pub changes_begun : (seg address base : ℕ) (old written now : Memory) → written ≡ with_bytes old seg address (0 ∷ base ∷ []) → now ≡ occupied written seg
+    → ChangesOnly seg address 2 old now
+changes_begun seg address base old written now is lived =
+    let laid = changes_written seg address (0 ∷ base ∷ []) old written is in
+    let same = same_bytes_allocated written seg Occupied in
+    subst (ChangesOnly seg address 2 old) (sym lived) (record {
+      others = λ other at apart below. reads_alike written (occupied written seg) same other at ∙ laid.others other at apart below;
+      rest = λ at apart. reads_alike written (occupied written seg) same seg at ∙ laid.rest at apart;
+    })

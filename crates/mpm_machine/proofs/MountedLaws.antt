@@ -1,0 +1,162 @@
+-- What is kept of files as a machine begins holds its drives.
+use Rattle.std.proofs.Common.{◌≡◌, ◌≢◌, ◌∙◌, ℕ, zero, suc, Bool, true, false, ◌||◌, List, [], ◌∷◌, Option, Some, None, IfSome, inl, inr, ◌==◌, refl, sym, ap, subst}
+use Rattle.std.specs.Prelude.{◌⊎◌, replicate, is_some, bytes_eq, slice_index_or, slice_set}
+use Rattle.std.specs.List.{AllByRecursion}
+use Rattle.std.proofs.lemmas.Bool.{false≢true}
+use Rattle.std.proofs.lemmas.Slice.Eq.{bytes_eq-Decides}
+use Rattle.mpm_port.specs.Disks.{Disks}
+use Rattle.mpm_blocks.specs.Geometries.{geometry_of}
+use Rattle.mpm_cache.specs.Cached.{cached_at}
+use Rattle.mpm_cache.specs.Coherent.{IsCoherent, HaveOwnImages, HasNoAlias, AreApart}
+use Rattle.mpm_machine_file.specs.declared.lists.DriveSpec.{DriveSpec}
+use Rattle.mpm_machine_file.specs.Drives.{all_differ}
+use Rattle.mpm_machine_file.proofs.OrderLaws.{IsApart, AreApart as SpecsApart, apart_from_differ}
+use Rattle.mpm_mount.specs.Directories.{Directory}
+use Rattle.mpm_drives.specs.Images.{Untold, Images}
+use Rattle.mpm_drives.specs.Mounted.{number_of, IsNamed, AreMounted}
+use Rattle.mpm_bdos.specs.Serving.{Kept, directory_at, all_put, in_places, nothing_kept}
+use Rattle.mpm_bdos.specs.Turns.{FitsDrives, has_directory}
+use Rattle.mpm_machine.specs.State.{HoldsDrives}
+use Rattle.mpm_machine.specs.Mounting.{HasMounted}
+
+-- what is so of each directory by its number is so of what stands in each place
+
+set_here : {X : Type 0} (P : ℕ → X → Type 0) (xs : List (Option X)) (n : ℕ) (x : X) → P n x → ((number : ℕ) → IfSome (slice_index_or xs number None) (P number))
+    → (number : ℕ) → IfSome (slice_index_or (slice_set xs n (Some x)) number None) (P number)
+set_here P [] n x here each number = tt
+set_here P (y ∷ ys) zero x here each zero = here
+set_here P (y ∷ ys) zero x here each (suc number) = each (suc number)
+set_here P (y ∷ ys) (suc n) x here each zero = each 0
+set_here P (y ∷ ys) (suc n) x here each (suc number) = set_here (λ k. P (suc k)) ys n x here (λ k. each (suc k)) number
+
+none_here : {X : Type 0} (P : ℕ → X → Type 0) (n number : ℕ) → IfSome (slice_index_or (replicate n None) number None) (P number)
+none_here P zero number = tt
+none_here P (suc n) zero = tt
+none_here P (suc n) (suc number) = none_here (λ k. P (suc k)) n number
+
+each_placed : (P : ℕ → Directory → Type 0) (ds : List Directory) → AllByRecursion (λ (d : Directory). P d.drive d) ds → (number : ℕ)
+    → IfSome (directory_at (in_places ds) number) (P number)
+unfolding all_put
+each_placed P [] all number = none_here P 16 number
+each_placed P (d ∷ ds) all number = set_here P (in_places ds) d.drive d all.0 (each_placed P ds all.1) number
+
+-- its size
+
+sizes_all : (a : ℕ → Option ℕ) (x : Option Disks) (images : Images) (specs : List DriveSpec) (ds : List Directory) → AreMounted a x images specs ds
+    → AllByRecursion (λ (d : Directory). a d.drive ≡ Some (geometry_of d.kind).bytes) ds
+sizes_all a x images [] [] mounted = tt
+sizes_all a x images [] (d ∷ ds) mounted = absurd mounted
+sizes_all a x images (spec ∷ specs) [] mounted = absurd mounted
+sizes_all a x images (spec ∷ specs) (d ∷ ds) mounted =
+    (mounted.0.size ∙ ap (λ kind. Some (geometry_of kind).bytes) (sym mounted.0.kind), sizes_all a x images specs ds mounted.1)
+
+-- and its image is that of a drive of the machine file
+
+unfoldable IsListed : Option Disks → List DriveSpec → ℕ → Type 0
+IsListed x [] number = ⊥
+IsListed x (spec ∷ specs) number = ((number_of spec ≡ number) × IsNamed x number spec.image) ⊎ IsListed x specs number
+
+listed_more : (x : Option Disks) (spec : DriveSpec) (specs : List DriveSpec) (ds : List Directory) → AllByRecursion (λ (d : Directory). IsListed x specs d.drive) ds
+    → AllByRecursion (λ (d : Directory). IsListed x (spec ∷ specs) d.drive) ds
+unfolding IsListed
+listed_more x spec specs [] all = tt
+listed_more x spec specs (d ∷ ds) all = (inr all.0, listed_more x spec specs ds all.1)
+
+listed_all : (a : ℕ → Option ℕ) (x : Option Disks) (images : Images) (specs : List DriveSpec) (ds : List Directory) → AreMounted a x images specs ds
+    → AllByRecursion (λ (d : Directory). IsListed x specs d.drive) ds
+unfolding IsListed
+listed_all a x images [] [] mounted = tt
+listed_all a x images [] (d ∷ ds) mounted = absurd mounted
+listed_all a x images (spec ∷ specs) [] mounted = absurd mounted
+listed_all a x images (spec ∷ specs) (d ∷ ds) mounted =
+    (inl (sym mounted.0.number, mounted.0.name), listed_more x spec specs ds (listed_all a x images specs ds mounted.1))
+
+-- two of them are images of two names
+
+images_apart : (one other : DriveSpec) → IsApart one other → one.image ≢ other.image
+images_apart one other apart same =
+    let both : bytes_eq one.image other.image ≡ true = (bytes_eq-Decides one.image other.image).1 same in
+    false≢true (sym apart ∙ clash (one.letter == other.letter) (bytes_eq one.image other.image) both)
+  where
+    clash : (a b : Bool) → b ≡ true → (a || b) ≡ true
+    clash true b e = refl
+    clash false b e = e
+
+named_apart : (told : Disks) (spec : DriveSpec) (rest : List DriveSpec) (other : ℕ) → AllByRecursion (IsApart spec) rest → IsListed (Some told) rest other
+    → Some spec.image ≢ told.name_of other
+unfolding IsListed IsNamed
+named_apart told spec [] other apart listed same = listed
+named_apart told spec (next ∷ rest) other apart (inl here) same =
+    images_apart spec next apart.0 (one_image spec.image next.image (same ∙ here.1))
+  where
+    one_image : (a b : List ℕ) → Some a ≡ Some b → a ≡ b
+    one_image a b e = cc
+named_apart told spec (next ∷ rest) other apart (inr later) same = named_apart told spec rest other apart.1 later same
+
+own_images : (told : Disks) (specs : List DriveSpec) (one other : ℕ) → SpecsApart specs → IsListed (Some told) specs one → IsListed (Some told) specs other → one ≢ other
+    → told.name_of one ≢ told.name_of other
+unfolding IsListed IsNamed
+own_images told [] one other apart p q differ same = p
+own_images told (spec ∷ specs) one other apart (inl p) (inl q) differ same = differ (sym p.0 ∙ q.0)
+own_images told (spec ∷ specs) one other apart (inl p) (inr q) differ same = named_apart told spec specs other apart.0 q (sym p.1 ∙ same)
+own_images told (spec ∷ specs) one other apart (inr p) (inl q) differ same = named_apart told spec specs one apart.0 p (sym q.1 ∙ sym same)
+own_images told (spec ∷ specs) one other apart (inr p) (inr q) differ same = own_images told specs one other apart.1 p q differ same
+
+own_told : (x : Option Disks) (specs : List DriveSpec) (one other : ℕ) → SpecsApart specs → IsListed x specs one → IsListed x specs other → HaveOwnImages x one other
+unfolding HaveOwnImages
+own_told None specs one other apart p q = tt
+own_told (Some told) specs one other apart p q = λ differ. own_images told specs one other apart p q differ
+
+-- nothing is cached
+
+none_coherent : (x : Option Disks) → IsCoherent [] x
+unfolding IsCoherent cached_at
+none_coherent None = tt
+none_coherent (Some told) = λ drive sector. tt
+
+alone : (x : Option Disks) (drive : ℕ) → HasNoAlias [] x drive
+unfolding HasNoAlias cached_at
+alone x drive = λ other sector some. absurd (cc)
+
+-- so the drives are held
+
+there : (P : Directory → Type 0) (Q : Type 0) (place : Option Directory) → IfSome place P → ((d : Directory) → P d → Q) → is_some place ≡ true → Q
+there P Q None each so some = absurd (false≢true some)
+there P Q (Some d) each so some = so d each
+
+pub holds_mounted : {D : Type 0} (attached : D → ℕ → Option ℕ) (disks : D → Option Disks) (images : Images) (specs : List DriveSpec) (kept : Kept) (drives : D)
+    → all_differ specs ≡ true → HasMounted (attached drives) (disks drives) images specs kept → HoldsDrives attached disks kept drives
+holds_mounted attached disks images specs kept drives differ has =
+    let ds = has.directories in
+    let mounted = in_places ds in
+    let a = attached drives in
+    let x = disks drives in
+    let apart = apart_from_differ specs differ in
+    let sizes = each_placed (λ number d. a number ≡ Some (geometry_of d.kind).bytes) ds (sizes_all a x images specs ds has.mounted) in
+    let listed = each_placed (λ number d. IsListed x specs number) ds (listed_all a x images specs ds has.mounted) in
+    let is_listed : (number : ℕ) → has_directory mounted number ≡ true → IsListed x specs number =
+    λ number some. there (λ d. IsListed x specs number) (IsListed x specs number) (directory_at mounted number) (listed number) (λ d so. so) some in
+    let fits : FitsDrives attached disks mounted [] drives = record {
+      sizes = sizes;
+      coherent = none_coherent x;
+      apart = record {
+        own = λ one other p q. own_told x specs one other apart (is_listed one p) (is_listed other q);
+        alone = λ drive some. alone x drive;
+      };
+    } in
+    let here : HoldsDrives attached disks (nothing_kept mounted) drives = record { idle = refl; fits = fits } in
+    subst (λ (k : Kept). HoldsDrives attached disks k drives) (sym has.is) here
+
+pub mounted_here : (a : ℕ → Option ℕ) (x : Option Disks) (images : Images) (specs : List DriveSpec) {read : List DriveSpec} (ds items : List Directory) (kept : Kept)
+    → read ≡ specs → AreMounted a x images read ds → items ≡ ds → kept ≡ nothing_kept (in_places items) → HasMounted a x images specs kept
+mounted_here a x images specs ds items kept same mounted is kept_is = record {
+  directories = ds;
+  mounted = subst (λ s. AreMounted a x images s ds) same mounted;
+  is = kept_is ∙ ap (λ l. nothing_kept (in_places l)) is;
+}
+
+-- and where nothing is mounted
+pub holds_nothing : {D : Type 0} (attached : D → ℕ → Option ℕ) (disks : D → Option Disks) (kept : Kept) (drives : D) → kept ≡ nothing_kept (in_places [])
+    → HoldsDrives attached disks kept drives
+holds_nothing attached disks kept drives is =
+    holds_mounted attached disks (λ name. Untold) [] kept drives refl (record { directories = []; mounted = tt; is = is })

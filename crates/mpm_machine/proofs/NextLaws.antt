@@ -1,0 +1,193 @@
+-- Laws of n steps of a state, and of n steps of a system whatever is on the drives.
+use Rattle.std.proofs.Common.{◌≡◌, ◌∙◌, ℕ, zero, suc, ◌+◌, ◌-◌, ◌<◌, ◌≤◌, Bool, List, [], ◌++◌, Option, refl, ap, sym, subst, append_assoc, arith, add-one}
+use Rattle.std.proofs.lemmas.List.{append-nil}
+use Rattle.mpm_render.specs.Outputs.{Output, rendered}
+use Rattle.mpm_render.specs.Shown.{Kept}
+use Rattle.mpm_output.specs.Outside.{Outside}
+use Rattle.mpm_output.specs.Writing.{Wrote}
+use Rattle.mpm_output.proofs.WritingLaws.{wrote_nothing, wrote_after}
+use Rattle.mpm_machine.specs.declared.system.System.{System}
+use Rattle.mpm_machine.specs.declared.machine.StepFault.{StepFault}
+use Rattle.mpm_machine.specs.State.{State, Change, IsWhole, silent}
+use Rattle.mpm_machine.specs.Faults.{EndsBy}
+use Rattle.mpm_machine.specs.FileCalls.{told_by, step_with, filed, Stepped, stepped}
+use Rattle.mpm_machine.specs.After.{next, after, IsStep, IsNextOf, followed, AreSteps, HasRun, HasStepped, ShowsBefore, EndsInStep}
+use Rattle.mpm_machine.proofs.StepWithLaws.{whole_with, no_completions_with}
+use Rattle.mpm_machine.proofs.FileStepLaws.{steps_with, is_step}
+
+-- what a step that is made with files makes of the system
+
+pub stepped_change : (s : State) → (stepped s.system s.filing).change ≡ step_with (told_by (filed s.filing s.system)) s.system
+unfolding stepped
+stepped_change s = refl
+
+next_system : (s : State) → (next s).system ≡ (stepped s.system s.filing).change.system
+unfolding next
+next_system s = refl
+
+next_outputs : (s : State) → (next s).outputs ≡ (stepped s.system s.filing).change.emitted ++ s.outputs
+unfolding next
+next_outputs s = refl
+
+next_is : (s : State) → (next s).system ≡ (step_with (told_by (filed s.filing s.system)) s.system).system
+next_is s = next_system s ∙ ap (λ (c : Change). c.system) (stepped_change s)
+
+-- n steps
+
+pub after_nothing : (s : State) → after 0 s ≡ s
+unfolding after
+after_nothing s = refl
+
+pub after_more : (n : ℕ) (s : State) → after (n + 1) s ≡ next (after n s)
+unfolding after
+after_more n s = ap (λ m. after m s) (add-one n)
+
+pub after_both : (first more : ℕ) (s : State) → after (first + more) s ≡ after more (after first s)
+unfolding after
+after_both first zero s = ap (λ n. after n s) (omega arith)
+after_both first (suc more) s =
+    let count : first + suc more ≡ suc (first + more) = omega arith in
+    ap (λ n. after n s) count ∙ ap next (after_both first more s)
+
+pub steps_after : (n : ℕ) (s : State) → (after n s).system.steps ≡ s.system.steps + n
+unfolding after
+steps_after zero s = omega arith
+steps_after (suc n) s =
+    ap (λ (system : System). system.steps) (next_is (after n s)) ∙ steps_with (told_by (filed (after n s).filing (after n s).system)) (after n s).system
+    ∙ omega (arith, steps_after n s)
+
+pub whole_after : (n : ℕ) (s : State) → IsWhole s.system → IsWhole (after n s).system
+unfolding after
+whole_after zero s w = w
+whole_after (suc n) s w =
+    subst IsWhole (sym (next_is (after n s))) (whole_with (told_by (filed (after n s).filing (after n s).system)) (after n s).system (whole_after n s w))
+
+pub handed_after : (n : ℕ) (s : State) → s.system.kernel.dispatcher.completed ≡ [] → (after n s).system.kernel.dispatcher.completed ≡ []
+unfolding after
+handed_after zero s no_completions = no_completions
+handed_after (suc n) s no_completions =
+    ap (λ (system : System). system.kernel.dispatcher.completed) (next_is (after n s)) ∙ no_completions_with (told_by (filed (after n s).filing (after n s).system)) (after n s).system
+
+-- each is a step of the system
+next_of : (s : State) → IsWhole s.system → s.system.kernel.dispatcher.completed ≡ [] → IsNextOf s (next s)
+next_of s w handed =
+    let change = (stepped s.system s.filing).change in
+    let P : System → Type 0 = λ system. IsStep s.system (record { system = system; emitted = change.emitted }) in
+    record {
+      emitted = change.emitted;
+      is = subst P (sym (next_system s)) (is_step (told_by (filed s.filing s.system)) s.system change w handed (stepped_change s));
+      outputs = next_outputs s;
+    }
+
+pub next_in_run : (k : ℕ) (s : State) (old : System) → s.system ≡ old → IsWhole old → old.kernel.dispatcher.completed ≡ []
+    → IsNextOf (after k s) (after (k + 1) s)
+next_in_run k s old is w handed =
+    let whole : IsWhole s.system = subst IsWhole (sym is) w in
+    let none : s.system.kernel.dispatcher.completed ≡ [] = ap (λ (system : System). system.kernel.dispatcher.completed) is ∙ handed in
+    subst (IsNextOf (after k s)) (sym (after_more k s)) (next_of (after k s) (whole_after k s whole) (handed_after k s none))
+
+-- a stop in the step after the first done ones
+pub ends_in_step : (fault : StepFault) (trace : Bool) (written first : Option (List ℕ)) (s : State) (n done step : ℕ) → done < n → step ≡ s.system.steps + done + 1
+    → EndsBy fault written first (rendered trace (after done s).outputs) (rendered trace (next (after done s)).outputs)
+    → EndsInStep fault trace written first s n step
+ends_in_step fault trace written first s n done step below e ends =
+    let before : step - 1 - s.system.steps ≡ done = omega arith in
+    let afterwards : step - s.system.steps ≡ done + 1 = omega arith in
+    let P : State → Type 0 = λ t. EndsBy fault written first (rendered trace (after done s).outputs) (rendered trace t.outputs) in
+    let Q : ℕ → Type 0 = λ m. EndsBy fault written first (rendered trace (after m s).outputs) (rendered trace (after (step - s.system.steps) s).outputs) in
+    let R : ℕ → Type 0 = λ m. EndsBy fault written first (rendered trace (after done s).outputs) (rendered trace (after m s).outputs) in
+    record {
+      later = omega arith;
+      within = omega arith;
+      text = subst Q (sym before) (subst R (sym afterwards) (subst P (sym (after_more done s)) ends));
+    }
+
+-- a stop in one of the later steps is one of all
+pub ends_later : (fault : StepFault) (trace : Bool) (written first : Option (List ℕ)) (s : State) (n done step : ℕ) → done ≤ n
+    → EndsInStep fault trace written first (after done s) (n - done) step → EndsInStep fault trace written first s n step
+ends_later fault trace written first s n done step few ends =
+    let steps = steps_after done s in
+    let before : after (step - 1 - (after done s).system.steps) (after done s) ≡ after (step - 1 - s.system.steps) s =
+    sym (after_both done (step - 1 - (after done s).system.steps) s) ∙ ap (λ k. after k s) (omega (arith, steps, ends.later, few)) in
+    let afterwards : after (step - (after done s).system.steps) (after done s) ≡ after (step - s.system.steps) s =
+    sym (after_both done (step - (after done s).system.steps) s) ∙ ap (λ k. after k s) (omega (arith, steps, ends.later, few)) in
+    let P : State → Type 0 = λ t. EndsBy fault written first (rendered trace t.outputs) (rendered trace (after (step - (after done s).system.steps) (after done s)).outputs) in
+    let Q : State → Type 0 = λ t. EndsBy fault written first (rendered trace (after (step - 1 - s.system.steps) s).outputs) (rendered trace t.outputs) in
+    record {
+      later = omega (arith, steps, ends.later);
+      within = omega (arith, steps, ends.within, few);
+      text = subst Q afterwards (subst P before ends.text);
+    }
+
+-- what is kept to be written then
+
+pub shows_in_step : (fault : StepFault) (kept : Kept) (written first : Option (List ℕ)) (s : State) (done step : ℕ) → step ≡ s.system.steps + done + 1
+    → ShowsBefore fault kept written (after done s) first → ShowsBefore fault kept written (after (step - 1 - s.system.steps) s) first
+shows_in_step fault kept written first s done step e shows =
+    let before : step - 1 - s.system.steps ≡ done = omega (arith, e) in
+    subst (λ k. ShowsBefore fault kept written (after k s) first) (sym before) shows
+
+pub shows_later : (fault : StepFault) (kept : Kept) (written first : Option (List ℕ)) (s : State) (done step : ℕ) → (after done s).system.steps < step
+    → ShowsBefore fault kept written (after (step - 1 - (after done s).system.steps) (after done s)) first
+    → ShowsBefore fault kept written (after (step - 1 - s.system.steps) s) first
+shows_later fault kept written first s done step below shows =
+    let steps = steps_after done s in
+    let before : after (step - 1 - (after done s).system.steps) (after done s) ≡ after (step - 1 - s.system.steps) s =
+    sym (after_both done (step - 1 - (after done s).system.steps) s) ∙ ap (λ k. after k s) (omega (arith, steps, below)) in
+    subst (λ t. ShowsBefore fault kept written t first) before shows
+
+-- n steps of a system, and more behind them
+
+followed_again : (one two three : Change) → followed one (followed two three) ≡ followed (followed one two) three
+followed_again one two three =
+    ap (λ emitted. let c : Change = record { system = three.system; emitted = emitted } in c) (append_assoc three.emitted two.emitted one.emitted)
+
+pub are_steps_both : (m n : ℕ) (old : System) (one two : Change) → AreSteps m old one → AreSteps n one.system two → AreSteps (m + n) old (followed one two)
+unfolding AreSteps
+are_steps_both m zero old one two first more =
+    let count : m + zero ≡ m = omega arith in
+    let same : followed one two ≡ one = ap (followed one) more in
+    subst (λ k. AreSteps k old (followed one two)) (sym count) (subst (AreSteps m old) (sym same) first)
+are_steps_both m (suc n) old one two first more =
+    let count : m + suc n ≡ suc (m + n) = omega arith in
+    let before = more.0 in
+    let last = more.1 in
+    subst (λ k. AreSteps k old (followed one two)) (sym count)
+    (followed one before, last, are_steps_both m n old one before first more.2, more.3, ap (followed one) more.4 ∙ followed_again one before last)
+
+are_steps_one : (old : System) (change : Change) → IsStep old change → AreSteps 1 old change
+unfolding AreSteps
+are_steps_one old change is =
+    (silent old, change, refl, is, ap (λ emitted. let c : Change = record { system = change.system; emitted = emitted } in c) (sym (append-nil change.emitted)))
+
+-- nothing was done
+
+pub still_state : (system : System) (s : State) → s.system ≡ system → after 0 s ≡ record s { system = system }
+unfolding after
+still_state system s is = ap (λ (x : System). record s { system = x }) is
+
+pub still_steps : (system : System) → AreSteps 0 system (silent system)
+unfolding AreSteps
+still_steps system = refl
+
+pub run_nothing : (o : Outside) (old : System) → HasRun 0 o o old old
+unfolding AreSteps
+run_nothing o old = record { emitted = []; steps = refl; wrote = wrote_nothing o }
+
+pub run_both : (m n : ℕ) (o p q : Outside) (old middle new : System) → HasRun m o p old middle → HasRun n p q middle new → HasRun (m + n) o q old new
+run_both m n o p q old middle new one two = record {
+  emitted = two.emitted ++ one.emitted;
+  steps = are_steps_both m n old (record { system = middle; emitted = one.emitted }) (record { system = new; emitted = two.emitted }) one.steps two.steps;
+  wrote = wrote_after o p q one.emitted two.emitted one.wrote two.wrote;
+}
+
+pub run_silent : (n : ℕ) (o : Outside) (old new : System) → AreSteps n old (silent new) → HasRun n o o old new
+run_silent n o old new are = record { emitted = []; steps = are; wrote = wrote_nothing o }
+
+run_step : (o p : Outside) (old new : System) → HasStepped o p old new → HasRun 1 o p old new
+run_step o p old new one =
+    record { emitted = one.emitted; steps = are_steps_one old (record { system = new; emitted = one.emitted }) one.is; wrote = one.wrote }
+
+-- some that wrote nothing, and one more
+pub run_and_step : (n : ℕ) (o p : Outside) (old middle new : System) → AreSteps n old (silent middle) → HasStepped o p middle new → HasRun (n + 1) o p old new
+run_and_step n o p old middle new are one = run_both n 1 o o p old middle new (run_silent n o old middle are) (run_step o p middle new one)

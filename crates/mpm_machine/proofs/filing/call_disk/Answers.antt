@@ -1,0 +1,11 @@
+use Rattle.mpm_machine.proofs.FilingLaws.{disk_is, bare_still}
+use Rattle.mpm_machine.proofs.filing.call_disk.Goals as goal
+
+pub returns-clause-ok : goal.returns-clause-ok
+returns-clause-ok g c filing stands =
+    disk_is (g.D.Drives.disks c.args.drives.now) (g.D.Drives.disks c.call_at_once.new.drives) filing c.args.p c.args.system.now c.args.bdos.now c.call_at_once.new.self
+    c.looked_at-caller.result c.living.result.now c.kept_call.result.now c.now-now.result c.call_at_once.new.reply c.call_at_once.result
+    c.looked_at-caller.ensures.process c.living.ensures c.kept_call.ensures c.now-now.ensures.moment c.requires.function stands c.call_at_once.ensures.ok
+
+pub returns-clause-bare : goal.returns-clause-bare
+returns-clause-bare g c none = bare_still c.args.bdos.now.mounted c.call_at_once.new.self.mounted c.call_at_once.ensures.labels none

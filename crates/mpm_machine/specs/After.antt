@@ -1,0 +1,95 @@
+-- One step, and n steps, of system, files and drives.
+use Rattle.std.specs.Prelude.{◌≡◌, ℕ, zero, suc, ◌+◌, ◌-◌, ◌<◌, ◌≤◌, Bool, List, ◌++◌, Option, None, ⊤}
+use Rattle.mpm_port.specs.Disks.{Disks}
+use Rattle.mpm_render.specs.Outputs.{Output, rendered}
+use Rattle.mpm_render.specs.Shown.{Kept, Shows}
+use Rattle.mpm_output.specs.Outside.{Outside}
+use Rattle.mpm_output.specs.Writing.{Wrote, Stopped}
+use Rattle.mpm_bdos.specs.Direct.{Directly}
+use Rattle.mpm_bdos.specs.Filing.{Filing}
+use Rattle.mpm_bdos.specs.Serving.{Kept as Filed}
+use Rattle.mpm_machine.specs.declared.system.System.{System}
+use Rattle.mpm_machine.specs.declared.machine.StepFault.{StepFault}
+use Rattle.mpm_machine.specs.declared.machine.StepFault.TheVariants.{DiskFault, WriteFault}
+use Rattle.mpm_machine.specs.State.{State, Change, StandsForFiles, silent}
+use Rattle.mpm_machine.specs.Faults.{EndsBy}
+use Rattle.mpm_machine.specs.FileCalls.{file_caller, step_with, step_concluded, filed, Stepped, stepped}
+use Rattle.mpm_machine.specs.Contained.{IsContainedBy, Instructs, OnlyInstructed, Calls, ServedByValue}
+
+-- what a step that was made of a state leaves
+abbrev pub having : Stepped → List Output → State
+having step outputs = record { system = step.change.system; outputs = step.change.emitted ++ outputs; filing = step.filing }
+
+-- one step
+unfoldable pub next : State → State
+next s = having (stepped s.system s.filing) s.outputs
+
+-- n steps
+unfoldable pub after : ℕ → State → State
+after zero s = s
+after (suc n) s = next (after n s)
+
+-- whatever is on the drives: a step, by what a file call comes to, if one is made in it. Each byte that it changes is one that
+-- it writes or answers; an instruction leaves what is its own; and a call that is no file call is served by what it took
+pub record IsStep (old : System) (change : Change) : Type 0 where
+  pub told : Directly
+  pub is : change ≡ step_with told old
+  pub contained : IsContainedBy told old change.system
+  pub instruction : (p seg : ℕ) → Instructs old p seg → OnlyInstructed p old change.system
+  pub calls : (p seg : ℕ) → Calls old p seg → file_caller old ≡ None → ServedByValue p seg old change.system
+
+-- a change behind another
+abbrev pub followed : Change → Change → Change
+followed first last = record { system = last.system; emitted = last.emitted ++ first.emitted }
+
+-- one state's is the other's
+pub record IsNextOf (s t : State) : Type 0 where
+  pub emitted : List Output
+  pub is : IsStep s.system (record { system = t.system; emitted = emitted })
+  pub outputs : t.outputs ≡ emitted ++ s.outputs
+
+-- n of them in a row
+unfoldable pub AreSteps : ℕ → System → Change → Type 0
+AreSteps zero old change = change ≡ silent old
+AreSteps (suc n) old change = (before : Change) × (last : Change) × AreSteps n old before × IsStep before.system last × (change ≡ followed before last)
+
+-- so many steps were made of a system, and what they say was written
+pub record HasRun (n : ℕ) (before behind : Outside) (old new : System) : Type 0 where
+  pub emitted : List Output
+  pub steps : AreSteps n old (record { system = new; emitted = emitted })
+  pub wrote : Wrote before behind emitted
+
+-- one was
+pub record HasStepped (before behind : Outside) (old new : System) : Type 0 where
+  pub emitted : List Output
+  pub is : IsStep old (record { system = new; emitted = emitted })
+  pub wrote : Wrote before behind emitted
+
+-- one was, by what is on the drives; the open files and marks of those who ended in it are still there
+pub record HasFiled (filing : Filing) (before behind : Outside) (old new : System) (kept : Filed) (disks : Option Disks) : Type 0 where
+  pub system : new ≡ (stepped old filing).change.system
+  pub wrote : Wrote before behind (stepped old filing).change.emitted
+  pub files : StandsForFiles kept disks (filed filing old).filing
+
+-- a step in which a process made its file call came to its end
+pub record HasConcluded (told : Directly) (p : ℕ) (before behind : Outside) (old new : System) : Type 0 where
+  pub system : new ≡ (step_concluded told p old).system
+  pub wrote : Wrote before behind (step_concluded told p old).emitted
+
+-- a step stopped: where a drive failed nothing of it was written
+abbrev pub StopsBy : StepFault → Outside → Outside → List Output → Type 0
+StopsBy WriteFault before behind emitted = Stopped before behind emitted
+StopsBy DiskFault before behind emitted = behind ≡ before
+
+-- where a drive failed in the step after a state, what is kept to be written is that of the state
+abbrev pub ShowsBefore : StepFault → Kept → Option (List ℕ) → State → Option (List ℕ) → Type 0
+ShowsBefore WriteFault kept written s first = ⊤
+ShowsBefore DiskFault kept written s first = Shows kept written s.outputs first
+
+-- it stopped in that step, one of the n steps after a state: all of the steps before it was written, and then, where the sink
+-- failed, a first part of what it writes, which isn't empty
+pub record EndsInStep (fault : StepFault) (trace : Bool) (written first : Option (List ℕ)) (s : State) (n step : ℕ) : Type 0 where
+  pub later : s.system.steps < step
+  pub within : step ≤ s.system.steps + n
+  pub text : EndsBy fault written first (rendered trace (after (step - 1 - s.system.steps) s).outputs)
+      (rendered trace (after (step - s.system.steps) s).outputs)

@@ -1,0 +1,212 @@
+-- File calls: which process makes one in a step, what it comes to, and how it is answered. (MP/M II Programmer's Guide, "BDOS
+-- Function Calls", "BDOS Error Handling"; functions 13, "Reset Disk System", and 14, "Select Disk".)
+use Rattle.std.specs.Prelude.{ℕ, ◌%◌, Bool, true, false, not, List, [], ◌∷◌, ◌++◌, Option, Some, None, is_some, is_none, option_map, ◌==◌, ◌&&◌, ◌||◌, if◌then◌else◌}
+use Rattle.std.specs.List.{range_with_len}
+use Rattle.z80_regs.specs.Words.{word_of}
+use Rattle.mpm_base.specs.Calls.{Taken, Answer, answering}
+use Rattle.mpm_base.specs.declared.functions.TheConstants.{RESET_DISK_SYSTEM, SELECT_DISK}
+use Rattle.mpm_banks.specs.Memory.{Memory, segment_of}
+use Rattle.mpm_procs.specs.Table.{Table, lives, process_in, call_of}
+use Rattle.mpm_procs.specs.declared.process.Process.{Process}
+use Rattle.mpm_procs.specs.Settings.{is_count}
+use Rattle.mpm_clock.specs.declared.moment.Moment.{Moment}
+use Rattle.mpm_clock.specs.Times.{moment_of}
+use Rattle.mpm_clock.specs.PackedDecimal.{stamp}
+use Rattle.mpm_script.specs.declared.event.Event.{Event}
+use Rattle.mpm_kernel.specs.Kernel.{with_changed}
+use Rattle.mpm_kernel.specs.Called.{low_parameter}
+use Rattle.mpm_processor.specs.declared.gate.Gate.{Gate}
+use Rattle.mpm_processor.specs.declared.gate.Gate.TheVariants.{End, Call, Return}
+use Rattle.mpm_residents.specs.declared.native.Native.{Native}
+use Rattle.mpm_residents.specs.Natives.{native_call, native_in}
+use Rattle.mpm_render.specs.Outputs.{Output}
+use Rattle.mpm_output.specs.Texts.{error_text}
+use Rattle.mpm_bdos.specs.declared.functions.FileFunction.{FileFunction}
+use Rattle.mpm_bdos.specs.declared.functions.DirectFunction.{DirectFunction}
+use Rattle.mpm_bdos.specs.declared.refusals.Extended.{Extended}
+use Rattle.mpm_bdos.specs.Functions.{function_of}
+use Rattle.mpm_bdos.specs.Filing.{Filing, Situation}
+use Rattle.mpm_bdos.specs.Starting.{caller_of}
+use Rattle.mpm_bdos.specs.Outcomes.{CallerChange, Stays, Selects, Resets, Outcome, file_call, left_by, without_search}
+use Rattle.mpm_bdos.specs.Direct.{Directly, direct_of, direct}
+use Rattle.mpm_machine.specs.declared.system.System.{System}
+use Rattle.mpm_machine.specs.State.{Change, silent, speaking}
+use Rattle.mpm_machine.specs.Ending.{ended}
+use Rattle.mpm_machine.specs.Serving.{asked, keeping, popped, answering_call}
+use Rattle.mpm_machine.specs.Residing.{asked_by, taking}
+use Rattle.mpm_machine.specs.Step.{gate_before, coming, with_settled, counted, dispatched, step_of}
+
+-- a number is that of a call on files and drives
+unfoldable pub is_of_files : ℕ → Bool
+is_of_files number = is_some (function_of number) || is_some (direct_of number)
+
+-- the number of the function that a process calls as it goes on, if it calls one: one of a segment does at the gate of calls, and
+-- a resident always
+abbrev pub at_gate : Option Gate → ℕ → Option ℕ
+at_gate None number = None
+at_gate (Some End) number = None
+at_gate (Some Call) number = Some number
+at_gate (Some Return) number = None
+
+abbrev pub called_next : Option ℕ → ℕ → System → Option ℕ
+called_next (Some seg) p system = at_gate (gate_before p seg system) (process_in system.kernel.dispatcher.procs p).regs.c
+called_next None p system = option_map (λ (native : Native). (native_call native).function) (native_in system.residents p)
+
+abbrev pub is_file_number : Option ℕ → Bool
+is_file_number None = false
+is_file_number (Some number) = is_of_files number
+
+unfoldable pub calls_files : ℕ → System → Bool
+calls_files p system = is_file_number (called_next (process_in system.kernel.dispatcher.procs p).seg p system)
+
+-- the process that makes a file call in the next step: the one that runs, where no event comes
+abbrev pub file_caller_by : Bool → Option ℕ → System → Option ℕ
+file_caller_by comes None system = None
+file_caller_by comes (Some p) system = if calls_files p system && not comes then Some p else None
+
+unfoldable pub file_caller : System → Option ℕ
+file_caller system = file_caller_by (is_some (coming (counted system))) system.kernel.dispatcher.running system
+
+-- the call is made, and kept: what it reads is taken
+abbrev pub made_by : Option ℕ → ℕ → System → System
+made_by (Some seg) p system = keeping p (asked p seg system) system
+made_by None p system = asked_by (native_in system.residents p) p system
+
+unfoldable pub call_made : ℕ → System → System
+call_made p system = made_by (process_in system.kernel.dispatcher.procs p).seg p (counted system)
+
+-- a process as a file call looks at it: its user is one of sixteen, and its multi-sector count 1 to 16
+abbrev pub looked_at : Process → Process
+looked_at process = record process { user = process.user % 16; multi = if is_count process.multi then process.multi else 1 }
+
+-- what a file call finds beside files and drives: the process, and the stamp of the moment
+abbrev pub entering : Filing → FileFunction → ℕ → Process → Taken → Moment → Situation
+entering filing function p process call now =
+    record { filing = filing; caller = caller_of p (looked_at process); function = function; call = call; moment = stamp now }
+
+abbrev pub situation_of : Filing → FileFunction → ℕ → System → Situation
+situation_of filing function p system =
+    let procs = system.kernel.dispatcher.procs in
+    entering filing function p (process_in procs p) (call_of procs p) (moment_of system.kernel.clock)
+
+-- the call that a process keeps, by its function: served by the disk, or done without it, which leaves files and drives as they
+-- are
+abbrev pub directly : Filing → Directly → Outcome
+directly filing done = record { filing = filing; caller = done.caller; answer = done.answer; extended = done.extended }
+
+abbrev pub outcome_by : Option FileFunction → Option DirectFunction → Filing → ℕ → System → Outcome
+outcome_by (Some function) other filing p system = file_call (situation_of filing function p system)
+outcome_by None (Some function) filing p system =
+    directly filing (direct filing (process_in system.kernel.dispatcher.procs p).drive (call_of system.kernel.dispatcher.procs p) function)
+outcome_by None None filing p system = directly filing (record { caller = Stays; answer = answering 0; extended = None })
+
+unfoldable pub outcome_in : Filing → ℕ → System → Outcome
+outcome_in filing p system =
+    let number = (call_of system.kernel.dispatcher.procs p).function in
+    outcome_by (function_of number) (direct_of number) filing p system
+
+-- what of it the caller sees
+abbrev pub told_by : Outcome → Directly
+told_by outcome = record { caller = outcome.caller; answer = outcome.answer; extended = outcome.extended }
+
+-- the DMA address with which a process begins
+abbrev pub first_dma : Memory → Option ℕ → ℕ
+first_dma memory None = 0
+first_dma memory (Some seg) = word_of 128 (segment_of memory seg).base
+
+-- its caller has another drive, or the first one and its first DMA address
+unfoldable pub with_caller : CallerChange → ℕ → System → System
+with_caller Stays p system = system
+with_caller (Selects drive) p system =
+    record system { kernel = with_changed system.kernel p (record (process_in system.kernel.dispatcher.procs p) { drive = drive }) }
+with_caller Resets p system =
+    let process = process_in system.kernel.dispatcher.procs p in
+    record system { kernel = with_changed system.kernel p (record process { drive = 0; dma = first_dma system.memory process.seg }) }
+
+-- that is so of the call alone: 13 resets its caller in any case, and 14 selects a drive unless it is refused
+unfoldable pub change_of : Taken → Option Extended → CallerChange
+change_of call error =
+    if call.function == RESET_DISK_SYSTEM then Resets
+    else (if call.function == SELECT_DISK && is_none error then Selects (low_parameter call) else Stays)
+
+abbrev pub told_of : Taken → Answer → Option Extended → Directly
+told_of call reply error = record { caller = change_of call error; answer = reply; extended = error }
+
+-- the call is answered: its reply is placed behind the return address, and its record follows; a resident takes the answer
+abbrev pub reply_by : Option ℕ → Answer → ℕ → System → Change
+reply_by (Some seg) reply p system = answering_call reply (call_of system.kernel.dispatcher.procs p) p seg (popped p seg system)
+reply_by None reply p system = silent (taking reply p system)
+
+unfoldable pub file_replied : Answer → ℕ → System → Change
+file_replied reply p system = reply_by (process_in system.kernel.dispatcher.procs p).seg reply p system
+
+-- the text of an extended error comes to its caller's console
+unfoldable pub error_told : Extended → ℕ → System → Change
+error_told error p system = speaking (process_in system.kernel.dispatcher.procs p).console (error_text error.code error.drive) system
+
+abbrev pub then_so : Change → (System → Change) → Change
+then_so first next =
+    let afterwards = next first.system in
+    record { system = afterwards.system; emitted = afterwards.emitted ++ first.emitted }
+
+abbrev pub ending_it : ℕ → System → Change
+ending_it p system = silent (ended p system)
+
+-- by its process's error mode an extended error is answered, or told and answered, or told, and ends the process
+unfoldable pub told_then : Bool → Extended → Answer → ℕ → System → Change
+told_then answers error reply p system =
+    then_so (error_told error p system) (if answers then file_replied reply p else ending_it p)
+
+unfoldable pub error_met : Extended → Answer → ℕ → System → Change
+error_met error reply p system =
+    let mode = (process_in system.kernel.dispatcher.procs p).error_mode in
+    if mode == 255 then file_replied reply p system else (told_then (mode == 254) error reply p system)
+
+abbrev pub answered_by : Option Extended → Answer → ℕ → System → Change
+answered_by None reply p system = file_replied reply p system
+answered_by (Some error) reply p system = error_met error reply p system
+
+unfoldable pub concluded : Directly → ℕ → System → Change
+concluded told p system = answered_by told.extended told.answer p (with_caller told.caller p system)
+
+-- what a step makes of a system in which a process made its file call, which comes to this
+unfoldable pub step_concluded : Directly → ℕ → System → Change
+step_concluded told p system = dispatched false (with_settled (concluded told p system))
+
+-- a step by what a file call comes to, if one is made in it
+abbrev pub step_by : Option ℕ → Directly → System → Change
+step_by None told system = step_of system
+step_by (Some p) told system = step_concluded told p (call_made p system)
+
+unfoldable pub step_with : Directly → System → Change
+step_with told system = step_by (file_caller system) told system
+
+-- the processes of slots that lived and live no more: they give back what they had open and marked, and their searches end
+abbrev pub is_gone : Table → Table → ℕ → Bool
+is_gone before afterwards p = lives before p && not (lives afterwards p)
+
+unfoldable pub left_each : (ℕ → Bool) → List ℕ → Filing → Filing
+left_each gone [] filing = filing
+left_each gone (p ∷ ps) filing = left_each gone ps (if gone p then without_search (left_by filing p) p else filing)
+
+unfoldable pub left_behind : Table → Table → Filing → Filing
+left_behind before afterwards filing = left_each (is_gone before afterwards) (range_with_len 0 32) filing
+
+-- the outcome of the file call that is made in a step; where none is, all stays
+abbrev pub filed_by : Option ℕ → Filing → System → Outcome
+filed_by None filing system = outcome_by None None filing 0 system
+filed_by (Some p) filing system = outcome_in filing p (call_made p system)
+
+unfoldable pub filed : Filing → System → Outcome
+filed filing system = filed_by (file_caller system) filing system
+
+-- what a step makes of a system, and of files and drives
+pub record Stepped : Type 0 where
+  pub change : Change
+  pub filing : Filing
+
+unfoldable pub stepped : System → Filing → Stepped
+stepped system filing =
+    let outcome = filed filing system in
+    let change = step_with (told_by outcome) system in
+    record { change = change; filing = left_behind system.kernel.dispatcher.procs change.system.kernel.dispatcher.procs outcome.filing }

@@ -1,0 +1,315 @@
+ghost use Rattle.std.specs.Prelude.{◌≡◌, ◌<◌, true, Option, Some, None, is_some, IfSome, OnOk};
+ghost use Rattle.mpm_script.specs.declared.line.TheConstants.{GREATEST_STEP};
+ghost use Rattle.mpm_procs.specs.Table.{Lives, process_in, call_of};
+ghost use Rattle.mpm_output.specs.Writing.{Writes};
+ghost use Rattle.mpm_machine.specs.FileCalls.{is_of_files as is_file_function};
+
+use crate::system::System;
+use mpm_base::{Pid, Reply, Seg, functions};
+use mpm_bdos::{DirectFunction, Extended, FileFunction};
+use mpm_output::{error_text, write_bytes};
+use mpm_port::{Failed, Sink};
+use mpm_processor::Gate;
+use mpm_render::Render;
+
+/// The error modes of a process that takes extended errors as answers, and of one that has them told beside.
+const ANSWERS: u8 = 0xFF;
+
+const TELLS_AND_ANSWERS: u8 = 0xFE;
+
+/// Where the DMA address of a process begins: behind the base page's first half.
+const FIRST_DMA: u8 = 0x80;
+
+impl System {
+    ghost use Rattle.mpm_processor.specs.Gates.{IsHome};
+    ghost use Rattle.mpm_machine.specs.State.{IsWhole};
+    ghost use Rattle.mpm_machine.specs.Step.{coming, counted, gate_before};
+    ghost use Rattle.std.specs.Prelude.{is_none};
+    ghost use Rattle.mpm_bdos.specs.declared.refusals.Extended.{Extended};
+    ghost use Rattle.mpm_bdos.specs.Outcomes.{Resets};
+    ghost use Rattle.mpm_machine.specs.FileCalls.{at_gate, first_dma, reply_by, called_next, calls_files, file_caller, call_made, told_of, change_of, with_caller, file_replied, error_told, told_then, error_met, concluded, step_concluded};
+
+    /// The process that makes a file call in the next step, if one does.
+    #[tactic(auto, using(mpm_kernel::proofs::SoundLaws::runner_lives), unfolding(crate::specs::FileCalls::file_caller))]
+    pub fn file_caller(&self) -> Option<Pid>
+        requires whole { IsWhole self.now }
+        requires most { self.now.steps < GREATEST_STEP }
+        ensures caller { result ≡ file_caller self.now }
+        ensures lives { IfSome result (λ p. Lives self.now.kernel.dispatcher.procs p) }
+    {
+        match self.kernel.running() {
+            Some(p) => {
+                if self.calls_files(p) && !self.comes() {
+                    Some(p)
+                } else {
+                    None
+                }
+            }
+            None => None,
+        }
+    }
+
+    /// Whether a process calls a function on files and drives as it goes on.
+    #[tactic(auto, unfolding(crate::specs::FileCalls::calls_files))]
+    fn calls_files(&self, p: Pid) -> bool
+        requires whole { IsWhole self.now }
+        requires lives { Lives self.now.kernel.dispatcher.procs p }
+        ensures { result ≡ calls_files p self.now }
+    {
+        match self.called_next(p) {
+            Some(number) => is_of_files(number),
+            None => false,
+        }
+    }
+
+    /// The number of the function that a process calls as it goes on, if it calls one.
+    fn called_next(&self, p: Pid) -> Option<u8>
+        requires whole { IsWhole self.now }
+        requires lives { Lives self.now.kernel.dispatcher.procs p }
+        ensures { result ≡ called_next (process_in self.now.kernel.dispatcher.procs p).seg p self.now }
+    {
+        match self.kernel.segment(p) {
+            Some(seg) => self.called_at_gate(p, seg),
+            None => self.residents.function(p),
+        }
+    }
+
+    /// The same of a process of a segment: it calls one where it stands at the gate of calls.
+    fn called_at_gate(&self, p: Pid, seg: Seg) -> Option<u8>
+        requires lives { Lives self.now.kernel.dispatcher.procs p }
+        requires home { IsHome self.now.memory seg }
+        ensures { result ≡ at_gate (gate_before p seg self.now) (process_in self.now.kernel.dispatcher.procs p).regs.c }
+    {
+        match self.gate(p, seg) {
+            Some(Gate::Call) => Some(self.kernel.regs(p).c),
+            Some(Gate::End) => None,
+            Some(Gate::Return) => None,
+            None => None,
+        }
+    }
+
+    /// Whether an event comes in the next step.
+    #[tactic(auto, unfolding(crate::specs::Step::coming))]
+    fn comes(&self) -> bool
+        requires whole { IsWhole self.now }
+        requires most { self.now.steps < GREATEST_STEP }
+        ensures { result ≡ is_some (coming (counted self.now)) }
+    {
+        self.lets_in() && self.interrupts.is_due(self.steps + 1)
+    }
+
+    /// A step begins in which a process makes its file call, which it keeps.
+    #[tactic(auto, unfolding(crate::specs::FileCalls::call_made))]
+    pub fn make_file_call(&mut self, p: Pid)
+        requires whole { IsWhole self.old }
+        requires most { self.old.steps < GREATEST_STEP }
+        requires lives { Lives self.old.kernel.dispatcher.procs p }
+        ensures { self.new ≡ call_made p self.old }
+    {
+        self.steps += 1;
+        match self.kernel.segment(p) {
+            Some(seg) => self.take_call(p, seg),
+            None => self.ask_next(p),
+        }
+    }
+
+    /// A step ends in which a process made its file call, to which this is the reply and this its extended error.
+    #[tactic(auto, unfolding(crate::specs::FileCalls::step_concluded, crate::specs::Step::with_settled))]
+    pub fn conclude_file_step<S: Sink>(
+        &mut self,
+        p: Pid,
+        error: Option<Extended>,
+        reply: &mut Reply,
+        render: &mut Render,
+        sink: &mut S,
+    ) -> Result<(), Failed>
+        requires whole { IsWhole self.old }
+        requires lives { Lives self.old.kernel.dispatcher.procs p }
+        ensures system { OnOk result (self.new ≡ (step_concluded (told_of (call_of self.old.kernel.dispatcher.procs p) reply.old error) p self.old).system) }
+        ensures wrote { Writes S.written S.faults render.old sink.old render.new sink.new (step_concluded (told_of (call_of self.old.kernel.dispatcher.procs p) reply.old error) p self.old).emitted result }
+    {
+        self.conclude_file_call(p, error, reply, render, sink)?;
+        self.settle(reply, render, sink)?;
+        self.kernel.pick(false);
+        Ok(())
+    }
+
+    /// The file call that a process keeps is concluded: its caller's drive and DMA address change, and it is answered, or its
+    /// extended error is met.
+    #[tactic(auto, unfolding(crate::specs::FileCalls::concluded))]
+    fn conclude_file_call<S: Sink>(
+        &mut self,
+        p: Pid,
+        error: Option<Extended>,
+        reply: &Reply,
+        render: &mut Render,
+        sink: &mut S,
+    ) -> Result<(), Failed>
+        requires whole { IsWhole self.old }
+        requires lives { Lives self.old.kernel.dispatcher.procs p }
+        ensures system { OnOk result (self.new ≡ (concluded (told_of (call_of self.old.kernel.dispatcher.procs p) reply.now error) p self.old).system) }
+        ensures wrote { Writes S.written S.faults render.old sink.old render.new sink.new (concluded (told_of (call_of self.old.kernel.dispatcher.procs p) reply.now error) p self.old).emitted result }
+    {
+        self.change_caller(p, error.is_none());
+        match error {
+            None => self.put_file_reply(p, reply, render, sink),
+            Some(error) => self.meet_error(p, error, reply, render, sink),
+        }
+    }
+
+    /// The caller of 13 has the first drive and its first DMA address again, and that of 14 the drive that it selects, unless it
+    /// is refused.
+    #[tactic(auto, unfolding(crate::specs::FileCalls::with_caller, crate::specs::FileCalls::change_of))]
+    fn change_caller(&mut self, p: Pid, granted: bool)
+        requires whole { IsWhole self.old }
+        requires lives { Lives self.old.kernel.dispatcher.procs p }
+        ensures { (error : Option Extended) → granted ≡ is_none error → self.new ≡ with_caller (change_of (call_of self.old.kernel.dispatcher.procs p) error) p self.old }
+    {
+        let call = self.kernel.kept_call(p);
+        let drive = (call.word % 256) as u8;
+        match call.function {
+            functions::RESET_DISK_SYSTEM => self.reset_caller(p),
+            functions::SELECT_DISK if granted => self.kernel.process_mut(p).drive = drive,
+            _ => {}
+        }
+    }
+
+    /// A process has the first drive and its first DMA address again.
+    #[tactic(auto, unfolding(crate::specs::FileCalls::with_caller))]
+    fn reset_caller(&mut self, p: Pid)
+        requires whole { IsWhole self.old }
+        requires lives { Lives self.old.kernel.dispatcher.procs p }
+        ensures { self.new ≡ with_caller Resets p self.old }
+    {
+        let dma = self.first_dma(p);
+        let process = self.kernel.process_mut(p);
+        process.drive = 0;
+        process.dma = dma;
+    }
+
+    /// The DMA address with which a process begins.
+    #[tactic(auto, using(crate::proofs::WholeLaws::segment_is_there))]
+    fn first_dma(&self, p: Pid) -> u16
+        requires whole { IsWhole self.now }
+        requires lives { Lives self.now.kernel.dispatcher.procs p }
+        ensures { result ≡ first_dma self.now.memory (process_in self.now.kernel.dispatcher.procs p).seg }
+    {
+        match self.kernel.segment(p) {
+            Some(seg) => u16::from_le_bytes([FIRST_DMA, self.memory.spec(seg).base]),
+            None => 0,
+        }
+    }
+
+    /// A file call that a process keeps is answered: its reply is placed, and its record is written; a resident takes the
+    /// answer.
+    #[tactic(auto, unfolding(crate::specs::FileCalls::file_replied))]
+    fn put_file_reply<S: Sink>(
+        &mut self,
+        p: Pid,
+        reply: &Reply,
+        render: &mut Render,
+        sink: &mut S,
+    ) -> Result<(), Failed>
+        requires lives { Lives self.old.kernel.dispatcher.procs p }
+        ensures system { OnOk result (self.new ≡ (file_replied reply.now p self.old).system) }
+        ensures wrote { Writes S.written S.faults render.old sink.old render.new sink.new (file_replied reply.now p self.old).emitted result }
+    {
+        match self.kernel.segment(p) {
+            Some(seg) => self.put_reply_at(p, seg, reply, render, sink),
+            None => {
+                self.take_answer(p, reply);
+                Ok(())
+            }
+        }
+    }
+
+    /// The same of a process of a segment.
+    fn put_reply_at<S: Sink>(
+        &mut self,
+        p: Pid,
+        seg: Seg,
+        reply: &Reply,
+        render: &mut Render,
+        sink: &mut S,
+    ) -> Result<(), Failed>
+        requires lives { Lives self.old.kernel.dispatcher.procs p }
+        ensures system { OnOk result (self.new ≡ (reply_by (Some seg) reply.now p self.old).system) }
+        ensures wrote { Writes S.written S.faults render.old sink.old render.new sink.new (reply_by (Some seg) reply.now p self.old).emitted result }
+    {
+        self.pop(p, seg);
+        self.answer(p, seg, reply, render, sink)
+    }
+
+    /// An extended error is met by the error mode of its process.
+    #[tactic(auto, unfolding(crate::specs::FileCalls::error_met))]
+    fn meet_error<S: Sink>(
+        &mut self,
+        p: Pid,
+        error: Extended,
+        reply: &Reply,
+        render: &mut Render,
+        sink: &mut S,
+    ) -> Result<(), Failed>
+        requires whole { IsWhole self.old }
+        requires lives { Lives self.old.kernel.dispatcher.procs p }
+        ensures system { OnOk result (self.new ≡ (error_met error reply.now p self.old).system) }
+        ensures wrote { Writes S.written S.faults render.old sink.old render.new sink.new (error_met error reply.now p self.old).emitted result }
+    {
+        let mode = self.kernel.living(p).error_mode;
+        if mode == ANSWERS {
+            return self.put_file_reply(p, reply, render, sink);
+        }
+        self.tell_and_meet(p, error, mode == TELLS_AND_ANSWERS, reply, render, sink)
+    }
+
+    /// An extended error is told, and then it is answered, or ends its process.
+    #[tactic(auto, unfolding(crate::specs::FileCalls::told_then))]
+    fn tell_and_meet<S: Sink>(
+        &mut self,
+        p: Pid,
+        error: Extended,
+        answers: bool,
+        reply: &Reply,
+        render: &mut Render,
+        sink: &mut S,
+    ) -> Result<(), Failed>
+        requires whole { IsWhole self.old }
+        requires lives { Lives self.old.kernel.dispatcher.procs p }
+        ensures system { OnOk result (self.new ≡ (told_then answers error reply.now p self.old).system) }
+        ensures wrote { Writes S.written S.faults render.old sink.old render.new sink.new (told_then answers error reply.now p self.old).emitted result }
+    {
+        self.tell_error(p, error, render, sink)?;
+        if answers {
+            return self.put_file_reply(p, reply, render, sink);
+        }
+        self.end(p);
+        Ok(())
+    }
+
+    /// The text of an extended error comes out at its caller's console.
+    #[tactic(auto, unfolding(crate::specs::FileCalls::error_told, crate::specs::State::speaking))]
+    fn tell_error<S: Sink>(
+        &mut self,
+        p: Pid,
+        error: Extended,
+        render: &mut Render,
+        sink: &mut S,
+    ) -> Result<(), Failed>
+        requires whole { IsWhole self.old }
+        requires lives { Lives self.old.kernel.dispatcher.procs p }
+        ensures system { self.new ≡ (error_told error p self.old).system }
+        ensures wrote { Writes S.written S.faults render.old sink.old render.new sink.new (error_told error p self.old).emitted result }
+    {
+        let console = self.kernel.living(p).console;
+        let text = error_text(error.code, error.drive);
+        write_bytes(&mut self.kernel, console, text.as_slice(), render, sink)
+    }
+}
+
+/// Whether a number is that of a call on files and drives.
+#[tactic(auto, unfolding(crate::specs::FileCalls::is_of_files))]
+fn is_of_files(number: u8) -> bool
+    ensures { result ≡ is_file_function number }
+{
+    FileFunction::of(number).is_some() || DirectFunction::of(number).is_some()
+}

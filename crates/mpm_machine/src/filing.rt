@@ -1,0 +1,156 @@
+ghost use Rattle.std.specs.Prelude.{◌≡◌, ◌<◌, ◌&&◌, not, false, ℕ, List, Option, None, IsSome, IfOk, OnErr, slice_index_or, if◌then◌else◌};
+ghost use Rattle.mpm_port.specs.Causes.{HasCause};
+ghost use Rattle.mpm_procs.specs.Table.{Table, Lives, lives, call_of};
+ghost use Rattle.mpm_procs.specs.Settings.{is_count};
+ghost use Rattle.mpm_port.specs.Disks.{Disks};
+ghost use Rattle.mpm_mount.specs.Drives.{Drive};
+ghost use Rattle.mpm_bdos.specs.Functions.{function_of};
+ghost use Rattle.mpm_bdos.specs.Filing.{Filing};
+ghost use Rattle.mpm_bdos.specs.Serving.{IsCaller, filing_of};
+ghost use Rattle.mpm_bdos.specs.Starting.{caller_of};
+ghost use Rattle.mpm_machine.specs.State.{StandsForFiles, HoldsDrives};
+ghost use Rattle.mpm_machine.specs.FileCalls.{outcome_in, left_behind, looked_at as as_looked_at};
+ghost use Rattle.mpm_machine.specs.Mounting.{HasNoDrive};
+ghost use Rattle.mpm_machine.specs.Filed.{IsOutcome, AreLiving, left_if};
+
+use crate::system::System;
+use mpm_base::{Pid, Reply, Steps};
+use mpm_bdos::{Bdos, Extended, FileFunction};
+use mpm_kernel::Kernel;
+use mpm_port::{Drives, Failed};
+use mpm_procs::Process;
+use std::sync::ledger::Ledger;
+
+/// Of each slot whether a process lives there.
+pub(crate) fn living(kernel: &Kernel) -> [bool; 32]
+    ensures { AreLiving kernel.now.dispatcher.procs result }
+{
+    let mut slots = [false; 32];
+    for number in 0..32 {
+        slots[usize::from(number)] = kernel.lives(Pid(number));
+    }
+    slots
+}
+
+/// Gives back what those have open and marked who lived in these slots and live no more.
+pub(crate) fn leave_files(bdos: &mut Bdos, before: &[bool; 32], kernel: &Kernel)
+    ensures filing { (procs : Table) (drives : List (Option Drive)) → AreLiving procs before.now
+        → filing_of bdos.new drives ≡ left_behind procs kernel.now.dispatcher.procs (filing_of bdos.old drives) }
+    ensures rest { bdos.new ≡ record bdos.old { opens = bdos.new.opens; marks = bdos.new.marks; searches = bdos.new.searches } }
+{
+    for number in 0..32 {
+        let gone = is_gone(before, kernel, number);
+        leave_if(bdos, Pid(number), gone);
+    }
+}
+
+/// Whether a process lived in a slot and lives there no more.
+fn is_gone(before: &[bool; 32], kernel: &Kernel, slot: u8) -> bool
+    requires { slot < 32 }
+    ensures { result ≡ (slice_index_or before.now slot false && not (lives kernel.now.dispatcher.procs slot)) }
+{
+    before[usize::from(slot)] && !kernel.lives(Pid(slot))
+}
+
+/// Gives back what a process has open and marked, if it is gone.
+fn leave_if(bdos: &mut Bdos, p: Pid, gone: bool)
+    ensures filing { (drives : List (Option Drive)) → filing_of bdos.new drives ≡ left_if gone p (filing_of bdos.old drives) }
+    ensures rest { bdos.new ≡ record bdos.old { opens = bdos.new.opens; marks = bdos.new.marks; searches = bdos.new.searches } }
+{
+    if gone {
+        bdos.give_back(p);
+    }
+}
+
+/// A multi-sector count, 1 to 16.
+fn count_of(multi: u8) -> u8
+    ensures { result ≡ (if is_count multi then multi else 1) }
+{
+    if multi >= 1 && multi <= 16 { multi } else { 1 }
+}
+
+/// A process as a file call looks at it.
+fn looked_at(process: &Process) -> Process
+    ensures process { result ≡ as_looked_at process.now }
+    ensures caller { (p : ℕ) → IsCaller (caller_of p result) }
+{
+    Process {
+        user: process.user % 16,
+        multi: count_of(process.multi),
+        ..*process
+    }
+}
+
+/// Does the call on files that a process keeps, but for what becomes of the process: with its extended error, if it has one.
+pub(crate) fn call_files<D: Drives, L: Ledger>(
+    system: &System,
+    bdos: &mut Bdos,
+    p: Pid,
+    reply: &mut Reply,
+    drives: &mut D,
+    steps: &mut Steps<L>,
+) -> Result<Option<Extended>, Failed>
+    requires lives { Lives system.now.kernel.dispatcher.procs p }
+    requires holds { HoldsDrives D.attached D.disks bdos.old drives.old }
+    ensures ok { (filing : Filing) → StandsForFiles bdos.old (D.disks drives.old) filing
+        → IfOk result (IsOutcome (D.disks drives.new) (outcome_in filing p system.now) bdos.new reply.new) }
+    ensures holds { HoldsDrives D.attached D.disks bdos.new drives.new }
+    ensures names { D.failed_names drives.new ≡ D.failed_names drives.old }
+    ensures attached { (number : ℕ) → D.attached drives.new number ≡ D.attached drives.old number }
+    ensures bare { HasNoDrive bdos.old.mounted → HasNoDrive bdos.new.mounted }
+    ensures none { HasNoDrive bdos.old.mounted → drives.new ≡ drives.old }
+    ensures unfailing { HasNoDrive bdos.old.mounted → OnErr result ⊥ }
+    ensures cause { HasCause (D.faults drives.old) (D.faults drives.new) result }
+{
+    let call = system.kernel.kept_call(p);
+    match FileFunction::of(call.function) {
+        Some(_) => call_disk(system, bdos, p, reply, drives, steps),
+        None => Ok(call_directly(system, bdos, p, reply)),
+    }
+}
+
+/// The same of a call that the disk serves.
+fn call_disk<D: Drives, L: Ledger>(
+    system: &System,
+    bdos: &mut Bdos,
+    p: Pid,
+    reply: &mut Reply,
+    drives: &mut D,
+    steps: &mut Steps<L>,
+) -> Result<Option<Extended>, Failed>
+    requires lives { Lives system.now.kernel.dispatcher.procs p }
+    requires holds { HoldsDrives D.attached D.disks bdos.old drives.old }
+    requires function { IsSome (function_of (call_of system.now.kernel.dispatcher.procs p).function) }
+    ensures ok { (filing : Filing) → StandsForFiles bdos.old (D.disks drives.old) filing
+        → IfOk result (IsOutcome (D.disks drives.new) (outcome_in filing p system.now) bdos.new reply.new) }
+    ensures holds { HoldsDrives D.attached D.disks bdos.new drives.new }
+    ensures names { D.failed_names drives.new ≡ D.failed_names drives.old }
+    ensures attached { (number : ℕ) → D.attached drives.new number ≡ D.attached drives.old number }
+    ensures bare { HasNoDrive bdos.old.mounted → HasNoDrive bdos.new.mounted }
+    ensures none { HasNoDrive bdos.old.mounted → drives.new ≡ drives.old }
+    ensures unfailing { HasNoDrive bdos.old.mounted → OnErr result ⊥ }
+    ensures cause { HasCause (D.faults drives.old) (D.faults drives.new) result }
+{
+    let caller = looked_at(system.kernel.living(p));
+    let now = system.kernel.now();
+    bdos.call_at_once(
+        p,
+        system.kernel.kept_call(p),
+        &caller,
+        now,
+        drives,
+        steps,
+        reply,
+    )
+}
+
+/// The same of one that no disk serves.
+fn call_directly(system: &System, bdos: &Bdos, p: Pid, reply: &mut Reply) -> Option<Extended>
+    requires lives { Lives system.now.kernel.dispatcher.procs p }
+    requires function { function_of (call_of system.now.kernel.dispatcher.procs p).function ≡ None }
+    ensures { (disks : Option Disks) (filing : Filing) → StandsForFiles bdos.now disks filing
+        → IsOutcome disks (outcome_in filing p system.now) bdos.now reply.new result }
+{
+    reply.answer(0);
+    bdos.direct(system.kernel.kept_call(p), system.kernel.living(p), reply)
+}
