@@ -7,42 +7,25 @@ ghost use Rattle.mpm_file_trials.specs.Floppies.{AreFloppies};
 
 use mpm_base::Kind;
 use mpm_bdos::in_places;
+use mpm_images::{Entry, image, named};
 use mpm_mount::{Mounted, mount};
 use mpm_port::{Drives, Failed, FetchError};
 use std::alloc::Global;
 use std::test::Fail;
 
-/// The 32 bytes of a directory entry.
-pub(crate) type Entry = [u8; 32];
-
 /// The password SECRET and two spaces, as directories keep it, by the decode byte 06h.
 const STORED: [u8; 8] = [0x26, 0x26, 0x52, 0x43, 0x54, 0x45, 0x43, 0x55];
 
-/// The sectors of the first track behind the system's, in the order in which a floppy disk uses them.
-const SECTORS: [usize; 16] = [1, 7, 13, 19, 25, 5, 11, 17, 23, 3, 9, 15, 21, 2, 8, 14];
-
-/// How many bytes an image of a floppy disk has.
-const BYTES: usize = 256_256;
-
-/// A directory entry that begins with a byte and the name of a letter.
-pub(crate) fn entry(first: u8, letter: u8) -> Entry {
-    let mut entry = [0; 32];
-    entry[0] = first;
-    entry[1..12].copy_from_slice(b"        TXT");
-    entry[1] = letter;
-    entry
-}
-
 /// A file of user 0 that is read-only, by T1'.
 fn read_only(letter: u8) -> Entry {
-    let mut entry = entry(0, letter);
+    let mut entry = named(0, letter);
     entry[9] = b'T' + 128;
     entry
 }
 
 /// An XFCB, or the label, of which byte 12 is given, with the password.
 fn guard(first: u8, letter: u8, mode: u8) -> Entry {
-    let mut entry = entry(first, letter);
+    let mut entry = named(first, letter);
     entry[12] = mode;
     entry[13] = 0x06;
     entry[16..24].copy_from_slice(&STORED);
@@ -54,8 +37,8 @@ fn guard(first: u8, letter: u8, mode: u8) -> Entry {
 pub(crate) fn small_disk() -> [Entry; 7] {
     [
         guard(32, b'L', 0x81),
-        entry(0, b'A'),
-        entry(0, b'G'),
+        named(0, b'A'),
+        named(0, b'G'),
         guard(16, b'G', 0x80),
         read_only(b'P'),
         guard(16, b'P', 0x80),
@@ -73,17 +56,11 @@ pub(crate) fn name_of_slot(slot: u8) -> [u8; 11] {
 
 /// A disk whose 64 directory entries are files, and without a label.
 pub(crate) fn full_disk() -> [Entry; 64] {
-    let mut entries = [entry(0, b'A'); 64];
+    let mut entries = [named(0, b'A'); 64];
     for (slot, entry) in entries.iter_mut().enumerate() {
         entry[1..12].copy_from_slice(&name_of_slot((slot % 64) as u8));
     }
     entries
-}
-
-/// Where in the image of a floppy disk the entry of a slot begins.
-fn place(slot: usize) -> usize {
-    let sector = SECTORS[slot / 4 % 16].saturating_add(51);
-    sector.saturating_mul(128).saturating_add(32 * (slot % 4))
 }
 
 /// Puts a byte into an image.
@@ -107,17 +84,6 @@ fn put_sector(image: &mut Vec<u8>, sector: u32, bytes: &[u8; 128]) {
     for (place, byte) in bytes.iter().enumerate() {
         put(image, first.saturating_add(place), *byte);
     }
-}
-
-/// The image of a floppy disk with these entries from slot 0 on.
-fn image(alloc: Global, entries: &[Entry]) -> Result<Vec<u8>, Fail> {
-    let mut image = vec![in alloc; 0xE5; BYTES]?;
-    for (slot, entry) in entries.iter().enumerate() {
-        for (byte, value) in entry.iter().enumerate() {
-            put(&mut image, place(slot).saturating_add(byte), *value);
-        }
-    }
-    Ok(image)
 }
 
 /// The two disks, and which drive fails in each call that writes to it, if one does.
@@ -195,8 +161,8 @@ pub(crate) fn two_disks(
     b: &[Entry],
     failing: Option<u8>,
 ) -> Result<Floppies, Fail> {
-    let a = image(alloc, a)?;
-    let b = image(alloc, b)?;
+    let a = image(alloc, Kind::Ibm3740, a)?;
+    let b = image(alloc, Kind::Ibm3740, b)?;
     Ok(Floppies {
         a,
         b,

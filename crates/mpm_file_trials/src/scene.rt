@@ -5,11 +5,12 @@ ghost use Rattle.mpm_bdos.specs.Starting.{caller_of};
 ghost use Rattle.mpm_bdos.specs.Turns.{FitsDrives};
 
 use crate::desk::{Desk, Line};
-use crate::floppies::{Entry, Floppies, mounted_places, two_disks};
+use crate::floppies::{Floppies, mounted_places, two_disks};
 use mpm_base::{Pid, Steps, functions};
 use mpm_bdos::{Bdos, DirectFunction, Extended};
 use mpm_clock::Clock;
 use mpm_files::Progress;
+use mpm_images::Entry;
 use mpm_port::Drives;
 use mpm_procs::{NewProcess, Process, Procs};
 use std::alloc::Global;

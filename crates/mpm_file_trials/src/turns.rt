@@ -2,15 +2,16 @@
 //! where there is none. And calls in one of whose turns their drive fails.
 use crate::desk::Line;
 use crate::desk::Line::*;
-use crate::floppies::{Entry, entry, small_disk};
+use crate::floppies::small_disk;
 use crate::scene::{first_wrong_failing, first_wrong_line};
 use mpm_base::functions::*;
+use mpm_images::{Entry, named};
 use std::alloc::Global;
 use std::test::Fail;
 
 /// An entry of user 0 with an extent, or the XFCB of one of its files.
 fn extent(first: u8, letter: u8, ex: u8) -> Entry {
-    let mut entry = entry(first, letter);
+    let mut entry = named(first, letter);
     entry[12] = ex;
     entry
 }

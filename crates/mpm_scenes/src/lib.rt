@@ -1,11 +1,7 @@
-//! Tests of file calls, of whole kernels, of machines and of runs, as scenes: what happens, and what is seen. They stand above the crates that
-//! they play, so that none of these is proved once more for its tests; each sees what any caller of them does.
+//! Tests of machines and of runs as scenes: what happens, and what is seen. They stand above the crates that they play, so that none of
+//! these is proved once more for its tests; each sees what any caller of them does.
 #![tactic(auto)]
 
-#[cfg(test)]
-mod files;
-#[cfg(test)]
-mod kernel;
 #[cfg(test)]
 mod machine;
 #[cfg(test)]

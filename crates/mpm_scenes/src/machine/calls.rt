@@ -59,6 +59,35 @@ fn an_unknown_function_answers_ffff(rt: HostRuntime) -> Result<(), Fail> {
     )
 }
 
+/// The machine of a program, in which no command line interpreter acts: LD C,96h; LD DE,0110h; CALL 0005h; LD C,2Fh;
+/// CALL 0005h; HALT. The command at 0110h has user 0, drive A, console 0 and the text `x`.
+const COMMANDS: Scene = Scene {
+    machine: b"",
+    script: b"",
+    first: b"\x0E\x96\x11\x10\x01\xCD\x05\x00\x0E\x2F\xCD\x05\x00\x76\0\0\0\0x\0",
+    second: b"",
+    trace: true,
+    disk: None,
+};
+
+#[test]
+fn without_an_interpreter_a_command_is_refused_and_a_chain_only_ends_its_process(
+    rt: HostRuntime,
+) -> Result<(), Fail> {
+    COMMANDS.shows(
+        rt.alloc(),
+        &[
+            Behind(
+                5,
+                b"t 5 0 150 FF 0096 0110 00FF\n",
+                &[Has(0, A, 0xFF), Has(0, B, 0), Has(0, Hl, 0x00FF)],
+            ),
+            Behind(8, b"t 5 0 150 FF 0096 0110 00FF\n", &[Lives(0, true)]),
+            Behind(9, b"t 5 0 150 FF 0096 0110 00FF\n", &[Lives(0, false)]),
+        ],
+    )
+}
+
 /// The machine of a program: LD DE,0110h; LD C,98h; CALL 0005h; HALT. At 0110h stand the addresses of a text and of a file
 /// control block, and at 0120h the text.
 fn parsing(first: &[u8]) -> Scene<'_> {

@@ -1,8 +1,8 @@
 //! File calls of programs: what they answer, what comes to the console, and what they leave.
 use super::scene::Sight::{Byte, Lives, Word};
 use super::scene::{Behind, Scene, Sight};
-use crate::files::disks::{Entry, file, held, named, xfcb};
 use mpm_base::Kind;
+use mpm_images::{Entry, file, held, named, xfcb};
 use std::test::Fail;
 
 /// A machine file of two segments of the pages 40h to 4Fh, in banks of their own, and drive A, a floppy disk.

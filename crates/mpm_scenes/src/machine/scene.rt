@@ -6,8 +6,8 @@ ghost use Rattle.mpm_port.specs.MemoryDisks.{size_of, disks_of};
 ghost use Rattle.mpm_machine.specs.State.{IsWhole, HoldsDrives};
 ghost use Rattle.mpm_machine.specs.Opening.{IsBare, MayPlace};
 
-use crate::files::disks::{Entry, image};
 use mpm_base::{Kind, Name8, Pid, Seg, Steps};
+use mpm_images::{Entry, image};
 use mpm_machine::Machine;
 use mpm_machine_file::{MachineFile, read_machine};
 use mpm_port::{MemoryDrives, MemorySink};

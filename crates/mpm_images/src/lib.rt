@@ -1,0 +1,140 @@
+//! Images of disks as tests make them: entries from slot 0 on, and all other bytes E5h. Where entries and records are stands here once
+//! more, by the guides alone, so that what is tried and what it is tried with have no code in common.
+//! (CP/M Alteration Guide, "Disk Parameter Tables"; MP/M II System Guide, "Disk Definition Tables".)
+#![tactic(auto)]
+
+ghost use Rattle.std.specs.Prelude.{◌<◌};
+
+use mpm_base::Kind;
+use std::alloc::{AllocError, Global};
+
+/// The 32 bytes of a directory entry.
+pub type Entry = [u8; 32];
+
+/// A slot that was never used.
+pub const UNUSED: Entry = [0xE5; 32];
+
+/// How a kind of disk is laid out.
+#[derive(Clone, Copy)]
+pub struct Layout {
+    /// How many bytes an image has.
+    pub bytes: usize,
+    /// How many records a block has.
+    pub block: u32,
+    /// The first block of files, and the last.
+    pub first: u16,
+    pub last: u16,
+    /// How many records a directory entry covers.
+    pub entry: u32,
+    /// Whether an entry has eight blocks by two bytes each, in place of sixteen by one.
+    pub is_wide: bool,
+}
+
+/// The layout of a kind.
+pub fn layout_of(kind: Kind) -> Layout
+    ensures block { 0 < result.block }
+    ensures entry { 0 < result.entry }
+{
+    match kind {
+        Kind::Ibm3740 => Layout {
+            bytes: 256_256,
+            block: 8,
+            first: 2,
+            last: 242,
+            entry: 128,
+            is_wide: false,
+        },
+        Kind::Hd4 => Layout {
+            bytes: 4_194_304,
+            block: 16,
+            first: 8,
+            last: 2047,
+            entry: 128,
+            is_wide: true,
+        },
+        Kind::Hd8 => Layout {
+            bytes: 8_388_608,
+            block: 32,
+            first: 4,
+            last: 2047,
+            entry: 256,
+            is_wide: true,
+        },
+    }
+}
+
+/// The sectors of a track of a floppy disk, counted from 0, in the order in which they are used.
+const SKEW: [u32; 26] = [
+    0, 6, 12, 18, 24, 4, 10, 16, 22, 2, 8, 14, 20, 1, 7, 13, 19, 25, 5, 11, 17, 23, 3, 9, 15, 21,
+];
+
+/// Where in an image the sector of a record is that is counted behind the system's tracks, which are two on a floppy disk.
+pub fn place(kind: Kind, number: u32) -> u32 {
+    match kind {
+        Kind::Ibm3740 => {
+            (number / 26 * 26).saturating_add(52 + SKEW[(number % 26) as usize] % 26)
+        }
+        Kind::Hd4 | Kind::Hd8 => number,
+    }
+}
+
+/// An entry that begins with a byte and a letter's name, `A.TXT`.
+pub fn named(first: u8, letter: u8) -> Entry {
+    let mut entry = [0; 32];
+    entry[0] = first;
+    entry[1..12].copy_from_slice(b"        TXT");
+    entry[1] = letter;
+    entry
+}
+
+/// A directory entry of a file of user 0, with its last extent and record count, and no block.
+pub fn file(letter: u8, ex: u8, rc: u8) -> Entry {
+    let mut entry = named(0, letter);
+    entry[12] = ex;
+    entry[15] = rc;
+    entry
+}
+
+/// The same with a block at a place.
+pub fn held(kind: Kind, entry: Entry, index: usize, block: u16) -> Entry {
+    let mut entry = entry;
+    let [low, high] = block.to_le_bytes();
+    if layout_of(kind).is_wide {
+        let at = index % 8 * 2;
+        entry[16 + at] = low;
+        entry[17 + at] = high;
+    } else {
+        entry[16 + index % 16] = low;
+    }
+    entry
+}
+
+/// Another file of one record, which no job names: it has the first block.
+pub fn other(kind: Kind) -> Entry {
+    held(kind, file(b'B', 0, 1), 0, layout_of(kind).first)
+}
+
+/// An XFCB of a file of user 0.
+pub fn xfcb(letter: u8) -> Entry {
+    named(16, letter)
+}
+
+/// Puts the entry of a slot into an image.
+fn put_entry(image: &mut [u8], kind: Kind, slot: usize, entry: &Entry) {
+    let sector = place(kind, (slot / 4 % 128) as u32) as usize;
+    let first = sector.saturating_mul(128).saturating_add(slot % 4 * 32);
+    for (byte, value) in entry.iter().enumerate() {
+        if let Some(old) = image.get_mut(first.saturating_add(byte)) {
+            *old = *value;
+        }
+    }
+}
+
+/// The image of a disk with these entries from slot 0 on, all of whose other bytes are E5h.
+pub fn image(alloc: Global, kind: Kind, entries: &[Entry]) -> Result<Vec<u8>, AllocError> {
+    let mut image = vec![in alloc; 0xE5; layout_of(kind).bytes]?;
+    for (slot, entry) in entries.iter().enumerate() {
+        put_entry(image.as_mut_slice(), kind, slot, entry);
+    }
+    Ok(image)
+}
