@@ -58,11 +58,11 @@ unfolding mode_by
 mode_made s f = ap (mode_in (turned s (call_turns s)).drive (own_file s) (block s) (given_password s) s.caller.password) f
 
 -- the open file that it names
-record IsNamed (s : Situation) : Type 0 where
-  n : ℕ
-  key : FileKey
-  number_is : item_number s ≡ Some n
-  key_is : key_named s n ≡ Some key
+pub record IsNamed (s : Situation) : Type 0 where
+  pub n : ℕ
+  pub key : FileKey
+  pub number_is : item_number s ≡ Some n
+  pub key_is : key_named s n ≡ Some key
 
 named_by : (s : Situation) (number : Option ℕ) → item_number s ≡ number → is_some (option_and_then (key_named s) number) ≡ true → IsNamed s
 named_by s None is there = absurd (false≢true there)
@@ -101,13 +101,13 @@ key_is_named s i = ap (option_and_then (key_named s)) i.number_is ∙ i.key_is
 mode_is : (s : Situation) (i : IsNamed s) → open_mode s ≡ (item_of s.filing.opens i.n).mode
 mode_is s i = ap (λ number. (item_of s.filing.opens (unwrap_or number 0)).mode) i.number_is
 
-subject_where : (s : Situation) (i : IsNamed s) → subject s ≡ open_file (own_file s) (open_key s) → i.key ≡ subject_key s
+pub subject_where : (s : Situation) (i : IsNamed s) → subject s ≡ open_file (own_file s) (open_key s) → i.key ≡ subject_key s
 subject_where s i is =
     let own : subject s ≡ file_of i.key = is ∙ ap (open_file (own_file s)) (key_is_named s i) in
     ap (λ drive. record { drive = drive; user = i.key.user; name = i.key.name }) (named_drive s i.n i.key i.key_is)
     ∙ sym (ap (key_of (drive_number s)) own)
 
-lock_subject : (s : Situation) → s.function ≡ LockRecord → subject s ≡ open_file (own_file s) (open_key s)
+pub lock_subject : (s : Situation) → s.function ≡ LockRecord → subject s ≡ open_file (own_file s) (open_key s)
 unfolding subject_by
 lock_subject s f = ap (subject_by (drive_at s) (own_file s) (open_key s)) f
 
@@ -119,7 +119,7 @@ there : (b : Bool) → not b ≡ false → b ≡ true
 there true e = refl
 there false e = absurd (true≢false e)
 
-lock_named : (s : Situation) → refusal_of s ≡ None → s.function ≡ LockRecord → IsNamed s
+pub lock_named : (s : Situation) → refusal_of s ≡ None → s.function ≡ LockRecord → IsNamed s
 unfolding refusals_of applies
 lock_named s none f = item_named s (there (is_some (open_key s)) (none_applies s (refusals_of LockRecord) (ap refusals_of f) none).1.0)
 

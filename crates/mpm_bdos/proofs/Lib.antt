@@ -18,6 +18,7 @@ pub mod ReadBytes
 pub mod Freed
 pub mod LastSearches
 pub mod LockEnds
+pub mod LockedOff
 pub mod Locking
 pub mod Unlocking
 pub mod StillProtected
@@ -51,4 +52,5 @@ pub mod ToldLaws
 pub mod LastLaws
 pub mod UserLaws
 pub mod FinishLaws
+pub mod SoundLaws
 pub mod AtOnceLaws

@@ -62,6 +62,7 @@ impl Model for Bdos {
 }
 
 impl Bdos {
+    ghost use Rattle.mpm_opens.specs.Opens.{AreOpen};
     ghost use Rattle.mpm_bdos.specs.Serving.{AreInPlace, StandEach, Serves, filing_of, nothing_kept};
 
     /// Nothing is open, marked, sought or protected, nothing is cached, and no call is in service. Of the sixteen drives those
@@ -109,6 +110,13 @@ impl Bdos {
             ),
             None => None,
         }
+    }
+
+    /// Says what is so of open files and locks at any time: no two locks are of one record.
+    pub fn tell_sound(&self)
+        ensures { AreOpen self.now.opens }
+    {
+        self.opens.tell_sound();
     }
 
     /// Gives back all that a process that ended has open, its locks and its marks, and forgets what it searched for last.

@@ -245,6 +245,14 @@ impl Opens {
         self.locks.owner(&file, number)
     }
 
+    /// Says what is so of open files and locks at any time: no two locks are of one record.
+    pub fn tell_sound(&self)
+        ensures { AreOpen self.now }
+    {
+        // Reading a field tells it.
+        let _ = &self.items;
+    }
+
     /// A process's items on a drive are given back, however often they were opened, with its locks there. (MP/M II Programmer's
     /// Guide, "Function 39: Free Drive".)
     pub fn leave_drive(&mut self, p: Pid, drive: u8)
