@@ -11,6 +11,3 @@ mod programs;
 
 pub use imaging::image;
 pub use making::{Generated, generate};
-
-#[cfg(test)]
-mod tests;

@@ -1,5 +1,6 @@
-use super::draws::Draws;
-use super::*;
+//! What a seed makes: an image, and a machine with what is typed at its consoles.
+use mpm_generator::{Generated, generate, image};
+use mpm_machine_file::MachineFile;
 use mpm_port::Drives;
 use mpm_script::{Event, Script, Timed};
 use std::alloc::Global;
@@ -136,25 +137,6 @@ fn the_images_of_three_seeds(rt: HostRuntime) -> Result<(), Fail> {
     Ok(())
 }
 
-#[test]
-fn numbers_are_drawn_in_their_order(rt: HostRuntime) {
-    let mut draws = Draws::behind(1);
-    assert_eq!(rt;
-        (draws.below(6), draws.below(32), draws.below(26)),
-        (2, 30, 25)
-    );
-    assert_eq!(rt;
-        (draws.below(6), draws.below(32), draws.below(26)),
-        (1, 11, 11)
-    );
-    assert_eq!(rt;
-        (draws.below(6), draws.below(32), draws.below(26)),
-        (0, 27, 14)
-    );
-    let mut last = Draws::behind(2147483647);
-    assert_eq!(rt; (last.below(6), last.below(32), last.below(26)), (5, 25, 8));
-}
-
 /// Whether a key is typed in step 0 as an event of a script.
 fn has_key(script: &Script, place: usize, console: u8, byte: u8) -> bool {
     place < script.len()
@@ -176,26 +158,30 @@ fn calls_both(script: &Script) -> bool {
         && has_key(script, 5, 1, b'\r')
 }
 
-/// Whether the image `a` can be attached, and its first sector begins with the entry of G0.COM.
+/// Whether the image `a` can be attached, and has its size.
 fn has_image(generated: &mut Generated) -> bool {
-    if generated.drives.attach(0, "a").is_err() {
-        return false;
-    }
-    generated.drives.size(0) == Ok(4194304)
+    generated.drives.attach(0, "a").is_ok() && generated.drives.size(0) == Ok(4194304)
+}
+
+/// Whether a machine has two consoles and no printer, ticks, no turns of the disk, two segments and a drive.
+fn has_its_parts(machine: &MachineFile) -> bool {
+    machine.consoles == 2
+        && machine.printers == 0
+        && machine.tick_every == 1000
+        && machine.disk_turn == 0
+        && machine.segments.as_slice().len() == 2
+        && machine.drives.as_slice().len() == 1
+}
+
+/// Whether a seed made its machine, its script and its image.
+fn is_made(generated: &mut Generated) -> bool {
+    has_its_parts(&generated.machine) && calls_both(&generated.script) && has_image(generated)
 }
 
 #[test]
 fn the_machine_of_a_seed(rt: HostRuntime) -> Result<(), Fail> {
-    match generate(rt.alloc(), 1) {
-        Ok(mut generated) => {
-            assert!(rt; generated.machine.consoles == 2 && generated.machine.printers == 0);
-            assert!(rt; generated.machine.tick_every == 1000 && generated.machine.disk_turn == 0);
-            assert!(rt; generated.machine.segments.as_slice().len() == 2);
-            assert!(rt; generated.machine.drives.as_slice().len() == 1);
-            assert!(rt; calls_both(&generated.script));
-            assert!(rt; has_image(&mut generated));
-            Ok(())
-        }
-        Err(error) => Err(Fail::from(error)),
-    }
+    let mut generated = generate(rt.alloc(), 1)?;
+    let made = is_made(&mut generated);
+    assert!(rt; made);
+    Ok(())
 }

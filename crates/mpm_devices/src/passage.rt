@@ -1,0 +1,49 @@
+ghost use Rattle.std.specs.Prelude.{◌≡◌, ◌++◌, ◌∷◌, [], IfOk};
+
+use mpm_port::OutOfMemory;
+use rtrb::{Consumer, Producer, RingBuffer};
+use std::alloc::Global;
+use std::marker::Model;
+
+/// What passed, byte by byte, of which nothing is kept. Contracts see all of it: each byte goes through a ring of one place,
+/// whose ends know what was sent.
+#[derive(Drop)]
+pub(crate) struct Passage {
+    producer: Producer<u8>,
+    consumer: Consumer<u8>,
+}
+
+impl Model for Passage {
+    ghost use Rattle.std.specs.Prelude.{◌≡◌, ℕ, List};
+    ghost use Rattle.rtrb.specs.Ring.{sent, received, producer_capacity, IsPair};
+
+    ghost Value = { List ℕ };
+
+    ghost view = { λ p. sent p.producer };
+
+    ghost invariant = { λ p. IsPair p.producer p.consumer × (received p.consumer ≡ sent p.producer) × (producer_capacity p.producer ≡ 1) };
+}
+
+impl Passage {
+    /// Nothing passed yet.
+    ///
+    /// # Errors
+    /// Where no memory is found for the ring.
+    pub(crate) fn new(alloc: Global) -> Result<Passage, OutOfMemory>
+        ensures { IfOk result (λ passage. passage ≡ []) }
+    {
+        let (producer, consumer) = RingBuffer::new(alloc, 1)?;
+        Ok(Passage { producer, consumer })
+    }
+
+    /// One more byte passes.
+    pub(crate) fn pass(&mut self, byte: u8) -> u8
+        ensures passed { self.new ≡ self.old ++ byte ∷ [] }
+        ensures same { result ≡ byte }
+    {
+        let _free = self.producer.slots_beside(&mut self.consumer);
+        self.producer.push_reserved(byte);
+        let _waiting = self.consumer.slots_beside(&mut self.producer);
+        self.consumer.pop_known()
+    }
+}
