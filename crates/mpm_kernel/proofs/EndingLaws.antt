@@ -35,7 +35,7 @@ use Rattle.mpm_kernel.proofs.Staying.{all_and_one}
 use Rattle.mpm_kernel.proofs.QueueingLaws.{sound_given, write_waits, may_by_write, lives_written}
 use Rattle.mpm_kernel.proofs.QueueCalls.{queues_with_other}
 use Rattle.mpm_kernel.proofs.HomeLaws.{SameHomes, homes_stay, homes_both, homes_vacated, kept_delivered_to, procs_with_other}
-use Rattle.mpm_kernel.proofs.ProcedureLaws.{sound_outside, lives_outside, nobody_outside, homes_given, homes_given_back}
+use Rattle.mpm_kernel.proofs.ProcedureLaws.{sound_outside, lives_outside, few_outside, others_outside, homes_given, homes_given_back}
 
 -- a process stands nowhere any more, and the others where they stood
 dropped_nowhere : (p : ℕ) (kernel : Kernel) → places (dropped_out p kernel) p ≡ 0
@@ -107,12 +107,11 @@ places_outside p q kernel = refl
 
 leaves_outside : (p : ℕ) (kernel : Kernel) → IsSound kernel → Lives kernel.dispatcher.procs p → places kernel p ≡ 0 → Leaves p (outside p kernel)
 leaves_outside p kernel s h none =
-    let P : List ℕ → Type 0 = λ ps. AllByRecursion (λ q. Lives (outside p kernel).dispatcher.procs q × (q ≢ p)) ps in
     record {
       sound = sound_outside p kernel s h;
       lives = lives_outside p p kernel h;
       nowhere = places_outside p p kernel ∙ none;
-      others = subst P (sym (nobody_outside p kernel)) tt;
+      others = others_outside p kernel;
     }
 
 -- the held call of another one is completed
@@ -223,10 +222,10 @@ few_given (Some q) p kernel =
     either (λ (k : Kernel). length k.dispatcher.completed ≤ length kernel.dispatcher.completed + 1) (is_made kernel.queues q) _ _
     (λ _. few_other (woken_by (write_outcome kernel.queues q)) (given_to kernel p q)) (λ _. omega arith)
 
-pub few_given_back : (p : ℕ) (kernel : Kernel) → length (given_back p kernel).dispatcher.completed ≤ 1
+pub few_given_back : (p : ℕ) (kernel : Kernel) → length (given_back p kernel).dispatcher.completed ≤ 2
 unfolding given_back
 few_given_back p kernel =
-    omega (arith, few_given (process_in kernel.dispatcher.procs p).procedure p (outside p kernel), ap (λ (ps : List ℕ). length ps) (nobody_outside p kernel))
+    omega (arith, few_given (process_in kernel.dispatcher.procs p).procedure p (outside p kernel), few_outside p kernel)
 
 few_returned : (p q : ℕ) (kernel : Kernel) → length (returned p q kernel).dispatcher.completed ≤ length kernel.dispatcher.completed + 1
 unfolding returned
@@ -237,12 +236,12 @@ few_returned p q kernel =
 pub record ReturnedSo (p : ℕ) (start now : Kernel) (q : ℕ) : Type 0 where
   pub kernel : (rest : ℕ) → q + rest ≡ 32 → all_returned (range_with_len 0 32) p start ≡ all_returned (range_with_len q rest) p now
   pub leaves : Leaves p now
-  pub few : length now.dispatcher.completed ≤ 1 + q
+  pub few : length now.dispatcher.completed ≤ 2 + q
 
 all_of : (rest : ℕ) → 0 + rest ≡ 32 → 32 ≡ rest
 all_of rest all = omega (arith, all)
 
-pub returned_nothing : (p : ℕ) (start : Kernel) → Leaves p start → length start.dispatcher.completed ≤ 1 → ReturnedSo p start start 0
+pub returned_nothing : (p : ℕ) (start : Kernel) → Leaves p start → length start.dispatcher.completed ≤ 2 → ReturnedSo p start start 0
 returned_nothing p start l few = record {
   kernel = λ rest all. ap (λ (n : ℕ). all_returned (range_with_len 0 n) p start) (all_of rest all);
   leaves = l;

@@ -8,6 +8,7 @@ use Rattle.mpm_kernel.specs.Consoling.{unit_left, IfLives, owner_made, is_from, 
 use Rattle.mpm_kernel.proofs.Staying.{SameProcesses}
 use Rattle.mpm_kernel.proofs.Passing.{sound_unit_left}
 use Rattle.mpm_kernel.proofs.UnitCalls.{sound_owner_made}
+use Rattle.mpm_kernel.proofs.UnitCounts.{many_detached, many_assigned}
 
 sound_handed : (console : ℕ) (from to : Option ℕ) (kernel : Kernel) → IsSound kernel → console < length kernel.units.consoles → IfLives kernel.dispatcher.procs to
     → IsSound (handed_over console from to kernel)
@@ -38,3 +39,16 @@ procs_gave console from to kernel = (keeps_given console from to kernel).procs
 
 pub completed_gave : (console : ℕ) (from to : Option ℕ) (kernel : Kernel) → (given console from to kernel).dispatcher.completed ≡ kernel.dispatcher.completed
 completed_gave console from to kernel = (keeps_given console from to kernel).completed
+
+-- a console that is given is one of as many as before
+
+consoles_handed : (console : ℕ) (from to : Option ℕ) (kernel : Kernel) → length (handed_over console from to kernel).units.consoles ≡ length kernel.units.consoles
+unfolding unit_left owner_made
+consoles_handed console None None kernel = refl
+consoles_handed console (Some p) None kernel = (many_detached kernel.units p (ConsoleUnit console)).consoles
+consoles_handed console from (Some to) kernel = (many_assigned kernel.units console to).consoles
+
+pub consoles_gave : (console : ℕ) (from to : Option ℕ) (kernel : Kernel) → length (given console from to kernel).units.consoles ≡ length kernel.units.consoles
+unfolding given
+consoles_gave console from to kernel =
+    either (λ (k : Kernel). length k.units.consoles ≡ length kernel.units.consoles) (is_from (owner_of kernel.units (ConsoleUnit console)) from) _ _ (λ _. consoles_handed console from to kernel) (λ _. refl)

@@ -29,6 +29,5 @@ pub mod HomeLaws
 pub mod ProcedureLaws
 pub mod EndingLaws
 pub mod HoldingLaws
-pub mod JoinedLaws
 pub mod OutcomeLaws
 pub mod EnsuredLaws

@@ -1,18 +1,21 @@
 -- What stays so where a process's resident procedure ends.
-use Rattle.std.proofs.Common.{◌≡◌, ◌∙◌, ℕ, Bool, true, false, [], Option, Some, None, if◌then◌else◌, refl, ap}
+use Rattle.std.proofs.Common.{◌≡◌, ◌≢◌, ◌∙◌, ℕ, ◌≤◌, ◌==◌, Bool, true, false, List, length, Option, Some, None, if◌then◌else◌, refl, sym, ap, arith}
+use Rattle.std.specs.List.{AllByRecursion}
+use Rattle.std.proofs.lemmas.Bool.{false≢true}
+use Rattle.std.proofs.lemmas.Bool.Decides.{nat_tests}
 use Rattle.mpm_base.proofs.Choices.{either}
-use Rattle.mpm_procs.specs.Table.{lives, Lives, process_in, with_process}
+use Rattle.mpm_procs.specs.Table.{Table, lives, Lives, process_in, with_process}
 use Rattle.mpm_procs.proofs.MapLaws.{lives_changed, lives_after}
 use Rattle.mpm_queues.specs.Queue.{is_full, with_given}
 use Rattle.mpm_queues.specs.Queues.{is_made, queue_in}
 use Rattle.mpm_queues.specs.Handling.{first_reader, written_by, delivered_to, procs_after_write, write_outcome, woken_by}
-use Rattle.mpm_kernel.specs.Kernel.{Kernel, IsSound, with_changed, dispatched}
+use Rattle.mpm_kernel.specs.Kernel.{Kernel, IsSound, CompletedLive, with_changed, dispatched}
 use Rattle.mpm_kernel.specs.Called.{valued}
-use Rattle.mpm_dispatcher.specs.Dispatch.{with_other}
+use Rattle.mpm_dispatcher.specs.Dispatch.{first_completed, with_other}
 use Rattle.mpm_kernel.specs.Queueing.{given_to}
-use Rattle.mpm_kernel.specs.Procedures.{writing, outside, given_back_to, given_back}
+use Rattle.mpm_kernel.specs.Procedures.{writing, still_completed, outside, given_back_to, given_back}
 use Rattle.mpm_kernel.proofs.Soundness.{none_and_some, sound_changed, sound_call, sound_with_completed}
-use Rattle.mpm_kernel.proofs.Staying.{StaysSound, nobody, kernel_if}
+use Rattle.mpm_kernel.proofs.Staying.{StaysSound, live_kept, kernel_if}
 use Rattle.mpm_kernel.proofs.QueueingLaws.{sound_given, may_by_write, lives_written}
 use Rattle.mpm_kernel.proofs.QueueCalls.{stays_other}
 use Rattle.mpm_kernel.proofs.HomeLaws.{SameHomes, homes_stay, homes_both, homes_changed, homes_call, procs_with_other}
@@ -25,7 +28,7 @@ unfolding outside
 sound_outside p kernel s h =
     let fit = s.fit p h in
     let process = record (process_in kernel.dispatcher.procs p) { procedure = None } in
-    sound_with_completed _ []
+    sound_with_completed _ (still_completed (first_completed kernel.dispatcher.completed) p kernel.dispatcher.procs)
     (sound_call (with_changed kernel p process) p (writing (process_in kernel.dispatcher.procs p).kept)
     (sound_changed kernel p process s h (record { console = fit.console; printer = fit.printer; some = fit.some; few = fit.few }) (λ q is. absurd (none_and_some None q refl is))))
 
@@ -35,9 +38,40 @@ lives_outside p q kernel h =
     let process = record (process_in kernel.dispatcher.procs p) { procedure = None } in
     lives_after (with_process kernel.dispatcher.procs p process) p q (writing (process_in kernel.dispatcher.procs p).kept) ∙ lives_changed kernel.dispatcher.procs p q process ∙ h
 
-pub nobody_outside : (p : ℕ) (kernel : Kernel) → (outside p kernel).dispatcher.completed ≡ []
+-- who is still to be answered lives and is another process, and there is one at most
+
+same_number : (n : ℕ) → (n == n) ≡ true
+same_number n = grind (arith, nat_tests)
+
+all_still : (P : ℕ → Type 0) (first : Option ℕ) (p : ℕ) (procs : Table) → ((q : ℕ) → Lives procs q → q ≢ p → P q) → AllByRecursion P (still_completed first p procs)
+all_still P None p procs each = tt
+all_still P (Some q) p procs each =
+    either (AllByRecursion P) (q == p) _ _ (λ _. tt)
+    (λ other.
+    let apart : q ≢ p = λ same. false≢true (sym other ∙ (ap (λ (x : ℕ). q == x) (sym same) ∙ same_number q)) in
+    either (AllByRecursion P) (lives procs q) _ _ (λ living. (each q living apart, tt)) (λ _. tt))
+
+few_still : (first : Option ℕ) (p : ℕ) (procs : Table) → length (still_completed first p procs) ≤ 1
+few_still None p procs = omega arith
+few_still (Some q) p procs =
+    either (λ (ps : List ℕ). length ps ≤ 1) (q == p) _ _ (λ _. omega arith)
+    (λ _. either (λ (ps : List ℕ). length ps ≤ 1) (lives procs q) _ _ (λ _. omega arith) (λ _. omega arith))
+
+pub few_outside : (p : ℕ) (kernel : Kernel) → length (outside p kernel).dispatcher.completed ≤ 1
 unfolding outside
-nobody_outside p kernel = refl
+few_outside p kernel = few_still (first_completed kernel.dispatcher.completed) p kernel.dispatcher.procs
+
+pub others_outside : (p : ℕ) (kernel : Kernel) → AllByRecursion (λ q. Lives (outside p kernel).dispatcher.procs q × (q ≢ p)) (outside p kernel).dispatcher.completed
+unfolding outside
+others_outside p kernel =
+    all_still (λ q. Lives (outside p kernel).dispatcher.procs q × (q ≢ p)) (first_completed kernel.dispatcher.completed) p kernel.dispatcher.procs
+    (λ q living apart. (lives_outside p q kernel living, apart))
+
+live_outside : (p : ℕ) (kernel : Kernel) → CompletedLive (outside p kernel)
+unfolding outside
+live_outside p kernel =
+    all_still (λ q. Lives (outside p kernel).dispatcher.procs q) (first_completed kernel.dispatcher.completed) p kernel.dispatcher.procs
+    (λ q living _. lives_outside p q kernel living)
 
 homes_outside : (p : ℕ) (kernel : Kernel) → IsSound kernel → Lives kernel.dispatcher.procs p → SameHomes kernel (outside p kernel)
 unfolding outside
@@ -50,20 +84,21 @@ homes_outside p kernel s h =
 
 -- and its message is written
 
-stays_given : (queue : Option ℕ) (p : ℕ) (kernel : Kernel) → IsSound kernel → Lives kernel.dispatcher.procs p → kernel.dispatcher.completed ≡ []
+stays_given : (queue : Option ℕ) (p : ℕ) (kernel : Kernel) → IsSound kernel → Lives kernel.dispatcher.procs p → CompletedLive kernel
     → StaysSound p (valued 0 (given_back_to queue p kernel))
 unfolding given_back_to
-stays_given None p kernel s h none = record { sound = s; lives = h; completed = nobody kernel none }
-stays_given (Some q) p kernel s h none =
+stays_given None p kernel s h live = record { sound = s; lives = h; completed = live }
+stays_given (Some q) p kernel s h live =
     kernel_if p (is_made kernel.queues q) _ _ 0
     (λ is. stays_other (woken_by (write_outcome kernel.queues q)) p 0 (given_to kernel p q) (sound_given kernel p q s is)
-    (lives_written kernel.queues p q kernel.dispatcher.procs p ∙ h) (nobody (given_to kernel p q) none) (λ r first. may_by_write kernel p q r s first))
-    (λ _. record { sound = s; lives = h; completed = nobody kernel none })
+    (lives_written kernel.queues p q kernel.dispatcher.procs p ∙ h) (live_kept kernel (given_to kernel p q) refl (λ k living. lives_written kernel.queues p q kernel.dispatcher.procs k ∙ living) live)
+    (λ r first. may_by_write kernel p q r s first))
+    (λ _. record { sound = s; lives = h; completed = live })
 
 pub stays_given_back : (p : ℕ) (kernel : Kernel) → IsSound kernel → Lives kernel.dispatcher.procs p → StaysSound p (valued 0 (given_back p kernel))
 unfolding given_back
 stays_given_back p kernel s h =
-    stays_given (process_in kernel.dispatcher.procs p).procedure p (outside p kernel) (sound_outside p kernel s h) (lives_outside p p kernel h) (nobody_outside p kernel)
+    stays_given (process_in kernel.dispatcher.procs p).procedure p (outside p kernel) (sound_outside p kernel s h) (lives_outside p p kernel h) (live_outside p kernel)
 
 homes_delivered : (o : Option ℕ) (b : Bool) (kernel new : Kernel) (message : _) → new.dispatcher.procs ≡ (if b then kernel.dispatcher.procs else (delivered_to o message kernel.dispatcher.procs)) → SameHomes kernel new
 homes_delivered o true kernel new message e = homes_stay kernel new e

@@ -12,4 +12,3 @@ pub mod Ending
 pub mod Calls
 pub mod Events
 pub mod Lending
-pub mod Joining

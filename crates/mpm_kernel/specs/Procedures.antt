@@ -1,8 +1,8 @@
 -- Resident procedures: a process that calls one reads the message of its queue, which is the procedure's address, and keeps it
 -- until it is written back. (MP/M II Programmer's Guide, "Function 151: Call Resident System Procedure".)
-use Rattle.std.specs.Prelude.{ℕ, Bool, true, false, [], Option, Some, None, is_some, ◌==◌, if◌then◌else◌}
+use Rattle.std.specs.Prelude.{ℕ, Bool, true, false, List, [], ◌∷◌, Option, Some, None, is_some, ◌==◌, if◌then◌else◌}
 use Rattle.mpm_base.specs.Calls.{Taken, answering, name_at}
-use Rattle.mpm_procs.specs.Table.{process_in, with_process, with_call}
+use Rattle.mpm_procs.specs.Table.{Table, lives, process_in, with_process, with_call}
 use Rattle.mpm_queues.specs.Queues.{Queues, is_made, found, width_of}
 use Rattle.mpm_queues.specs.Blocks.{address_of}
 unfoldable pub use Rattle.mpm_queues.specs.Blocks.{writing}
@@ -11,7 +11,7 @@ use Rattle.mpm_queues.specs.declared.queues.QueueOutcome.{QueueOutcome}
 use Rattle.mpm_queues.specs.declared.queues.QueueOutcome.TheVariants.{Done as Passed, NotNow}
 use Rattle.mpm_kernel.specs.Kernel.{Kernel, with_changed, dispatched}
 use Rattle.mpm_kernel.specs.Called.{Called, valued, done}
-use Rattle.mpm_dispatcher.specs.Dispatch.{with_other, with_procs, with_completed}
+use Rattle.mpm_dispatcher.specs.Dispatch.{first_completed, with_other, with_procs, with_completed}
 use Rattle.mpm_kernel.specs.Queueing.{taken_from, given_to, blocked_or_refused}
 
 -- what a call 151 answers that is refused
@@ -51,12 +51,19 @@ procedure_called call p kernel =
     if is_some (process_in kernel.dispatcher.procs p).procedure then valued no_procedure kernel
     else (procedure_at (procedure_queue kernel.queues call) p kernel)
 
+-- whose held call the process's own call completed, before it ended by that: where it lives and is another one it is still to be
+-- answered. A call completes one other at most
+abbrev pub still_completed : Option ℕ → ℕ → Table → List ℕ
+still_completed None p procs = []
+still_completed (Some q) p procs = if q == p then [] else (if lives procs q then q ∷ [] else [])
+
 -- a process is in no procedure any more, and keeps the call that writes the message of the one that it was in
 unfoldable pub outside : ℕ → Kernel → Kernel
 outside p kernel =
     let process = process_in kernel.dispatcher.procs p in
     let procs = with_call (with_process kernel.dispatcher.procs p (record process { procedure = None })) p (writing process.kept) in
-    dispatched (with_completed []) (dispatched (with_procs procs) kernel)
+    let completed = still_completed (first_completed kernel.dispatcher.completed) p kernel.dispatcher.procs in
+    dispatched (with_completed completed) (dispatched (with_procs procs) kernel)
 
 -- a message goes to a queue; one that is full loses it
 unfoldable pub given_back_to : Option ℕ → ℕ → Kernel → Kernel

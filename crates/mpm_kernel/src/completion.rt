@@ -25,6 +25,7 @@ fn completion_value(function: u8) -> u16
         | functions::FLAG_WAIT
         | functions::WRITE_QUEUE
         | functions::DELAY
+        | functions::SEND_CLI_COMMAND
         | functions::CALL_RESIDENT_SYSTEM_PROCEDURE => 0,
         _ => 0xFFFF,
     }

@@ -64,7 +64,7 @@ impl Kernel {
     /// The messages of mutual exclusion queues that a process holds go back, by rising number.
     fn return_held(&mut self, p: Pid)
         requires leaves { Leaves p self.old }
-        requires few { length self.old.dispatcher.completed ≤ 1 }
+        requires few { length self.old.dispatcher.completed ≤ 2 }
         ensures { self.new ≡ all_returned (range_with_len 0 32) p self.old }
     {
         for q in 0..32 {

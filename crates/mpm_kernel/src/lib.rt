@@ -9,7 +9,6 @@ mod consoles;
 mod dates;
 mod ending;
 mod events;
-mod joining;
 mod kernel;
 mod procedures;
 mod queueing;

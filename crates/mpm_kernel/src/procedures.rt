@@ -12,10 +12,10 @@ const ADDRESS: u16 = 2;
 impl Kernel {
     ghost use Rattle.mpm_procs.specs.Table.{Lives, process_in, call_of};
     ghost use Rattle.mpm_queues.specs.Queues.{IsMade};
-    ghost use Rattle.mpm_dispatcher.specs.Dispatch.{IsReady};
-    ghost use Rattle.mpm_kernel.specs.Kernel.{IsSound, CompletedLive};
+    ghost use Rattle.mpm_dispatcher.specs.Dispatch.{IsReady, first_completed, with_completed};
+    ghost use Rattle.mpm_kernel.specs.Kernel.{IsSound, CompletedLive, dispatched};
     ghost use Rattle.mpm_kernel.specs.Events.{with_procedure};
-    ghost use Rattle.mpm_kernel.specs.Procedures.{procedure_called, procedure_queue, outside, given_back_to, given_back};
+    ghost use Rattle.mpm_kernel.specs.Procedures.{procedure_called, procedure_queue, still_completed, outside, given_back_to, given_back};
 
     /// A process calls a resident procedure: it reads the message of the queue that it names, and waits for one where there is
     /// none. It is refused by FFFFh where the process is in a procedure, and where there is no such queue of two bytes. (MP/M II
@@ -94,7 +94,7 @@ impl Kernel {
     }
 
     /// The message of a process's resident procedure goes back.
-    #[tactic(auto, using(crate::proofs::ProcedureLaws::sound_outside, crate::proofs::ProcedureLaws::lives_outside, crate::proofs::ProcedureLaws::nobody_outside), unfolding(crate::specs::Procedures::given_back, crate::specs::Procedures::given_back_to))]
+    #[tactic(auto, using(crate::proofs::ProcedureLaws::sound_outside, crate::proofs::ProcedureLaws::lives_outside), unfolding(crate::specs::Procedures::given_back, crate::specs::Procedures::given_back_to))]
     pub(crate) fn give_back(&mut self, p: Pid)
         requires sound { IsSound self.old }
         requires lives { Lives self.old.dispatcher.procs p }
@@ -115,15 +115,30 @@ impl Kernel {
         requires { Lives self.old.dispatcher.procs p }
         ensures kernel { self.new ≡ outside p self.old }
         ensures queue { result ≡ (process_in self.old.dispatcher.procs p).procedure }
-        ensures nobody { length self.new.dispatcher.completed < 64 }
+        ensures room { length self.new.dispatcher.completed < 64 }
     {
-        self.dispatcher.completed.clear();
+        self.keep_completed(p);
         let process = self.dispatcher.procs.get_mut(p);
         let queue = process.procedure;
         let message = process.kept;
         process.procedure = None;
         write_call(self.dispatcher.procs.call_mut(p), message);
         queue
+    }
+
+    /// Whose held call was completed first is still to be answered, where it lives and is another process; all others are
+    /// forgotten.
+    fn keep_completed(&mut self, p: Pid)
+        ensures kernel { self.new ≡ dispatched (with_completed (still_completed (first_completed self.old.dispatcher.completed) p self.old.dispatcher.procs)) self.old }
+        ensures room { length self.new.dispatcher.completed < 64 }
+    {
+        let first = self.dispatcher.completed.take();
+        self.dispatcher.completed.clear();
+        if let Some(q) = first {
+            if q.0 != p.0 && self.lives(q) {
+                self.dispatcher.completed.push(q);
+            }
+        }
     }
 
     /// A process writes the message of its call to a queue that is there, where there is room.

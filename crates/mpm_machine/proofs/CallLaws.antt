@@ -1,17 +1,21 @@
 -- A call that is done: its text, its reply and its record, one after another.
-use Rattle.std.proofs.Common.{◌≡◌, ◌∙◌, ℕ, ◌++◌, Result, sym, ap, subst}
+use Rattle.std.proofs.Common.{◌≡◌, ◌∙◌, ℕ, ◌++◌, Result, refl, sym, ap, subst}
 use Rattle.mpm_base.specs.Calls.{Taken, Answer}
 use Rattle.mpm_base.specs.declared.call.Outcome.{Outcome}
+use Rattle.mpm_base.specs.declared.call.Outcome.TheVariants.{Done, Held, Retry, Ended}
 use Rattle.mpm_banks.specs.Memory.{byte_at}
 use Rattle.mpm_procs.specs.Table.{Lives, process_in, call_of}
 use Rattle.mpm_dispatcher.specs.Dispatch.{IsReady}
+use Rattle.mpm_kernel.specs.ConsoleInput.{writes}
 use Rattle.mpm_machine.specs.declared.system.System.{System}
 use Rattle.mpm_machine.specs.State.{Change, IsWhole}
-use Rattle.mpm_machine.specs.Serving.{asked, keeping, IsTaken, Served, served, string_of, said_by, after_echo, popped, fulfilling, completing, outcome_of, gate_step}
+use Rattle.mpm_machine.specs.Calling.{Served}
+use Rattle.mpm_machine.specs.Serving.{asked, keeping, IsTaken, served, call_text, string_of, said_by, after_echo, popped, replied, completion, with_entry, reply_at_entry, answering_call, fulfilling, completing, outcome_of, gate_step}
 use Rattle.mpm_output.specs.Outside.{Outside, Device}
 use Rattle.mpm_output.specs.Writing.{Wrote, Fails, Emits}
 use Rattle.mpm_output.proofs.WritingLaws.{fails_before, emits_after, emits_same}
-use Rattle.mpm_machine.proofs.WholeLaws.{StaysWhole, Keeps, keeps_call, whole_served, whole_said, whole_popped}
+use Rattle.mpm_machine.proofs.WholeLaws.{StaysServed, Keeps, keeps_call, whole_said, whole_popped}
+use Rattle.mpm_machine.proofs.ActedLaws.{whole_served}
 use Rattle.mpm_machine.proofs.TakenLaws.{call_is_taken}
 
 -- the system after the text and the return address, as it is reached
@@ -92,6 +96,23 @@ kept_is_taken p seg old kept w h kept_call =
     let P : Taken → Type 0 = λ call. IsTaken call in
     subst P (sym kept_call.call) (call_is_taken process.regs (byte_at old.memory seg) process.dma process.multi (w.sound.fit p h).few)
 
+-- what a call brings about goes by its function and its parameter alone
+
+brings_about : (outcome : Outcome) (reply : Answer) (one other : Taken) (p seg : ℕ) (system : System)
+    → outcome_of outcome reply other p seg system ≡ outcome_of outcome reply (record one { function = other.function; word = other.word }) p seg system
+unfolding completing said_by call_text writes fulfilling answering_call replied completion with_entry reply_at_entry
+brings_about Done reply one other p seg system = refl
+brings_about Ended reply one other p seg system = refl
+brings_about Held reply one other p seg system = refl
+brings_about Retry reply one other p seg system = refl
+
+same_outcome : (outcome : Outcome) (reply : Answer) (one other : Taken) (p seg : ℕ) (system : System) → other.function ≡ one.function → other.word ≡ one.word
+    → after_echo other p system (outcome_of outcome reply other p seg system) ≡ after_echo one p system (outcome_of outcome reply one p seg system)
+same_outcome outcome reply one other p seg system function word =
+    ap (after_echo other p system) (brings_about outcome reply one other p seg system)
+    ∙ ap (λ (f : ℕ). after_echo (record one { function = f }) p system (outcome_of outcome reply (record one { function = f; word = other.word }) p seg system)) function
+    ∙ ap (λ (w : ℕ). after_echo one p system (outcome_of outcome reply (record one { word = w }) p seg system)) word
+
 pub record Concludes (p seg : ℕ) (old done : System) (outcome : Outcome) (reply : Answer) : Type 0 where
   pub whole : IsWhole done
   pub lives : Lives done.kernel.dispatcher.procs p
@@ -107,14 +128,14 @@ done_after p seg old kept done outcome reply ready is k system how what =
     let result = served call p (keeping p call old) in
     let same : served (call_of kept.kernel.dispatcher.procs p) p kept ≡ result =
     ap (λ c. served c p kept) k.call ∙ ap (served call p) is in
-    let stays = whole_served (call_of kept.kernel.dispatcher.procs p) p kept k.whole k.lives (k.ready ready) in
-    let P : System → Type 0 = λ s. StaysWhole p kept s in
-    let here : StaysWhole p kept done = subst P (sym system) stays in
-    let whole_call : call_of done.kernel.dispatcher.procs p ≡ call = here.call ∙ k.call in
+    let stays = whole_served (call_of kept.kernel.dispatcher.procs p) p kept refl k.whole k.lives (k.ready ready) in
+    let P : System → Type 0 = λ s. StaysServed p kept s in
+    let here : StaysServed p kept done = subst P (sym system) stays in
     record {
       whole = here.whole;
       lives = here.lives;
-      change = ap (λ c. after_echo c p done (outcome_of outcome reply c p seg done)) whole_call
+      change = same_outcome outcome reply call (call_of done.kernel.dispatcher.procs p) p seg done
+          (here.function ∙ ap (λ (c : Taken). c.function) k.call) (here.word ∙ ap (λ (c : Taken). c.word) k.call)
           ∙ ap (λ o. after_echo call p done (outcome_of o reply call p seg done)) (how ∙ ap (λ (r : Served). r.outcome) same)
           ∙ ap (λ r. after_echo call p done (outcome_of result.outcome r call p seg done)) (what ∙ ap (λ (r : Served). r.reply) same)
           ∙ ap (λ s. after_echo call p s (outcome_of result.outcome result.reply call p seg s)) (system ∙ ap (λ (r : Served). r.system) same);

@@ -1,6 +1,6 @@
 -- What a step leaves of memory: each byte of a segment that is written neither by the instruction of a process that lives there
 -- nor by the reply to a call of one, and each byte of common memory that no instruction and no reply writes.
-use Rattle.std.proofs.Common.{◌≡◌, ◌≢◌, ◌∙◌, ℕ, ◌<◌, ◌≤◌, Bool, true, false, not, ◌&&◌, List, [], ◌∷◌, Option, Some, None, ◌==◌, inl, inr, refl, sym, ap, subst, ◌||◌}
+use Rattle.std.proofs.Common.{◌≡◌, ◌≢◌, ◌∙◌, ℕ, ◌<◌, ◌≤◌, Bool, true, false, not, ◌&&◌, List, [], ◌∷◌, length, Option, Some, None, ◌==◌, inl, inr, refl, sym, ap, subst, ◌||◌}
 use Rattle.std.specs.List.{range_with_len}
 use Rattle.std.proofs.lemmas.Bool.{cases_eq}
 use Rattle.z80_regs.specs.Outcome.{Outcome}
@@ -14,7 +14,7 @@ use Rattle.mpm_banks.specs.Actions.{memory_after}
 use Rattle.mpm_banks.specs.Allocations.{all_released}
 use Rattle.mpm_banks.specs.declared.segment.Allocation.TheVariants.{Free}
 use Rattle.mpm_base.proofs.Choices.{either}
-use Rattle.mpm_base.specs.declared.functions.TheConstants.{ABSOLUTE_MEMORY_REQUEST, RELOCATABLE_MEMORY_REQUEST, MEMORY_FREE, CREATE_PROCESS, PARSE_FILENAME, ABORT_SPECIFIED_PROCESS, SYSTEM_DATA_ADDRESS, RETURN_PROCESS_DESCRIPTOR_ADDRESS}
+use Rattle.mpm_base.specs.declared.functions.TheConstants.{ABSOLUTE_MEMORY_REQUEST, RELOCATABLE_MEMORY_REQUEST, MEMORY_FREE, CREATE_PROCESS, CHAIN_TO_PROGRAM, SEND_CLI_COMMAND, PARSE_FILENAME, ABORT_SPECIFIED_PROCESS, SYSTEM_DATA_ADDRESS, RETURN_PROCESS_DESCRIPTOR_ADDRESS}
 use Rattle.mpm_banks.proofs.SegmentLaws.{SameBytes, reads_alike, same_bytes_itself, same_bytes_both, same_bytes_allocated, same_bytes_reserved, same_bytes_released, same_bytes_all_released}
 use Rattle.mpm_banks.proofs.ActionLaws.{memory_after_other_segment, memory_after_unwritten}
 use Rattle.mpm_gate.specs.Replies.{placed, IsPlacedAt}
@@ -23,7 +23,7 @@ use Rattle.mpm_procs.specs.Table.{Table, Lives, process_in, call_of}
 use Rattle.mpm_script.specs.declared.event.Event.{Event}
 use Rattle.mpm_dispatcher.specs.Dispatch.{first_completed}
 use Rattle.mpm_kernel.specs.Waiting.{completion_reply}
-use Rattle.mpm_kernel.proofs.SoundLaws.{runner_lives, completed_lives}
+use Rattle.mpm_kernel.proofs.SoundLaws.{runner_lives}
 use Rattle.mpm_xdos.specs.Ending.{is_home, vacated_if_empty, memory_without}
 use Rattle.mpm_xdos.specs.Aborting.{waits_to_end, target, memory_after_abort}
 use Rattle.mpm_machine.specs.declared.system.System.{System}
@@ -31,18 +31,25 @@ use Rattle.mpm_processor.specs.declared.gate.Gate.{Gate}
 use Rattle.mpm_processor.specs.declared.gate.Gate.TheVariants.{End, Call, Return}
 use Rattle.mpm_machine.specs.State.{Change, IsWhole, speaking}
 use Rattle.mpm_machine.specs.Ending.{ended}
-use Rattle.mpm_machine.specs.Serving.{asked, keeping, Served, served, reserving, releasing, creating, aborted, aborting_this, aborting, parsing, said_by, popped, replied, with_entry, reply_at_entry, fulfilling, answering_call, completing, returning, outcome_of, gate_step}
-use Rattle.mpm_residents.specs.Natives.{native_call, native_in, asks}
+use Rattle.mpm_machine.specs.Calling.{Served, asking}
+use Rattle.mpm_machine.specs.Sending.{chains}
+use Rattle.mpm_machine.specs.Loading.{is_console, ChangesOnly}
+use Rattle.mpm_machine.specs.Serving.{asked, keeping, served_to_all, served, reserving, releasing, creating, aborted, aborting_this, aborting, parsing, said_by, popped, replied, with_entry, reply_at_entry, fulfilling, answering_call, completing, returning, outcome_of, gate_step}
+use Rattle.mpm_cli.specs.declared.act.Act.{Act}
+use Rattle.mpm_cli.specs.declared.act.Act.TheVariants.{Ask, Place, Patch, Begin, Give}
+use Rattle.mpm_kernel.specs.Called.{low_parameter}
+use Rattle.mpm_residents.specs.Natives.{native_act, native_call, native_in}
 use Rattle.mpm_residents.specs.declared.native.Native.{Native}
 use Rattle.mpm_kernel.specs.Consoling.{abort_taken}
-use Rattle.mpm_machine.specs.Residing.{native_outcome, native_step, resided}
+use Rattle.mpm_machine.specs.Residing.{native_outcome, calling_step, tells, telling_step, handing_step, native_step, resided}
 use Rattle.mpm_interrupts.specs.Interrupts.{due_taken}
-use Rattle.mpm_machine.specs.Finishing.{finished, completion_dequeued, finishing, all_finished}
+use Rattle.mpm_machine.specs.Finishing.{finished, completion_dequeued, finishing, all_finished, command_let_in, finished_or_ended, answered_from, all_answered}
 use Rattle.mpm_machine.specs.Due.{is_due, ended_if_due, due_terminated, with_ends, settled}
 use Rattle.mpm_machine.specs.Step.{instructed, illegal, executed, instruction_at, acted_at, gate_before, acted_by, acted, running_segment, coming, key_aborted, happened_to, event_come, interrupted, begun_by, with_settled, counted, step_of}
-use Rattle.mpm_machine.specs.Contained.{placed_reply, PlacesAt, WritesAt, IsWritten, after_begun, Answers, AnswersAmong, AnswersOne, AnswersAtEnd, AnswersAtEnds, IsAnsweredAfter, IsContained}
-use Rattle.mpm_machine.proofs.FinishLaws.{first_finished, left_completed, dequeued_lives, home_dequeued}
-use Rattle.mpm_machine.proofs.WholeStepLaws.{whole_counted, whole_after_begun, whole_answered, whole_first, whole_if_due, whole_due_end}
+use Rattle.mpm_machine.specs.Contained.{placed_reply, PlacesAt, WritesAt, IsWritten, IsIn, HandsAt, IsHanded, after_begun, Answers, AnswersAmong, AnswersOne, AnswersFrom, AnswersAtEnd, AnswersAtEnds, IsAnsweredAfter, IsContained}
+use Rattle.mpm_machine.proofs.FinishLaws.{first_finished, left_completed, home_dequeued}
+use Rattle.mpm_machine.proofs.LoadingLaws.{changes_placing, changes_moving, changes_beginning}
+use Rattle.mpm_machine.proofs.WholeStepLaws.{whole_counted, whole_after_begun, whole_all_answered, whole_first, whole_first_answered, lives_dequeued, lives_in_time, whole_if_due, whole_due_end}
 use Rattle.mpm_kernel.specs.Kernel.{is_resident}
 
 -- an end, and a call before its reply, change no byte
@@ -68,26 +75,35 @@ aborting_alike (Some other) p system =
     either (λ (s : Served). SameBytes system.memory s.system.memory) (other == p && not (waits_to_end system.kernel p false)) _ _
     (λ _. same_bytes_itself system.memory) (λ _. aborted_alike other system)
 
-served_alike : (call : Taken) (p : ℕ) (system : System) → SameBytes system.memory (served call p system).system.memory
-unfolding served reserving releasing creating aborting parsing
-served_alike call p system =
+to_all_alike : (call : Taken) (p : ℕ) (system : System) → SameBytes system.memory (served_to_all call p system).system.memory
+unfolding served_to_all reserving releasing
+to_all_alike call p system =
     let f = call.function in
     let memory = system.memory in
     let P : Served → Type 0 = λ s. SameBytes memory s.system.memory in
     either P (f == ABSOLUTE_MEMORY_REQUEST) _ _ (λ _. same_bytes_reserved memory p _)
     (λ _. either P (f == RELOCATABLE_MEMORY_REQUEST) _ _ (λ _. same_bytes_reserved memory p _)
     (λ _. either P (f == MEMORY_FREE) _ _ (λ _. same_bytes_released memory p _)
-    (λ _. either P (f == CREATE_PROCESS) _ _ (λ _. same_bytes_itself memory)
+    (λ _. either P (f == SEND_CLI_COMMAND) _ _ (λ _. same_bytes_itself memory) (λ _. same_bytes_itself memory))))
+
+served_alike : (call : Taken) (p : ℕ) (system : System) → SameBytes system.memory (served call p system).system.memory
+unfolding served creating aborting parsing
+served_alike call p system =
+    let f = call.function in
+    let memory = system.memory in
+    let P : Served → Type 0 = λ s. SameBytes memory s.system.memory in
+    either P (f == CREATE_PROCESS) _ _ (λ _. same_bytes_itself memory)
     (λ _. either P (f == ABORT_SPECIFIED_PROCESS) _ _ (λ _. aborting_alike (target system.kernel.dispatcher.procs p) p system)
     (λ _. either P (f == PARSE_FILENAME) _ _ (λ _. same_bytes_itself memory)
     (λ _. either P (f == SYSTEM_DATA_ADDRESS) _ _ (λ _. same_bytes_itself memory)
-    (λ _. either P (f == RETURN_PROCESS_DESCRIPTOR_ADDRESS) _ _ (λ _. same_bytes_itself memory) (λ _. same_bytes_itself memory))))))))
+    (λ _. either P (f == RETURN_PROCESS_DESCRIPTOR_ADDRESS) _ _ (λ _. same_bytes_itself memory)
+    (λ _. either P (f == CHAIN_TO_PROGRAM) _ _ (λ _. same_bytes_itself memory) (λ _. to_all_alike call p system))))))
 
 illegal_alike : (p : ℕ) (system : System) → SameBytes system.memory (illegal p system).system.memory
 unfolding illegal speaking
 illegal_alike p system = ended_alike p _
 
--- nor does a resident, or a key that aborts a process
+-- nor does a call of a resident, or a key that aborts a process
 
 native_alike : (outcome : CallOutcome) (reply : Answer) (call : Taken) (p : ℕ) (system : System)
     → SameBytes system.memory (native_outcome outcome reply call p system).system.memory
@@ -97,12 +113,75 @@ native_alike Ended reply call p system = ended_alike p system
 native_alike Held reply call p system = same_bytes_itself system.memory
 native_alike Retry reply call p system = same_bytes_itself system.memory
 
-resided_alike : (native : Option Native) (p : ℕ) (system : System) → SameBytes system.memory (resided native p system).system.memory
-unfolding native_step
-resided_alike None p system = same_bytes_itself system.memory
-resided_alike (Some native) p system =
-    either (λ (change : Change). SameBytes system.memory change.system.memory) (asks native) _ _
-    (λ _. native_alike _ _ (native_call native) p _) (λ _. same_bytes_itself system.memory)
+call_alike : (call : Taken) (p : ℕ) (system : System) → SameBytes system.memory (calling_step call p system).system.memory
+unfolding calling_step
+call_alike call p system =
+    let done = served_to_all call p system in
+    same_bytes_both system.memory done.system.memory _ (to_all_alike call p system) (native_alike done.outcome done.reply call p done.system)
+
+text_alike : (call : Taken) (p : ℕ) (system : System) → SameBytes system.memory (telling_step call p system).system.memory
+unfolding telling_step speaking
+text_alike call p system =
+    either (λ (change : Change). SameBytes system.memory change.system.memory) (is_console (low_parameter call) system.kernel) _ _
+    (λ _. same_bytes_itself system.memory) (λ _. same_bytes_itself system.memory)
+
+asked_alike : (call : Taken) (p : ℕ) (system : System) → SameBytes system.memory (native_step Ask call p system).system.memory
+asked_alike call p system =
+    either (λ (change : Change). SameBytes system.memory change.system.memory) (tells p call) _ _
+    (λ _. text_alike call p system) (λ _. call_alike call p system)
+
+-- what it hands over changes the bytes that it writes
+
+changed_elsewhere : (to address count : ℕ) (old new : Memory) (seg at : ℕ) → ChangesOnly to address count old new → at < 49152
+    → ((to ≡ seg) × IsIn address count at → ⊥) → byte_at new seg at ≡ byte_at old seg at
+changed_elsewhere to address count old new seg at changes below none = elim (cases_eq seg to) [
+  | inl same ↦
+      subst (λ s. byte_at new s at ≡ byte_at old s at) (sym same) (changes.rest at (λ k less is. none (sym same, (k, less, is))))
+  | inr other ↦ changes.others seg at other below
+]
+
+changed_common : (to address count : ℕ) (old new : Memory) (seg at : ℕ) → ChangesOnly to address count old new → 49152 ≤ at
+    → (IsIn address count at → ⊥) → byte_at new seg at ≡ byte_at old seg at
+changed_common to address count old new seg at changes above none =
+    byte_at_common new seg to at above ∙ changes.rest at (λ k less is. none (k, less, is)) ∙ byte_at_common old to seg at above
+
+act_segments : (act : Act) (call : Taken) (p : ℕ) (system : System) (seg at : ℕ) → at < 49152 → (HandsAt act (length call.bytes) seg at → ⊥)
+    → byte_at (native_step act call p system).system.memory seg at ≡ byte_at system.memory seg at
+unfolding handing_step
+act_segments Ask call p system seg at below none = reads_alike system.memory _ (asked_alike call p system) seg at
+act_segments (Place to address count) call p system seg at below none =
+    changed_elsewhere to address (length call.bytes) system.memory _ seg at (changes_placing to address call.bytes system) below none
+act_segments (Patch to address count page) call p system seg at below none =
+    changed_elsewhere to address count system.memory _ seg at (changes_moving to address count call.bytes page system) below none
+act_segments (Begin to new) call p system seg at below none =
+    changed_elsewhere to new.sp 2 system.memory _ seg at (changes_beginning to new p system) below none
+act_segments (Give console) call p system seg at below none = refl
+
+act_common : (act : Act) (call : Taken) (p : ℕ) (system : System) (seg at : ℕ) → 49152 ≤ at → ((home : ℕ) → HandsAt act (length call.bytes) home at → ⊥)
+    → byte_at (native_step act call p system).system.memory seg at ≡ byte_at system.memory seg at
+unfolding handing_step
+act_common Ask call p system seg at above none = reads_alike system.memory _ (asked_alike call p system) seg at
+act_common (Place to address count) call p system seg at above none =
+    changed_common to address (length call.bytes) system.memory _ seg at (changes_placing to address call.bytes system) above (λ there. none to (refl, there))
+act_common (Patch to address count page) call p system seg at above none =
+    changed_common to address count system.memory _ seg at (changes_moving to address count call.bytes page system) above (λ there. none to (refl, there))
+act_common (Begin to new) call p system seg at above none =
+    changed_common to new.sp 2 system.memory _ seg at (changes_beginning to new p system) above (λ there. none to (refl, there))
+act_common (Give console) call p system seg at above none = refl
+
+resided_segments : (native : Option Native) (p : ℕ) (system : System) (seg at : ℕ) → at < 49152
+    → ((n : Native) → native ≡ Some n → HandsAt (native_act n) (length (native_call n).bytes) seg at → ⊥)
+    → byte_at (resided native p system).system.memory seg at ≡ byte_at system.memory seg at
+resided_segments None p system seg at below none = refl
+resided_segments (Some native) p system seg at below none =
+    act_segments (native_act native) (native_call native) p (asking p (native_call native) system) seg at below (none native refl)
+
+resided_common : (native : Option Native) (p : ℕ) (system : System) (seg at : ℕ) → 49152 ≤ at
+    → ((n : Native) → native ≡ Some n → (home : ℕ) → HandsAt (native_act n) (length (native_call n).bytes) home at → ⊥)
+    → byte_at (resided native p system).system.memory seg at ≡ byte_at system.memory seg at
+resided_common None p system seg at above none = refl
+resided_common (Some native) p system seg at above none =
+    act_common (native_act native) (native_call native) p (asking p (native_call native) system) seg at above (none native refl)
 
 key_alike : (aborts : Option ℕ) (system : System) → SameBytes system.memory (key_aborted aborts system).memory
 key_alike None system = same_bytes_itself system.memory
@@ -188,12 +267,13 @@ own p home system seg at quiet runs living there none =
 
 segments_by : (running home : Option ℕ) (system : System) (seg at : ℕ) → coming (counted system) ≡ None
     → system.kernel.dispatcher.running ≡ running → running_segment running system ≡ home
-    → ((p : ℕ) → running ≡ Some p → Lives system.kernel.dispatcher.procs p) → at < 49152 → (IsWritten system seg at → ⊥)
+    → ((p : ℕ) → running ≡ Some p → Lives system.kernel.dispatcher.procs p) → at < 49152 → (IsWritten system seg at → ⊥) → (IsHanded system seg at → ⊥)
     → byte_at (acted_by running home (counted system)).system.memory seg at ≡ byte_at system.memory seg at
-segments_by None home system seg at quiet runs there living below none = refl
-segments_by (Some p) None system seg at quiet runs there living below none =
-    reads_alike system.memory _ (resided_alike (native_in system.residents p) p (counted system)) seg at
-segments_by (Some p) (Some home) system seg at quiet runs there living below none = elim (cases_eq seg home) [
+segments_by None home system seg at quiet runs there living below none nobody = refl
+segments_by (Some p) None system seg at quiet runs there living below none nobody =
+    resided_segments (native_in system.residents p) p (counted system) seg at below
+    (λ native acts hands. nobody (record { quiet = quiet; who = p; runs = runs; resides = there; native = native; acts = acts; hands = hands }))
+segments_by (Some p) (Some home) system seg at quiet runs there living below none nobody = elim (cases_eq seg home) [
   | inl same ↦
       let afterwards = (acted_at (gate_before p home system) p home (counted system)).system.memory in
       let unwritten : IsWritten system home at → ⊥ = subst (λ s. IsWritten system s at → ⊥) same none in
@@ -204,11 +284,13 @@ segments_by (Some p) (Some home) system seg at quiet runs there living below non
 common_by : (running home : Option ℕ) (system : System) (seg at : ℕ) → coming (counted system) ≡ None
     → system.kernel.dispatcher.running ≡ running → running_segment running system ≡ home
     → ((p : ℕ) → running ≡ Some p → Lives system.kernel.dispatcher.procs p) → 49152 ≤ at → ((s : ℕ) → IsWritten system s at → ⊥)
+    → ((s : ℕ) → IsHanded system s at → ⊥)
     → byte_at (acted_by running home (counted system)).system.memory seg at ≡ byte_at system.memory seg at
-common_by None home system seg at quiet runs there living above none = refl
-common_by (Some p) None system seg at quiet runs there living above none =
-    reads_alike system.memory _ (resided_alike (native_in system.residents p) p (counted system)) seg at
-common_by (Some p) (Some home) system seg at quiet runs there living above none =
+common_by None home system seg at quiet runs there living above none nobody = refl
+common_by (Some p) None system seg at quiet runs there living above none nobody =
+    resided_common (native_in system.residents p) p (counted system) seg at above
+    (λ native acts s hands. nobody s (record { quiet = quiet; who = p; runs = runs; resides = there; native = native; acts = acts; hands = hands }))
+common_by (Some p) (Some home) system seg at quiet runs there living above none nobody =
     byte_at_common (acted_at (gate_before p home system) p home (counted system)).system.memory seg home at above
     ∙ own p home system seg at quiet runs (living p refl) there (none home)
     ∙ byte_at_common system.memory home seg at above
@@ -220,20 +302,21 @@ segment_of_begun (Some p) system = refl
 -- so does what a step begins with, and an event leaves every byte
 
 segments_begun : (event : Option Event) (system : System) (seg at : ℕ) → IsWhole system → coming (counted system) ≡ event
-    → at < 49152 → (IsWritten system seg at → ⊥) → byte_at (begun_by event (counted system)).system.memory seg at ≡ byte_at system.memory seg at
+    → at < 49152 → (IsWritten system seg at → ⊥) → (IsHanded system seg at → ⊥) → byte_at (begun_by event (counted system)).system.memory seg at ≡ byte_at system.memory seg at
 unfolding acted
-segments_begun None system seg at w quiet below none =
+segments_begun None system seg at w quiet below none nobody =
     let running = system.kernel.dispatcher.running in
-    segments_by running _ system seg at quiet refl (sym (segment_of_begun running system)) (λ p runs. runner_lives system.kernel p w.sound runs) below none
-segments_begun (Some event) system seg at w comes below none = reads_alike system.memory _ (event_alike event (counted system)) seg at
+    segments_by running _ system seg at quiet refl (sym (segment_of_begun running system)) (λ p runs. runner_lives system.kernel p w.sound runs) below none nobody
+segments_begun (Some event) system seg at w comes below none nobody = reads_alike system.memory _ (event_alike event (counted system)) seg at
 
 common_begun : (event : Option Event) (system : System) (seg at : ℕ) → IsWhole system → coming (counted system) ≡ event
-    → 49152 ≤ at → ((home : ℕ) → IsWritten system home at → ⊥) → byte_at (begun_by event (counted system)).system.memory seg at ≡ byte_at system.memory seg at
+    → 49152 ≤ at → ((home : ℕ) → IsWritten system home at → ⊥) → ((home : ℕ) → IsHanded system home at → ⊥)
+    → byte_at (begun_by event (counted system)).system.memory seg at ≡ byte_at system.memory seg at
 unfolding acted
-common_begun None system seg at w quiet above none =
+common_begun None system seg at w quiet above none nobody =
     let running = system.kernel.dispatcher.running in
-    common_by running _ system seg at quiet refl (sym (segment_of_begun running system)) (λ p runs. runner_lives system.kernel p w.sound runs) above none
-common_begun (Some event) system seg at w comes above none = reads_alike system.memory _ (event_alike event (counted system)) seg at
+    common_by running _ system seg at quiet refl (sym (segment_of_begun running system)) (λ p runs. runner_lives system.kernel p w.sound runs) above none nobody
+common_begun (Some event) system seg at w comes above none nobody = reads_alike system.memory _ (event_alike event (counted system)) seg at
 
 -- the reply to a held call that is completed leaves a byte where it isn't placed
 
@@ -270,9 +353,6 @@ finished_common (Some home) p system seg at living there above none =
 
 -- so do the replies to several, one after another
 
-lives_dequeued : (p : ℕ) (system : System) → IsWhole system → first_completed system.kernel.dispatcher.completed ≡ Some p → Lives (completion_dequeued system).kernel.dispatcher.procs p
-lives_dequeued p system w first = dequeued_lives system.kernel p (completed_lives system.kernel p w.live first)
-
 among_segments : (ps : List ℕ) (system : System) (seg at : ℕ) → IsWhole system → system.kernel.dispatcher.completed ≡ ps → at < 49152
     → (AnswersAmong ps system seg at → ⊥) → byte_at (finishing ps system).system.memory seg at ≡ byte_at system.memory seg at
 unfolding finishing AnswersAmong
@@ -298,6 +378,40 @@ answers_segments system seg at w below none = among_segments system.kernel.dispa
 answers_common : (system : System) (seg at : ℕ) → IsWhole system → 49152 ≤ at → ((home : ℕ) → AnswersOne system home at → ⊥)
     → byte_at (all_finished system).system.memory seg at ≡ byte_at system.memory seg at
 answers_common system seg at w above none = among_common system.kernel.dispatcher.completed system seg at w refl above none
+
+-- so does the first that a step completed, and those behind it
+
+first_segments : (p : ℕ) (system : System) (seg at : ℕ) → Lives system.kernel.dispatcher.procs p → at < 49152
+    → ((chains p system.kernel ≡ false) × Answers p system seg at → ⊥) → byte_at (finished_or_ended p system).system.memory seg at ≡ byte_at system.memory seg at
+first_segments p system seg at living below none =
+    either (λ (c : Change). byte_at c.system.memory seg at ≡ byte_at system.memory seg at) (chains p system.kernel) _ _
+    (λ _. reads_alike system.memory _ (ended_alike p system) seg at)
+    (λ plain. finished_segments (process_in system.kernel.dispatcher.procs p).seg p system seg at living refl below (λ answers. none (plain, answers)))
+
+first_common : (p : ℕ) (system : System) (seg at : ℕ) → Lives system.kernel.dispatcher.procs p → 49152 ≤ at
+    → ((home : ℕ) → (chains p system.kernel ≡ false) × Answers p system home at → ⊥) → byte_at (finished_or_ended p system).system.memory seg at ≡ byte_at system.memory seg at
+first_common p system seg at living above none =
+    either (λ (c : Change). byte_at c.system.memory seg at ≡ byte_at system.memory seg at) (chains p system.kernel) _ _
+    (λ _. reads_alike system.memory _ (ended_alike p system) seg at)
+    (λ plain. finished_common (process_in system.kernel.dispatcher.procs p).seg p system seg at living refl above (λ home answers. none home (plain, answers)))
+
+from_segments : (first : Option ℕ) (system : System) (seg at : ℕ) → IsWhole system → first_completed system.kernel.dispatcher.completed ≡ first → at < 49152
+    → (AnswersFrom first system seg at → ⊥) → byte_at (answered_from first system).system.memory seg at ≡ byte_at system.memory seg at
+unfolding answered_from
+from_segments None system seg at w e below none = refl
+from_segments (Some p) system seg at w e below none =
+    let first = command_let_in p (completion_dequeued system) in
+    answers_segments (finished_or_ended p first).system seg at (whole_first_answered p system w e) below (λ later. none (inr later))
+    ∙ first_segments p first seg at (lives_in_time p system w e) below (λ here. none (inl here))
+
+from_common : (first : Option ℕ) (system : System) (seg at : ℕ) → IsWhole system → first_completed system.kernel.dispatcher.completed ≡ first → 49152 ≤ at
+    → ((home : ℕ) → AnswersFrom first system home at → ⊥) → byte_at (answered_from first system).system.memory seg at ≡ byte_at system.memory seg at
+unfolding answered_from
+from_common None system seg at w e above none = refl
+from_common (Some p) system seg at w e above none =
+    let first = command_let_in p (completion_dequeued system) in
+    answers_common (finished_or_ended p first).system seg at (whole_first_answered p system w e) above (λ home later. none home (inr later))
+    ∙ first_common p first seg at (lives_in_time p system w e) above (λ home here. none home (inl here))
 
 -- so do the ends that are due, each with the calls that it completes
 
@@ -346,27 +460,27 @@ pub settled_segments : (begun : System) (seg at : ℕ) → IsWhole begun → at 
     → byte_at (settled begun).system.memory seg at ≡ byte_at begun.memory seg at
 unfolding settled with_ends IsAnsweredAfter
 settled_segments begun seg at w below none =
-    ends_segments (range_with_len 0 32) (all_finished begun).system seg at (whole_answered begun _ w refl) below (λ later. none (inr later))
-    ∙ answers_segments begun seg at w below (λ here. none (inl here))
+    ends_segments (range_with_len 0 32) (all_answered begun).system seg at (whole_all_answered begun _ w refl) below (λ later. none (inr later))
+    ∙ from_segments (first_completed begun.kernel.dispatcher.completed) begun seg at w refl below (λ here. none (inl here))
 
 pub settled_common : (begun : System) (seg at : ℕ) → IsWhole begun → 49152 ≤ at → ((home : ℕ) → IsAnsweredAfter begun home at → ⊥)
     → byte_at (settled begun).system.memory seg at ≡ byte_at begun.memory seg at
 unfolding settled with_ends IsAnsweredAfter
 settled_common begun seg at w above none =
-    ends_common (range_with_len 0 32) (all_finished begun).system seg at (whole_answered begun _ w refl) above (λ home later. none home (inr later))
-    ∙ answers_common begun seg at w above (λ home here. none home (inl here))
+    ends_common (range_with_len 0 32) (all_answered begun).system seg at (whole_all_answered begun _ w refl) above (λ home later. none home (inr later))
+    ∙ from_common (first_completed begun.kernel.dispatcher.completed) begun seg at w refl above (λ home here. none home (inl here))
 
 pub step_is_contained : (system : System) → IsWhole system → IsContained system (step_of system).system
 unfolding step_of with_settled
 step_is_contained system w =
     let afterwards = whole_after_begun (counted system) (after_begun system) (whole_counted system w) refl in
     record {
-      segments = λ seg at below unwritten unanswered.
+      segments = λ seg at below unwritten unhanded unanswered.
           settled_segments (after_begun system) seg at afterwards below unanswered
-          ∙ segments_begun (coming (counted system)) system seg at w refl below unwritten;
-      common = λ seg at above unwritten unanswered.
+          ∙ segments_begun (coming (counted system)) system seg at w refl below unwritten unhanded;
+      common = λ seg at above unwritten unhanded unanswered.
           settled_common (after_begun system) seg at afterwards above unanswered
-          ∙ common_begun (coming (counted system)) system seg at w refl above unwritten;
+          ∙ common_begun (coming (counted system)) system seg at w refl above unwritten unhanded;
     }
 
 pub is_contained : (old new : System) → IsWhole old → new ≡ (step_of old).system → IsContained old new

@@ -1,5 +1,5 @@
 -- Ends that were put off: one after another, by slot, and none where nobody is aborted.
-use Rattle.std.proofs.Common.{◌≡◌, ◌∙◌, ℕ, suc, ◌+◌, ◌-◌, ◌<◌, false, not, ◌&&◌, List, [], ◌∷◌, ◌++◌, Result, refl, sym, ap, subst, append_assoc, arith}
+use Rattle.std.proofs.Common.{◌≡◌, ◌∙◌, ℕ, suc, ◌+◌, ◌-◌, ◌<◌, false, not, ◌&&◌, List, [], ◌∷◌, ◌++◌, Option, Some, None, Result, refl, sym, ap, subst, append_assoc, arith}
 use Rattle.std.proofs.lemmas.Bool.{false≢true}
 use Rattle.std.proofs.lemmas.List.{append-nil}
 use Rattle.std.specs.List.{range_with_len}
@@ -9,12 +9,13 @@ use Rattle.mpm_xdos.specs.Aborting.{waits_to_end}
 use Rattle.mpm_machine.specs.declared.system.System.{System}
 use Rattle.mpm_machine.specs.State.{Change, silent, NobodyAborted}
 use Rattle.mpm_machine.specs.Ending.{ended}
-use Rattle.mpm_machine.specs.Finishing.{all_finished}
+use Rattle.mpm_dispatcher.specs.Dispatch.{first_completed}
+use Rattle.mpm_machine.specs.Finishing.{completion_dequeued, command_let_in, finished_or_ended, answered_from, all_answered}
 use Rattle.mpm_machine.specs.Due.{is_due, ended_if_due, due_terminated, all_due_terminated, is_any_aborted, noted, with_ends, settled}
 use Rattle.mpm_output.specs.Outside.{Outside, Device}
 use Rattle.mpm_output.specs.Writing.{Wrote, Fails, Emits}
 use Rattle.mpm_output.proofs.WritingLaws.{wrote_nothing, wrote_after, fails_before, fails_within, fails_same, emits_after}
-use Rattle.mpm_machine.proofs.FinishLaws.{no_completions_finished}
+use Rattle.mpm_machine.proofs.FinishLaws.{completed_none, no_completions_finished}
 
 -- nobody's end is due where nobody is aborted
 
@@ -127,19 +128,26 @@ unfolding due_terminated
 no_completions_due [] system e = e
 no_completions_due (p ∷ ps) system e = no_completions_due ps (ended_if_due p system).system (no_completions_one p system e)
 
+no_completions_from : (first : Option ℕ) (system : System) → first_completed system.kernel.dispatcher.completed ≡ first
+    → (answered_from first system).system.kernel.dispatcher.completed ≡ []
+unfolding answered_from
+no_completions_from None system none = completed_none system.kernel.dispatcher.completed none
+no_completions_from (Some p) system first = no_completions_finished _ (finished_or_ended p (command_let_in p (completion_dequeued system))).system refl
+
 pub no_completions_settled : (system : System) → (settled system).system.kernel.dispatcher.completed ≡ []
 unfolding settled with_ends
-no_completions_settled system = no_completions_due (range_with_len 0 32) (all_finished system).system (no_completions_finished system.kernel.dispatcher.completed system refl)
+no_completions_settled system =
+    no_completions_due (range_with_len 0 32) (all_answered system).system (no_completions_from (first_completed system.kernel.dispatcher.completed) system refl)
 
 -- what is said at the end of a step
 
-pub answers_fail : (device : Device) (system : System) (o n : Outside) → Fails device o n (all_finished system).emitted
+pub answers_fail : (device : Device) (system : System) (o n : Outside) → Fails device o n (all_answered system).emitted
     → Fails device o n (settled system).emitted
 unfolding settled
 answers_fail device system o n failed = fails_before device o n _ _ failed
 
 pub emits_ends : {A E : Type 0} (device : E → Device) (r : Result A E) (system answered : System) (o m n : Outside)
-    → answered ≡ (all_finished system).system → Wrote o m (all_finished system).emitted → Emits device m n (with_ends answered).emitted r
+    → answered ≡ (all_answered system).system → Wrote o m (all_answered system).emitted → Emits device m n (with_ends answered).emitted r
     → Emits device o n (settled system).emitted r
 unfolding settled
 emits_ends device r system answered o m n is wrote emits =

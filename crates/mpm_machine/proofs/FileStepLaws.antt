@@ -16,7 +16,7 @@ use Rattle.mpm_machine.specs.Serving.{keeping, popped, answering_call, replied}
 use Rattle.mpm_machine.specs.Residing.{asked_by}
 use Rattle.mpm_machine.specs.Step.{gate_before, coming, with_settled, counted, step_of}
 use Rattle.mpm_machine.specs.FileCalls.{at_gate, called_next, is_file_number, calls_files, file_caller_by, file_caller, made_by, call_made, with_caller, reply_by, file_replied, error_told, told_then, error_met, answered_by, concluded, step_concluded, step_by, step_with}
-use Rattle.mpm_machine.specs.After.{IsStep}
+use Rattle.mpm_machine.specs.After.{IsOfCall, IsStep}
 use Rattle.mpm_machine.proofs.FiledLaws.{contained_by}
 use Rattle.mpm_machine.proofs.StepLaws.{settled_steps, step_steps}
 use Rattle.mpm_machine.proofs.StepWithLaws.{with_none, instructed_with, served_with}
@@ -108,24 +108,27 @@ steps_with told system = steps_by (file_caller system) told system
 
 -- and its parts are what is said of a step
 
-step_is : (told : Directly) (system : System) → IsWhole system → system.kernel.dispatcher.completed ≡ [] → IsStep system (step_with told system)
-step_is told system w handed = record {
+step_is : (told : Directly) (system : System) → IsWhole system → system.kernel.dispatcher.completed ≡ [] → IsOfCall (file_caller system) told system
+    → IsStep system (step_with told system)
+step_is told system w handed its = record {
   told = told;
+  of_call = its;
   is = refl;
   contained = contained_by told system w;
   instruction = λ p seg i. instructed_with told p seg system handed i;
   calls = λ p seg i none. served_with told p seg system i none;
 }
 
-pub is_step : (told : Directly) (system : System) (change : Change) → IsWhole system → system.kernel.dispatcher.completed ≡ [] → change ≡ step_with told system
-    → IsStep system change
-is_step told system change w handed is = subst (IsStep system) (sym is) (step_is told system w handed)
+pub is_step : (told : Directly) (system : System) (change : Change) → IsWhole system → system.kernel.dispatcher.completed ≡ [] → IsOfCall (file_caller system) told system
+    → change ≡ step_with told system → IsStep system change
+is_step told system change w handed its is = subst (IsStep system) (sym is) (step_is told system w handed its)
 
 -- so is a step without a file call
 
-abbrev nothing_told : Directly
+abbrev pub nothing_told : Directly
 nothing_told = record { caller = Stays; answer = record { hl = 0; fcb = None; at = 0; bytes = [] }; extended = None }
 
 pub is_step_alone : (system : System) (change : Change) → IsWhole system → system.kernel.dispatcher.completed ≡ [] → file_caller system ≡ None → change ≡ step_of system
     → IsStep system change
-is_step_alone system change w handed none is = is_step nothing_told system change w handed (is ∙ sym (with_none nothing_told system none))
+is_step_alone system change w handed none is =
+    is_step nothing_told system change w handed (subst (λ caller. IsOfCall caller nothing_told system) (sym none) tt) (is ∙ sym (with_none nothing_told system none))

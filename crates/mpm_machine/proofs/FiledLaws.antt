@@ -195,7 +195,7 @@ step_segments : (caller : Option ℕ) (told : Directly) (system : System) (seg a
     → at < 49152 → (IsWrittenBy caller told system seg at → ⊥) → (IsAnsweredAfter (after_begun_by caller told system) seg at → ⊥)
     → byte_at (step_by caller told system).system.memory seg at ≡ byte_at system.memory seg at
 unfolding step_concluded with_settled
-step_segments None told system seg at w h below unwritten unanswered = (step_is_contained system w).segments seg at below unwritten unanswered
+step_segments None told system seg at w h below unwritten unanswered = (step_is_contained system w).segments seg at below (λ here. unwritten (inl here)) (λ here. unwritten (inr here)) unanswered
 step_segments (Some p) told system seg at w h below unwritten unanswered =
     let made = makes p system w h in
     settled_segments (concluded told p (call_made p system)).system seg at (whole_concluded told p (call_made p system) made.whole made.lives) below unanswered
@@ -206,7 +206,7 @@ step_common : (caller : Option ℕ) (told : Directly) (system : System) (seg at 
     → 49152 ≤ at → ((home : ℕ) → IsWrittenBy caller told system home at → ⊥) → ((home : ℕ) → IsAnsweredAfter (after_begun_by caller told system) home at → ⊥)
     → byte_at (step_by caller told system).system.memory seg at ≡ byte_at system.memory seg at
 unfolding step_concluded with_settled
-step_common None told system seg at w h above unwritten unanswered = (step_is_contained system w).common seg at above unwritten unanswered
+step_common None told system seg at w h above unwritten unanswered = (step_is_contained system w).common seg at above (λ home here. unwritten home (inl here)) (λ home here. unwritten home (inr here)) unanswered
 step_common (Some p) told system seg at w h above unwritten unanswered =
     let made = makes p system w h in
     settled_common (concluded told p (call_made p system)).system seg at (whole_concluded told p (call_made p system) made.whole made.lives) above unanswered

@@ -1,5 +1,5 @@
 -- A step, and what was written in it, by what a file call comes to, if one is made in it.
-use Rattle.std.proofs.Common.{◌≡◌, ◌∙◌, ℕ, ◌+◌, [], Option, Some, None, Result, Ok, Err, OnOk, refl, sym, ap, subst}
+use Rattle.std.proofs.Common.{◌≡◌, ◌∙◌, ℕ, ◌+◌, [], Option, Some, None, IsSome, Result, Ok, Err, OnOk, refl, sym, ap, subst}
 use Rattle.std.specs.Prelude.{IfErr}
 use Rattle.mpm_base.specs.Calls.{Answer}
 use Rattle.mpm_port.specs.Disks.{Disks}
@@ -13,17 +13,17 @@ use Rattle.mpm_bdos.specs.Outcomes.{Outcome}
 use Rattle.mpm_bdos.specs.Serving.{Kept}
 use Rattle.mpm_machine.specs.declared.system.System.{System}
 use Rattle.mpm_machine.specs.declared.machine.StepFault.{StepFault}
-use Rattle.mpm_machine.specs.declared.machine.StepFault.TheVariants.{WriteFault}
+use Rattle.mpm_machine.specs.declared.machine.StepFault.TheVariants.{DiskFault, WriteFault}
 use Rattle.mpm_machine.specs.State.{Change, StandsForFiles, IsWhole}
 use Rattle.mpm_machine.specs.Due.{NobodyDue}
 use Rattle.mpm_machine.specs.Step.{step_of}
 use Rattle.mpm_machine.specs.Filed.{IsOutcome}
-use Rattle.mpm_machine.specs.FileCalls.{file_caller, call_made, told_by, told_of, step_concluded, step_with, filed_by, filed, stepped, outcome_in}
-use Rattle.mpm_machine.specs.After.{HasStepped, HasFiled, HasConcluded, StopsBy}
+use Rattle.mpm_machine.specs.FileCalls.{file_caller, call_made, change_of, told_by, told_of, step_concluded, step_with, filed_by, filed, stepped, outcome_in}
+use Rattle.mpm_machine.specs.After.{IsOfCall, HasStepped, HasStopped, HasFiled, HasConcluded, StopsBy}
 use Rattle.mpm_machine.proofs.FileLaws.{Made, makes}
 use Rattle.mpm_machine.proofs.FilingLaws.{told_is}
 use Rattle.mpm_machine.proofs.StepWithLaws.{with_none, whole_with, no_completions_with, nobody_due_with}
-use Rattle.mpm_machine.proofs.FileStepLaws.{filing_is, steps_with, is_step, is_step_alone}
+use Rattle.mpm_machine.proofs.FileStepLaws.{filing_is, steps_with, is_step, is_step_alone, nothing_told}
 
 stepped_is : (system : System) (filing : Filing) → (stepped system filing).change ≡ step_with (told_by (filed filing system)) system
 unfolding stepped
@@ -37,7 +37,7 @@ change_of_both one other c is same = ap (λ system. record c { system = system }
 stepped_alone : (system : System) (filing : Filing) → file_caller system ≡ None → (stepped system filing).change ≡ step_of system
 stepped_alone system filing none = stepped_is system filing ∙ with_none (told_by (filed filing system)) system none
 
-filed_alone : (system : System) (filing : Filing) → file_caller system ≡ None → (filed filing system).filing ≡ filing
+pub filed_alone : (system : System) (filing : Filing) → file_caller system ≡ None → (filed filing system).filing ≡ filing
 unfolding filed
 filed_alone system filing none = ap (λ caller. (filed_by caller filing system).filing) none
 
@@ -63,12 +63,21 @@ pub alone_stops : (filing : Filing) (o n : Outside) (old : System) → file_call
     → Stopped o n (stepped old filing).change.emitted
 alone_stops filing o n old none stopped = subst (λ (c : Change). Stopped o n c.emitted) (sym (stepped_alone old filing none)) stopped
 
+pub alone_has_stopped : (o n : Outside) (old : System) → IsWhole old → old.kernel.dispatcher.completed ≡ [] → file_caller old ≡ None → Stopped o n (step_of old).emitted
+    → HasStopped WriteFault o n old
+alone_has_stopped o n old w handed none stopped = record {
+  change = step_of old;
+  is = is_step_alone old (step_of old) w handed none refl;
+  stops = stopped;
+  calls = tt;
+}
+
 -- a step with one
 
 pub made_here : (p : ℕ) (old made : System) → IsWhole old → Lives old.kernel.dispatcher.procs p → made ≡ call_made p old → Made p old made
 made_here p old made w h is = subst (Made p old) (sym is) (makes p old w h)
 
-filed_is : (filing : Filing) (p : ℕ) (old : System) → file_caller old ≡ Some p → filed filing old ≡ outcome_in filing p (call_made p old)
+pub filed_is : (filing : Filing) (p : ℕ) (old : System) → file_caller old ≡ Some p → filed filing old ≡ outcome_in filing p (call_made p old)
 unfolding filed
 filed_is filing p old some = ap (λ caller. filed_by caller filing old) some
 
@@ -86,7 +95,7 @@ on_ok_by : {A E P Q : Type 0} (r : Result A E) → (P → Q) → OnOk r P → On
 on_ok_by (Ok a) so p = so p
 on_ok_by (Err e) so p = tt
 
-if_err_by : {A E : Type 0} (P Q : E → Type 0) (r : Result A E) → ((e : E) → P e → Q e) → IfErr r P → IfErr r Q
+pub if_err_by : {A E : Type 0} (P Q : E → Type 0) (r : Result A E) → ((e : E) → P e → Q e) → IfErr r P → IfErr r Q
 if_err_by P Q (Ok a) so p = tt
 if_err_by P Q (Err e) so p = so e p
 
@@ -115,17 +124,60 @@ files_stop r filing p o n old made kept disks answer extended some is outcome st
     if_err_by (λ fault. (fault ≡ WriteFault) × Stopped o n (step_concluded told p made).emitted) (λ fault. StopsBy fault o n (stepped old filing).change.emitted) r
     (λ fault so. subst (λ f. StopsBy f o n (stepped old filing).change.emitted) (sym so.0) (subst (λ (x : Change). Stopped o n x.emitted) (sym change) so.1)) stopped
 
+of_call : (told : Directly) (p : ℕ) (old made : System) → file_caller old ≡ Some p → made ≡ call_made p old
+    → told.caller ≡ change_of (call_of made.kernel.dispatcher.procs p) told.extended → IsOfCall (file_caller old) told old
+of_call told p old made some is changes =
+    subst (λ caller. IsOfCall caller told old) (sym some) (subst (λ (m : System). told.caller ≡ change_of (call_of m.kernel.dispatcher.procs p) told.extended) is changes)
+
 pub files_have_stepped : {A E : Type 0} (r : Result A E) (told : Directly) (p : ℕ) (o n : Outside) (old made new : System) → IsWhole old → old.kernel.dispatcher.completed ≡ []
-    → file_caller old ≡ Some p → made ≡ call_made p old → OnOk r (HasConcluded told p o n made new) → OnOk r (HasStepped o n old new)
-files_have_stepped r told p o n old made new w handed some is concluded =
+    → file_caller old ≡ Some p → made ≡ call_made p old → told.caller ≡ change_of (call_of made.kernel.dispatcher.procs p) told.extended
+    → OnOk r (HasConcluded told p o n made new) → OnOk r (HasStepped o n old new)
+files_have_stepped r told p o n old made new w handed some is changes concluded =
     let all : step_concluded told p made ≡ step_with told old = ap (step_concluded told p) is ∙ sym (filing_is told p old some) in
     on_ok_by r (λ (c : HasConcluded told p o n made new).
     let has : HasStepped o n old new = record {
       emitted = (step_concluded told p made).emitted;
-      is = is_step told old (record { system = new; emitted = (step_concluded told p made).emitted }) w handed
+      is = is_step told old (record { system = new; emitted = (step_concluded told p made).emitted }) w handed (of_call told p old made some is changes)
           (change_of_both new (step_concluded told p made).system (step_concluded told p made) c.system refl ∙ all);
       wrote = c.wrote;
     } in has) concluded
+
+pub files_have_stopped : {A : Type 0} (r : Result A StepFault) (told : Directly) (p : ℕ) (o n : Outside) (old made : System) → IsWhole old → old.kernel.dispatcher.completed ≡ []
+    → file_caller old ≡ Some p → made ≡ call_made p old → told.caller ≡ change_of (call_of made.kernel.dispatcher.procs p) told.extended
+    → IfErr r (λ fault. (fault ≡ WriteFault) × Stopped o n (step_concluded told p made).emitted) → IfErr r (λ fault. HasStopped fault o n old)
+files_have_stopped r told p o n old made w handed some is changes stopped =
+    let all : step_concluded told p made ≡ step_with told old = ap (step_concluded told p) is ∙ sym (filing_is told p old some) in
+    if_err_by (λ fault. (fault ≡ WriteFault) × Stopped o n (step_concluded told p made).emitted) (λ fault. HasStopped fault o n old) r
+    (λ fault so.
+    let has : HasStopped WriteFault o n old = record {
+      change = step_concluded told p made;
+      is = is_step told old (step_concluded told p made) w handed (of_call told p old made some is changes) all;
+      stops = so.1;
+      calls = tt;
+    } in subst (λ f. HasStopped f o n old) (sym so.0) has) stopped
+
+-- where its drive failed nothing was written
+told_for : Option ℕ → System → Directly
+told_for None old = nothing_told
+told_for (Some p) old = told_of (call_of (call_made p old).kernel.dispatcher.procs p) nothing_told.answer None
+
+is_told_for : (caller : Option ℕ) (old : System) → IsOfCall caller (told_for caller old) old
+unfolding change_of told_for
+is_told_for None old = tt
+is_told_for (Some p) old = refl
+
+there : (p : ℕ) (caller : Option ℕ) → caller ≡ Some p → IsSome caller
+there p None is = absurd (cc)
+there p (Some q) is = refl
+
+pub unwritten_has_stopped : (p : ℕ) (o : Outside) (old : System) → IsWhole old → old.kernel.dispatcher.completed ≡ [] → file_caller old ≡ Some p
+    → HasStopped DiskFault o o old
+unwritten_has_stopped p o old w handed some = record {
+  change = step_with (told_for (file_caller old) old) old;
+  is = is_step (told_for (file_caller old) old) old (step_with (told_for (file_caller old) old) old) w handed (is_told_for (file_caller old) old) refl;
+  stops = refl;
+  calls = there p (file_caller old) some;
+}
 
 -- what is so behind it
 

@@ -35,7 +35,8 @@ use Rattle.mpm_mount.specs.Directories.{Directory}
 use Rattle.mpm_machine.specs.State.{StandsForFiles}
 use Rattle.mpm_machine.specs.Mounting.{HasNoDrive}
 use Rattle.mpm_machine.specs.Filed.{IsOutcome, AreLiving, left_if}
-use Rattle.mpm_machine.specs.FileCalls.{looked_at, entering, situation_of, directly, outcome_by, outcome_in, change_of, told_by, told_of, is_gone, left_each, left_behind}
+use Rattle.mpm_machine.specs.FileCalls.{file_caller, call_made, looked_at, entering, situation_of, directly, outcome_by, outcome_in, filed_by, filed, change_of, told_by, told_of, is_gone, left_each, left_behind}
+use Rattle.mpm_machine.specs.After.{IsOfCall}
 
 -- a row of a table of numbers
 
@@ -173,7 +174,16 @@ caller_changed filing p system =
     let number = (call_of system.kernel.dispatcher.procs p).function in
     changed_by (function_of number) (direct_of number) filing p system refl refl
 
--- so what was answered is all that its caller is told
+-- so is what its caller is told
+pub filed_of_call : (filing : Filing) (system : System) → IsOfCall (file_caller system) (told_by (filed filing system)) system
+unfolding filed
+filed_of_call filing system = by_caller (file_caller system)
+  where
+    by_caller : (caller : Option ℕ) → IsOfCall caller (told_by (filed_by caller filing system)) system
+    by_caller None = tt
+    by_caller (Some p) = caller_changed filing p (call_made p system)
+
+-- what was answered is all of that
 pub told_is : (disks : Option Disks) (filing : Filing) (p : ℕ) (system : System) (kept : Kept) (answer : Answer) (extended : Option Extended)
     → IsOutcome disks (outcome_in filing p system) kept answer extended
     → told_of (call_of system.kernel.dispatcher.procs p) answer extended ≡ told_by (outcome_in filing p system)
@@ -234,7 +244,7 @@ comes_to disks filing p system new s function answer extended is named comes =
     subst (λ (served : Option FileFunction). IsOutcome disks (outcome_by served (direct_of (call_of system.kernel.dispatcher.procs p).function) filing p system) new answer extended) (sym named)
     (subst P is here)
 
-situation_is : (filing : Filing) (p : ℕ) (system : System) (kept : Kept) (function : FileFunction) (caller process : Process) (call : Taken) (now : Moment)
+pub situation_is : (filing : Filing) (p : ℕ) (system : System) (kept : Kept) (function : FileFunction) (caller process : Process) (call : Taken) (now : Moment)
     → filing_of kept filing.drives ≡ filing → caller ≡ looked_at process → process ≡ process_in system.kernel.dispatcher.procs p
     → call ≡ call_of system.kernel.dispatcher.procs p → now ≡ moment_of system.kernel.clock
     → entering_here kept filing.drives (caller_of p caller) function call (stamp now) ≡ situation_of filing function p system
@@ -245,7 +255,7 @@ situation_is filing p system kept function caller process call now filed looks l
     ∙ ap (λ (c : Taken). entering filing function p (process_in system.kernel.dispatcher.procs p) c now) calls
     ∙ ap (λ (m : Moment). entering filing function p (process_in system.kernel.dispatcher.procs p) (call_of system.kernel.dispatcher.procs p) m) at
 
-named_by : (found : Option FileFunction) → IsSome found → (function : FileFunction) × (found ≡ Some function)
+pub named_by : (found : Option FileFunction) → IsSome found → (function : FileFunction) × (found ≡ Some function)
 named_by None some = absurd (cc)
 named_by (Some function) some = (function, refl)
 
@@ -309,7 +319,7 @@ leaves_last procs later number filing whole all so =
 
 -- where no drive is mounted, none is
 
-label_none : (d e : Option Directory) → option_map labelled e ≡ option_map labelled d → d ≡ None → e ≡ None
+pub label_none : (d e : Option Directory) → option_map labelled e ≡ option_map labelled d → d ≡ None → e ≡ None
 label_none None None same none = refl
 label_none None (Some e) same none = absurd (cc)
 label_none (Some d) e same none = absurd (cc)

@@ -1,22 +1,22 @@
 -- Held calls that are completed, answered one after another.
-use Rattle.std.proofs.Common.{◌≡◌, ◌∙◌, ℕ, suc, ◌≤◌, List, [], ◌∷◌, ◌++◌, length, Option, Some, None, Ok, drop, arith, refl, sym, ap, subst, append_assoc}
+use Rattle.std.proofs.Common.{◌≡◌, ◌∙◌, ℕ, suc, ◌≤◌, List, [], ◌∷◌, ◌++◌, length, Option, Some, None, Result, Ok, OnOk, drop, arith, refl, sym, ap, subst, append_assoc}
 use Rattle.mpm_base.proofs.Choices.{either}
 use Rattle.mpm_procs.specs.Table.{Lives, process_in, call_of}
 use Rattle.mpm_dispatcher.specs.Dispatch.{with_completed, first_completed}
 use Rattle.mpm_kernel.specs.Kernel.{Kernel, dispatched}
 use Rattle.mpm_kernel.specs.Completion.{completion_of}
 use Rattle.mpm_kernel.specs.Waiting.{completion_reply}
-use Rattle.mpm_machine.specs.State.{Change}
+use Rattle.mpm_machine.specs.State.{Change, silent}
 use Rattle.mpm_render.specs.Outputs.{Output}
 use Rattle.mpm_kernel.specs.Events.{with_first, handed_out}
 use Rattle.mpm_kernel.proofs.HomeLaws.{lives_handed_out, call_handed_out, seg_handed_out, completed_handed_out}
 use Rattle.mpm_machine.specs.declared.system.System.{System}
 use Rattle.mpm_machine.specs.Serving.{is_entry, with_entry, fulfilling, answering_call, replied}
-use Rattle.mpm_machine.specs.Finishing.{finished, completion_dequeued, finishing, all_finished}
+use Rattle.mpm_machine.specs.Finishing.{finished, completion_dequeued, finishing, all_finished, command_let_in, finished_or_ended, answered_from, all_answered}
 use Rattle.mpm_output.specs.Outside.{Outside, Device}
 use Rattle.mpm_output.specs.Writing.{Wrote, Fails, Emits}
 use Rattle.mpm_machine.proofs.EntryLaws.{completed_entered}
-use Rattle.mpm_output.proofs.WritingLaws.{wrote_after, fails_within, fails_same, emits_nothing, emits_same}
+use Rattle.mpm_output.proofs.WritingLaws.{wrote_after, fails_before, fails_within, fails_same, emits_nothing, emits_after, emits_same}
 
 -- who is completed first, and the others
 pub completed_first : (ps : List ℕ) (p : ℕ) → first_completed ps ≡ Some p → ps ≡ p ∷ drop 1 ps
@@ -172,3 +172,54 @@ fewer_left now new p first is =
     let left : new.kernel.dispatcher.completed ≡ ps =
     ap (λ (s : System). s.kernel.dispatcher.completed) is ∙ left_completed p ps now (completed_first now.kernel.dispatcher.completed p first) in
     omega (arith, more_than_rest now.kernel.dispatcher.completed p first, ap length left)
+
+-- the first of those that a step completed was answered, and then the others
+
+first_is : (p : ℕ) (old handed : System) → first_completed old.kernel.dispatcher.completed ≡ Some p → handed ≡ completion_dequeued old
+    → all_answered old ≡ answered_from (Some p) old
+first_is p old handed first out = ap (λ o. answered_from o old) first
+
+answered_is : (p : ℕ) (old handed first : System) → first_completed old.kernel.dispatcher.completed ≡ Some p → handed ≡ completion_dequeued old
+    → first ≡ (finished_or_ended p (command_let_in p handed)).system → (all_finished first).system ≡ (all_answered old).system
+unfolding answered_from
+answered_is p old handed first is out done =
+    ap (λ (s : System). (all_finished s).system) (done ∙ ap (λ (s : System). (finished_or_ended p (command_let_in p s)).system) out)
+    ∙ sym (ap (λ (c : Change). c.system) (first_is p old handed is out))
+
+pub answered_system : {A E : Type 0} (r : Result A E) (p : ℕ) (old handed first new : System) → first_completed old.kernel.dispatcher.completed ≡ Some p
+    → handed ≡ completion_dequeued old → first ≡ (finished_or_ended p (command_let_in p handed)).system → OnOk r (new ≡ (all_finished first).system)
+    → OnOk r (new ≡ (all_answered old).system)
+answered_system r p old handed first new is out done others =
+    let P : System → Type 0 = λ s. OnOk r (new ≡ s) in subst P (answered_is p old handed first is out done) others
+
+answered_emitted : (p : ℕ) (old handed first : System) → first_completed old.kernel.dispatcher.completed ≡ Some p → handed ≡ completion_dequeued old
+    → first ≡ (finished_or_ended p (command_let_in p handed)).system
+    → (all_finished first).emitted ++ (finished_or_ended p (command_let_in p handed)).emitted ≡ (all_answered old).emitted
+unfolding answered_from
+answered_emitted p old handed first is out done =
+    ap (λ (s : System). (all_finished s).emitted ++ (finished_or_ended p (command_let_in p handed)).emitted) done
+    ∙ ap (λ (s : System). (all_finished (finished_or_ended p (command_let_in p s)).system).emitted ++ (finished_or_ended p (command_let_in p s)).emitted) out
+    ∙ sym (ap (λ (c : Change). c.emitted) (first_is p old handed is out))
+
+pub emits_answered : {A E : Type 0} (device : E → Device) (r : Result A E) (p : ℕ) (old handed first : System) (o m n : Outside)
+    → first_completed old.kernel.dispatcher.completed ≡ Some p → handed ≡ completion_dequeued old
+    → first ≡ (finished_or_ended p (command_let_in p handed)).system → Wrote o m (finished_or_ended p (command_let_in p handed)).emitted
+    → Emits device m n (all_finished first).emitted r → Emits device o n (all_answered old).emitted r
+emits_answered device r p old handed first o m n is out done wrote emits =
+    emits_same device o n _ _ r (answered_emitted p old handed first is out done) (emits_after device o m n _ _ r wrote emits)
+
+pub first_fails : (device : Device) (p : ℕ) (old handed : System) (o n : Outside) → first_completed old.kernel.dispatcher.completed ≡ Some p
+    → handed ≡ completion_dequeued old → Fails device o n (finished_or_ended p (command_let_in p handed)).emitted → Fails device o n (all_answered old).emitted
+first_fails device p old handed o n is out failed =
+    fails_same device o n _ _ (answered_emitted p old handed (finished_or_ended p (command_let_in p handed)).system is out refl) (fails_before device o n _ _ failed)
+
+pub answered_nobody : (system : System) → first_completed system.kernel.dispatcher.completed ≡ None → all_answered system ≡ silent system
+unfolding answered_from
+answered_nobody system none = ap (λ o. answered_from o system) none
+
+pub answered_none : (system : System) → system.kernel.dispatcher.completed ≡ [] → system ≡ (all_answered system).system
+answered_none system e = sym (ap (λ (c : Change). c.system) (answered_nobody system (ap first_completed e)))
+
+pub emits_none : {A E : Type 0} (device : E → Device) (x : A) (system : System) (o : Outside) → first_completed system.kernel.dispatcher.completed ≡ None
+    → Emits device o o (all_answered system).emitted (Ok x)
+emits_none device x system o none = emits_same device o o [] _ _ (sym (ap (λ (c : Change). c.emitted) (answered_nobody system none))) (emits_nothing device o x)

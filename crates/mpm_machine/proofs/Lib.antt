@@ -6,7 +6,6 @@ pub mod EntryLaws
 pub mod FinishLaws
 pub mod DueLaws
 pub mod WholeLaws
-pub mod WholeStepLaws
 pub mod NobodyDueLaws
 pub mod FileLaws
 pub mod TakenLaws
@@ -15,6 +14,8 @@ pub mod ResidingLaws
 pub mod PlacedLaws
 pub mod LoadingLaws
 pub mod SendingLaws
+pub mod ActedLaws
+pub mod WholeStepLaws
 pub mod OpeningLaws
 pub mod SlotLaws
 pub mod StepLaws
@@ -31,6 +32,11 @@ pub mod NextLaws
 pub mod PlainLaws
 pub mod StandingLaws
 pub mod FilingLaws
+mod LeavingLaws
 pub mod FilesStepLaws
 pub mod MountedLaws
+pub mod DriveLaws
+pub mod FailingLaws
 pub mod AfterLaws
+pub mod LockLaws
+pub mod FiledValue

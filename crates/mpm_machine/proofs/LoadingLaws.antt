@@ -1,9 +1,12 @@
 -- What the command line interpreter hands over leaves a whole system.
 use Rattle.std.proofs.Common.{◌≡◌, ◌∙◌, ℕ, ◌<◌, true, List, [], ◌∷◌, Option, Some, None, length, refl, sym, ap, subst, arith}
-use Rattle.std.proofs.lemmas.Bool.{false≢true}
+use Rattle.std.specs.Prelude.{nat_lt, nat_le}
+use Rattle.std.proofs.lemmas.Bool.{false≢true, and_parts}
+use Rattle.std.proofs.lemmas.Bool.Decides.{nat_tests}
+use Rattle.mpm_base.proofs.Choices.{either}
 use Rattle.std.proofs.lemmas.List.FromFn.{length-map-range_with_len}
 use Rattle.z80_regs.specs.Words.{onward}
-use Rattle.mpm_banks.specs.Memory.{Memory, HasSegment, byte_at, with_bytes}
+use Rattle.mpm_banks.specs.Memory.{Memory, HasSegment, segment_of, byte_at, with_bytes}
 use Rattle.mpm_banks.specs.Ranges.{range_of, range_bytes, put_range}
 use Rattle.mpm_banks.specs.Allocations.{occupied}
 use Rattle.mpm_banks.specs.declared.range.Range.{Range}
@@ -25,46 +28,38 @@ use Rattle.mpm_kernel.proofs.GivingLaws.{sound_gave, procs_gave, completed_gave}
 use Rattle.mpm_processor.specs.Gates.{IsHome}
 use Rattle.mpm_machine.specs.declared.system.System.{System}
 use Rattle.mpm_machine.specs.State.{IsOccupied, IsWhole}
-use Rattle.mpm_machine.specs.Loading.{moved, is_slot, begun_for, ChangesOnly}
+use Rattle.mpm_machine.specs.Loading.{placing, moved, may_move, moving, is_console, giving, may_live, is_slot, begun_for, begins, beginning, ChangesOnly}
 use Rattle.mpm_machine.proofs.HomeLaws.{KeepsHomes, keeps_itself, keeps_same, keeps_both, keeps_occupied}
 use Rattle.mpm_machine.proofs.PlacedLaws.{homes_begun}
-use Rattle.mpm_machine.proofs.WholeLaws.{nobody_more, whole_kernel}
+use Rattle.mpm_machine.proofs.WholeLaws.{nobody_more, whole_kernel, whole_memory}
 
 -- bytes change, and no segment's place or size, nor who has it
-whole_memory : (old : System) (memory : Memory) → IsWhole old → KeepsHomes old.memory memory → IsWhole (record old { memory = memory })
-whole_memory old memory w keeps = record {
-  sound = w.sound;
-  live = w.live;
-  script = w.script;
-  settled = w.settled;
-  homes = λ p seg living there. keeps.all seg (w.homes p seg living there);
-  lived = λ p seg living there. keeps.lived seg (w.homes p seg living there) (w.lived p seg living there);
-}
-
-pub whole_with_bytes : (old : System) (memory : Memory) (seg address : ℕ) (bytes : List ℕ) → IsWhole old → memory ≡ with_bytes old.memory seg address bytes
-    → IsWhole (record old { memory = memory })
-whole_with_bytes old memory seg address bytes w is =
-    whole_memory old memory w (subst (KeepsHomes old.memory) (sym is) (keeps_same _ _ (same_segments_with_bytes bytes old.memory seg address)))
+pub whole_placing : (seg address : ℕ) (bytes : List ℕ) (system : System) → IsWhole system → IsWhole (placing seg address bytes system)
+whole_placing seg address bytes system w = whole_memory system _ w (keeps_same _ _ (same_segments_with_bytes bytes system.memory seg address))
 
 keeps_moved : (range : Option Range) (marks : List ℕ) (page : ℕ) (memory : Memory) → KeepsHomes memory (moved range marks page memory)
 keeps_moved None marks page memory = keeps_itself memory
 keeps_moved (Some range) marks page memory = keeps_same memory _ (same_segments_put_range memory range _)
 
-pub whole_moved : (old : System) (memory : Memory) (seg address count : ℕ) (marks : List ℕ) (page : ℕ) → IsWhole old
-    → memory ≡ moved (range_of old.memory seg address count) marks page old.memory → IsWhole (record old { memory = memory })
-whole_moved old memory seg address count marks page w is =
-    whole_memory old memory w (subst (KeepsHomes old.memory) (sym is) (keeps_moved (range_of old.memory seg address count) marks page old.memory))
+pub whole_moving : (seg address count : ℕ) (marks : List ℕ) (page : ℕ) (system : System) → IsWhole system → IsWhole (moving seg address count marks page system)
+whole_moving seg address count marks page system w =
+    either (λ (memory : Memory). IsWhole (record system { memory = memory })) (may_move count marks) _ system.memory
+    (λ _. whole_memory system _ w (keeps_moved (range_of system.memory seg address count) marks page system.memory)) (λ _. w)
 
 -- a console passes on
-pub whole_gave : (old : System) (kernel : Kernel) (console p : ℕ) → IsWhole old → console < length old.kernel.units.consoles
-    → kernel ≡ given console (Some p) None old.kernel → IsWhole (record old { kernel = kernel })
-whole_gave old kernel console p w below is =
+gave_whole : (console p : ℕ) (old : System) → IsWhole old → console < length old.kernel.units.consoles
+    → IsWhole (record old { kernel = given console (Some p) None old.kernel })
+gave_whole console p old w below =
     let gave = given console (Some p) None old.kernel in
     let same : gave.dispatcher.procs ≡ old.kernel.dispatcher.procs = procs_gave console (Some p) None old.kernel in
-    subst (λ k. IsWhole (record old { kernel = k })) (sym is)
-    (whole_kernel old gave w (sound_gave console (Some p) None old.kernel w.sound below tt)
+    whole_kernel old gave w (sound_gave console (Some p) None old.kernel w.sound below tt)
     (live_kept old.kernel gave (completed_gave console (Some p) None old.kernel) (λ q living. ap (λ procs. lives procs q) same ∙ living) w.live)
-    (homes_stay old.kernel gave same))
+    (homes_stay old.kernel gave same)
+
+pub whole_giving : (console p : ℕ) (system : System) → IsWhole system → IsWhole (giving console p system)
+whole_giving console p system w =
+    either (λ (kernel : Kernel). IsWhole (record system { kernel = kernel })) (is_console console system.kernel) _ system.kernel
+    (λ there. gave_whole console p system w (grind (arith, nat_tests, there))) (λ _. w)
 
 -- a process begins in a home, which is lived in from now on
 
@@ -109,16 +104,21 @@ begun_by : (slot : Option ℕ) (old : System) (p seg address base : ℕ) (new : 
 begun_by None old p seg address base new w below home is free some = absurd (false≢true some)
 begun_by (Some q) old p seg address base new w below home is free some = begun_whole old p q seg address base new w below home is free
 
-pub whole_program : (old : System) (kernel : Kernel) (written memory : Memory) (p seg address base : ℕ) (new : NewProcess) → IsWhole old
-    → new.console < length old.kernel.units.consoles → IsHome old.memory seg → new.seg ≡ Some seg
-    → is_slot (lowest_free old.kernel.dispatcher.procs) ≡ true → kernel ≡ begun_for p new (lowest_free old.kernel.dispatcher.procs) old.kernel
-    → written ≡ with_bytes old.memory seg address (0 ∷ base ∷ []) → memory ≡ occupied written seg → IsWhole (record old { kernel = kernel; memory = memory })
-whole_program old kernel written memory p seg address base new w below home is some begun laid lived =
-    let slot = lowest_free old.kernel.dispatcher.procs in
-    let there = lived ∙ ap (λ m. occupied m seg) laid in
-    subst (λ k. IsWhole (record old { kernel = k; memory = memory })) (sym begun)
-    (subst (λ m. IsWhole (record old { kernel = begun_for p new slot old.kernel; memory = m })) (sym there)
-    (begun_by slot old p seg address base new w below home is refl some))
+home_of : (memory : Memory) (seg : ℕ) → may_live memory seg ≡ true → IsHome memory seg
+home_of memory seg may =
+    let parts = and_parts (nat_lt seg (length memory.segments)) _ may in
+    let sizes = and_parts (nat_le 4 (segment_of memory seg).pages) _ parts.1 in
+    record { exists = grind (arith, nat_tests, parts.0); pages = grind (arith, nat_tests, sizes.0); end = grind (arith, nat_tests, sizes.1) }
+
+pub whole_beginning : (seg : ℕ) (new : NewProcess) (p : ℕ) (system : System) → IsWhole system → IsWhole (beginning seg new p system)
+whole_beginning seg new p system w =
+    either IsWhole (begins seg new system) _ system
+    (λ may.
+    let parts = and_parts (may_live system.memory seg) _ may in
+    let others = and_parts (is_console new.console system.kernel) _ parts.1 in
+    begun_by (lowest_free system.kernel.dispatcher.procs) system p seg new.sp (segment_of system.memory seg).base (record new { seg = Some seg }) w
+    (grind (arith, nat_tests, others.0)) (home_of system.memory seg parts.0) refl refl others.1)
+    (λ _. w)
 
 -- a process that has begun leaves the others as they were
 pub lives_there : (old now : Kernel) (p q : ℕ) (new : NewProcess) → Lives old.dispatcher.procs p → lowest_free old.dispatcher.procs ≡ Some q
@@ -127,10 +127,6 @@ lives_there old now p q new living free is =
     let P : Kernel → Type 0 = λ k. Lives k.dispatcher.procs p in
     subst P (sym is) (lives_on old new (lowest_free old.dispatcher.procs) p refl living)
 
--- where no slot is free nothing changes
-pub whole_unchanged : (old : System) (kernel : Kernel) → IsWhole old → kernel ≡ old.kernel → IsWhole (record old { kernel = kernel })
-whole_unchanged old kernel w same = subst (λ k. IsWhole (record old { kernel = k })) (sym same) w
-
 -- a segment is there as before
 pub written_is_there : (old now : Memory) (seg address : ℕ) (bytes : List ℕ) → HasSegment old seg → now ≡ with_bytes old seg address bytes → HasSegment now seg
 written_is_there old now seg address bytes there is =
@@ -138,11 +134,11 @@ written_is_there old now seg address bytes there is =
 
 -- of memory only those bytes change
 
-pub changes_nothing : (seg address count : ℕ) (old now : Memory) → now ≡ old → ChangesOnly seg address count old now
+changes_nothing : (seg address count : ℕ) (old now : Memory) → now ≡ old → ChangesOnly seg address count old now
 changes_nothing seg address count old now is =
     subst (ChangesOnly seg address count old) (sym is) (record { others = λ other at apart below. refl; rest = λ at apart. refl })
 
-pub changes_written : (seg address : ℕ) (bytes : List ℕ) (old now : Memory) → now ≡ with_bytes old seg address bytes → ChangesOnly seg address (length bytes) old now
+changes_written : (seg address : ℕ) (bytes : List ℕ) (old now : Memory) → now ≡ with_bytes old seg address bytes → ChangesOnly seg address (length bytes) old now
 changes_written seg address bytes old now is =
     subst (ChangesOnly seg address (length bytes) old) (sym is) (record {
       others = λ other at apart below. with_bytes_other_segment bytes old seg address other at apart below;
@@ -166,12 +162,14 @@ changes_in_range (Some range) seg address count marks page memory is =
     subst (λ n. ChangesOnly seg address n memory (put_range memory range new)) size
     (changes_written seg address new memory (put_range memory range new) (put_range_is memory seg address count range new is size))
 
-pub changes_moved : (seg address count : ℕ) (marks : List ℕ) (page : ℕ) (old now : Memory) → now ≡ moved (range_of old seg address count) marks page old
-    → ChangesOnly seg address count old now
-changes_moved seg address count marks page old now is =
-    subst (ChangesOnly seg address count old) (sym is) (changes_in_range (range_of old seg address count) seg address count marks page old refl)
+pub changes_moving : (seg address count : ℕ) (marks : List ℕ) (page : ℕ) (system : System)
+    → ChangesOnly seg address count system.memory (moving seg address count marks page system).memory
+changes_moving seg address count marks page system =
+    either (ChangesOnly seg address count system.memory) (may_move count marks) _ system.memory
+    (λ _. changes_in_range (range_of system.memory seg address count) seg address count marks page system.memory refl)
+    (λ _. changes_nothing seg address count system.memory system.memory refl)
 
-pub changes_begun : (seg address base : ℕ) (old written now : Memory) → written ≡ with_bytes old seg address (0 ∷ base ∷ []) → now ≡ occupied written seg
+changes_begun : (seg address base : ℕ) (old written now : Memory) → written ≡ with_bytes old seg address (0 ∷ base ∷ []) → now ≡ occupied written seg
     → ChangesOnly seg address 2 old now
 changes_begun seg address base old written now is lived =
     let laid = changes_written seg address (0 ∷ base ∷ []) old written is in
@@ -180,3 +178,14 @@ changes_begun seg address base old written now is lived =
       others = λ other at apart below. reads_alike written (occupied written seg) same other at ∙ laid.others other at apart below;
       rest = λ at apart. reads_alike written (occupied written seg) same seg at ∙ laid.rest at apart;
     })
+
+pub changes_beginning : (seg : ℕ) (new : NewProcess) (p : ℕ) (system : System) → ChangesOnly seg new.sp 2 system.memory (beginning seg new p system).memory
+changes_beginning seg new p system =
+    let base = (segment_of system.memory seg).base in
+    either (λ (s : System). ChangesOnly seg new.sp 2 system.memory s.memory) (begins seg new system) _ system
+    (λ _. changes_begun seg new.sp base system.memory (with_bytes system.memory seg new.sp (0 ∷ base ∷ [])) _ refl refl)
+    (λ _. changes_nothing seg new.sp 2 system.memory system.memory refl)
+
+pub changes_placing : (seg address : ℕ) (bytes : List ℕ) (system : System)
+    → ChangesOnly seg address (length bytes) system.memory (placing seg address bytes system).memory
+changes_placing seg address bytes system = changes_written seg address bytes system.memory _ refl

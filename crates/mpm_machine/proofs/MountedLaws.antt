@@ -1,8 +1,9 @@
 -- What is kept of files as a machine begins holds its drives.
-use Rattle.std.proofs.Common.{◌≡◌, ◌≢◌, ◌∙◌, ℕ, zero, suc, Bool, true, false, ◌||◌, List, [], ◌∷◌, Option, Some, None, IfSome, inl, inr, ◌==◌, refl, sym, ap, subst}
+use Rattle.std.proofs.Common.{◌≡◌, ◌≢◌, ◌∙◌, ℕ, zero, suc, Bool, true, false, ◌||◌, List, [], ◌∷◌, Option, Some, None, IfSome, inl, inr, ◌==◌, length, refl, sym, ap, subst}
 use Rattle.std.specs.Prelude.{◌⊎◌, replicate, is_some, bytes_eq, slice_index_or, slice_set}
 use Rattle.std.specs.List.{AllByRecursion}
 use Rattle.std.proofs.lemmas.Bool.{false≢true}
+use Rattle.std.proofs.lemmas.List.{length-set}
 use Rattle.std.proofs.lemmas.Slice.Eq.{bytes_eq-Decides}
 use Rattle.mpm_port.specs.Disks.{Disks}
 use Rattle.mpm_blocks.specs.Geometries.{geometry_of}
@@ -17,7 +18,7 @@ use Rattle.mpm_drives.specs.Mounted.{number_of, IsNamed, AreMounted}
 use Rattle.mpm_bdos.specs.Serving.{Kept, directory_at, all_put, in_places, nothing_kept}
 use Rattle.mpm_bdos.specs.Turns.{FitsDrives, has_directory}
 use Rattle.mpm_machine.specs.State.{HoldsDrives}
-use Rattle.mpm_machine.specs.Mounting.{HasMounted}
+use Rattle.mpm_machine.specs.Mounting.{HasMounted, HasNoDrive}
 
 -- what is so of each directory by its number is so of what stands in each place
 
@@ -154,6 +155,22 @@ mounted_here a x images specs ds items kept same mounted is kept_is = record {
   mounted = subst (λ s. AreMounted a x images s ds) same mounted;
   is = kept_is ∙ ap (λ l. nothing_kept (in_places l)) is;
 }
+
+-- there are sixteen places, which nothing is in at first
+
+pub many_places : (ds : List Directory) → length (in_places ds) ≡ 16
+unfolding all_put
+many_places [] = refl
+many_places (d ∷ ds) = length-set (in_places ds) d.drive (Some d) ∙ many_places ds
+
+no_place : {X : Type 0} (n number : ℕ) → ◌≡◌ {A = Option X} (slice_index_or (replicate n None) number None) None
+no_place zero number = refl
+no_place (suc n) zero = refl
+no_place (suc n) (suc number) = no_place n number
+
+pub none_mounted : HasNoDrive (in_places [])
+unfolding all_put
+none_mounted = λ number. no_place 16 number
 
 -- and where nothing is mounted
 pub holds_nothing : {D : Type 0} (attached : D → ℕ → Option ℕ) (disks : D → Option Disks) (kept : Kept) (drives : D) → kept ≡ nothing_kept (in_places [])

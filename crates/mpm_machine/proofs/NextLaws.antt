@@ -2,7 +2,6 @@
 use Rattle.std.proofs.Common.{◌≡◌, ◌∙◌, ℕ, zero, suc, ◌+◌, ◌-◌, ◌<◌, ◌≤◌, Bool, List, [], ◌++◌, Option, refl, ap, sym, subst, append_assoc, arith, add-one}
 use Rattle.std.proofs.lemmas.List.{append-nil}
 use Rattle.mpm_render.specs.Outputs.{Output, rendered}
-use Rattle.mpm_render.specs.Shown.{Kept}
 use Rattle.mpm_output.specs.Outside.{Outside}
 use Rattle.mpm_output.specs.Writing.{Wrote}
 use Rattle.mpm_output.proofs.WritingLaws.{wrote_nothing, wrote_after}
@@ -11,9 +10,10 @@ use Rattle.mpm_machine.specs.declared.machine.StepFault.{StepFault}
 use Rattle.mpm_machine.specs.State.{State, Change, IsWhole, silent}
 use Rattle.mpm_machine.specs.Faults.{EndsBy}
 use Rattle.mpm_machine.specs.FileCalls.{told_by, step_with, filed, Stepped, stepped}
-use Rattle.mpm_machine.specs.After.{next, after, IsStep, IsNextOf, followed, AreSteps, HasRun, HasStepped, ShowsBefore, EndsInStep}
+use Rattle.mpm_machine.specs.After.{next, after, IsStep, IsNextOf, followed, AreSteps, HasRun, HasStepped, HasStopped, HasStoppedIn, ShowsBefore, EndsInStep}
 use Rattle.mpm_machine.proofs.StepWithLaws.{whole_with, no_completions_with}
 use Rattle.mpm_machine.proofs.FileStepLaws.{steps_with, is_step}
+use Rattle.mpm_machine.proofs.FilingLaws.{filed_of_call}
 
 -- what a step that is made with files makes of the system
 
@@ -75,7 +75,7 @@ next_of s w handed =
     let P : System → Type 0 = λ system. IsStep s.system (record { system = system; emitted = change.emitted }) in
     record {
       emitted = change.emitted;
-      is = subst P (sym (next_system s)) (is_step (told_by (filed s.filing s.system)) s.system change w handed (stepped_change s));
+      is = subst P (sym (next_system s)) (is_step (told_by (filed s.filing s.system)) s.system change w handed (filed_of_call s.filing s.system) (stepped_change s));
       outputs = next_outputs s;
     }
 
@@ -119,22 +119,20 @@ ends_later fault trace written first s n done step few ends =
       text = subst Q afterwards (subst P before ends.text);
     }
 
--- what is kept to be written then
+-- what is so of the state before it, by its step
 
-pub shows_in_step : (fault : StepFault) (kept : Kept) (written first : Option (List ℕ)) (s : State) (done step : ℕ) → step ≡ s.system.steps + done + 1
-    → ShowsBefore fault kept written (after done s) first → ShowsBefore fault kept written (after (step - 1 - s.system.steps) s) first
-shows_in_step fault kept written first s done step e shows =
+pub so_in_step : (P : State → Type 0) (s : State) (done step : ℕ) → step ≡ s.system.steps + done + 1 → P (after done s) → P (after (step - 1 - s.system.steps) s)
+so_in_step P s done step e so =
     let before : step - 1 - s.system.steps ≡ done = omega (arith, e) in
-    subst (λ k. ShowsBefore fault kept written (after k s) first) (sym before) shows
+    subst (λ k. P (after k s)) (sym before) so
 
-pub shows_later : (fault : StepFault) (kept : Kept) (written first : Option (List ℕ)) (s : State) (done step : ℕ) → (after done s).system.steps < step
-    → ShowsBefore fault kept written (after (step - 1 - (after done s).system.steps) (after done s)) first
-    → ShowsBefore fault kept written (after (step - 1 - s.system.steps) s) first
-shows_later fault kept written first s done step below shows =
+pub so_later : (P : State → Type 0) (s : State) (done step : ℕ) → (after done s).system.steps < step
+    → P (after (step - 1 - (after done s).system.steps) (after done s)) → P (after (step - 1 - s.system.steps) s)
+so_later P s done step below so =
     let steps = steps_after done s in
     let before : after (step - 1 - (after done s).system.steps) (after done s) ≡ after (step - 1 - s.system.steps) s =
     sym (after_both done (step - 1 - (after done s).system.steps) s) ∙ ap (λ k. after k s) (omega (arith, steps, below)) in
-    subst (λ t. ShowsBefore fault kept written t first) before shows
+    subst P before so
 
 -- n steps of a system, and more behind them
 
@@ -191,3 +189,28 @@ run_step o p old new one =
 -- some that wrote nothing, and one more
 pub run_and_step : (n : ℕ) (o p : Outside) (old middle new : System) → AreSteps n old (silent middle) → HasStepped o p middle new → HasRun (n + 1) o p old new
 run_and_step n o p old middle new are one = run_both n 1 o o p old middle new (run_silent n o old middle are) (run_step o p middle new one)
+
+-- some that wrote nothing, and one that stopped; and some before these
+pub stopped_in_step : (n done : ℕ) (fault : StepFault) (step : ℕ) (o p : Outside) (old middle : System) → done < n → step ≡ old.steps + done + 1
+    → AreSteps done old (silent middle) → HasStopped fault o p middle → HasStoppedIn n fault step o p old
+stopped_in_step n done fault step o p old middle few is are stops = record {
+  done = done;
+  few = few;
+  is = is;
+  middle = middle;
+  between = o;
+  ran = run_silent done o old middle are;
+  stops = stops;
+}
+
+pub stopped_later : (n done : ℕ) (fault : StepFault) (step : ℕ) (o p q : Outside) (old middle : System) → done ≤ n → middle.steps ≡ old.steps + done
+    → HasRun done o p old middle → HasStoppedIn (n - done) fault step p q middle → HasStoppedIn n fault step o q old
+stopped_later n done fault step o p q old middle few steps ran stops = record {
+  done = done + stops.done;
+  few = omega (arith, few, stops.few);
+  is = omega (arith, steps, stops.is);
+  middle = stops.middle;
+  between = stops.between;
+  ran = run_both done stops.done o p stops.between old middle stops.middle ran stops.ran;
+  stops = stops.stops;
+}

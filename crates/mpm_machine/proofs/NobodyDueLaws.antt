@@ -24,11 +24,11 @@ use Rattle.mpm_machine.specs.declared.system.System.{System}
 use Rattle.mpm_machine.specs.State.{Change, IsWhole, NobodyAborted}
 use Rattle.mpm_machine.specs.Ending.{ended}
 use Rattle.mpm_machine.specs.Serving.{is_entry, with_entry, reply_at_entry, fulfilling, answering_call, replied}
-use Rattle.mpm_machine.specs.Finishing.{finished, completion_dequeued, finishing, all_finished}
+use Rattle.mpm_machine.specs.Finishing.{finished, completion_dequeued, finishing, all_finished, all_answered}
 use Rattle.mpm_machine.specs.Due.{is_due, NobodyDue, ended_if_due, due_terminated, all_due_terminated, with_ends, settled}
 use Rattle.mpm_machine.specs.Step.{coming, begun_by, instruction_unless, with_settled, counted, dispatched as step_dispatched, step_of}
 use Rattle.mpm_machine.proofs.FinishLaws.{first_finished}
-use Rattle.mpm_machine.proofs.WholeStepLaws.{due_lives, whole_if_due, whole_due_terminated, whole_answered, whole_counted, whole_after_begun}
+use Rattle.mpm_machine.proofs.WholeStepLaws.{due_lives, whole_if_due, whole_due_terminated, whole_all_answered, whole_counted, whole_after_begun}
 
 -- as many ends are put off as before, and the queues are the same, so that the same ends are due
 record SameEnds (old new : Kernel) : Type 0 where
@@ -176,7 +176,7 @@ due_with_ends system w =
 
 due_settled : (system : System) → IsWhole system → NobodyDue (settled system).system.kernel
 unfolding settled
-due_settled system w = due_with_ends (all_finished system).system (whole_answered system (all_finished system).system w refl)
+due_settled system w = due_with_ends (all_answered system).system (whole_all_answered system (all_answered system).system w refl)
 
 -- a step
 

@@ -7,7 +7,6 @@ use Rattle.mpm_procs.proofs.MapLaws.{lives_added, lives_changed, free_below}
 use Rattle.mpm_queues.specs.Queues.{make_error}
 use Rattle.mpm_kernel.specs.Kernel.{Kernel, IsSound, CompletedLive, with_changed, new_kernel, dispatched}
 use Rattle.mpm_dispatcher.specs.Dispatch.{admitted, in_slot, picked, new_dispatcher}
-use Rattle.mpm_kernel.specs.Joining.{joined, joined_in}
 use Rattle.mpm_kernel.specs.Queueing.{OnlySystems, with_queue, with_system_queue}
 use Rattle.mpm_kernel.proofs.SoundLaws.{sound_changed, sound_admitted, sound_picked, live_kept}
 use Rattle.mpm_kernel.proofs.SystemQueues.{sound_system_queue, only_systems_new, may_make_new}
@@ -15,7 +14,6 @@ use Rattle.mpm_kernel.proofs.HomeLaws.{SameHomes, homes_stay, homes_both, homes_
 use Rattle.mpm_kernel.specs.Consoling.{given}
 use Rattle.mpm_kernel.proofs.GivingLaws.{sound_gave}
 use Rattle.mpm_kernel.proofs.EnsuredLaws.{many_new}
-use Rattle.mpm_kernel.proofs.JoinedLaws.{sound_joined, homes_joined}
 use Rattle.mpm_base.specs.declared.number.Name8.{Name8}
 use Rattle.mpm_residents.specs.Terminals.{opening}
 use Rattle.mpm_residents.specs.declared.native.Native.{Native}
@@ -71,24 +69,11 @@ begins_admitted kernel p new s free console none = record {
   consoles = refl;
 }
 
-begins_joined : (kernel : Kernel) (p : ℕ) (new : NewProcess) → IsSound kernel → lowest_free kernel.dispatcher.procs ≡ Some p → new.console < length kernel.units.consoles
-    → new.seg ≡ None → Begins kernel (joined kernel p new)
-begins_joined kernel p new s free console none = record {
-  sound = sound_joined kernel p new s free console;
-  homes = homes_joined kernel p new s free (λ seg some. homeless new seg _ none some);
-  live = λ live. live_kept kernel (joined kernel p new) refl (λ q living. lives_on kernel new (Some p) q free living) live;
-  completed = refl;
-  consoles = refl;
-}
-
 begins_nothing : (kernel : Kernel) → IsSound kernel → Begins kernel kernel
 begins_nothing kernel s = record { sound = s; homes = homes_stay kernel kernel refl; live = λ live. live; completed = refl; consoles = refl }
 
 lives_begun : (kernel : Kernel) (p : ℕ) (new : NewProcess) → IsSound kernel → lowest_free kernel.dispatcher.procs ≡ Some p → Lives (dispatched (admitted p new) kernel).dispatcher.procs p
 lives_begun kernel p new s free = lives_added kernel.dispatcher.procs p new (free_below kernel.dispatcher.procs p free)
-
-lives_joined : (kernel : Kernel) (p : ℕ) (new : NewProcess) → IsSound kernel → lowest_free kernel.dispatcher.procs ≡ Some p → Lives (joined kernel p new).dispatcher.procs p
-lives_joined kernel p new s free = lives_added kernel.dispatcher.procs p new (free_below kernel.dispatcher.procs p free)
 
 -- the command line interpreter
 
@@ -97,8 +82,8 @@ unfolding with_interpreter resident_process
 begins_interpreter None kernel s free = begins_nothing kernel s
 begins_interpreter (Some p) kernel s free =
     let new = resident_process (record { 0 = codes "cli     " }) 190 0 in
-    begins_changed kernel (joined kernel p new) p _ (begins_joined kernel p new s free (omega (arith, s.units.some)) refl)
-    (lives_joined kernel p new s free) refl refl (omega arith) (omega arith) refl refl refl
+    begins_changed kernel (dispatched (admitted p new) kernel) p _ (begins_admitted kernel p new s free (omega (arith, s.units.some)) refl)
+    (lives_begun kernel p new s free) refl refl (omega arith) (omega arith) refl refl refl
 
 begins_queue : (kernel : Kernel) → IsSound kernel → OnlySystems kernel → make_error kernel.queues command_queue 130 15 ≡ None
     → Begins kernel (with_command_queue kernel)
@@ -243,16 +228,12 @@ pub sound_queued : (kernel queued : Kernel) → IsSound kernel → OnlySystems k
     → queued ≡ with_command_queue kernel → IsSound queued
 sound_queued kernel queued s only none is = subst IsSound (sym is) (begins_queue kernel s only none).sound
 
-pub joined_here : (old now : Kernel) (p : ℕ) (new : NewProcess) → IsSound old → lowest_free old.dispatcher.procs ≡ Some p
-    → now ≡ joined_in old new (lowest_free old.dispatcher.procs) → Lives now.dispatcher.procs p
-joined_here old now p new s free is =
-    let P : Kernel → Type 0 = λ kernel. Lives kernel.dispatcher.procs p in subst P (sym (is ∙ ap (joined_in old new) free)) (lives_joined old p new s free)
-
 interpreter : NewProcess
 interpreter = resident_process (record { 0 = codes "cli     " }) 190 0
 
 interpreter_at : (queued : Kernel) (p : ℕ) → with_interpreter (Some p) queued
-    ≡ with_changed (joined queued p interpreter) p (record (process_in (joined queued p interpreter).dispatcher.procs p) { error_mode = 255; multi = 16 })
+    ≡ with_changed (dispatched (admitted p interpreter) queued) p
+    (record (process_in (dispatched (admitted p interpreter) queued).dispatcher.procs p) { error_mode = 255; multi = 16 })
 unfolding with_interpreter interpreter
 interpreter_at queued p = refl
 
@@ -262,12 +243,13 @@ unfolding begun_by_interpreter
 begun_is old queued is = ap (λ (k : Kernel). record old { kernel = with_interpreter (lowest_free k.dispatcher.procs) k }) is
 
 pub interpreter_here : (old : System) (queued now : Kernel) (p : ℕ) (new : NewProcess) (process : Process) → queued ≡ with_command_queue old.kernel
-    → now ≡ joined_in queued new (lowest_free queued.dispatcher.procs) → lowest_free queued.dispatcher.procs ≡ Some p → new ≡ resident_process (record { 0 = codes "cli     " }) 190 0
+    → now ≡ dispatched (in_slot new (lowest_free queued.dispatcher.procs)) queued → lowest_free queued.dispatcher.procs ≡ Some p → new ≡ resident_process (record { 0 = codes "cli     " }) 190 0
     → process ≡ process_in now.dispatcher.procs p
     → record old { kernel = with_changed now p (record process { error_mode = 255; multi = 16 }) } ≡ begun_by_interpreter old
 unfolding interpreter
 interpreter_here old queued now p new process queue is free made same =
-    let there : now ≡ joined queued p interpreter = is ∙ ap (joined_in queued new) free ∙ ap (joined queued p) made in
+    let there : now ≡ dispatched (admitted p interpreter) queued =
+    is ∙ ap (λ o. dispatched (in_slot new o) queued) free ∙ ap (λ n. dispatched (admitted p n) queued) made in
     ap (λ x. record old { kernel = with_changed now p (record x { error_mode = 255; multi = 16 }) }) same
     ∙ ap (λ (k : Kernel). record old { kernel = with_changed k p (record (process_in k.dispatcher.procs p) { error_mode = 255; multi = 16 }) }) there
     ∙ ap (λ k. record old { kernel = k }) (sym (interpreter_at queued p))
@@ -275,10 +257,10 @@ interpreter_here old queued now p new process queue is free made same =
     ∙ begun_is old queued queue
 
 pub no_interpreter : (old : System) (queued now : Kernel) (new : NewProcess) → queued ≡ with_command_queue old.kernel
-    → now ≡ joined_in queued new (lowest_free queued.dispatcher.procs) → lowest_free queued.dispatcher.procs ≡ None → record old { kernel = now } ≡ begun_by_interpreter old
+    → now ≡ dispatched (in_slot new (lowest_free queued.dispatcher.procs)) queued → lowest_free queued.dispatcher.procs ≡ None → record old { kernel = now } ≡ begun_by_interpreter old
 unfolding with_interpreter
 no_interpreter old queued now new queue is none =
-    ap (λ k. record old { kernel = k }) (is ∙ ap (joined_in queued new) none)
+    ap (λ k. record old { kernel = k }) (is ∙ ap (λ o. dispatched (in_slot new o) queued) none)
     ∙ ap (λ o. record old { kernel = with_interpreter o queued }) (sym none)
     ∙ begun_is old queued queue
 

@@ -24,8 +24,7 @@ use Rattle.mpm_kernel.specs.Kernel.{Kernel, CompletedLive, is_aborted, new_kerne
 use Rattle.mpm_dispatcher.specs.Dispatch.{admitted, picked, new_dispatcher}
 use Rattle.mpm_kernel.proofs.SoundLaws.{sound_new, sound_admitted, sound_picked}
 use Rattle.mpm_kernel.specs.Consoling.{given}
-use Rattle.mpm_kernel.proofs.GivingLaws.{sound_gave, procs_gave, completed_gave}
-use Rattle.mpm_kernel.proofs.JoinedLaws.{consoles_gave}
+use Rattle.mpm_kernel.proofs.GivingLaws.{sound_gave, procs_gave, completed_gave, consoles_gave}
 use Rattle.mpm_kernel.proofs.EnsuredLaws.{many_new}
 use Rattle.mpm_kernel.proofs.HomeLaws.{aborts_admitted, opening_home}
 use Rattle.mpm_script.specs.declared.event.Timed.{Timed}

@@ -5,14 +5,15 @@ use Rattle.mpm_ready.specs.Order.{first_of}
 use Rattle.mpm_ready.specs.Tables.{list_at}
 use Rattle.mpm_dispatcher.proofs.ReadyLaws.{same_runner}
 use Rattle.mpm_script.specs.declared.event.Event.{Event}
-use Rattle.mpm_dispatcher.specs.Dispatch.{ready, picked}
+use Rattle.mpm_dispatcher.specs.Dispatch.{ready, picked, first_completed}
 use Rattle.mpm_kernel.specs.Kernel.{Kernel, dispatched as with_dispatcher}
 use Rattle.mpm_interrupts.specs.Interrupts.{due}
 use Rattle.mpm_machine.specs.declared.system.System.{System}
 use Rattle.mpm_machine.specs.State.{Change, silent, NobodyAborted}
-use Rattle.mpm_machine.specs.Finishing.{finishing, all_finished}
+use Rattle.mpm_machine.specs.Finishing.{all_answered}
 use Rattle.mpm_machine.specs.Due.{with_ends, settled}
 use Rattle.mpm_machine.specs.Step.{acted, at_instruction, lets_in, coming, begun_by, instruction_unless, with_settled, counted, dispatched, step_of}
+use Rattle.mpm_machine.proofs.FinishLaws.{answered_nobody}
 use Rattle.mpm_machine.proofs.DueLaws.{no_ends}
 
 -- no interrupt comes where none is due
@@ -26,9 +27,8 @@ unfolding coming
 none_comes system none = comes_not (lets_in system.kernel.dispatcher.running system.kernel) (due system.steps system.interrupts) none
 
 -- nothing is to be finished where nobody was completed
-finished_silent : (system : System) → system.kernel.dispatcher.completed ≡ [] → all_finished system ≡ silent system
-unfolding finishing
-finished_silent system e = ap (λ ps. finishing ps system) e
+answered_silent : (system : System) → system.kernel.dispatcher.completed ≡ [] → all_answered system ≡ silent system
+answered_silent system e = answered_nobody system (ap first_completed e)
 
 settled_silent : (system : System) → system.kernel.dispatcher.completed ≡ [] → with_settled (silent system) ≡ with_ends system
 unfolding with_settled settled
@@ -36,7 +36,7 @@ settled_silent system e =
     ap (λ (answered : Change). record {
       system = (with_ends answered.system).system;
       emitted = ((with_ends answered.system).emitted ++ answered.emitted) ++ [];
-    }) (finished_silent system e)
+    }) (answered_silent system e)
     ∙ ap (λ emitted. record { system = (with_ends system).system; emitted = emitted ++ [] }) (append-nil (with_ends system).emitted)
     ∙ ap (λ emitted. record { system = (with_ends system).system; emitted = emitted }) (append-nil (with_ends system).emitted)
 

@@ -20,6 +20,8 @@ use Rattle.mpm_output.specs.Outside.{Outside}
 use Rattle.mpm_output.specs.Writing.{spoken, Wrote}
 use Rattle.mpm_machine.specs.State.{Change, silent, speaking}
 use Rattle.mpm_machine.specs.Serving.{call_text, printed, said_by, echo_of}
+use Rattle.mpm_machine.specs.Loading.{is_console}
+use Rattle.mpm_machine.specs.Residing.{text_told}
 use Rattle.mpm_output.proofs.WritingLaws.{spoken_nil, spoke_nothing}
 
 -- the text that is chosen
@@ -213,3 +215,25 @@ pub echoes_nothing : (console : ℕ) (o : Outside) (call : Taken) (kernel : Kern
 echoes_nothing console o call kernel none =
     let P : Bool → Type 0 = λ b. Wrote o o (spoken console (if b then kernel.echo else [])) in
     subst P (sym none) (spoke_nothing console o)
+
+-- a text of the system comes to the console that its call names, where that is there
+
+there : (b : Bool) (x y : Change) → b ≡ true → (if b then x else y) ≡ x
+there b x y e = rw e refl
+
+nowhere : (b : Bool) (x y : Change) → b ≡ false → (if b then x else y) ≡ y
+nowhere b x y e = rw e refl
+
+pub told_there : (call : Taken) (console : ℕ) (system : System) → console ≡ low_parameter call → console < length system.kernel.units.consoles
+    → text_told call system ≡ writing console (expanded (column_of system.kernel console) call.bytes) system
+told_there call console system is below =
+    let seen : is_console console system.kernel ≡ true = grind (arith, nat_tests, below) in
+    there (is_console (low_parameter call) system.kernel) _ _ (ap (λ (n : ℕ). is_console n system.kernel) (sym is) ∙ seen)
+    ∙ ap (λ (n : ℕ). speaking n (expanded (column_of system.kernel n) call.bytes) system) (sym is)
+    ∙ speaking_is console (expanded (column_of system.kernel console) call.bytes) system
+
+pub told_nowhere : (call : Taken) (console : ℕ) (system : System) → console ≡ low_parameter call → length system.kernel.units.consoles ≤ console
+    → text_told call system ≡ silent system
+told_nowhere call console system is beyond =
+    let unseen : is_console console system.kernel ≡ false = grind (arith, nat_tests, beyond) in
+    nowhere (is_console (low_parameter call) system.kernel) _ _ (ap (λ (n : ℕ). is_console n system.kernel) (sym is) ∙ unseen)

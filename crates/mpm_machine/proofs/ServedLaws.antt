@@ -1,11 +1,12 @@
 -- A call is served by what it took and by who has which segment, and never by the bytes of memory.
 use Rattle.std.proofs.Common.{◌≡◌, ◌∙◌, ℕ, zero, suc, cond, not, ◌+◌, Bool, true, false, List, [], ◌∷◌, ◌++◌, Option, Some, None, ◌&&◌, ◌==◌, nat_le, nat_lt, length, get_or, if◌then◌else◌, inl, inr, refl, sym, ap, subst, arith, ◌||◌}
+use Rattle.std.specs.Prelude.{is_some}
 use Rattle.std.specs.List.{position_or_len}
 use Rattle.std.proofs.lemmas.Bool.{cases_eq, cases_lt}
 use Rattle.std.proofs.Math.ListN.{get_or-eq_default, get_or-map as map_at}
 use Rattle.mpm_base.specs.Lists.{zeros}
 use Rattle.mpm_base.specs.Calls.{Taken, byte_in}
-use Rattle.mpm_base.specs.declared.functions.TheConstants.{ABSOLUTE_MEMORY_REQUEST, RELOCATABLE_MEMORY_REQUEST, MEMORY_FREE, CREATE_PROCESS, PARSE_FILENAME, ABORT_SPECIFIED_PROCESS, SYSTEM_DATA_ADDRESS, RETURN_PROCESS_DESCRIPTOR_ADDRESS}
+use Rattle.mpm_base.specs.declared.functions.TheConstants.{ABSOLUTE_MEMORY_REQUEST, RELOCATABLE_MEMORY_REQUEST, MEMORY_FREE, CREATE_PROCESS, CHAIN_TO_PROGRAM, SEND_CLI_COMMAND, PARSE_FILENAME, ABORT_SPECIFIED_PROCESS, SYSTEM_DATA_ADDRESS, RETURN_PROCESS_DESCRIPTOR_ADDRESS}
 use Rattle.mpm_banks.specs.Memory.{Memory, no_segment, SameSegments, segment_of}
 use Rattle.mpm_banks.specs.MemoryLaws.{field_stays}
 use Rattle.mpm_banks.specs.declared.segment.Segment.{Segment}
@@ -15,13 +16,18 @@ use Rattle.mpm_banks.specs.Allocations.{is_free, is_owners, has_base, fits, lowe
 use Rattle.mpm_banks.proofs.SegmentLaws.{count_allocated, count_all_released, allocation_of_allocated, segment_of_allocated}
 use Rattle.mpm_procs.specs.Table.{Table, process_in}
 use Rattle.mpm_kernel.specs.Kernel.{Kernel, is_resident}
+use Rattle.mpm_kernel.specs.Called.{Called}
 use Rattle.mpm_kernel.specs.Calls.{called}
 use Rattle.mpm_xdos.specs.Copies.{segment_descriptor, segment_descriptors, with_zeros, system_page, system_answer, descriptor_answer}
 use Rattle.mpm_xdos.specs.Creating.{home_base, created, create_answer}
 use Rattle.mpm_xdos.specs.Ending.{is_home, vacated_if_empty, memory_without}
 use Rattle.mpm_xdos.specs.Aborting.{waits_to_end, target, memory_after_abort}
 use Rattle.mpm_machine.specs.declared.system.System.{System}
-use Rattle.mpm_machine.specs.Serving.{asked, keeping, Served, reserve_reply, base_asked, reserving, releasing, creating, aborted, aborting_this, aborting, parsing, calling, served, gate_step, telling_system, telling_descriptor}
+use Rattle.mpm_machine.specs.Calling.{Served, served_by, calling}
+use Rattle.mpm_machine.specs.Sending.{has_interpreter, sending, chaining}
+use Rattle.mpm_machine.specs.Serving.{asked, keeping, reserve_reply, base_asked, reserving, releasing, creating, aborted, aborting_this, aborting, parsing, served_to_all, served, gate_step, telling_system, telling_descriptor}
+use Rattle.mpm_residents.specs.Natives.{native_in}
+use Rattle.mpm_residents.specs.declared.native.Native.{Native}
 use Rattle.mpm_processor.specs.declared.gate.Gate.{Gate}
 use Rattle.mpm_machine.specs.State.{Change}
 use Rattle.mpm_machine.specs.Step.{acted_at, acted_by, acted, running_segment, is_no_gate, instruction_by, at_instruction, begun_by, instruction_unless, with_settled, counted, dispatched, step_of}
@@ -274,20 +280,41 @@ telling_descriptor_alike p one other d = record {
   reply = ap (λ (kernel : Kernel). descriptor_answer p (process_in kernel.dispatcher.procs p)) d.kernel;
 }
 
+-- so is a command sent, which goes by the kernel and by whether an interpreter acts
+by_kernel_alike : (does : Bool → Kernel → Called) (one other : System) → DiffersInBytes one other
+    → ServedAlike (served_by (does (has_interpreter one) one.kernel) one) (served_by (does (has_interpreter other) other.kernel) other)
+by_kernel_alike does one other d =
+    let same : does (has_interpreter other) other.kernel ≡ does (has_interpreter one) one.kernel =
+    ap (λ (residents : List Native). does (is_some (native_in residents 0)) other.kernel) d.residents ∙ ap (does (has_interpreter one)) d.kernel in
+    record {
+      kernel = ap (λ (c : Called). c.kernel) same;
+      segments = d.segments;
+      outcome = ap (λ (c : Called). c.outcome) same;
+      reply = ap (λ (c : Called). c.reply) same;
+    }
+
 -- whatever bytes stand in memory, a call does the same, and answers the same
-pub serves_alike : (call : Taken) (p : ℕ) (one other : System) → DiffersInBytes one other → ServedAlike (served call p one) (served call p other)
-unfolding served
-serves_alike call p one other d =
+to_all_alike : (call : Taken) (p : ℕ) (one other : System) → DiffersInBytes one other → ServedAlike (served_to_all call p one) (served_to_all call p other)
+unfolding served_to_all
+to_all_alike call p one other d =
     let f = call.function in
     alike_if (f == ABSOLUTE_MEMORY_REQUEST) _ _ _ _ (reserving_alike (base_asked true call) call p one other d)
     (alike_if (f == RELOCATABLE_MEMORY_REQUEST) _ _ _ _ (reserving_alike (base_asked false call) call p one other d)
     (alike_if (f == MEMORY_FREE) _ _ _ _ (releasing_alike call p one other d)
-    (alike_if (f == CREATE_PROCESS) _ _ _ _ (creating_alike p one other d)
+    (alike_if (f == SEND_CLI_COMMAND) _ _ _ _ (by_kernel_alike (λ interprets kernel. sending interprets p kernel) one other d)
+    (calling_alike p one other d))))
+
+pub serves_alike : (call : Taken) (p : ℕ) (one other : System) → DiffersInBytes one other → ServedAlike (served call p one) (served call p other)
+unfolding served
+serves_alike call p one other d =
+    let f = call.function in
+    alike_if (f == CREATE_PROCESS) _ _ _ _ (creating_alike p one other d)
     (alike_if (f == ABORT_SPECIFIED_PROCESS) _ _ _ _ (aborting_alike p one other d)
     (alike_if (f == PARSE_FILENAME) _ _ _ _ (parsing_alike call one other d)
     (alike_if (f == SYSTEM_DATA_ADDRESS) _ _ _ _ (telling_system_alike one other d)
     (alike_if (f == RETURN_PROCESS_DESCRIPTOR_ADDRESS) _ _ _ _ (telling_descriptor_alike p one other d)
-    (calling_alike p one other d))))))))
+    (alike_if (f == CHAIN_TO_PROGRAM) _ _ _ _ (by_kernel_alike (λ interprets kernel. chaining interprets p kernel) one other d)
+    (to_all_alike call p one other d))))))
 
 -- a step in which a process calls is that of its gate
 

@@ -4,7 +4,8 @@ use Rattle.std.specs.Prelude.{slice_get, nat_lt}
 use Rattle.std.proofs.lemmas.Bool.{cases_lt}
 use Rattle.std.proofs.lemmas.Bool.Decides.{nat_tests}
 use Rattle.std.proofs.lemmas.List.Sums.{position_or_len_is}
-use Rattle.mpm_ready.proofs.TableLaws.{list_of_none, list_of_inserted_other}
+use Rattle.mpm_ready.specs.Tables.{no_lists}
+use Rattle.mpm_ready.proofs.TableLaws.{table_none, list_of_none, list_of_inserted, list_of_inserted_other}
 use Rattle.mpm_procs.specs.Table.{Table, HasSlots, lives, Lives, process_in, lowest_free, added, with_process, no_processes}
 use Rattle.mpm_procs.specs.declared.process.Process.{Process}
 use Rattle.mpm_procs.specs.declared.process.NewProcess.{NewProcess}
@@ -127,8 +128,8 @@ lodges_at consoles n system w few free has =
       interpreter = record {
         lives = lives_as_before table p 0 new process (not_zero n) ∙ has.interpreter.lives;
         name = ap (λ (x : Process). x.name) (same_as_before table p 0 new process (not_zero n)) ∙ has.interpreter.name;
-        unlisted = list_of_inserted_other system.kernel.dispatcher.lists ready (record { slot = p; priority = 198 }) 0 w.sound.table (omega arith)
-            (omega (arith, few)) (free_is_unlisted system.kernel p w.sound free) (grind (arith, nat_tests)) ∙ has.interpreter.unlisted;
+        ready = list_of_inserted_other system.kernel.dispatcher.lists ready (record { slot = p; priority = 198 }) 0 w.sound.table (omega arith)
+            (omega (arith, few)) (free_is_unlisted system.kernel p w.sound free) (grind (arith, nat_tests)) ∙ has.interpreter.ready;
         resident = front system.residents (Tmp (opening n) ∷ []) 0 (Cli (opening_interpreter consoles)) has.interpreter.resident;
       };
       terminals = λ k less. elim (cases_lt k n) [
@@ -190,7 +191,7 @@ placed file events =
       interpreter = record {
         lives = lives_there no_processes 0 new process (omega (arith, slots_none.alive));
         name = ap (λ (x : Process). x.name) (same_there no_processes 0 new process slots_none (omega arith)) ∙ name_there no_processes 0 new slots_none (omega arith);
-        unlisted = list_of_none 0;
+        ready = list_of_inserted no_lists ready (record { slot = 0; priority = 190 }) table_none (omega arith) (omega arith) (list_of_none 0);
         resident = refl;
       };
       terminals = λ k less. absurd (omega (arith, less));
@@ -210,7 +211,7 @@ interpreter_first file events =
 
 picked_too : (n : ℕ) (system : System) → Lodges n n system → HasResidents n (record system { kernel = dispatched (picked false) system.kernel })
 picked_too n system has = record {
-  interpreter = record { lives = has.interpreter.lives; name = has.interpreter.name; unlisted = has.interpreter.unlisted; resident = has.interpreter.resident };
+  interpreter = record { lives = has.interpreter.lives; name = has.interpreter.name; ready = has.interpreter.ready; resident = has.interpreter.resident };
   terminals = λ k less.
       let there = has.terminals k less in record { lives = there.lives; name = there.name; resident = there.resident };
 }

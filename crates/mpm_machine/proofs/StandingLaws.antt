@@ -60,6 +60,11 @@ stepped_filing : (system : System) (filing : Filing)
 unfolding stepped
 stepped_filing system filing = refl
 
+pub stepped_drives : (system : System) (filing : Filing) → (stepped system filing).filing.drives ≡ (filed filing system).filing.drives
+stepped_drives system filing =
+    ap (λ (f : Filing). f.drives) (stepped_filing system filing)
+    ∙ drives_left system.kernel.dispatcher.procs (stepped system filing).change.system.kernel.dispatcher.procs (filed filing system).filing
+
 next_stands : (s : State) (new : System) (kept left : Kept) (disks : Option Disks) (o n : Outside) (first : Option (List ℕ))
     → HasFiled s.filing o n s.system new kept disks → Leaves s.system.kernel.dispatcher.procs new.kernel.dispatcher.procs kept left → Shows o.kept o.written s.outputs first
     → (new ≡ (next s).system) × Shows n.kept n.written (next s).outputs first × StandsForFiles left disks (next s).filing

@@ -8,7 +8,7 @@ use Rattle.mpm_base.specs.declared.call.Outcome.TheVariants.{Done, Held, Retry, 
 use Rattle.mpm_script.specs.declared.event.Event.{Event}
 use Rattle.std.specs.List.{range_with_len}
 use Rattle.mpm_base.proofs.Choices.{either}
-use Rattle.mpm_base.specs.declared.functions.TheConstants.{ABSOLUTE_MEMORY_REQUEST, RELOCATABLE_MEMORY_REQUEST, MEMORY_FREE, CREATE_PROCESS, PARSE_FILENAME, ABORT_SPECIFIED_PROCESS, SYSTEM_DATA_ADDRESS, RETURN_PROCESS_DESCRIPTOR_ADDRESS}
+use Rattle.mpm_base.specs.declared.functions.TheConstants.{ABSOLUTE_MEMORY_REQUEST, RELOCATABLE_MEMORY_REQUEST, MEMORY_FREE, CREATE_PROCESS, CHAIN_TO_PROGRAM, SEND_CLI_COMMAND, PARSE_FILENAME, ABORT_SPECIFIED_PROCESS, SYSTEM_DATA_ADDRESS, RETURN_PROCESS_DESCRIPTOR_ADDRESS}
 use Rattle.mpm_procs.specs.Table.{process_in}
 use Rattle.mpm_xdos.specs.Aborting.{waits_to_end, target}
 use Rattle.mpm_machine.specs.declared.system.System.{System}
@@ -19,12 +19,19 @@ use Rattle.mpm_output.specs.Outside.{Outside, Device}
 use Rattle.mpm_output.specs.Writing.{Wrote, Stopped, Fails, Emits}
 use Rattle.mpm_machine.specs.State.{Change, speaking}
 use Rattle.mpm_machine.specs.Ending.{ended}
-use Rattle.mpm_machine.specs.Serving.{asked, keeping, Served, reserving, releasing, creating, aborted, aborting_this, aborting, parsing, served, said_by, popped, replied, answering_call, with_entry, fulfilling, completing, returning, outcome_of, gate_step}
-use Rattle.mpm_residents.specs.Natives.{native_call, native_in, asks}
+use Rattle.mpm_dispatcher.specs.Dispatch.{first_completed}
+use Rattle.mpm_kernel.specs.Called.{low_parameter}
+use Rattle.mpm_cli.specs.declared.act.Act.{Act}
+use Rattle.mpm_cli.specs.declared.act.Act.TheVariants.{Ask, Place, Patch, Begin, Give}
+use Rattle.mpm_machine.specs.Calling.{Served, asking}
+use Rattle.mpm_machine.specs.Sending.{chains}
+use Rattle.mpm_machine.specs.Loading.{is_console, begins, handed_over}
+use Rattle.mpm_machine.specs.Serving.{asked, keeping, reserving, releasing, creating, aborted, aborting_this, aborting, parsing, served_to_all, served, said_by, popped, replied, answering_call, with_entry, fulfilling, completing, returning, outcome_of, gate_step}
+use Rattle.mpm_residents.specs.Natives.{native_act, native_call, native_in}
 use Rattle.mpm_residents.specs.declared.native.Native.{Native}
-use Rattle.mpm_machine.specs.Residing.{native_outcome, native_step, resided}
+use Rattle.mpm_machine.specs.Residing.{native_outcome, calling_step, tells, text_told, telling_step, handing_step, native_step, resided}
 use Rattle.mpm_interrupts.specs.Interrupts.{due_taken}
-use Rattle.mpm_machine.specs.Finishing.{finished, completion_dequeued, finishing, all_finished}
+use Rattle.mpm_machine.specs.Finishing.{finished, completion_dequeued, finishing, command_let_in, finished_or_ended, answered_from, all_answered}
 use Rattle.mpm_machine.specs.Due.{is_due, ended_if_due, due_terminated, with_ends, settled}
 use Rattle.mpm_output.proofs.WritingLaws.{fails_before, emits_after, emits_same}
 use Rattle.mpm_machine.specs.Step.{instructed, illegal, executed, instruction_at, acted_at, gate_before, acted_by, acted, coming, key_aborted, happened_to, event_come, interrupted, interrupted_by, begun_by, with_settled, counted, step_of}
@@ -37,19 +44,26 @@ aborted_steps None p system = refl
 aborted_steps (Some other) p system =
     either (λ (s : Served). s.system.steps ≡ system.steps) (other == p && not (waits_to_end system.kernel p false)) _ _ (λ _. refl) (λ _. refl)
 
-served_steps : (call : Taken) (p : ℕ) (system : System) → (served call p system).system.steps ≡ system.steps
-unfolding served reserving releasing creating aborting parsing
-served_steps call p system =
+to_all_steps : (call : Taken) (p : ℕ) (system : System) → (served_to_all call p system).system.steps ≡ system.steps
+unfolding served_to_all reserving releasing
+to_all_steps call p system =
     let f = call.function in
     let P : Served → Type 0 = λ s. s.system.steps ≡ system.steps in
     either P (f == ABSOLUTE_MEMORY_REQUEST) _ _ (λ _. refl)
     (λ _. either P (f == RELOCATABLE_MEMORY_REQUEST) _ _ (λ _. refl)
-    (λ _. either P (f == MEMORY_FREE) _ _ (λ _. refl)
-    (λ _. either P (f == CREATE_PROCESS) _ _ (λ _. refl)
+    (λ _. either P (f == MEMORY_FREE) _ _ (λ _. refl) (λ _. either P (f == SEND_CLI_COMMAND) _ _ (λ _. refl) (λ _. refl))))
+
+served_steps : (call : Taken) (p : ℕ) (system : System) → (served call p system).system.steps ≡ system.steps
+unfolding served creating aborting parsing
+served_steps call p system =
+    let f = call.function in
+    let P : Served → Type 0 = λ s. s.system.steps ≡ system.steps in
+    either P (f == CREATE_PROCESS) _ _ (λ _. refl)
     (λ _. either P (f == ABORT_SPECIFIED_PROCESS) _ _ (λ _. aborted_steps (target system.kernel.dispatcher.procs p) p system)
     (λ _. either P (f == PARSE_FILENAME) _ _ (λ _. refl)
     (λ _. either P (f == SYSTEM_DATA_ADDRESS) _ _ (λ _. refl)
-    (λ _. either P (f == RETURN_PROCESS_DESCRIPTOR_ADDRESS) _ _ (λ _. refl) (λ _. refl))))))))
+    (λ _. either P (f == RETURN_PROCESS_DESCRIPTOR_ADDRESS) _ _ (λ _. refl)
+    (λ _. either P (f == CHAIN_TO_PROGRAM) _ _ (λ _. refl) (λ _. to_all_steps call p system))))))
 
 outcome_steps : (outcome : CallOutcome) (reply : Answer) (call : Taken) (p seg : ℕ) (system : System)
     → (outcome_of outcome reply call p seg system).system.steps ≡ system.steps
@@ -85,11 +99,31 @@ native_steps Ended reply call p system = refl
 native_steps Held reply call p system = refl
 native_steps Retry reply call p system = refl
 
+handed_steps : (act : Act) (call : Taken) (p : ℕ) (system : System) → (handed_over act call.bytes p system).steps ≡ system.steps
+handed_steps Ask call p system = refl
+handed_steps (Place seg address count) call p system = refl
+handed_steps (Patch seg address count page) call p system = refl
+handed_steps (Begin seg new) call p system = either (λ (s : System). s.steps ≡ system.steps) (begins seg new system) _ _ (λ _. refl) (λ _. refl)
+handed_steps (Give console) call p system = refl
+
+text_steps : (call : Taken) (system : System) → (text_told call system).system.steps ≡ system.steps
+unfolding speaking
+text_steps call system =
+    either (λ (change : Change). change.system.steps ≡ system.steps) (is_console (low_parameter call) system.kernel) _ _ (λ _. refl) (λ _. refl)
+
+native_step_steps : (act : Act) (call : Taken) (p : ℕ) (system : System) → (native_step act call p system).system.steps ≡ system.steps
+unfolding telling_step calling_step handing_step
+native_step_steps Ask call p system =
+    either (λ (change : Change). change.system.steps ≡ system.steps) (tells p call) _ _ (λ _. text_steps call system)
+    (λ _. native_steps _ _ call p (served_to_all call p system).system ∙ to_all_steps call p system)
+native_step_steps (Place seg address count) call p system = refl
+native_step_steps (Patch seg address count page) call p system = refl
+native_step_steps (Begin seg new) call p system = handed_steps (Begin seg new) call p system
+native_step_steps (Give console) call p system = refl
+
 resided_steps : (native : Option Native) (p : ℕ) (system : System) → (resided native p system).system.steps ≡ system.steps
-unfolding native_step
 resided_steps None p system = refl
-resided_steps (Some native) p system =
-    either (λ (change : Change). change.system.steps ≡ system.steps) (asks native) _ _ (λ _. native_steps _ _ (native_call native) p _) (λ _. refl)
+resided_steps (Some native) p system = native_step_steps (native_act native) (native_call native) p (asking p (native_call native) system)
 
 acted_by_steps : (running seg : Option ℕ) (system : System) → (acted_by running seg system).system.steps ≡ system.steps
 acted_by_steps None seg system = refl
@@ -129,9 +163,23 @@ unfolding due_terminated
 terminated_steps [] system = refl
 terminated_steps (p ∷ ps) system = terminated_steps ps (ended_if_due p system).system ∙ due_steps p system
 
+first_steps : (p : ℕ) (system : System) → (finished_or_ended p system).system.steps ≡ system.steps
+unfolding ended
+first_steps p system =
+    either (λ (c : Change). c.system.steps ≡ system.steps) (chains p system.kernel) _ _ (λ _. refl)
+    (λ _. finished_steps (process_in system.kernel.dispatcher.procs p).seg p system)
+
+answered_steps : (first : Option ℕ) (system : System) → (answered_from first system).system.steps ≡ system.steps
+unfolding answered_from
+answered_steps None system = refl
+answered_steps (Some p) system =
+    let first = command_let_in p (completion_dequeued system) in
+    finishing_steps (finished_or_ended p first).system.kernel.dispatcher.completed (finished_or_ended p first).system ∙ first_steps p first
+
 pub settled_steps : (system : System) → (settled system).system.steps ≡ system.steps
 unfolding settled with_ends
-settled_steps system = terminated_steps (range_with_len 0 32) (all_finished system).system ∙ finishing_steps system.kernel.dispatcher.completed system
+settled_steps system =
+    terminated_steps (range_with_len 0 32) (all_answered system).system ∙ answered_steps (first_completed system.kernel.dispatcher.completed) system
 
 pub step_steps : (system : System) → (step_of system).system.steps ≡ system.steps + 1
 unfolding step_of with_settled

@@ -7,9 +7,7 @@ use Rattle.mpm_base.proofs.Choices.{either}
 use Rattle.z80_regs.specs.Outcome.{Outcome}
 use Rattle.z80_regs.specs.declared.regs.Regs.{Regs}
 use Rattle.mpm_base.specs.Calls.{Taken, Answer}
-use Rattle.mpm_base.specs.declared.call.Outcome.{Outcome as Ended_how}
-use Rattle.mpm_base.specs.declared.call.Outcome.TheVariants.{Done, Held, Retry, Ended}
-use Rattle.mpm_base.specs.declared.functions.TheConstants.{ABSOLUTE_MEMORY_REQUEST, RELOCATABLE_MEMORY_REQUEST, MEMORY_FREE, CREATE_PROCESS, PARSE_FILENAME, ABORT_SPECIFIED_PROCESS, SYSTEM_DATA_ADDRESS, RETURN_PROCESS_DESCRIPTOR_ADDRESS}
+use Rattle.mpm_base.specs.declared.functions.TheConstants.{PRINT_STRING}
 use Rattle.z80_ext.specs.Instruction.{registers_after, actions_of}
 use Rattle.mpm_banks.specs.Memory.{Memory, HasSegment, segment_of, byte_at}
 use Rattle.mpm_banks.specs.Allocations.{lowest_free}
@@ -23,7 +21,7 @@ use Rattle.mpm_kernel.specs.Kernel.{Kernel, IsSound, CompletedLive, is_aborted, 
 use Rattle.mpm_kernel.specs.Columns.{spoke}
 use Rattle.mpm_kernel.specs.Ending.{discharged}
 use Rattle.mpm_queues.specs.Queues.{waits as waits_at_queues}
-use Rattle.mpm_kernel.proofs.SoundLaws.{sound_process, sound_call, sound_devices, sound_spoke, sound_called, lives_called, live_called, live_kept, runner_lives}
+use Rattle.mpm_kernel.proofs.SoundLaws.{sound_process, sound_call, sound_devices, sound_spoke, sound_called, lives_called, live_called, live_kept}
 use Rattle.mpm_kernel.proofs.HomeLaws.{SameHomes, homes_stay, lived_in_changed, homes_changed, homes_call, homes_called, call_called, procs_spoke}
 use Rattle.mpm_kernel.proofs.EndingLaws.{ready_waits_at_none, sound_discharged, live_discharged, homes_discharged, lives_discharged, call_discharged}
 use Rattle.mpm_kernel.specs.Procedures.{given_back}
@@ -36,18 +34,15 @@ use Rattle.mpm_xdos.proofs.TargetLaws.{target_lives}
 use Rattle.mpm_xdos.proofs.Homes.{home_here}
 use Rattle.mpm_xdos.proofs.CreatedLaws.{made_created}
 use Rattle.mpm_machine.specs.declared.system.System.{System}
-use Rattle.mpm_processor.specs.declared.gate.Gate.{Gate}
-use Rattle.mpm_processor.specs.declared.gate.Gate.TheVariants.{End, Call, Return}
 use Rattle.mpm_processor.specs.Gates.{IsHome}
-use Rattle.mpm_machine.specs.State.{Change, IsWhole, NobodyAborted, speaking}
+use Rattle.mpm_machine.specs.State.{IsWhole, NobodyAborted, speaking}
 use Rattle.mpm_machine.specs.Ending.{ended}
-use Rattle.mpm_machine.specs.Serving.{with_regs, asked, keeping, Served, reserving, releasing, creating, aborted, aborting_this, aborting, parsing, calling, served, string_of, said_by, popped, replied, completion, is_entry, with_entry, reply_at_entry, fulfilling, answering_call, completing, returning, outcome_of, gate_step}
-use Rattle.mpm_residents.specs.Natives.{native_call, native_in, asks}
+use Rattle.mpm_machine.specs.Calling.{Served, asking, calling}
+use Rattle.mpm_machine.specs.Serving.{with_regs, keeping, creating, aborted, aborting_this, aborting, string_of, said_by, popped, replied, completion, is_entry, with_entry, reply_at_entry, fulfilling, answering_call, completing, returning}
 use Rattle.mpm_residents.specs.declared.native.Native.{Native}
-use Rattle.mpm_machine.specs.Residing.{asking, native_outcome, native_step, resided}
 use Rattle.mpm_output.specs.Texts.{illegal_text}
-use Rattle.mpm_machine.specs.Step.{illegal, executed, instructed, instruction_at, acted_at, gate_before, acted_by, acted}
-use Rattle.mpm_machine.proofs.HomeLaws.{KeepsHomes, keeps_placed, keeps_acted, keeps_reserved, keeps_released, leaves_without, free_or_lived, found_is_free}
+use Rattle.mpm_machine.specs.Step.{illegal, executed, instructed}
+use Rattle.mpm_machine.proofs.HomeLaws.{KeepsHomes, keeps_placed, keeps_acted, leaves_without, free_or_lived, found_is_free}
 
 -- the segment of a process is a home
 pub segment_is_home : (system : System) (p seg : ℕ) → IsWhole system → Lives system.kernel.dispatcher.procs p → (process_in system.kernel.dispatcher.procs p).seg ≡ Some seg
@@ -107,6 +102,25 @@ pub record StaysWhole (p : ℕ) (old new : System) : Type 0 where
   pub whole : IsWhole new
   pub lives : Lives new.kernel.dispatcher.procs p
   pub call : call_of new.kernel.dispatcher.procs p ≡ call_of old.kernel.dispatcher.procs p
+
+-- so it is after a call is served, whose bytes may be those of a message by then: the process keeps its function and its parameter,
+-- and a text
+pub record StaysServed (p : ℕ) (old new : System) : Type 0 where
+  pub whole : IsWhole new
+  pub lives : Lives new.kernel.dispatcher.procs p
+  pub function : (call_of new.kernel.dispatcher.procs p).function ≡ (call_of old.kernel.dispatcher.procs p).function
+  pub word : (call_of new.kernel.dispatcher.procs p).word ≡ (call_of old.kernel.dispatcher.procs p).word
+  pub text : (call_of old.kernel.dispatcher.procs p).function ≡ PRINT_STRING
+      → (call_of new.kernel.dispatcher.procs p).bytes ≡ (call_of old.kernel.dispatcher.procs p).bytes
+
+pub stays_as_served : (p : ℕ) (old new : System) → StaysWhole p old new → StaysServed p old new
+stays_as_served p old new stays = record {
+  whole = stays.whole;
+  lives = stays.lives;
+  function = ap (λ (c : Taken). c.function) stays.call;
+  word = ap (λ (c : Taken). c.word) stays.call;
+  text = λ _. ap (λ (c : Taken). c.bytes) stays.call;
+}
 
 -- the registers of a process change
 pub whole_regs : (p : ℕ) (regs : Regs) (system : System) → IsWhole system → Lives system.kernel.dispatcher.procs p
@@ -188,7 +202,7 @@ whole_ran outcome p seg system w h =
     whole_memory _ _ (whole_regs p (registers_after outcome (process_in system.kernel.dispatcher.procs p).regs) (record system { kernel = polled }) before h).whole
     (keeps_acted (actions_of outcome) seg system.memory)
 
-whole_instructed : (outcome : Option Outcome) (p seg : ℕ) (system : System) → IsWhole system → Lives system.kernel.dispatcher.procs p
+pub whole_instructed : (outcome : Option Outcome) (p seg : ℕ) (system : System) → IsWhole system → Lives system.kernel.dispatcher.procs p
     → IsWhole (executed outcome p seg system).system
 unfolding executed
 whole_instructed None p seg system w h = whole_illegal p system w h
@@ -271,7 +285,7 @@ whole_fulfilling reply call p seg system w h =
     (whole_replied (reply_at_entry reply call p system) call p seg _ inside.whole inside.lives).whole
 
 -- and leaves it
-whole_returning : (p : ℕ) (system : System) → IsWhole system → Lives system.kernel.dispatcher.procs p → IsWhole (returning p system)
+pub whole_returning : (p : ℕ) (system : System) → IsWhole system → Lives system.kernel.dispatcher.procs p → IsWhole (returning p system)
 unfolding returning returned_from_procedure leaving
 whole_returning p system w h =
     let stays = stays_given_back p system.kernel w.sound h in
@@ -279,7 +293,7 @@ whole_returning p system w h =
     let whole = whole_kernel system _ w stays.sound stays.completed (homes_given_back p system.kernel w.sound h) in
     (whole_regs p _ afterwards whole stays.lives).whole
 
-whole_completing : (reply : Answer) (call : Taken) (p seg : ℕ) (system : System) → IsWhole system → Lives system.kernel.dispatcher.procs p
+pub whole_completing : (reply : Answer) (call : Taken) (p seg : ℕ) (system : System) → IsWhole system → Lives system.kernel.dispatcher.procs p
     → IsWhole (completing reply call p seg system).system
 unfolding completing
 whole_completing reply call p seg system w h =
@@ -288,11 +302,11 @@ whole_completing reply call p seg system w h =
     whole_fulfilling reply call p seg _ afterwards.whole afterwards.lives
 
 -- a call is done
-whole_banks : (p : ℕ) (memory : Memory) (system : System) → IsWhole system → Lives system.kernel.dispatcher.procs p → KeepsHomes system.memory memory
+pub whole_banks : (p : ℕ) (memory : Memory) (system : System) → IsWhole system → Lives system.kernel.dispatcher.procs p → KeepsHomes system.memory memory
     → StaysWhole p system (record system { memory = memory })
 whole_banks p memory system w h keeps = record { whole = whole_memory system memory w keeps; lives = h; call = refl }
 
-whole_creating : (p : ℕ) (system : System) → IsWhole system → Lives system.kernel.dispatcher.procs p → StaysWhole p system (creating p system).system
+pub whole_creating : (p : ℕ) (system : System) → IsWhole system → Lives system.kernel.dispatcher.procs p → StaysWhole p system (creating p system).system
 unfolding creating
 whole_creating p system w h =
     let base = home_base system.memory (process_in system.kernel.dispatcher.procs p).seg in
@@ -402,7 +416,7 @@ whole_aborting_this (Some other) p system w h living none =
         let there : waits_to_end system.kernel p false ≡ false = ap (λ n. waits_to_end system.kernel n false) same ∙ off in
         another (waits_to_end system.kernel p false) other p e there same
 
-whole_aborting : (p : ℕ) (system : System) → IsWhole system → Lives system.kernel.dispatcher.procs p → IsReady system.kernel.dispatcher p
+pub whole_aborting : (p : ℕ) (system : System) → IsWhole system → Lives system.kernel.dispatcher.procs p → IsReady system.kernel.dispatcher p
     → StaysWhole p system (aborting p system).system
 unfolding aborting
 whole_aborting p system w h is_ready =
@@ -417,22 +431,6 @@ whole_calling p system w h ready = record {
   lives = lives_called p system.kernel w.sound h ready;
   call = call_called p system.kernel w.sound h ready;
 }
-
-pub whole_served : (call : Taken) (p : ℕ) (system : System) → IsWhole system → Lives system.kernel.dispatcher.procs p → IsReady system.kernel.dispatcher p
-    → StaysWhole p system (served call p system).system
-unfolding served reserving releasing parsing
-whole_served call p system w h ready =
-    let f = call.function in
-    let P : Served → Type 0 = λ s. StaysWhole p system s.system in
-    let stays : StaysWhole p system system = record { whole = w; lives = h; call = refl } in
-    either P (f == ABSOLUTE_MEMORY_REQUEST) _ _ (λ _. whole_banks p _ system w h (keeps_reserved system.memory p _ _))
-    (λ _. either P (f == RELOCATABLE_MEMORY_REQUEST) _ _ (λ _. whole_banks p _ system w h (keeps_reserved system.memory p _ _))
-    (λ _. either P (f == MEMORY_FREE) _ _ (λ _. whole_banks p _ system w h (keeps_released system.memory p _))
-    (λ _. either P (f == CREATE_PROCESS) _ _ (λ _. whole_creating p system w h)
-    (λ _. either P (f == ABORT_SPECIFIED_PROCESS) _ _ (λ _. whole_aborting p system w h ready)
-    (λ _. either P (f == PARSE_FILENAME) _ _ (λ _. record { whole = w; lives = h; call = refl })
-    (λ _. either P (f == SYSTEM_DATA_ADDRESS) _ _ (λ _. stays)
-    (λ _. either P (f == RETURN_PROCESS_DESCRIPTOR_ADDRESS) _ _ (λ _. stays) (λ _. whole_calling p system w h ready))))))))
 
 -- a call is taken: the process keeps it, is ready as before, and has its segment
 pub record Keeps (p : ℕ) (taken : Taken) (old new : System) : Type 0 where
@@ -461,24 +459,7 @@ keeps_call p call system w h =
       home = ap (λ x. x.seg) (process_after kernel.dispatcher.procs p p call ∙ process_changed system.kernel.dispatcher.procs p quiet (omega (arith, w.sound.slots.processes, below)));
     }
 
-whole_outcome : (outcome : Ended_how) (reply : Answer) (call : Taken) (p seg : ℕ) (system : System) → IsWhole system → Lives system.kernel.dispatcher.procs p
-    → IsWhole (outcome_of outcome reply call p seg system).system
-whole_outcome Done reply call p seg system w h = whole_completing reply call p seg system w h
-whole_outcome Ended reply call p seg system w h = whole_ended p system w h
-whole_outcome Held reply call p seg system w h = (whole_popped p seg system w h).whole
-whole_outcome Retry reply call p seg system w h = w
-
--- the gate step of a call
-whole_gate_step : (p seg : ℕ) (system : System) → IsWhole system → Lives system.kernel.dispatcher.procs p → IsReady system.kernel.dispatcher p
-    → IsWhole (gate_step p seg system).system
-unfolding gate_step
-whole_gate_step p seg system w h ready =
-    let call = asked p seg system in
-    let kept = keeps_call p call system w h in
-    let done = whole_served call p (keeping p call system) kept.whole kept.lives (kept.ready ready) in
-    whole_outcome _ _ call p seg _ done.whole done.lives
-
--- the step of a resident
+-- a process keeps a call
 
 pub keeps_asked : (p : ℕ) (call : Taken) (system : System) → IsWhole system → Lives system.kernel.dispatcher.procs p → Keeps p call system (asking p call system)
 keeps_asked p call system w h =
@@ -497,38 +478,3 @@ keeps_asked p call system w h =
 
 pub whole_residents : (system : System) (residents : List Native) → IsWhole system → IsWhole (record system { residents = residents })
 whole_residents system residents w = record { sound = w.sound; live = w.live; homes = w.homes; lived = w.lived; script = w.script; settled = w.settled }
-
-whole_native : (outcome : Ended_how) (reply : Answer) (call : Taken) (p : ℕ) (system : System) → IsWhole system → Lives system.kernel.dispatcher.procs p
-    → IsWhole (native_outcome outcome reply call p system).system
-whole_native Done reply call p system w h = whole_residents _ _ (whole_said call call.bytes p system w h).whole
-whole_native Ended reply call p system w h = whole_ended p system w h
-whole_native Held reply call p system w h = w
-whole_native Retry reply call p system w h = w
-
-whole_resided : (native : Option Native) (p : ℕ) (system : System) → IsWhole system → Lives system.kernel.dispatcher.procs p → IsReady system.kernel.dispatcher p
-    → IsWhole (resided native p system).system
-unfolding native_step
-whole_resided None p system w h ready = w
-whole_resided (Some native) p system w h ready =
-    let kept = keeps_asked p (native_call native) system w h in
-    let done = whole_calling p (asking p (native_call native) system) kept.whole kept.lives (kept.ready ready) in
-    either (λ (change : Change). IsWhole change.system) (asks native) _ _ (λ _. whole_native _ _ (native_call native) p _ done.whole done.lives) (λ _. w)
-
--- what the running process does
-whole_acted_at : (gate : Option Gate) (p seg : ℕ) (system : System) → IsWhole system → Lives system.kernel.dispatcher.procs p → IsReady system.kernel.dispatcher p
-    → IsWhole (acted_at gate p seg system).system
-whole_acted_at (Some End) p seg system w h ready = whole_ended p system w h
-whole_acted_at (Some Call) p seg system w h ready = whole_gate_step p seg system w h ready
-whole_acted_at (Some Return) p seg system w h ready = whole_returning p system w h
-whole_acted_at None p seg system w h ready = whole_instructed (instruction_at p seg system) p seg system w h
-
-whole_acted_by : (running seg : Option ℕ) (system : System) → IsWhole system → system.kernel.dispatcher.running ≡ running → IsWhole (acted_by running seg system).system
-whole_acted_by None seg system w e = w
-whole_acted_by (Some p) None system w e =
-    whole_resided (native_in system.residents p) p system w (runner_lives system.kernel p w.sound e) (w.sound.runs p e)
-whole_acted_by (Some p) (Some seg) system w e =
-    whole_acted_at (gate_before p seg system) p seg system w (runner_lives system.kernel p w.sound e) (w.sound.runs p e)
-
-pub whole_acted : (system : System) → IsWhole system → IsWhole (acted system).system
-unfolding acted
-whole_acted system w = whole_acted_by system.kernel.dispatcher.running _ system w refl

@@ -24,14 +24,17 @@ use Rattle.mpm_kernel.specs.Consoling.{abort_taken}
 use Rattle.mpm_kernel.proofs.AbortLaws.{abort_lives, sound_abort_taken}
 use Rattle.mpm_interrupts.specs.Interrupts.{due, due_taken}
 use Rattle.mpm_interrupts.specs.declared.interrupts.Interrupts.{Interrupts}
-use Rattle.mpm_machine.specs.Finishing.{finished, completion_dequeued, finishing, all_finished}
+use Rattle.mpm_machine.specs.Finishing.{finished, completion_dequeued, finishing, all_finished, command_let_in, finished_or_ended, answered_from, all_answered}
+use Rattle.mpm_machine.specs.Sending.{chains}
 use Rattle.mpm_machine.specs.Due.{is_due, ended_if_due, due_terminated, is_any_aborted, noted, with_ends, settled}
 use Rattle.mpm_machine.specs.Step.{counted, lets_in, coming, unhalted, key_aborted, happened_to, event_come, interrupted, begun_by, instruction_unless, with_settled, dispatched as step_dispatched, step_of}
 use Rattle.mpm_machine.proofs.InterruptLaws.{due_may}
 use Rattle.mpm_interrupts.proofs.InterruptLaws.{script_after_due}
 use Rattle.mpm_machine.proofs.FinishLaws.{first_finished, left_completed}
 use Rattle.mpm_machine.proofs.DueLaws.{no_completions_settled}
-use Rattle.mpm_machine.proofs.WholeLaws.{whole_kernel, whole_steps, whole_regs, whole_ended, aborted_by, aborted_is, ends_at_once, abort_deferred_is, whole_abort_deferred, whole_resident, whole_residents, whole_fulfilling, whole_acted}
+use Rattle.mpm_machine.proofs.WholeLaws.{whole_kernel, whole_steps, whole_regs, whole_ended, aborted_by, aborted_is, ends_at_once, abort_deferred_is, whole_abort_deferred, whole_resident, whole_residents, whole_fulfilling}
+use Rattle.mpm_machine.proofs.SendingLaws.{LetsIn, lets_in as lets_command_in, lives_let_in}
+use Rattle.mpm_machine.proofs.ActedLaws.{whole_acted}
 
 -- an event comes
 
@@ -147,6 +150,46 @@ whole_finishing (p ∷ ps) system w e =
 pub whole_answered : (system afterwards : System) → IsWhole system → afterwards ≡ (all_finished system).system → IsWhole afterwards
 whole_answered system afterwards w is = subst IsWhole (sym is) (whole_finishing system.kernel.dispatcher.completed system w refl)
 
+-- the first of those that a step completed, and then the others
+
+whole_finished_or_ended : (p : ℕ) (system : System) → IsWhole system → Lives system.kernel.dispatcher.procs p → IsWhole (finished_or_ended p system).system
+whole_finished_or_ended p system w h =
+    either (λ (c : Change). IsWhole c.system) (chains p system.kernel) _ _ (λ _. whole_ended p system w h)
+    (λ _. whole_finished (process_in system.kernel.dispatcher.procs p).seg p system w h)
+
+pub lives_dequeued : (p : ℕ) (system : System) → IsWhole system → first_completed system.kernel.dispatcher.completed ≡ Some p
+    → Lives (completion_dequeued system).kernel.dispatcher.procs p
+lives_dequeued p system w first = lives_handed_out system.kernel p ∙ completed_lives system.kernel p w.live first
+
+-- the command that its process sent goes in, and it lives
+command_in : (p : ℕ) (system : System) → IsWhole system → LetsIn (completion_dequeued system) (command_let_in p (completion_dequeued system))
+command_in p system w = lets_command_in p (completion_dequeued system) (whole_dequeued system w)
+
+pub lives_in_time : (p : ℕ) (system : System) → IsWhole system → first_completed system.kernel.dispatcher.completed ≡ Some p
+    → Lives (command_let_in p (completion_dequeued system)).kernel.dispatcher.procs p
+lives_in_time p system w first =
+    lives_let_in p (completion_dequeued system) (command_let_in p (completion_dequeued system)) (command_in p system w) (lives_dequeued p system w first)
+
+pub whole_first_answered : (p : ℕ) (system : System) → IsWhole system → first_completed system.kernel.dispatcher.completed ≡ Some p
+    → IsWhole (finished_or_ended p (command_let_in p (completion_dequeued system))).system
+whole_first_answered p system w first =
+    whole_finished_or_ended p (command_let_in p (completion_dequeued system)) (command_in p system w).whole (lives_in_time p system w first)
+
+pub whole_first_so : (p : ℕ) (old handed first : System) → IsWhole old → first_completed old.kernel.dispatcher.completed ≡ Some p → handed ≡ completion_dequeued old
+    → first ≡ (finished_or_ended p (command_let_in p handed)).system → IsWhole first
+whole_first_so p old handed first w is out done =
+    subst IsWhole (sym (done ∙ ap (λ (s : System). (finished_or_ended p (command_let_in p s)).system) out)) (whole_first_answered p old w is)
+
+whole_from : (first : Option ℕ) (system : System) → IsWhole system → first_completed system.kernel.dispatcher.completed ≡ first
+    → IsWhole (answered_from first system).system
+unfolding answered_from
+whole_from None system w first = w
+whole_from (Some p) system w first = whole_answered (finished_or_ended p (command_let_in p (completion_dequeued system))).system _ (whole_first_answered p system w first) refl
+
+pub whole_all_answered : (system afterwards : System) → IsWhole system → afterwards ≡ (all_answered system).system → IsWhole afterwards
+whole_all_answered system afterwards w is =
+    subst IsWhole (sym is) (whole_from (first_completed system.kernel.dispatcher.completed) system w refl)
+
 -- the ends that are due come
 
 pub whole_if_due : (p : ℕ) (system : System) → IsWhole system → IsWhole (ended_if_due p system).system
@@ -213,7 +256,7 @@ whole_with_ends system w = whole_noted _ (whole_due_terminated (range_with_len 0
 
 pub whole_settled : (system : System) → IsWhole system → IsWhole (settled system).system
 unfolding settled
-whole_settled system w = whole_with_ends _ (whole_finishing system.kernel.dispatcher.completed system w refl)
+whole_settled system w = whole_with_ends _ (whole_all_answered system (all_answered system).system w refl)
 
 -- so a step ends
 pub whole_dispatched : (instruction : Bool) (change : Change) → IsWhole change.system → IsWhole (step_dispatched instruction (with_settled change)).system

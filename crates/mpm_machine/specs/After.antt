@@ -1,6 +1,7 @@
 -- One step, and n steps, of system, files and drives.
-use Rattle.std.specs.Prelude.{◌≡◌, ℕ, zero, suc, ◌+◌, ◌-◌, ◌<◌, ◌≤◌, Bool, List, ◌++◌, Option, None, ⊤}
+use Rattle.std.specs.Prelude.{◌≡◌, ℕ, zero, suc, ◌+◌, ◌-◌, ◌<◌, ◌≤◌, Bool, List, ◌++◌, Option, Some, None, IsSome, ⊤}
 use Rattle.mpm_port.specs.Disks.{Disks}
+use Rattle.mpm_procs.specs.Table.{call_of}
 use Rattle.mpm_render.specs.Outputs.{Output, rendered}
 use Rattle.mpm_render.specs.Shown.{Kept, Shows}
 use Rattle.mpm_output.specs.Outside.{Outside}
@@ -12,8 +13,8 @@ use Rattle.mpm_machine.specs.declared.system.System.{System}
 use Rattle.mpm_machine.specs.declared.machine.StepFault.{StepFault}
 use Rattle.mpm_machine.specs.declared.machine.StepFault.TheVariants.{DiskFault, WriteFault}
 use Rattle.mpm_machine.specs.State.{State, Change, StandsForFiles, silent}
-use Rattle.mpm_machine.specs.Faults.{EndsBy}
-use Rattle.mpm_machine.specs.FileCalls.{file_caller, step_with, step_concluded, filed, Stepped, stepped}
+use Rattle.mpm_machine.specs.Faults.{EndsBy, OnDiskFault}
+use Rattle.mpm_machine.specs.FileCalls.{file_caller, call_made, change_of, step_with, step_concluded, filed, Stepped, stepped}
 use Rattle.mpm_machine.specs.Contained.{IsContainedBy, Instructs, OnlyInstructed, Calls, ServedByValue}
 
 -- what a step that was made of a state leaves
@@ -29,10 +30,17 @@ unfoldable pub after : ℕ → State → State
 after zero s = s
 after (suc n) s = next (after n s)
 
+-- what a process is told of the file call that it makes is of that call: its caller changes as the function says, and by the extended
+-- error
+abbrev pub IsOfCall : Option ℕ → Directly → System → Type 0
+IsOfCall None told old = ⊤
+IsOfCall (Some p) told old = told.caller ≡ change_of (call_of (call_made p old).kernel.dispatcher.procs p) told.extended
+
 -- whatever is on the drives: a step, by what a file call comes to, if one is made in it. Each byte that it changes is one that
 -- it writes or answers; an instruction leaves what is its own; and a call that is no file call is served by what it took
 pub record IsStep (old : System) (change : Change) : Type 0 where
   pub told : Directly
+  pub of_call : IsOfCall (file_caller old) told old
   pub is : change ≡ step_with told old
   pub contained : IsContainedBy told old change.system
   pub instruction : (p seg : ℕ) → Instructs old p seg → OnlyInstructed p old change.system
@@ -80,6 +88,24 @@ pub record HasConcluded (told : Directly) (p : ℕ) (before behind : Outside) (o
 abbrev pub StopsBy : StepFault → Outside → Outside → List Output → Type 0
 StopsBy WriteFault before behind emitted = Stopped before behind emitted
 StopsBy DiskFault before behind emitted = behind ≡ before
+
+-- so did one, whatever the images are: it writes what a step of the system writes, by what some file call comes to, if one is made in
+-- it; and a drive fails only where one is
+pub record HasStopped (fault : StepFault) (before behind : Outside) (old : System) : Type 0 where
+  pub change : Change
+  pub is : IsStep old change
+  pub stops : StopsBy fault before behind change.emitted
+  pub calls : OnDiskFault fault (IsSome (file_caller old))
+
+-- a run of n steps stopped in that step, whatever the images are: the steps before it were made, and what they say was written
+pub record HasStoppedIn (n : ℕ) (fault : StepFault) (step : ℕ) (before behind : Outside) (old : System) : Type 0 where
+  pub done : ℕ
+  pub few : done < n
+  pub is : step ≡ old.steps + done + 1
+  pub middle : System
+  pub between : Outside
+  pub ran : HasRun done before between old middle
+  pub stops : HasStopped fault between behind middle
 
 -- where a drive failed in the step after a state, what is kept to be written is that of the state
 abbrev pub ShowsBefore : StepFault → Kept → Option (List ℕ) → State → Option (List ℕ) → Type 0

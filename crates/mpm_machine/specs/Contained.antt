@@ -1,7 +1,8 @@
 -- What a step may write of memory, what a listed instruction changes, and what a call takes from memory.
-use Rattle.std.specs.Prelude.{◌≡◌, ℕ, ◌+◌, ◌<◌, ◌≤◌, ◌⊎◌, ◌==◌, ◌||◌, true, false, List, [], ◌∷◌, Bool, Option, Some, None, IsSome, slice_index_or}
+use Rattle.std.specs.Prelude.{◌≡◌, ℕ, ◌+◌, ◌<◌, ◌≤◌, ◌⊎◌, ◌==◌, ◌||◌, true, false, List, [], ◌∷◌, length, Bool, Option, Some, None, IsSome, slice_index_or}
 use Rattle.std.specs.List.{list_any, range_with_len}
 use Rattle.z80_regs.specs.declared.regs.Regs.{Regs}
+use Rattle.z80_regs.specs.Words.{onward}
 use Rattle.z80_ext.specs.Instruction.{actions_of}
 use Rattle.mpm_base.specs.Calls.{Taken, Answer}
 use Rattle.mpm_base.specs.declared.call.Outcome.{Outcome}
@@ -14,9 +15,16 @@ use Rattle.mpm_kernel.specs.Waiting.{completion_reply}
 use Rattle.mpm_machine.specs.declared.system.System.{System}
 use Rattle.mpm_processor.specs.declared.gate.Gate.{Gate}
 use Rattle.mpm_processor.specs.declared.gate.Gate.TheVariants.{End, Call, Return}
-use Rattle.mpm_machine.specs.Serving.{with_regs, asked, keeping, Served, served, string_of, said_by, popped, reply_at_entry, after_echo, outcome_of}
+use Rattle.mpm_machine.specs.Calling.{Served}
+use Rattle.mpm_machine.specs.Serving.{with_regs, asked, keeping, served, string_of, said_by, popped, reply_at_entry, after_echo, outcome_of}
 use Rattle.mpm_machine.specs.Ending.{ended}
-use Rattle.mpm_machine.specs.Finishing.{finished, completion_dequeued, all_finished}
+use Rattle.mpm_machine.specs.Finishing.{finished, completion_dequeued, command_let_in, finished_or_ended, all_answered}
+use Rattle.mpm_machine.specs.Sending.{chains}
+use Rattle.mpm_dispatcher.specs.Dispatch.{first_completed}
+use Rattle.mpm_cli.specs.declared.act.Act.{Act}
+use Rattle.mpm_cli.specs.declared.act.Act.TheVariants.{Ask, Place, Patch, Begin, Give}
+use Rattle.mpm_residents.specs.Natives.{native_act, native_call, native_in}
+use Rattle.mpm_residents.specs.declared.native.Native.{Native}
 use Rattle.mpm_machine.specs.Due.{is_due, ended_if_due, with_ends}
 use Rattle.mpm_machine.specs.Step.{instruction_at, gate_before, coming, begun_by, with_settled, counted, dispatched}
 use Rattle.mpm_bdos.specs.declared.refusals.Extended.{Extended}
@@ -53,6 +61,29 @@ pub record IsWritten (system : System) (seg at : ℕ) : Type 0 where
   pub home : (process_in system.kernel.dispatcher.procs who).seg ≡ Some seg
   pub writes : WritesAt (gate_before who seg system) who seg (counted system) at
 
+-- so many bytes from an address on have that one among them
+abbrev pub IsIn : ℕ → ℕ → ℕ → Type 0
+IsIn address count at = (k : ℕ) × (k < count) × (at ≡ onward address k)
+
+-- what is handed over writes there: so many bytes that are placed, code that is moved, the word on a new process's stack
+abbrev pub HandsAt : Act → ℕ → ℕ → ℕ → Type 0
+HandsAt Ask placed seg at = ⊥
+HandsAt (Place to address count) placed seg at = (to ≡ seg) × IsIn address placed at
+HandsAt (Patch to address count page) placed seg at = (to ≡ seg) × IsIn address count at
+HandsAt (Begin to new) placed seg at = (to ≡ seg) × IsIn new.sp 2 at
+HandsAt (Give console) placed seg at = ⊥
+
+-- no event comes in this step, and the process that runs is a resident, which hands over what is written to that segment at the
+-- address
+pub record IsHanded (system : System) (seg at : ℕ) : Type 0 where
+  pub quiet : coming (counted system) ≡ None
+  pub who : ℕ
+  pub runs : system.kernel.dispatcher.running ≡ Some who
+  pub resides : (process_in system.kernel.dispatcher.procs who).seg ≡ None
+  pub native : Native
+  pub acts : native_in system.residents who ≡ Some native
+  pub hands : HandsAt (native_act native) (length (native_call native).bytes) seg at
+
 -- the system after what a step begins with, an event or what the running process does, as the held calls that were
 -- completed are to be answered
 abbrev pub after_begun : System → System
@@ -78,6 +109,13 @@ AnswersOne system seg at = AnswersAmong system.kernel.dispatcher.completed syste
 abbrev pub AnswersAtEnd : ℕ → System → ℕ → ℕ → Type 0
 AnswersAtEnd p system seg at = (is_due system.kernel p ≡ true) × AnswersOne (ended p system) seg at
 
+-- so does the one that was completed first, unless it chained, or one of those behind it
+abbrev pub AnswersFrom : Option ℕ → System → ℕ → ℕ → Type 0
+AnswersFrom None system seg at = ⊥
+AnswersFrom (Some p) system seg at =
+    let first = command_let_in p (completion_dequeued system) in
+    ((chains p first.kernel ≡ false) × Answers p first seg at) ⊎ AnswersOne (finished_or_ended p first).system seg at
+
 -- so does one of several, as their ends come
 unfoldable pub AnswersAtEnds : List ℕ → System → ℕ → ℕ → Type 0
 AnswersAtEnds [] system seg at = ⊥
@@ -85,18 +123,19 @@ AnswersAtEnds (p ∷ ps) system seg at = AnswersAtEnd p system seg at ⊎ Answer
 
 -- such a call is completed by what a step begins with, which left this system, or by an end that is due
 unfoldable pub IsAnsweredAfter : System → ℕ → ℕ → Type 0
-IsAnsweredAfter begun seg at = AnswersOne begun seg at ⊎ AnswersAtEnds (range_with_len 0 32) (all_finished begun).system seg at
+IsAnsweredAfter begun seg at =
+    AnswersFrom (first_completed begun.kernel.dispatcher.completed) begun seg at ⊎ AnswersAtEnds (range_with_len 0 32) (all_answered begun).system seg at
 
 abbrev pub IsAnswered : System → ℕ → ℕ → Type 0
 IsAnswered system seg at = IsAnsweredAfter (after_begun system) seg at
 
--- a byte of a segment stays unless a process that lives there writes it or has its call's reply placed there, and a byte of
--- common memory, whoever reads it, unless some process does
+-- a byte of a segment stays unless a process that lives there writes it or has its call's reply placed there, or a resident
+-- hands over what is written there, and a byte of common memory, whoever reads it, unless some process does
 pub record IsContained (old new : System) : Type 0 where
-  pub segments : (seg at : ℕ) → at < 49152 → (IsWritten old seg at → ⊥) → (IsAnswered old seg at → ⊥)
+  pub segments : (seg at : ℕ) → at < 49152 → (IsWritten old seg at → ⊥) → (IsHanded old seg at → ⊥) → (IsAnswered old seg at → ⊥)
       → byte_at new.memory seg at ≡ byte_at old.memory seg at
-  pub common : (seg at : ℕ) → 49152 ≤ at → ((home : ℕ) → IsWritten old home at → ⊥) → ((home : ℕ) → IsAnswered old home at → ⊥)
-      → byte_at new.memory seg at ≡ byte_at old.memory seg at
+  pub common : (seg at : ℕ) → 49152 ≤ at → ((home : ℕ) → IsWritten old home at → ⊥) → ((home : ℕ) → IsHanded old home at → ⊥)
+      → ((home : ℕ) → IsAnswered old home at → ⊥) → byte_at new.memory seg at ≡ byte_at old.memory seg at
 
 -- a file call is answered, unless its extended error ends its process
 abbrev pub is_answered : Option Extended → ℕ → Bool
@@ -115,7 +154,7 @@ after_begun_by None told system = after_begun system
 after_begun_by (Some p) told system = (concluded told p (call_made p system)).system
 
 abbrev pub IsWrittenBy : Option ℕ → Directly → System → ℕ → ℕ → Type 0
-IsWrittenBy None told system seg at = IsWritten system seg at
+IsWrittenBy None told system seg at = IsWritten system seg at ⊎ IsHanded system seg at
 IsWrittenBy (Some p) told system seg at = IsFiled told p (call_made p system) seg at
 
 pub record IsContainedBy (told : Directly) (old new : System) : Type 0 where
@@ -147,9 +186,11 @@ pub record OnlyInstructed (p : ℕ) (old new : System) : Type 0 where
     memory = memory;
   }))).system
 
--- two systems have the same kernel, and the same segments in the same hands: their memories differ in bytes alone
+-- two systems have the same kernel, the same residents, and the same segments in the same hands: their memories differ in bytes
+-- alone
 pub record DiffersInBytes (one other : System) : Type 0 where
   pub kernel : other.kernel ≡ one.kernel
+  pub residents : other.residents ≡ one.residents
   pub segments : SameSegments one.memory other.memory
 
 -- a call did the same in both

@@ -9,7 +9,7 @@ use Rattle.mpm_xdos.specs.Aborting.{waits_to_end}
 use Rattle.mpm_machine.specs.declared.system.System.{System}
 use Rattle.mpm_machine.specs.State.{Change, silent}
 use Rattle.mpm_machine.specs.Ending.{ended}
-use Rattle.mpm_machine.specs.Finishing.{all_finished}
+use Rattle.mpm_machine.specs.Finishing.{all_finished, all_answered}
 
 -- the end of a process is due: it was aborted, and needn't wait
 abbrev pub is_due : Kernel → ℕ → Bool
@@ -50,6 +50,6 @@ with_ends system = let afterwards = all_due_terminated system in record afterwar
 -- the end of a step: the held calls that were completed are answered, and then the ends that are due come
 unfoldable pub settled : System → Change
 settled system =
-    let answered = all_finished system in
+    let answered = all_answered system in
     let afterwards = with_ends answered.system in
     record { system = afterwards.system; emitted = afterwards.emitted ++ answered.emitted }

@@ -41,7 +41,7 @@ unfoldable pub is_of_files : ℕ → Bool
 is_of_files number = is_some (function_of number) || is_some (direct_of number)
 
 -- the number of the function that a process calls as it goes on, if it calls one: one of a segment does at the gate of calls, and
--- a resident always
+-- a resident by what it fills in, which has the number 0 where it hands something over
 abbrev pub at_gate : Option Gate → ℕ → Option ℕ
 at_gate None number = None
 at_gate (Some End) number = None

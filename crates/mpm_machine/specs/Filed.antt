@@ -1,5 +1,5 @@
 -- What a file call in a step leaves of what is kept of files, and what those leave who end in it.
-use Rattle.std.specs.Prelude.{◌≡◌, ℕ, ◌<◌, Bool, false, List, Option, length, slice_index_or, if◌then◌else◌}
+use Rattle.std.specs.Prelude.{◌≡◌, ℕ, ◌<◌, ◌&&◌, Bool, false, not, List, Option, length, slice_index_or, if◌then◌else◌}
 use Rattle.mpm_port.specs.Disks.{Disks}
 use Rattle.mpm_base.specs.Calls.{Answer}
 use Rattle.mpm_procs.specs.Table.{Table, lives}
@@ -19,6 +19,10 @@ pub record IsOutcome (disks : Option Disks) (outcome : Outcome) (kept : Kept) (a
 pub record AreLiving (procs : Table) (slots : List Bool) : Type 0 where
   pub full : length slots ≡ 32
   pub each : (p : ℕ) → p < 32 → slice_index_or slots p false ≡ lives procs p
+
+-- who lived in a slot, as it was said, lives there still
+abbrev pub HasStayed : Table → List Bool → ℕ → Type 0
+HasStayed afterwards slots slot = (slice_index_or slots slot false && not (lives afterwards slot)) ≡ false
 
 -- a process that is gone has left its open files and marks, and its search
 abbrev pub left_if : Bool → ℕ → Filing → Filing

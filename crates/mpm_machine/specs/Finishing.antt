@@ -1,12 +1,15 @@
 -- Held calls that are completed, by another process's call or by an event: their replies are placed, in order. (MP/M II
 -- Programmer's Guide, "Function 132: Flag Wait", "Function 141: Delay", "Function 131: Poll", "Function 151: Call Resident
--- System Procedure".)
-use Rattle.std.specs.Prelude.{ℕ, List, [], ◌∷◌, ◌++◌, Option, Some, None}
+-- System Procedure", "Function 150: Send CLI Command", "Function 47: Chain to Program".)
+use Rattle.std.specs.Prelude.{ℕ, List, [], ◌∷◌, ◌++◌, Option, Some, None, if◌then◌else◌}
 use Rattle.mpm_procs.specs.Table.{process_in, call_of}
+use Rattle.mpm_dispatcher.specs.Dispatch.{first_completed}
 use Rattle.mpm_kernel.specs.Events.{handed_out}
 use Rattle.mpm_kernel.specs.Waiting.{completion_reply}
 use Rattle.mpm_machine.specs.declared.system.System.{System}
 use Rattle.mpm_machine.specs.State.{Change, silent}
+use Rattle.mpm_machine.specs.Ending.{ended}
+use Rattle.mpm_machine.specs.Sending.{chains, let_in}
 use Rattle.mpm_machine.specs.Serving.{fulfilling}
 use Rattle.mpm_machine.specs.Residing.{taking}
 
@@ -30,3 +33,24 @@ finishing (p ∷ ps) system =
 -- all that were completed
 abbrev pub all_finished : System → Change
 all_finished system = finishing system.kernel.dispatcher.completed system
+
+-- a command that was held goes in
+abbrev pub command_let_in : ℕ → System → System
+command_let_in p system = record system { kernel = let_in p system.kernel }
+
+-- the held call of a process is completed, or, where it chained, the process ends, without an answer
+abbrev pub finished_or_ended : ℕ → System → Change
+finished_or_ended p system =
+    if chains p system.kernel then silent (ended p system) else finished (process_in system.kernel.dispatcher.procs p).seg p system
+
+-- all that were completed by what a step begins with: the first, which lets a command in where it sent one, and the others. A step
+-- lets one command in at most, and completes no other held call then
+unfoldable pub answered_from : Option ℕ → System → Change
+answered_from None system = silent system
+answered_from (Some p) system =
+    let first = finished_or_ended p (command_let_in p (completion_dequeued system)) in
+    let others = all_finished first.system in
+    record { system = others.system; emitted = others.emitted ++ first.emitted }
+
+abbrev pub all_answered : System → Change
+all_answered system = answered_from (first_completed system.kernel.dispatcher.completed) system

@@ -4,10 +4,11 @@ pub mod Faults
 pub mod Mounting
 pub mod Opening
 pub mod Ending
-pub mod Serving
-pub mod Residing
-pub mod Loading
+pub mod Calling
 pub mod Sending
+pub mod Serving
+pub mod Loading
+pub mod Residing
 pub mod Slots
 pub mod Finishing
 pub mod Due
@@ -15,5 +16,6 @@ pub mod Step
 pub mod FileCalls
 pub mod Moving
 pub mod Filed
+pub mod Failing
 pub mod Contained
 pub mod After

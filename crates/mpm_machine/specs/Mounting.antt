@@ -1,13 +1,15 @@
--- What is kept of file calls as a machine begins.
-use Rattle.std.specs.Prelude.{◌≡◌, ℕ, List, [], Option, None}
-use Rattle.mpm_port.specs.Disks.{Disks}
+-- What is kept of file calls as a machine begins, and what steps leave of its drives.
+use Rattle.std.specs.Prelude.{◌≡◌, ◌≢◌, ℕ, List, [], Option, Some, None, option_map}
+use Rattle.std.specs.List.{AllByRecursion}
+use Rattle.mpm_port.specs.Disks.{Disks, Told}
 use Rattle.mpm_machine_file.specs.declared.lists.DriveSpec.{DriveSpec}
 use Rattle.mpm_mount.specs.Directories.{Directory}
 use Rattle.mpm_drives.specs.Images.{Images}
-use Rattle.mpm_drives.specs.Mounted.{AreMounted}
+use Rattle.mpm_drives.specs.Mounted.{AreMounted, IsNamed, number_of}
 use Rattle.mpm_mount.specs.Drives.{Drive}
 use Rattle.mpm_bdos.specs.Filing.{Filing}
 use Rattle.mpm_bdos.specs.Serving.{Kept, directory_at, filing_of, nothing_kept, in_places}
+use Rattle.mpm_bdos.specs.Turns.{StaysBeside, labelled}
 
 -- the drives of a machine file are mounted, each in its place, and nothing is open, locked, marked, sought or protected
 pub record HasMounted (attached : ℕ → Option ℕ) (disks : Option Disks) (images : Images) (specs : List DriveSpec) (kept : Kept) : Type 0 where
@@ -22,3 +24,19 @@ untouched drives = filing_of (nothing_kept []) drives
 -- no drive is mounted
 abbrev pub HasNoDrive : List (Option Directory) → Type 0
 HasNoDrive mounted = (number : ℕ) → directory_at mounted number ≡ None
+
+-- a drive of a machine file is mounted in the place of its number, as one of its kind, and attached by the name of its image
+pub record IsInPlace (disks : Option Disks) (mounted : List (Option Directory)) (spec : DriveSpec) : Type 0 where
+  pub label : option_map labelled (directory_at mounted (number_of spec)) ≡ Some (number_of spec, spec.kind)
+  pub name : IsNamed disks (number_of spec) spec.image
+
+-- so is each drive of a machine file, and no other is mounted
+pub record HasDrives (disks : Option Disks) (specs : List DriveSpec) (mounted : List (Option Directory)) : Type 0 where
+  pub each : AllByRecursion (IsInPlace disks mounted) specs
+  pub others : (number : ℕ) → AllByRecursion (λ spec. number_of spec ≢ number) specs → directory_at mounted number ≡ None
+
+-- what steps leave of drives, whether one fails or not: each directory is of the drive and the kind of which it was, each drive is
+-- that of the image of its name, and an image that is no mounted drive's is as it was
+pub record KeepsMounted (disks now : Option Disks) (old new : List (Option Directory)) : Type 0 where
+  pub labels : (number : ℕ) → option_map labelled (directory_at new number) ≡ option_map labelled (directory_at old number)
+  pub beside : Told (StaysBeside old) disks now

@@ -14,7 +14,6 @@ use Rattle.mpm_procs.specs.Table.{living, process_in, lowest_free}
 use Rattle.mpm_procs.specs.declared.process.NewProcess.{NewProcess}
 use Rattle.mpm_kernel.specs.Kernel.{Kernel, with_changed, new_kernel, dispatched}
 use Rattle.mpm_dispatcher.specs.Dispatch.{admitted, picked}
-use Rattle.mpm_kernel.specs.Joining.{joined}
 use Rattle.mpm_kernel.specs.Queueing.{with_system_queue}
 use Rattle.mpm_kernel.specs.Consoling.{given}
 use Rattle.mpm_residents.specs.Terminals.{opening}
@@ -124,18 +123,19 @@ unfoldable pub resident_process : Name8 → ℕ → ℕ → NewProcess
 resident_process name priority console =
     record { name = name; priority = priority; console = console; seg = None; pc = 0; sp = 0; dma = 0; user = 0; drive = 0 }
 
--- the process of the command line interpreter begins in a slot. It isn't ready, and so never runs.
+-- the process of the command line interpreter begins in a slot, and is ready. Residents take extended errors as answers; the
+-- interpreter reads sixteen records at a time.
 unfoldable pub with_interpreter : Option ℕ → Kernel → Kernel
 with_interpreter None kernel = kernel
 with_interpreter (Some p) kernel =
-    let begun = joined kernel p (resident_process (record { 0 = codes "cli     " }) 190 0) in
+    let begun = dispatched (admitted p (resident_process (record { 0 = codes "cli     " }) 190 0)) kernel in
     with_changed begun p (record (process_in begun.dispatcher.procs p) { error_mode = 255; multi = 16 })
 
 -- the name of the terminal message processor of a console
 abbrev pub terminal_name : ℕ → Name8
 terminal_name console = record { 0 = codes "Tmp" ++ ((48 + console) ∷ codes "    ") }
 
--- a terminal message processor begins in a slot, for a console, and is ready. Residents take extended errors as answers.
+-- a terminal message processor begins in a slot, for a console, and is ready
 unfoldable pub with_terminal : Option ℕ → ℕ → System → System
 with_terminal None console system = system
 with_terminal (Some p) console system =

@@ -1,14 +1,14 @@
 -- The gate step of a kernel call: what it reads is taken, it is done, and its reply is placed. (MP/M II Programmer's Guide,
--- "BDOS Calling Conventions"; functions 128 to 130, memory segments; 144, create process; 151, call resident system
--- procedure; 152, parse filename; 154, return address of system data page; 156, return process descriptor address; 157, abort
--- specified process.)
+-- "BDOS Calling Conventions"; functions 47, chain to program; 128 to 130, memory segments; 144, create process; 150, send CLI
+-- command; 151, call resident system procedure; 152, parse filename; 154, return address of system data page; 156, return process
+-- descriptor address; 157, abort specified process.)
 use Rattle.std.specs.Prelude.{ℕ, ◌≤◌, length, Bool, true, false, not, List, [], ◌∷◌, ◌++◌, Option, Some, None, ◌==◌, ◌&&◌, ◌||◌, nat_lt, drop, if◌then◌else◌}
 use Rattle.z80_regs.specs.declared.regs.Regs.{Regs}
 use Rattle.z80_regs.specs.Words.{word_of, onward}
 use Rattle.mpm_base.specs.Calls.{Taken, Answer, answering, byte_in, word_at}
 use Rattle.mpm_base.specs.declared.call.Outcome.{Outcome}
 use Rattle.mpm_base.specs.declared.call.Outcome.TheVariants.{Done, Held, Retry, Ended}
-use Rattle.mpm_base.specs.declared.functions.TheConstants.{CONSOLE_OUTPUT, LIST_OUTPUT, PRINT_STRING, ABSOLUTE_MEMORY_REQUEST, RELOCATABLE_MEMORY_REQUEST, MEMORY_FREE, CREATE_PROCESS, CALL_RESIDENT_SYSTEM_PROCEDURE, PARSE_FILENAME, ABORT_SPECIFIED_PROCESS, SYSTEM_DATA_ADDRESS, RETURN_PROCESS_DESCRIPTOR_ADDRESS}
+use Rattle.mpm_base.specs.declared.functions.TheConstants.{CONSOLE_OUTPUT, LIST_OUTPUT, PRINT_STRING, ABSOLUTE_MEMORY_REQUEST, RELOCATABLE_MEMORY_REQUEST, MEMORY_FREE, CREATE_PROCESS, CHAIN_TO_PROGRAM, SEND_CLI_COMMAND, CALL_RESIDENT_SYSTEM_PROCEDURE, PARSE_FILENAME, ABORT_SPECIFIED_PROCESS, SYSTEM_DATA_ADDRESS, RETURN_PROCESS_DESCRIPTOR_ADDRESS}
 use Rattle.mpm_banks.specs.Memory.{Memory, segment_of, byte_at}
 use Rattle.mpm_banks.specs.Allocations.{lowest_free, reserved, is_reserved, released}
 use Rattle.mpm_gate.specs.Calls.{taken_call}
@@ -19,9 +19,9 @@ use Rattle.mpm_gate.specs.declared.take.TextEnd.TheVariants.{Dollar}
 use Rattle.mpm_names.specs.Spellings.{parsed}
 use Rattle.mpm_names.specs.declared.file_name.Parsed.{Parsed}
 use Rattle.mpm_command.specs.FileBlocks.{file_block}
-use Rattle.mpm_procs.specs.Table.{process_in, with_call}
-use Rattle.mpm_kernel.specs.Kernel.{Kernel, with_changed, dispatched}
-use Rattle.mpm_kernel.specs.Calls.{called, does_echo, failure_code}
+use Rattle.mpm_procs.specs.Table.{process_in}
+use Rattle.mpm_kernel.specs.Kernel.{Kernel, with_changed}
+use Rattle.mpm_kernel.specs.Calls.{does_echo, failure_code}
 use Rattle.mpm_kernel.specs.Columns.{column_of, expanded, tab_text}
 use Rattle.mpm_kernel.specs.Called.{low_parameter}
 use Rattle.mpm_kernel.specs.ConsoleInput.{writes}
@@ -35,7 +35,8 @@ use Rattle.mpm_machine.specs.declared.system.System.{System}
 use Rattle.mpm_output.specs.Writing.{spoken}
 use Rattle.mpm_machine.specs.State.{Change, silent, speaking}
 use Rattle.mpm_machine.specs.Ending.{ended}
-use Rattle.mpm_dispatcher.specs.Dispatch.{with_procs}
+use Rattle.mpm_machine.specs.Calling.{Served, served_by, with_kept, calling}
+use Rattle.mpm_machine.specs.Sending.{has_interpreter, sending, chaining}
 
 -- a process with its registers changed
 abbrev pub with_regs : Kernel → ℕ → Regs → Kernel
@@ -56,13 +57,7 @@ unfoldable pub keeping : ℕ → Taken → System → System
 keeping p call system =
     let process = process_in system.kernel.dispatcher.procs p in
     let kernel = with_regs system.kernel p (record process.regs { shadow = false }) in
-    record system { kernel = dispatched (with_procs (with_call kernel.dispatcher.procs p call)) kernel }
-
--- what becomes of the system and of the call, and the reply
-pub record Served : Type 0 where
-  pub system : System
-  pub outcome : Outcome
-  pub reply : Answer
+    record system { kernel = with_kept p call kernel }
 
 -- the reply to a call that reserves a segment: the descriptor of the one that was found, where the call's parameter points
 abbrev pub reserve_reply : Memory → Taken → Option ℕ → Answer
@@ -142,28 +137,29 @@ telling_system system = telling (system_answer (length system.kernel.units.conso
 abbrev pub telling_descriptor : ℕ → System → Served
 telling_descriptor p system = telling (descriptor_answer p (process_in system.kernel.dispatcher.procs p)) system
 
--- a call that concerns the kernel alone
-abbrev pub calling : ℕ → System → Served
-calling p system =
-    let done = called p system.kernel in
-    record { system = record system { kernel = done.kernel }; outcome = done.outcome; reply = done.reply }
-
 -- the base page that a call asks for: function 128 one of its own, 129 any
 abbrev pub base_asked : Bool → Taken → Option ℕ
 base_asked absolute call = if absolute then Some (byte_in call 0) else None
 
--- the call is done
-unfoldable pub served : Taken → ℕ → System → Served
-served call p system =
+-- the calls that residents make too: on memory segments, and by which a command is sent; all others are the kernel's
+unfoldable pub served_to_all : Taken → ℕ → System → Served
+served_to_all call p system =
     if call.function == ABSOLUTE_MEMORY_REQUEST then reserving (base_asked true call) call p system
     else (if call.function == RELOCATABLE_MEMORY_REQUEST then reserving (base_asked false call) call p system
     else (if call.function == MEMORY_FREE then releasing call p system
-    else (if call.function == CREATE_PROCESS then creating p system
+    else (if call.function == SEND_CLI_COMMAND then served_by (sending (has_interpreter system) p system.kernel) system
+    else (calling p system))))
+
+-- the call is done
+unfoldable pub served : Taken → ℕ → System → Served
+served call p system =
+    if call.function == CREATE_PROCESS then creating p system
     else (if call.function == ABORT_SPECIFIED_PROCESS then aborting p system
     else (if call.function == PARSE_FILENAME then parsing call system
     else (if call.function == SYSTEM_DATA_ADDRESS then telling_system system
     else (if call.function == RETURN_PROCESS_DESCRIPTOR_ADDRESS then telling_descriptor p system
-    else (calling p system))))))))
+    else (if call.function == CHAIN_TO_PROGRAM then served_by (chaining (has_interpreter system) p system.kernel) system
+    else (served_to_all call p system))))))
 
 -- what a call writes to its process's console: functions 2 and 9 with tabs expanded, the byte in E or a string, and
 -- functions 4 and 6 the byte in E as it is

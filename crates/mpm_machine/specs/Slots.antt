@@ -1,7 +1,7 @@
 -- Who has which slot as a machine begins to run: the command line interpreter the lowest, and behind it a terminal message
 -- processor for each console, by number.
-use Rattle.std.specs.Prelude.{◌≡◌, ℕ, ◌+◌, ◌<◌, Some, None, codes}
-use Rattle.mpm_ready.specs.Tables.{list_of}
+use Rattle.std.specs.Prelude.{◌≡◌, ℕ, ◌+◌, ◌<◌, Some, codes}
+use Rattle.mpm_dispatcher.specs.Dispatch.{IsReady}
 use Rattle.mpm_procs.specs.Table.{Lives, process_in}
 use Rattle.mpm_residents.specs.Terminals.{opening}
 use Rattle.mpm_residents.specs.declared.native.Native.TheVariants.{Tmp, Cli}
@@ -10,11 +10,11 @@ use Rattle.mpm_machine.specs.declared.system.System.{System}
 use Rattle.mpm_machine.specs.Opening.{terminal_name}
 use Rattle.mpm_residents.specs.Natives.{native_in}
 
--- slot 0 has the process of the command line interpreter, which is at its opening and stands in no list
+-- slot 0 has the process of the command line interpreter, which is at its opening and ready
 pub record HasInterpreter (consoles : ℕ) (system : System) : Type 0 where
   pub lives : Lives system.kernel.dispatcher.procs 0
   pub name : (process_in system.kernel.dispatcher.procs 0).name ≡ record { 0 = codes "cli     " }
-  pub unlisted : list_of system.kernel.dispatcher.lists 0 ≡ None
+  pub ready : IsReady system.kernel.dispatcher 0
   pub resident : native_in system.residents 0 ≡ Some (Cli (opening_interpreter consoles))
 
 -- the slot behind the number of a console has the process of its terminal message processor, which is at its opening

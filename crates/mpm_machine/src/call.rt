@@ -18,7 +18,7 @@ const ALLOCATED: u8 = 0x80;
 impl System {
     ghost use Rattle.mpm_banks.specs.Allocations.{released, is_reserved};
     ghost use Rattle.mpm_machine.specs.State.{IsWhole};
-    ghost use Rattle.mpm_machine.specs.Serving.{asked, keeping, IsTaken, served, reserving, releasing, creating, telling_system, telling_descriptor, base_asked, string_of, said_by, echo_of, popped, replied, answering_call, fulfilling, completing, completion, outcome_of, gate_step};
+    ghost use Rattle.mpm_machine.specs.Serving.{asked, keeping, IsTaken, served, served_to_all, reserving, releasing, creating, telling_system, telling_descriptor, base_asked, string_of, said_by, echo_of, popped, replied, answering_call, fulfilling, completing, completion, outcome_of, gate_step};
     ghost use Rattle.mpm_machine.specs.Ending.{ended};
 
     /// The gate step of a kernel call of a process of a segment.
@@ -101,14 +101,32 @@ impl System {
     {
         let function = self.kernel.kept_call(p).function;
         match function {
-            functions::ABSOLUTE_MEMORY_REQUEST => self.reserve(p, true, reply),
-            functions::RELOCATABLE_MEMORY_REQUEST => self.reserve(p, false, reply),
-            functions::MEMORY_FREE => self.release(p, reply),
             functions::CREATE_PROCESS => self.create(p, reply),
             functions::ABORT_SPECIFIED_PROCESS => self.abort(p, reply),
             functions::PARSE_FILENAME => self.parse(p, reply),
             functions::SYSTEM_DATA_ADDRESS => self.tell_system(reply),
             functions::RETURN_PROCESS_DESCRIPTOR_ADDRESS => self.tell_descriptor(p, reply),
+            functions::CHAIN_TO_PROGRAM => self.chain(p, reply),
+            _ => self.serve_to_all(p, reply),
+        }
+    }
+
+    /// Does the call that a process keeps, of those that residents make too.
+    #[tactic(auto, unfolding(crate::specs::Serving::served_to_all))]
+    pub fn serve_to_all(&mut self, p: Pid, reply: &mut Reply) -> Outcome
+        requires whole { IsWhole self.old }
+        requires lives { Lives self.old.kernel.dispatcher.procs p }
+        requires ready { IsReady self.old.kernel.dispatcher p }
+        ensures system { self.new ≡ (served_to_all (call_of self.old.kernel.dispatcher.procs p) p self.old).system }
+        ensures outcome { result ≡ (served_to_all (call_of self.old.kernel.dispatcher.procs p) p self.old).outcome }
+        ensures reply { reply.new ≡ (served_to_all (call_of self.old.kernel.dispatcher.procs p) p self.old).reply }
+    {
+        let function = self.kernel.kept_call(p).function;
+        match function {
+            functions::ABSOLUTE_MEMORY_REQUEST => self.reserve(p, true, reply),
+            functions::RELOCATABLE_MEMORY_REQUEST => self.reserve(p, false, reply),
+            functions::MEMORY_FREE => self.release(p, reply),
+            functions::SEND_CLI_COMMAND => self.send_command(p, reply),
             _ => self.kernel.call(p, reply),
         }
     }

@@ -12,7 +12,7 @@ impl System {
     ghost use Rattle.mpm_machine.specs.Due.{is_due, is_any_aborted, noted, ended_if_due, all_due_terminated, with_ends, settled};
 
     /// The end of a step: the held calls that were completed are answered, and then the ends that are due come.
-    #[tactic(auto, using(crate::proofs::WholeStepLaws::whole_answered), unfolding(crate::specs::Due::settled))]
+    #[tactic(auto, using(crate::proofs::WholeStepLaws::whole_all_answered), unfolding(crate::specs::Due::settled))]
     pub fn settle<S: Sink>(
         &mut self,
         reply: &mut Reply,
@@ -23,7 +23,7 @@ impl System {
         ensures system { OnOk result (self.new ≡ (settled self.old).system) }
         ensures wrote { Writes S.written S.faults render.old sink.old render.new sink.new (settled self.old).emitted result }
     {
-        self.finish_all(reply, render, sink)?;
+        self.answer_all(reply, render, sink)?;
         self.end_due(reply, render, sink)
     }
 

@@ -1,4 +1,4 @@
-ghost use Rattle.std.specs.Prelude.{◌≡◌, ◌<◌, ◌&&◌, not, false, ℕ, List, Option, None, IsSome, IfOk, OnErr, slice_index_or, if◌then◌else◌};
+ghost use Rattle.std.specs.Prelude.{◌≡◌, ◌<◌, ◌≤◌, ◌+◌, ◌*◌, ◌&&◌, not, false, ℕ, List, Option, None, IsSome, IfOk, OnErr, slice_index_or, if◌then◌else◌};
 ghost use Rattle.mpm_port.specs.Causes.{HasCause};
 ghost use Rattle.mpm_procs.specs.Table.{Table, Lives, lives, call_of};
 ghost use Rattle.mpm_procs.specs.Settings.{is_count};
@@ -10,8 +10,9 @@ ghost use Rattle.mpm_bdos.specs.Serving.{IsCaller, filing_of};
 ghost use Rattle.mpm_bdos.specs.Starting.{caller_of};
 ghost use Rattle.mpm_machine.specs.State.{StandsForFiles, HoldsDrives};
 ghost use Rattle.mpm_machine.specs.FileCalls.{outcome_in, left_behind, looked_at as as_looked_at};
-ghost use Rattle.mpm_machine.specs.Mounting.{HasNoDrive};
-ghost use Rattle.mpm_machine.specs.Filed.{IsOutcome, AreLiving, left_if};
+ghost use Rattle.mpm_machine.specs.Mounting.{HasNoDrive, KeepsMounted};
+ghost use Rattle.mpm_machine.specs.Failing.{call_found, turns_of, HaveImagesOf, FailsWithin};
+ghost use Rattle.mpm_machine.specs.Filed.{IsOutcome, AreLiving, HasStayed, left_if};
 
 use crate::system::System;
 use mpm_base::{Pid, Reply, Steps};
@@ -38,6 +39,29 @@ pub(crate) fn leave_files(bdos: &mut Bdos, before: &[bool; 32], kernel: &Kernel)
         → filing_of bdos.new drives ≡ left_behind procs kernel.now.dispatcher.procs (filing_of bdos.old drives) }
     ensures rest { bdos.new ≡ record bdos.old { opens = bdos.new.opens; marks = bdos.new.marks; searches = bdos.new.searches } }
 {
+    if is_anybody_gone(before, kernel) {
+        leave_each(bdos, before, kernel);
+    }
+}
+
+/// Whether anybody lived in one of these slots and lives there no more. Each step asks this: it goes through all slots, whatever
+/// it finds, so that they are compared many at a time.
+fn is_anybody_gone(before: &[bool; 32], kernel: &Kernel) -> bool
+    ensures { result ≡ false → (slot : ℕ) → slot < 32 → HasStayed kernel.now.dispatcher.procs before.now slot }
+{
+    let mut gone = false;
+    for slot in 0..32 {
+        gone |= is_gone(before, kernel, slot);
+    }
+    gone
+}
+
+/// Gives back what those have open and marked who are gone, slot by slot.
+fn leave_each(bdos: &mut Bdos, before: &[bool; 32], kernel: &Kernel)
+    ensures filing { (procs : Table) (drives : List (Option Drive)) → AreLiving procs before.now
+        → filing_of bdos.new drives ≡ left_behind procs kernel.now.dispatcher.procs (filing_of bdos.old drives) }
+    ensures rest { bdos.new ≡ record bdos.old { opens = bdos.new.opens; marks = bdos.new.marks; searches = bdos.new.searches } }
+{
     for number in 0..32 {
         let gone = is_gone(before, kernel, number);
         leave_if(bdos, Pid(number), gone);
@@ -49,7 +73,7 @@ fn is_gone(before: &[bool; 32], kernel: &Kernel, slot: u8) -> bool
     requires { slot < 32 }
     ensures { result ≡ (slice_index_or before.now slot false && not (lives kernel.now.dispatcher.procs slot)) }
 {
-    before[usize::from(slot)] && !kernel.lives(Pid(slot))
+    before[usize::from(slot)] & !kernel.lives(Pid(slot))
 }
 
 /// Gives back what a process has open and marked, if it is gone.
@@ -94,6 +118,10 @@ pub(crate) fn call_files<D: Drives, L: Ledger>(
     requires holds { HoldsDrives D.attached D.disks bdos.old drives.old }
     ensures ok { (filing : Filing) → StandsForFiles bdos.old (D.disks drives.old) filing
         → IfOk result (IsOutcome (D.disks drives.new) (outcome_in filing p system.now) bdos.new reply.new) }
+    ensures err { (filing : Filing) → StandsForFiles bdos.old (D.disks drives.old) filing
+        → OnErr result (HaveImagesOf (FailsWithin (call_found filing p system.now)) (D.disks drives.new) bdos.new.mounted) }
+    ensures calls { (filing : Filing) → StandsForFiles bdos.old (D.disks drives.old) filing → steps.new ≤ steps.old + 20 * turns_of (call_found filing p system.now) }
+    ensures keeps { KeepsMounted (D.disks drives.old) (D.disks drives.new) bdos.old.mounted bdos.new.mounted }
     ensures holds { HoldsDrives D.attached D.disks bdos.new drives.new }
     ensures names { D.failed_names drives.new ≡ D.failed_names drives.old }
     ensures attached { (number : ℕ) → D.attached drives.new number ≡ D.attached drives.old number }
@@ -123,6 +151,10 @@ fn call_disk<D: Drives, L: Ledger>(
     requires function { IsSome (function_of (call_of system.now.kernel.dispatcher.procs p).function) }
     ensures ok { (filing : Filing) → StandsForFiles bdos.old (D.disks drives.old) filing
         → IfOk result (IsOutcome (D.disks drives.new) (outcome_in filing p system.now) bdos.new reply.new) }
+    ensures err { (filing : Filing) → StandsForFiles bdos.old (D.disks drives.old) filing
+        → OnErr result (HaveImagesOf (FailsWithin (call_found filing p system.now)) (D.disks drives.new) bdos.new.mounted) }
+    ensures calls { (filing : Filing) → StandsForFiles bdos.old (D.disks drives.old) filing → steps.new ≤ steps.old + 20 * turns_of (call_found filing p system.now) }
+    ensures keeps { KeepsMounted (D.disks drives.old) (D.disks drives.new) bdos.old.mounted bdos.new.mounted }
     ensures holds { HoldsDrives D.attached D.disks bdos.new drives.new }
     ensures names { D.failed_names drives.new ≡ D.failed_names drives.old }
     ensures attached { (number : ℕ) → D.attached drives.new number ≡ D.attached drives.old number }

@@ -13,7 +13,67 @@ impl System {
     ghost use Rattle.mpm_dispatcher.specs.Dispatch.{first_completed};
     ghost use Rattle.mpm_machine.specs.State.{IsWhole};
     ghost use Rattle.mpm_machine.specs.Residing.{taking};
-    ghost use Rattle.mpm_machine.specs.Finishing.{finished, completion_dequeued, all_finished};
+    ghost use Rattle.mpm_machine.specs.Finishing.{finished, completion_dequeued, all_finished, command_let_in, finished_or_ended, all_answered};
+
+    /// The held calls that a step completed are answered: mostly there are none. A command that was held goes in with the first
+    /// of them.
+    #[inline(always)]
+    pub fn answer_all<S: Sink>(
+        &mut self,
+        reply: &mut Reply,
+        render: &mut Render,
+        sink: &mut S,
+    ) -> Result<(), Failed>
+        requires whole { IsWhole self.old }
+        ensures system { OnOk result (self.new ≡ (all_answered self.old).system) }
+        ensures wrote { Writes S.written S.faults render.old sink.old render.new sink.new (all_answered self.old).emitted result }
+    {
+        if self.kernel.has_completed() {
+            return self.answer_each(reply, render, sink);
+        }
+        Ok(())
+    }
+
+    /// The held calls that a step completed are answered: the first, and then the others.
+    #[inline(never)]
+    fn answer_each<S: Sink>(
+        &mut self,
+        reply: &mut Reply,
+        render: &mut Render,
+        sink: &mut S,
+    ) -> Result<(), Failed>
+        requires whole { IsWhole self.old }
+        ensures system { OnOk result (self.new ≡ (all_answered self.old).system) }
+        ensures wrote { Writes S.written S.faults render.old sink.old render.new sink.new (all_answered self.old).emitted result }
+    {
+        let Some(p) = self.next_completed(reply) else {
+            return Ok(());
+        };
+        self.finish_first(p, reply, render, sink)?;
+        self.finish_all(reply, render, sink)
+    }
+
+    /// The held call that was completed first: a command goes in with it, and it is answered, unless its process chained by it.
+    fn finish_first<S: Sink>(
+        &mut self,
+        p: Pid,
+        reply: &mut Reply,
+        render: &mut Render,
+        sink: &mut S,
+    ) -> Result<(), Failed>
+        requires whole { IsWhole self.old }
+        requires lives { Lives self.old.kernel.dispatcher.procs p }
+        requires reply { reply.old ≡ completion_reply self.old.kernel p }
+        ensures system { OnOk result (self.new ≡ (finished_or_ended p (command_let_in p self.old)).system) }
+        ensures wrote { Writes S.written S.faults render.old sink.old render.new sink.new (finished_or_ended p (command_let_in p self.old)).emitted result }
+    {
+        self.let_in(p);
+        if self.chains(p) {
+            self.end(p);
+            return Ok(());
+        }
+        self.finish(p, reply, render, sink)
+    }
 
     /// The held calls that were completed are answered: mostly there are none.
     #[inline(always)]

@@ -1,4 +1,4 @@
-ghost use Rattle.std.specs.Prelude.{◌≡◌, ℕ, ◌+◌, ◌-◌, ◌<◌, ◌≤◌, List, [], Option, Some, None, IfOk, OnOk, IfErr, MatchOption, length, option_map};
+ghost use Rattle.std.specs.Prelude.{◌≡◌, ℕ, ◌+◌, ◌-◌, ◌*◌, ◌<◌, ◌≤◌, List, [], Option, Some, None, IfOk, OnOk, IfErr, MatchOption, length, option_map};
 ghost use Rattle.mpm_script.specs.declared.line.TheConstants.{GREATEST_STEP};
 ghost use Rattle.mpm_port.specs.Texts.{appended};
 
@@ -58,6 +58,7 @@ impl Machine {
     ghost use Rattle.mpm_drives.specs.Images.{image_named};
     ghost use Rattle.mpm_drives.specs.Mounted.{SameBeside};
     ghost use Rattle.mpm_drives.specs.Stopping.{Stops};
+    ghost use Rattle.mpm_opens.specs.Opens.{AreOpen};
     ghost use Rattle.mpm_bdos.specs.Filing.{Filing};
     ghost use Rattle.mpm_bdos.specs.Serving.{nothing_kept, in_places};
     ghost use Rattle.mpm_bdos.specs.Syncing.{mounted_count};
@@ -71,8 +72,9 @@ impl Machine {
     ghost use Rattle.mpm_kernel.specs.Queueing.{OnlySystems};
     ghost use Rattle.mpm_queues.specs.Queues.{make_error};
     ghost use Rattle.mpm_machine.specs.FileCalls.{file_caller, told_of, step_concluded, stepped};
-    ghost use Rattle.mpm_machine.specs.After.{next, after, IsNextOf, AreSteps, HasRun, HasStepped, HasConcluded, HasFiled, StopsBy, ShowsBefore, EndsInStep};
-    ghost use Rattle.mpm_machine.specs.Mounting.{HasMounted, HasNoDrive};
+    ghost use Rattle.mpm_machine.specs.After.{next, after, IsNextOf, AreSteps, HasRun, HasStepped, HasStopped, HasStoppedIn, HasConcluded, HasFiled, StopsBy, ShowsBefore, EndsInStep};
+    ghost use Rattle.mpm_machine.specs.Mounting.{HasMounted, HasNoDrive, HasDrives, KeepsMounted};
+    ghost use Rattle.mpm_machine.specs.Failing.{call_in, turns_of, HaveImagesOf, StopsOn, StopsWithImages};
 
     /// The machine of a machine file, and of its script's events, as it is run: the command queue, the command line
     /// interpreter, and a terminal message processor for each console. Its drives are attached to their images and mounted,
@@ -94,6 +96,7 @@ impl Machine {
         ensures whole { IfOk result (λ machine. IsWhole machine.system) }
         ensures no_completions { IfOk result (λ machine. machine.system.kernel.dispatcher.completed ≡ []) }
         ensures mounted { IfOk result (λ machine. HasMounted (D.attached drives.new) (D.disks drives.new) (image_named (D.disks drives.old)) file.now.drives machine.bdos) }
+        ensures drives { IfOk result (λ machine. HasDrives (D.disks drives.new) file.now.drives machine.bdos.mounted) }
         ensures holds { IfOk result (λ machine. HoldsDrives D.attached D.disks machine.bdos drives.new) }
         ensures count { OnOk result (D.faults drives.new ≡ D.faults drives.old) }
         ensures names { OnOk result (D.failed_names drives.new ≡ D.failed_names drives.old) }
@@ -148,6 +151,7 @@ impl Machine {
         ensures booted { IfOk result (λ machine. machine.system ≡ booted file.now script) }
         ensures bare { IfOk result (λ machine. IsBare machine.system) }
         ensures mounted { IfOk result (λ machine. HasMounted (D.attached drives.new) (D.disks drives.new) (image_named (D.disks drives.old)) file.now.drives machine.bdos) }
+        ensures drives { IfOk result (λ machine. HasDrives (D.disks drives.new) file.now.drives machine.bdos.mounted) }
         ensures holds { IfOk result (λ machine. HoldsDrives D.attached D.disks machine.bdos drives.new) }
         ensures count { OnOk result (D.faults drives.new ≡ D.faults drives.old) }
         ensures names { OnOk result (D.failed_names drives.new ≡ D.failed_names drives.old) }
@@ -293,13 +297,18 @@ impl Machine {
             → IfErr result (λ fault. EndsBy fault (S.written sink.new) first (rendered render.old.trace s.outputs) (rendered render.old.trace (next s).outputs)) }
         ensures shown { (s : State) (first : Option (List ℕ)) → StandsWithDrives self.old render.old (S.written sink.old) (D.disks drives.old) s first
             → IfErr result (λ fault. ShowsBefore fault render.new (S.written sink.new) s first) }
+        ensures images { (s : State) (first : Option (List ℕ)) → StandsWithDrives self.old render.old (S.written sink.old) (D.disks drives.old) s first
+            → IfErr result (λ fault. StopsWithImages fault (D.disks drives.new) self.new.bdos.mounted s) }
         ensures step { OnOk result (HasStepped (seen S.written S.faults render.old sink.old) (seen S.written S.faults render.new sink.new) self.old.system self.new.system) }
+        ensures stops { IfErr result (λ fault. HasStopped fault (seen S.written S.faults render.old sink.old) (seen S.written S.faults render.new sink.new) self.old.system) }
         ensures due { OnOk result (NobodyDue self.new.system.kernel) }
+        ensures locks { OnOk result (AreOpen self.new.bdos.opens) }
         ensures whole { OnOk result (IsWhole self.new.system) }
         ensures no_completions { OnOk result (self.new.system.kernel.dispatcher.completed ≡ []) }
         ensures count { OnOk result (self.new.system.steps ≡ self.old.system.steps + 1) }
         ensures trace { render.new.trace ≡ render.old.trace }
         ensures cause { HaveCause itself (counts S.faults D.faults sink.old drives.old) (counts S.faults D.faults sink.new drives.new) result }
+        ensures keeps { KeepsMounted (D.disks drives.old) (D.disks drives.new) self.old.bdos.mounted self.new.bdos.mounted }
         ensures holds { HoldsDrives D.attached D.disks self.new.bdos drives.new }
         ensures names { D.failed_names drives.new ≡ D.failed_names drives.old }
         ensures attached { (number : ℕ) → D.attached drives.new number ≡ D.attached drives.old number }
@@ -311,11 +320,16 @@ impl Machine {
         ensures sink { file_caller self.old.system ≡ None → IfErr result (λ fault. fault ≡ StepFault.WriteFault) }
         ensures drives { file_caller self.old.system ≡ None → drives.new ≡ drives.old }
         ensures device_calls { file_caller self.old.system ≡ None → steps.new ≡ steps.old }
+
+        // One with a call on files calls its drive at most 20 times a turn of the disk.
+        ensures calls { (filing : Filing) → StandsForFiles self.old.bdos (D.disks drives.old) filing
+            → steps.new ≤ steps.old + 20 * turns_of (call_in filing self.old.system) }
     {
         let before = living(&self.system.kernel);
         match self.take_step(drives, render, sink, steps) {
             Ok(()) => {
                 leave_files(&mut self.bdos, &before, &self.system.kernel);
+                self.bdos.tell_sound();
                 Ok(())
             }
             Err(fault) => Err(fault),
@@ -338,9 +352,13 @@ impl Machine {
             → OnOk result (HasFiled filing (seen S.written S.faults render.old sink.old) (seen S.written S.faults render.new sink.new) self.old.system self.new.system self.new.bdos (D.disks drives.new)) }
         ensures err { (filing : Filing) → StandsForFiles self.old.bdos (D.disks drives.old) filing
             → IfErr result (λ fault. StopsBy fault (seen S.written S.faults render.old sink.old) (seen S.written S.faults render.new sink.new) (stepped self.old.system filing).change.emitted) }
+        ensures images { (filing : Filing) → StandsForFiles self.old.bdos (D.disks drives.old) filing
+            → IfErr result (λ fault. HaveImagesOf (StopsOn fault self.old.system filing) (D.disks drives.new) self.new.bdos.mounted) }
         ensures step { OnOk result (HasStepped (seen S.written S.faults render.old sink.old) (seen S.written S.faults render.new sink.new) self.old.system self.new.system) }
+        ensures stops { IfErr result (λ fault. HasStopped fault (seen S.written S.faults render.old sink.old) (seen S.written S.faults render.new sink.new) self.old.system) }
         ensures trace { render.new.trace ≡ render.old.trace }
         ensures cause { HaveCause itself (counts S.faults D.faults sink.old drives.old) (counts S.faults D.faults sink.new drives.new) result }
+        ensures keeps { KeepsMounted (D.disks drives.old) (D.disks drives.new) self.old.bdos.mounted self.new.bdos.mounted }
         ensures holds { HoldsDrives D.attached D.disks self.new.bdos drives.new }
         ensures names { D.failed_names drives.new ≡ D.failed_names drives.old }
         ensures attached { (number : ℕ) → D.attached drives.new number ≡ D.attached drives.old number }
@@ -350,6 +368,8 @@ impl Machine {
         ensures sink { file_caller self.old.system ≡ None → IfErr result (λ fault. fault ≡ StepFault.WriteFault) }
         ensures drives { file_caller self.old.system ≡ None → drives.new ≡ drives.old }
         ensures device_calls { file_caller self.old.system ≡ None → steps.new ≡ steps.old }
+        ensures calls { (filing : Filing) → StandsForFiles self.old.bdos (D.disks drives.old) filing
+            → steps.new ≤ steps.old + 20 * turns_of (call_in filing self.old.system) }
     {
         match self.system.file_caller() {
             Some(p) => self.step_with_files(p, drives, render, sink, steps),
@@ -372,7 +392,10 @@ impl Machine {
             → OnOk result (HasFiled filing (seen S.written S.faults render.old sink.old) (seen S.written S.faults render.new sink.new) self.old.system self.new.system self.new.bdos (D.disks drives.now)) }
         ensures err { (filing : Filing)
             → IfErr result (λ fault. StopsBy fault (seen S.written S.faults render.old sink.old) (seen S.written S.faults render.new sink.new) (stepped self.old.system filing).change.emitted) }
+        ensures images { (filing : Filing) → StandsForFiles self.old.bdos (D.disks drives.now) filing
+            → IfErr result (λ fault. HaveImagesOf (StopsOn fault self.old.system filing) (D.disks drives.now) self.new.bdos.mounted) }
         ensures step { OnOk result (HasStepped (seen S.written S.faults render.old sink.old) (seen S.written S.faults render.new sink.new) self.old.system self.new.system) }
+        ensures stops { IfErr result (λ fault. HasStopped fault (seen S.written S.faults render.old sink.old) (seen S.written S.faults render.new sink.new) self.old.system) }
         ensures trace { render.new.trace ≡ render.old.trace }
         ensures cause { HaveCause itself (counts S.faults D.faults sink.old drives.now) (counts S.faults D.faults sink.new drives.now) result }
         ensures sink { IfErr result (λ fault. fault ≡ StepFault.WriteFault) }
@@ -404,15 +427,21 @@ impl Machine {
             → OnOk result (HasFiled filing (seen S.written S.faults render.old sink.old) (seen S.written S.faults render.new sink.new) self.old.system self.new.system self.new.bdos (D.disks drives.new)) }
         ensures err { (filing : Filing) → StandsForFiles self.old.bdos (D.disks drives.old) filing
             → IfErr result (λ fault. StopsBy fault (seen S.written S.faults render.old sink.old) (seen S.written S.faults render.new sink.new) (stepped self.old.system filing).change.emitted) }
+        ensures images { (filing : Filing) → StandsForFiles self.old.bdos (D.disks drives.old) filing
+            → IfErr result (λ fault. HaveImagesOf (StopsOn fault self.old.system filing) (D.disks drives.new) self.new.bdos.mounted) }
         ensures step { OnOk result (HasStepped (seen S.written S.faults render.old sink.old) (seen S.written S.faults render.new sink.new) self.old.system self.new.system) }
+        ensures stops { IfErr result (λ fault. HasStopped fault (seen S.written S.faults render.old sink.old) (seen S.written S.faults render.new sink.new) self.old.system) }
         ensures trace { render.new.trace ≡ render.old.trace }
         ensures cause { HaveCause itself (counts S.faults D.faults sink.old drives.old) (counts S.faults D.faults sink.new drives.new) result }
+        ensures keeps { KeepsMounted (D.disks drives.old) (D.disks drives.new) self.old.bdos.mounted self.new.bdos.mounted }
         ensures holds { HoldsDrives D.attached D.disks self.new.bdos drives.new }
         ensures names { D.failed_names drives.new ≡ D.failed_names drives.old }
         ensures attached { (number : ℕ) → D.attached drives.new number ≡ D.attached drives.old number }
         ensures bare { HasNoDrive self.old.bdos.mounted → HasNoDrive self.new.bdos.mounted }
         ensures none { HasNoDrive self.old.bdos.mounted → drives.new ≡ drives.old }
         ensures unfailing { HasNoDrive self.old.bdos.mounted → IfErr result (λ fault. fault ≡ StepFault.WriteFault) }
+        ensures calls { (filing : Filing) → StandsForFiles self.old.bdos (D.disks drives.old) filing
+            → steps.new ≤ steps.old + 20 * turns_of (call_in filing self.old.system) }
     {
         self.system.make_file_call(p);
         match call_files(
@@ -473,18 +502,24 @@ impl Machine {
             → IfErr result (λ error. EndsInStep error.fault render.old.trace (S.written sink.new) first s n error.step) }
         ensures shown { (s : State) (first : Option (List ℕ)) → StandsWithDrives self.old render.old (S.written sink.old) (D.disks drives.old) s first
             → IfErr result (λ error. ShowsBefore error.fault render.new (S.written sink.new) (after (error.step - 1 - s.system.steps) s) first) }
+        ensures images { (s : State) (first : Option (List ℕ)) → StandsWithDrives self.old render.old (S.written sink.old) (D.disks drives.old) s first
+            → IfErr result (λ error. StopsWithImages error.fault (D.disks drives.new) self.new.bdos.mounted (after (error.step - 1 - s.system.steps) s)) }
         ensures steps { OnOk result (HasRun n (seen S.written S.faults render.old sink.old) (seen S.written S.faults render.new sink.new) self.old.system self.new.system) }
+        ensures stops { IfErr result (λ error. HasStoppedIn n error.fault error.step (seen S.written S.faults render.old sink.old) (seen S.written S.faults render.new sink.new) self.old.system) }
         ensures each { (s : State) → s.system ≡ self.old.system → (k : ℕ) → k < n → IsNextOf (after k s) (after (k + 1) s) }
         ensures due { 0 < n → OnOk result (NobodyDue self.new.system.kernel) }
+        ensures locks { OnOk result (AreOpen self.new.bdos.opens) }
         ensures whole { OnOk result (IsWhole self.new.system) }
         ensures no_completions { OnOk result (self.new.system.kernel.dispatcher.completed ≡ []) }
         ensures count { OnOk result (self.new.system.steps ≡ self.old.system.steps + n) }
         ensures trace { render.new.trace ≡ render.old.trace }
         ensures cause { HaveCause of_run (counts S.faults D.faults sink.old drives.old) (counts S.faults D.faults sink.new drives.new) result }
+        ensures keeps { KeepsMounted (D.disks drives.old) (D.disks drives.new) self.old.bdos.mounted self.new.bdos.mounted }
         ensures holds { HoldsDrives D.attached D.disks self.new.bdos drives.new }
         ensures names { D.failed_names drives.new ≡ D.failed_names drives.old }
         ensures attached { (number : ℕ) → D.attached drives.new number ≡ D.attached drives.old number }
         ensures bare { HasNoDrive self.old.bdos.mounted → HasNoDrive self.new.bdos.mounted }
+        ensures still { n ≡ 0 → drives.new ≡ drives.old }
         ensures none { HasNoDrive self.old.bdos.mounted → drives.new ≡ drives.old }
         ensures unfailing { HasNoDrive self.old.bdos.mounted → IfErr result (λ error. error.fault ≡ StepFault.WriteFault) }
     {
@@ -495,6 +530,7 @@ impl Machine {
                 Err(error) => return Err(error),
             }
         }
+        self.bdos.tell_sound();
         Ok(())
     }
 
@@ -518,7 +554,10 @@ impl Machine {
             → IfErr result (λ error. EndsInStep error.fault render.old.trace (S.written sink.new) first s most error.step) }
         ensures shown { (s : State) (first : Option (List ℕ)) → StandsWithDrives self.old render.old (S.written sink.old) (D.disks drives.old) s first
             → IfErr result (λ error. ShowsBefore error.fault render.new (S.written sink.new) (after (error.step - 1 - s.system.steps) s) first) }
+        ensures images { (s : State) (first : Option (List ℕ)) → StandsWithDrives self.old render.old (S.written sink.old) (D.disks drives.old) s first
+            → IfErr result (λ error. StopsWithImages error.fault (D.disks drives.new) self.new.bdos.mounted (after (error.step - 1 - s.system.steps) s)) }
         ensures steps { IfOk result (λ more. HasRun more (seen S.written S.faults render.old sink.old) (seen S.written S.faults render.new sink.new) self.old.system self.new.system) }
+        ensures stops { IfErr result (λ error. HasStoppedIn most error.fault error.step (seen S.written S.faults render.old sink.old) (seen S.written S.faults render.new sink.new) self.old.system) }
         ensures due { OnOk result (NobodyDue self.new.system.kernel) }
         ensures some { IfOk result (λ more. 0 < more) }
         ensures few { IfOk result (λ more. more ≤ most) }
@@ -527,6 +566,7 @@ impl Machine {
         ensures count { IfOk result (λ more. self.new.system.steps ≡ self.old.system.steps + more) }
         ensures trace { render.new.trace ≡ render.old.trace }
         ensures cause { HaveCause of_run (counts S.faults D.faults sink.old drives.old) (counts S.faults D.faults sink.new drives.new) result }
+        ensures keeps { KeepsMounted (D.disks drives.old) (D.disks drives.new) self.old.bdos.mounted self.new.bdos.mounted }
         ensures holds { HoldsDrives D.attached D.disks self.new.bdos drives.new }
         ensures names { D.failed_names drives.new ≡ D.failed_names drives.old }
         ensures attached { (number : ℕ) → D.attached drives.new number ≡ D.attached drives.old number }

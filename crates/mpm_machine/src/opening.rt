@@ -77,7 +77,7 @@ impl System {
         Ok(())
     }
 
-    /// The command queue is made, and the process of the command line interpreter begins. It isn't ready, and so never runs.
+    /// The command queue is made, and the process of the command line interpreter begins.
     fn begin_interpreter(&mut self)
         requires whole { IsWhole self.old }
         requires queues { OnlySystems self.old.kernel }
@@ -87,7 +87,7 @@ impl System {
         self.kernel
             .system_queue(COMMAND_QUEUE, COMMAND_LENGTH, COMMANDS);
         let new = resident_process(Name8(*b"cli     "), INTERPRETER_PRIORITY, 0);
-        if let Ok(p) = self.kernel.add(new) {
+        if let Ok(p) = self.kernel.admit(new) {
             let process = self.kernel.process_mut(p);
             process.error_mode = ANSWERS_ERRORS;
             process.multi = 16;

@@ -1,7 +1,7 @@
 ghost use Rattle.std.specs.Prelude.{◌≡◌};
 ghost use Rattle.mpm_procs.specs.Table.{Lives, call_of};
 ghost use Rattle.mpm_dispatcher.specs.Dispatch.{IsReady};
-ghost use Rattle.mpm_machine.specs.Sending.{in_room as fitted, chained as chained_by, framed as framed_with, ended_if_done as end_of};
+ghost use Rattle.mpm_machine.specs.Sending.{in_room as fitted, chained as chained_by, framed as framed_with, ended_if_done as end_of, chains as is_chain};
 
 use crate::system::System;
 use mpm_base::{Call, FAILURE_CODE, Outcome, Pid, Reply, functions};
@@ -18,8 +18,8 @@ const CONSOLE: usize = 13;
 
 impl System {
     ghost use Rattle.mpm_machine.specs.State.{IsWhole};
-    ghost use Rattle.mpm_machine.specs.Residing.{asking};
-    ghost use Rattle.mpm_machine.specs.Sending.{framed, renamed, passed, passed_after, sent, sending, chaining};
+    ghost use Rattle.mpm_machine.specs.Calling.{asking, served_by};
+    ghost use Rattle.mpm_machine.specs.Sending.{framed, renamed, passed, passed_after, sent, has_interpreter, sending, chaining, let_in};
 
     /// Function 150: a process sends a command to the command line interpreter.
     #[tactic(auto, unfolding(crate::specs::Sending::sending))]
@@ -27,10 +27,9 @@ impl System {
         requires whole { IsWhole self.old }
         requires lives { Lives self.old.kernel.dispatcher.procs p }
         requires ready { IsReady self.old.kernel.dispatcher p }
-        ensures system { self.new ≡ (sending p self.old).system }
-        ensures outcome { result ≡ (sending p self.old).outcome }
-        ensures reply { reply.new ≡ (sending p self.old).reply }
-        ensures whole { IsWhole self.new }
+        ensures system { self.new ≡ (served_by (sending (has_interpreter self.old) p self.old.kernel) self.old).system }
+        ensures outcome { result ≡ (sending (has_interpreter self.old) p self.old.kernel).outcome }
+        ensures reply { reply.new ≡ (sending (has_interpreter self.old) p self.old.kernel).reply }
     {
         let call = self.kernel.kept_call(p);
         let console = call.byte(1);
@@ -49,10 +48,9 @@ impl System {
         requires whole { IsWhole self.old }
         requires lives { Lives self.old.kernel.dispatcher.procs p }
         requires ready { IsReady self.old.kernel.dispatcher p }
-        ensures system { self.new ≡ (chaining p self.old).system }
-        ensures outcome { result ≡ (chaining p self.old).outcome }
-        ensures reply { reply.new ≡ (chaining p self.old).reply }
-        ensures whole { IsWhole self.new }
+        ensures system { self.new ≡ (served_by (chaining (has_interpreter self.old) p self.old.kernel) self.old).system }
+        ensures outcome { result ≡ (chaining (has_interpreter self.old) p self.old.kernel).outcome }
+        ensures reply { reply.new ≡ (chaining (has_interpreter self.old) p self.old.kernel).reply }
     {
         if self.residents.has(INTERPRETER) {
             let message = chained(self.kernel.living(p), self.kernel.kept_call(p).taken());
@@ -69,10 +67,9 @@ impl System {
         requires whole { IsWhole self.old }
         requires lives { Lives self.old.kernel.dispatcher.procs p }
         requires ready { IsReady self.old.kernel.dispatcher p }
-        ensures system { self.new ≡ (sent function message.now p self.old).system }
-        ensures outcome { result ≡ (sent function message.now p self.old).outcome }
-        ensures reply { reply.new ≡ (sent function message.now p self.old).reply }
-        ensures whole { IsWhole self.new }
+        ensures system { self.new ≡ (served_by (sent function message.now p self.old.kernel) self.old).system }
+        ensures outcome { result ≡ (sent function message.now p self.old.kernel).outcome }
+        ensures reply { reply.new ≡ (sent function message.now p self.old.kernel).reply }
     {
         self.frame_call(p, message);
         let outcome = self.kernel.call(p, reply);
@@ -85,8 +82,7 @@ impl System {
     fn pass_after(&mut self, outcome: Outcome, reply: &Reply, p: Pid)
         requires whole { IsWhole self.old }
         requires lives { Lives self.old.kernel.dispatcher.procs p }
-        ensures system { self.new ≡ passed_after outcome reply.now p self.old }
-        ensures whole { IsWhole self.new }
+        ensures { self.new ≡ record self.old { kernel = passed_after outcome reply.now p self.old.kernel } }
     {
         match outcome {
             Outcome::Done => {
@@ -109,22 +105,41 @@ impl System {
     /// The call that a process keeps gets another function.
     fn rename_call(&mut self, p: Pid, function: u8)
         requires { Lives self.old.kernel.dispatcher.procs p }
-        ensures { self.new ≡ renamed function p self.old }
+        ensures { self.new ≡ record self.old { kernel = renamed function p self.old.kernel } }
     {
         rename(self.kernel.call_mut(p), function);
     }
 
     /// A command went in: where the process that sent it owns the console of the command, the interpreter becomes the owner.
-    pub fn pass_console(&mut self, p: Pid)
+    fn pass_console(&mut self, p: Pid)
         requires whole { IsWhole self.old }
         requires lives { Lives self.old.kernel.dispatcher.procs p }
-        ensures system { self.new ≡ passed p self.old }
-        ensures whole { IsWhole self.new }
+        ensures { self.new ≡ record self.old { kernel = passed p self.old.kernel } }
     {
         let console = self.kernel.kept_call(p).byte(CONSOLE);
         if console < self.kernel.consoles() && self.kernel.lives(INTERPRETER) {
             self.kernel.give(console, Some(p), Some(INTERPRETER));
         }
+    }
+
+    /// The held call of a process was completed: where it sent a command, that went in.
+    pub fn let_in(&mut self, p: Pid)
+        requires whole { IsWhole self.old }
+        requires lives { Lives self.old.kernel.dispatcher.procs p }
+        ensures { self.new ≡ record self.old { kernel = let_in p self.old.kernel } }
+    {
+        match self.kernel.kept_call(p).function {
+            functions::SEND_CLI_COMMAND | functions::CHAIN_TO_PROGRAM => self.pass_console(p),
+            _ => {}
+        }
+    }
+
+    /// Whether a process chains to a program by the call that it keeps.
+    pub fn chains(&self, p: Pid) -> bool
+        requires { Lives self.now.kernel.dispatcher.procs p }
+        ensures { result ≡ is_chain p self.now.kernel }
+    {
+        self.kernel.kept_call(p).function == functions::CHAIN_TO_PROGRAM
     }
 }
 

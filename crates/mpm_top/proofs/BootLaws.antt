@@ -21,8 +21,10 @@ use Rattle.mpm_drives.specs.Mounted.{NumberedDrive, AreDrivesOf, AreTold, drives
 use Rattle.mpm_drives.proofs.Opening.{drives_are}
 use Rattle.mpm_bdos.specs.Serving.{Kept as Filed, nothing_kept, in_places}
 use Rattle.mpm_machine.specs.State.{State, StandsForFiles}
-use Rattle.mpm_machine.specs.Mounting.{HasMounted, HasNoDrive, untouched}
-use Rattle.mpm_top.proofs.Placing.{mounted_stand, none_mounted, none_on, none_stand}
+use Rattle.mpm_machine.specs.Mounting.{HasMounted, HasDrives, HasNoDrive, untouched}
+use Rattle.mpm_machine.proofs.MountedLaws.{none_mounted}
+use Rattle.mpm_machine.proofs.DriveLaws.{nothing_mounted}
+use Rattle.mpm_top.proofs.Placing.{mounted_stand, none_on, none_stand}
 use Rattle.mpm_drives.specs.Stopping.{Failures, StopsAt, IsFirst, Stops}
 use Rattle.mpm_top.specs.Runs.{Host, Failed, system_of, script_name, drives_listed, begun, input_of, Holds, Scripted, Starts, StartsOf, Begins, BeginsOf, Unread, LacksScript, LacksDrive, Ends, EndsAfter, IsNoMachine, IsRefusal, IsEarly, status_of, UnlessDiskFault}
 
@@ -71,10 +73,10 @@ begins_of_file host bytes file events system drives is scripted was are = record
 
 -- its machine, with its drives mounted
 pub starts_of_file : (host : Host) (bytes : List ℕ) (file : MachineFile) (events : List Timed) (system : System) (a : ℕ → Option ℕ) (x : Option Disks) (kept : Filed)
-    → machine_of_text bytes ≡ Some file → Scripted host.contents file.script events → system ≡ opened file events → HasMounted a x host.images file.drives kept
+    → machine_of_text bytes ≡ Some file → Scripted host.contents file.script events → system ≡ opened file events → HasMounted a x host.images file.drives kept → HasDrives x file.drives kept.mounted
     → StartsOf host Run (λ content. content ≡ bytes) system kept x
 unfolding drives_on begins_of_file
-starts_of_file host bytes file events system a x kept is scripted was has =
+starts_of_file host bytes file events system a x kept is scripted was has listed =
     let ds = has.directories in
     let drives = drives_on x ds in
     record {
@@ -84,6 +86,7 @@ starts_of_file host bytes file events system a x kept is scripted was has =
       files = λ told.
           let stand = mounted_stand a x host.images file.drives ds has.mounted (subst (AreTold host.images) (drives_of_file bytes file is) told) in
           subst (λ (k : Filed). StandsForFiles k x (untouched (placed drives))) (sym has.is) (record { filing_is = refl; stand = stand });
+      listed = subst (λ specs. HasDrives x specs kept.mounted) (sym (drives_of_file bytes file is)) listed;
       bare = λ none. subst (λ (k : Filed). HasNoDrive k.mounted) (sym has.is) (none_on x ds none);
     }
 
@@ -193,6 +196,7 @@ starts_of_contents host form name bytes system kept disks from_file starts = rec
   };
   same = starts.same;
   files = starts.files;
+  listed = starts.listed;
   bare = starts.bare;
 }
 
@@ -292,6 +296,7 @@ program_starts host bytes disks system kept is none = record {
   };
   same = refl;
   files = λ told. subst (λ (k : Filed). StandsForFiles k disks (untouched (placed []))) (sym none) (record { filing_is = refl; stand = none_stand disks });
+  listed = nothing_mounted disks kept none;
   bare = λ nothing. subst (λ (k : Filed). HasNoDrive k.mounted) (sym none) none_mounted;
 }
 

@@ -1,5 +1,5 @@
 -- The drives with which a machine begins, in their places: each image stands for what is on its drive.
-use Rattle.std.proofs.Common.{◌≡◌, ◌≢◌, ◌∙◌, ℕ, zero, suc, List, [], ◌∷◌, Option, Some, None, length, refl, sym, ap, subst}
+use Rattle.std.proofs.Common.{◌≡◌, ◌≢◌, ◌∙◌, ℕ, zero, suc, List, [], ◌∷◌, Option, Some, None, length, refl, sym, subst}
 use Rattle.std.specs.Prelude.{replicate, slice_index_or, slice_set, unwrap_or}
 use Rattle.std.proofs.lemmas.List.{length-set}
 use Rattle.mpm_port.specs.Disks.{Disks}
@@ -14,6 +14,7 @@ use Rattle.mpm_drives.specs.Mounted.{NumberedDrive, IsImageOf, HasDirectory, Are
 use Rattle.mpm_bdos.specs.Serving.{StandsWhere, StandEach, directory_at, all_put, in_places}
 use Rattle.mpm_bdos.specs.Turns.{told_images}
 use Rattle.mpm_machine.specs.Mounting.{HasNoDrive}
+use Rattle.mpm_machine.proofs.MountedLaws.{many_places, none_mounted}
 
 -- two lists of places that change in one place
 
@@ -37,11 +38,6 @@ nothing_both : {X Y : Type 0} (P : ℕ → Option X → Option Y → Type 0) (n 
 nothing_both P zero none number = none number
 nothing_both P (suc n) none zero = none 0
 nothing_both P (suc n) none (suc number) = nothing_both (λ k. P (suc k)) n (λ k. none (suc k)) number
-
-many_places : (ds : List Directory) → length (in_places ds) ≡ 16
-unfolding all_put
-many_places [] = refl
-many_places (d ∷ ds) = length-set (in_places ds) d.drive (Some d) ∙ many_places ds
 
 many_placed : (drives : List NumberedDrive) → length (placed drives) ≡ 16
 unfolding placed
@@ -80,15 +76,6 @@ pub mounted_stand : (a : ℕ → Option ℕ) (x : Option Disks) (images : Images
 mounted_stand a x images specs ds mounted told = record { each = λ number. each_stands a x images specs ds mounted told number }
 
 -- none
-
-no_place : {X : Type 0} (n number : ℕ) → ◌≡◌ {A = Option X} (slice_index_or (replicate n None) number None) None
-no_place zero number = refl
-no_place (suc n) zero = refl
-no_place (suc n) (suc number) = no_place n number
-
-pub none_mounted : HasNoDrive (in_places [])
-unfolding all_put
-none_mounted = λ number. no_place 16 number
 
 pub none_on : (x : Option Disks) (ds : List Directory) → drives_on x ds ≡ [] → HasNoDrive (in_places ds)
 unfolding drives_on

@@ -1,55 +1,69 @@
 -- Laws of a run from its beginning to its end.
-use Rattle.std.proofs.Common.{◌≡◌, ◌∙◌, ◌<◌, ◌-◌, ℕ, suc, Bool, List, [], ◌∷◌, length, Option, Some, None, Result, Ok, Err, refl, sym, ap, subst, inl, inr, arith}
-use Rattle.std.specs.Prelude.{OnOk, OnErr, slice_index_or, unwrap_or}
+use Rattle.std.proofs.Common.{◌≡◌, ◌∙◌, ◌<◌, ◌≤◌, ◌-◌, ℕ, suc, Bool, List, [], ◌∷◌, ◌++◌, length, Option, Some, None, Result, Ok, Err, refl, sym, ap, subst, inl, inr, arith}
+use Rattle.std.specs.Prelude.{OnOk, OnErr}
+use Rattle.std.proofs.lemmas.List.{append-nil}
 use Rattle.mpm_port.specs.Causes.{Rose, HasCause}
-use Rattle.mpm_port.specs.Disks.{Disks, SameDisks, Told}
-use Rattle.mpm_blocks.proofs.ToldImages.{told_image_same}
+use Rattle.mpm_port.specs.Disks.{Disks}
 use Rattle.mpm_mount.specs.Drives.{Drive}
-use Rattle.mpm_bdos.specs.Serving.{StandsWhere, StandEach, directory_at}
-use Rattle.mpm_bdos.specs.Turns.{told_images}
 use Rattle.mpm_port.specs.Texts.{appended}
 use Rattle.mpm_render.specs.Shown.{Kept, Shows, EndsBetween}
 use Rattle.mpm_render.specs.Outputs.{Output, rendered, closed}
 use Rattle.mpm_mount.specs.Directories.{Directory}
+use Rattle.mpm_drives.specs.Images.{Images}
 use Rattle.mpm_drives.specs.Mounted.{NumberedDrive, AreTold, placed}
 use Rattle.mpm_bdos.specs.Syncing.{mounted_count}
+use Rattle.mpm_machine.specs.declared.system.System.{System}
 use Rattle.mpm_machine.specs.declared.machine.Machine.{Machine}
 use Rattle.mpm_machine.specs.declared.machine.StepFault.{StepFault}
 use Rattle.mpm_machine.specs.declared.machine.StepFault.TheVariants.{WriteFault as SinkFailed, DiskFault as SyncFailed}
 use Rattle.mpm_machine.specs.Faults.{Counts, HasFailed, EndsBy, OnDiskFault}
 use Rattle.mpm_machine.specs.State.{State, StandsForFiles, StandsWithDrives}
 use Rattle.mpm_machine.specs.Mounting.{HasNoDrive, untouched}
-use Rattle.mpm_machine.specs.After.{after, ShowsBefore, EndsInStep}
+use Rattle.mpm_machine.specs.FileCalls.{stepped}
+use Rattle.mpm_machine.specs.Failing.{StopsOn}
+use Rattle.mpm_machine.specs.After.{next, after, AreSteps, ShowsBefore, EndsInStep}
+use Rattle.mpm_machine.proofs.NextLaws.{after_more}
 use Rattle.mpm_top.specs.declared.words.Form.{Form}
 use Rattle.mpm_top.specs.declared.status.Status.{Status}
 use Rattle.mpm_top.specs.declared.status.Status.TheVariants.{DiskFault, WriteFault}
 use Rattle.mpm_top.specs.Words.{Command}
-use Rattle.mpm_top.specs.Runs.{Host, Failed, begun, drives_listed, Begins, Ends, StopsAt, StopsRun, Closes, ClosesAfter, ClosesAt, Causes, ended_by, WritesPart, WritesClosed, HaveImages, IsRefusal}
+use Rattle.mpm_top.specs.Runs.{Host, Failed, begun, drives_listed, Begins, Ends, StopsAt, StopsRun, Closes, ClosesAfter, ClosesAt, Causes, ended_by, StandFor, WritesSteps, WritesPart, WritesClosed, IsEarly}
 
 -- a machine that begins, and a renderer that shows nothing yet, stand for its beginning
 pub stands_begun : (machine : Machine) (on : List NumberedDrive) (kept : Kept) (written : Option (List ℕ)) (disks : Option Disks) → Shows kept written [] written
     → StandsForFiles machine.bdos disks (untouched (placed on)) → StandsWithDrives machine kept written disks (begun machine.system on) written
 stands_begun machine on kept written disks shows stand = record { system = record { parts = refl; shown = shows }; files = stand }
 
--- a run stops in a step, where the sink failed or a drive
-pub stops_in_step : (fault : StepFault) (trace trace' : Bool) (s : State) (steps : ℕ) (first written written' : Option (List ℕ)) (before now step : ℕ)
+-- what is on the drives after a step, where the sink failed in it
+stopped_drives : (s : State) (step : ℕ) → s.system.steps < step
+    → (stepped (after (step - 1 - s.system.steps) s).system (after (step - 1 - s.system.steps) s).filing).filing.drives ≡ (after (step - s.system.steps) s).filing.drives
+unfolding next
+stopped_drives s step later =
+    ap (λ (t : State). t.filing.drives) (sym (after_more (step - 1 - s.system.steps) s)) ∙ ap (λ n. (after n s).filing.drives) (omega (arith, later))
+
+-- a run stops in a step, where the sink failed or a drive, and some drives are as they are then, of which something is so
+pub stops_in_step : (Stand : List (Option Drive) → Type 0) (fault : StepFault) (trace trace' : Bool) (s : State) (steps : ℕ) (first written written' : Option (List ℕ)) (before now step : ℕ) (drives : List (Option Drive))
     → (fault ≡ SinkFailed → written' ≡ written) → trace ≡ trace' → EndsInStep fault trace' written first s steps step
-    → ClosesAfter fault trace (after (step - 1 - s.system.steps) s) first written' before now → StopsRun fault trace s steps first written' before now step
-stops_in_step SinkFailed trace trace' s steps first written written' before now step same traces ends closes =
+    → ClosesAfter fault trace (after (step - 1 - s.system.steps) s) first written' before now
+    → StopsOn fault (after (step - 1 - s.system.steps) s).system (after (step - 1 - s.system.steps) s).filing drives → Stand drives
+    → StopsRun Stand fault trace s steps first written' before now step
+stops_in_step Stand SinkFailed trace trace' s steps first written written' before now step drives same traces ends closes on stand =
     let P : Option (List ℕ) → Type 0 = λ w. EndsInStep SinkFailed trace w first s steps step in
     let Q : Bool → Type 0 = λ t. EndsInStep SinkFailed t written first s steps step in
-    inl (subst P (sym (same refl)) (subst Q (sym traces) ends))
-stops_in_step SyncFailed trace trace' s steps first written written' before now step same traces ends closes =
-    inl (record { later = ends.later; within = ends.within; text = closes })
+    (inl (subst P (sym (same refl)) (subst Q (sym traces) ends)), subst Stand (on ∙ stopped_drives s step ends.later) stand)
+stops_in_step Stand SyncFailed trace trace' s steps first written written' before now step drives same traces ends closes on stand =
+    inl (record { later = ends.later; within = ends.within; text = closes; left = record { drives = drives; fails = on; stand = stand } })
 
 -- or at the end, as drives were synced or lines closed
-pub stops_at_end : (fault : StepFault) (trace : Bool) (s : State) (steps : ℕ) (first written written' : Option (List ℕ)) (before now : ℕ)
+pub stops_at_end : (Stand : List (Option Drive) → Type 0) (fault : StepFault) (trace : Bool) (s : State) (steps : ℕ) (first written written' : Option (List ℕ)) (before now : ℕ) → s.system.steps ≡ 0
     → (fault ≡ SinkFailed → written' ≡ written) → EndsBy fault written first (rendered trace (after steps s).outputs) (closed trace (after steps s).outputs)
-    → ClosesAfter fault trace (after steps s) first written' before now → StopsRun fault trace s steps first written' before now steps
-stops_at_end SinkFailed trace s steps first written written' before now same ends closes =
+    → ClosesAfter fault trace (after steps s) first written' before now → Stand (after steps s).filing.drives
+    → StopsRun Stand fault trace s steps first written' before now steps
+stops_at_end Stand SinkFailed trace s steps first written written' before now start same ends closes stand =
     let P : Option (List ℕ) → Type 0 = λ w. EndsBetween w first (rendered trace (after steps s).outputs) (closed trace (after steps s).outputs) in
-    inr (refl, subst P (sym (same refl)) ends)
-stops_at_end SyncFailed trace s steps first written written' before now same ends closes = inr (refl, closes)
+    let all : steps ≡ steps - s.system.steps = omega (arith, start) in
+    (inr (refl, subst P (sym (same refl)) ends), subst (λ n. Stand (after n s).filing.drives) all stand)
+stops_at_end Stand SyncFailed trace s steps first written written' before now start same ends closes stand = inr (refl, closes, stand)
 
 -- what is kept to be written stays where a drive couldn't be synced
 pub still_shows : (fault : StepFault) (kept kept' : Kept) (written written' : Option (List ℕ)) (s : State) (first : Option (List ℕ))
@@ -130,39 +144,51 @@ ends_by_fault host form name s old new fault step sink sink' status is begins so
 same_disk : (step said : ℕ) → DiskFault step ≡ DiskFault said → step ≡ said
 same_disk step said e = cc
 
-pub disk_closed : (host : Host) (command : Command) (s : State) (fault : StepFault) (step said : ℕ) (status : Status) (first written : Option (List ℕ)) (before now : ℕ)
-    → status ≡ ended_by fault step → status ≡ DiskFault said → (begins : Begins host command.form command.name s)
-    → (AreTold host.images (drives_listed command.form begins.bytes) → StopsRun fault command.trace s command.steps first written before now step)
-    → WritesClosed host command first written before now said
-disk_closed host command s SinkFailed step said status first written before now is disk begins stops =
+pub disk_closed : (host : Host) (left : Images) (command : Command) (s : State) (fault : StepFault) (step said : ℕ) (status : Status) (first written : Option (List ℕ)) (before now : ℕ)
+    → status ≡ ended_by fault step → status ≡ DiskFault said → (begins : Begins host command.form command.name s) → step ≤ command.steps
+    → (AreTold host.images (drives_listed command.form begins.bytes)
+    → StopsRun (StandFor left (drives_listed command.form begins.bytes)) fault command.trace s command.steps first written before now step)
+    → WritesClosed host left command first written before now said
+disk_closed host left command s SinkFailed step said status first written before now is disk begins bound stops =
     let no : WriteFault step ≡ DiskFault said = sym is ∙ disk in absurd (cc)
-disk_closed host command s SyncFailed step said status first written before now is disk begins stops = record {
+disk_closed host left command s SyncFailed step said status first written before now is disk begins bound stops = record {
   start = s;
   begins = begins;
-  text = λ told. subst (λ k. ClosesAt command.trace s command.steps first written before now k) (same_disk step said (sym is ∙ disk)) (stops told);
+  within = subst (λ k. k ≤ command.steps) (same_disk step said (sym is ∙ disk)) bound;
+  text = λ told.
+      subst (λ k. ClosesAt (StandFor left (drives_listed command.form begins.bytes)) command.trace s command.steps first written before now k)
+      (same_disk step said (sym is ∙ disk)) (stops told);
 }
 
 same_write : (step said : ℕ) → WriteFault step ≡ WriteFault said → step ≡ said
 same_write step said e = cc
 
-pub writes_part : (host : Host) (command : Command) (s : State) (fault : StepFault) (step said : ℕ) (status : Status) (first written : Option (List ℕ)) (before now : ℕ)
-    → status ≡ ended_by fault step → status ≡ WriteFault said → (begins : Begins host command.form command.name s)
-    → (AreTold host.images (drives_listed command.form begins.bytes) → StopsRun fault command.trace s command.steps first written before now step)
-    → WritesPart host command first written said
-writes_part host command s SyncFailed step said status first written before now is wrote begins stops =
+pub writes_part : (host : Host) (left : Images) (command : Command) (s : State) (fault : StepFault) (step said : ℕ) (status : Status) (first written : Option (List ℕ)) (before now : ℕ)
+    → status ≡ ended_by fault step → status ≡ WriteFault said → (begins : Begins host command.form command.name s) → step ≤ command.steps
+    → (AreTold host.images (drives_listed command.form begins.bytes)
+    → StopsRun (StandFor left (drives_listed command.form begins.bytes)) fault command.trace s command.steps first written before now step)
+    → WritesPart host left command first written said
+writes_part host left command s SyncFailed step said status first written before now is wrote begins bound stops =
     let no : DiskFault step ≡ WriteFault said = sym is ∙ wrote in absurd (cc)
-writes_part host command s SinkFailed step said status first written before now is wrote begins stops = record {
-  start = s;
-  begins = begins;
-  text = λ told. subst (λ k. StopsAt command.trace s command.steps first written k) (same_write step said (sym is ∙ wrote)) (stops told);
-}
+writes_part host left command s SinkFailed step said status first written before now is wrote begins bound stops =
+    let its = same_write step said (sym is ∙ wrote) in
+    record {
+      start = s;
+      begins = begins;
+      within = subst (λ k. k ≤ command.steps) its bound;
+      text = λ told. subst (λ k. StopsAt command.trace s command.steps first written k) its (stops told).0;
+      images = λ told.
+          subst (λ k. StandFor left (drives_listed command.form begins.bytes) (after (k - s.system.steps) s).filing.drives) its (stops told).1;
+    }
 
-no_refusal : (fault : StepFault) (step : ℕ) → IsRefusal (ended_by fault step) → ⊥
-no_refusal SinkFailed step refusal = refusal
-no_refusal SyncFailed step refusal = refusal
+-- it ends early only as its drives are synced, where no step is to be done
 
-pub stopped_late : (fault : StepFault) (step : ℕ) (status : Status) → status ≡ ended_by fault step → IsRefusal status → ⊥
-stopped_late fault step status is refusal = no_refusal fault step (subst IsRefusal is refusal)
+early_by : (fault : StepFault) (step : ℕ) → IsEarly (ended_by fault step) → step ≡ 0
+early_by SinkFailed step early = absurd early
+early_by SyncFailed step early = early
+
+pub stopped_early : (fault : StepFault) (step : ℕ) (status : Status) → status ≡ ended_by fault step → IsEarly status → step ≡ 0
+stopped_early fault step status is early = early_by fault step (subst IsEarly is early)
 
 -- where no drive is mounted none fails as drives are synced
 
@@ -181,17 +207,15 @@ pub sink_alone : (fault : StepFault) (places : List (Option Directory)) → OnDi
 sink_alone SinkFailed places some none = refl
 sink_alone SyncFailed places some none = absurd (omega (arith, some, none_counted places none))
 
--- syncing leaves the images
+-- what was written, by the steps of the system alone
 
-stands_alike : (x y : Option Disks) (directories : List (Option Directory)) (drives : List (Option Drive)) → Told SameDisks x y → StandEach (told_images x) directories drives
-    → StandEach (told_images y) directories drives
-unfolding told_images
-stands_alike x y directories drives same stand = record {
-  each = λ number.
-      subst (λ (told : Option (List ℕ)). StandsWhere number (unwrap_or told []) (directory_at directories number) (slice_index_or drives number None))
-      (sym (told_image_same x y number same)) (stand.each number);
+pub writes_steps : (trace : Bool) (steps : ℕ) (old new : System) (emitted : List Output) (kept : Kept) (text first written : Option (List ℕ)) → kept.trace ≡ trace
+    → AreSteps steps old (record { system = new; emitted = emitted }) → Shows kept text (emitted ++ []) first
+    → ((outputs : List Output) (before : Option (List ℕ)) → Shows kept text outputs before → written ≡ appended before (closed kept.trace outputs))
+    → WritesSteps trace steps old first written
+writes_steps trace steps old new emitted kept text first written traces are shows closes = record {
+  change = record { system = new; emitted = emitted };
+  are = are;
+  text = subst (λ t. written ≡ appended first (closed t emitted)) traces
+      (closes emitted first (subst (λ outputs. Shows kept text outputs first) (append-nil emitted) shows));
 }
-
-pub has_images : (x y : Option Disks) (directories : List (Option Directory)) (drives : List (Option Drive)) → Told SameDisks x y → StandEach (told_images x) directories drives
-    → HaveImages y drives
-has_images x y directories drives same stand = record { directories = directories; stand = stands_alike x y directories drives same stand }

@@ -1,5 +1,6 @@
 -- With what a command begins, and what it writes, by the machine's model.
-use Rattle.std.specs.Prelude.{◌≡◌, ℕ, ◌+◌, ◌-◌, ◌<◌, ◌≤◌, ◌⊎◌, Bool, List, [], ◌∷◌, ◌++◌, Option, Some, None, Result, Ok, Err, length, MatchOption, ⊤, option_map, option_and_then, nat_lt, if◌then◌else◌}
+use Rattle.std.specs.Prelude.{◌≡◌, ◌≢◌, ℕ, ◌+◌, ◌-◌, ◌<◌, ◌≤◌, ◌⊎◌, Bool, List, [], ◌∷◌, ◌++◌, Option, Some, None, Result, Ok, Err, length, MatchOption, ⊤, option_map, option_and_then, slice_index_or, nat_lt, if◌then◌else◌}
+use Rattle.std.specs.List.{AllByRecursion}
 use Rattle.std.specs.Option.{option_map_or}
 use Rattle.mpm_port.specs.Causes.{Rose}
 use Rattle.mpm_port.specs.Disks.{Disks}
@@ -19,13 +20,12 @@ use Rattle.mpm_drives.specs.Images.{ToldImage, Untold, Missing, Bytes, Images, i
 use Rattle.mpm_drives.specs.Mounted.{NumberedDrive, AreDrivesOf, AreTold, number_of, placed}
 use Rattle.mpm_drives.specs.Stopping.{Failures, Stops}
 use Rattle.mpm_machine.specs.declared.system.System.{System}
-use Rattle.mpm_mount.specs.Directories.{Directory}
-use Rattle.mpm_bdos.specs.Serving.{Kept as Filed, StandEach}
-use Rattle.mpm_bdos.specs.Turns.{told_images}
-use Rattle.mpm_machine.specs.State.{State, StandsForFiles}
-use Rattle.mpm_machine.specs.Mounting.{HasNoDrive, untouched}
+use Rattle.mpm_bdos.specs.Serving.{Kept as Filed}
+use Rattle.mpm_machine.specs.State.{State, Change, StandsForFiles}
+use Rattle.mpm_machine.specs.Mounting.{HasDrives, HasNoDrive, untouched}
 use Rattle.mpm_machine.specs.Opening.{opening_system, opened}
-use Rattle.mpm_machine.specs.After.{after, EndsInStep}
+use Rattle.mpm_machine.specs.After.{after, AreSteps, EndsInStep}
+use Rattle.mpm_machine.specs.Failing.{StopsOn}
 use Rattle.mpm_machine.specs.declared.machine.StepFault.{StepFault}
 use Rattle.mpm_machine.specs.declared.machine.StepFault.TheVariants.{WriteFault as SinkFailed, DiskFault as SyncFailed}
 use Rattle.mpm_machine.specs.declared.machine.RunFault.{RunFault}
@@ -134,23 +134,40 @@ pub record StartsOf (host : Host) (form : Form) (Of : List ℕ → Type 0) (syst
   pub begins : BeginsOf host form Of (begun system drives)
   pub same : begins.on ≡ drives
   pub files : AreTold host.images (drives_listed form begins.bytes) → StandsForFiles kept disks (untouched (placed drives))
+  pub listed : HasDrives disks (drives_listed form begins.bytes) kept.mounted
   pub bare : drives ≡ [] → HasNoDrive kept.mounted
 
 abbrev pub Starts : Host → Form → List ℕ → System → Filed → Option Disks → Type 0
 Starts host form name system kept disks = StartsOf host form (Holds host.contents (input_of form) name) system kept disks
 
--- each image stands, with some directory, for what is on its drive
-pub record HaveImages (disks : Option Disks) (drives : List (Option Drive)) : Type 0 where
-  pub directories : List (Option Directory)
-  pub stand : StandEach (told_images disks) directories drives
+-- the images are as they were
+abbrev pub SameImages : Option Disks → Option Disks → Type 0
+SameImages disks now = (name : List ℕ) → image_named now name ≡ image_named disks name
 
--- where the images of its drives are told, after the first text stands the closed text of the outputs of all steps, and nothing
--- else, and the images stand for what is on the drives after these
-pub record WritesAll (host : Host) (disks : Option Disks) (command : Command) (first written : Option (List ℕ)) : Type 0 where
+-- the images of the names that a machine file lists stand for what is on its drives, each in the place of its number; and no other
+-- place has a drive
+pub record StandFor (images : Images) (specs : List DriveSpec) (drives : List (Option Drive)) : Type 0 where
+  pub on : List NumberedDrive
+  pub are : AreDrivesOf images specs on
+  pub each : AllByRecursion (λ drive. slice_index_or drives drive.number None ≡ Some drive.files) on
+  pub others : (number : ℕ) → AllByRecursion (λ drive. drive.number ≢ number) on → slice_index_or drives number None ≡ None
+
+-- after the first text stands the closed text of what so many steps of a system say, each by what its call on files comes to, if one
+-- is made in it, and nothing else
+pub record WritesSteps (trace : Bool) (steps : ℕ) (old : System) (first written : Option (List ℕ)) : Type 0 where
+  pub change : Change
+  pub are : AreSteps steps old change
+  pub text : written ≡ appended first (closed trace change.emitted)
+
+-- what was written is the text of steps of the first system; where the images of its drives are told, it is the closed text of the
+-- outputs of all steps, and the images that are left stand for what is on the drives after these
+pub record WritesAll (host : Host) (left : Images) (command : Command) (first written : Option (List ℕ)) : Type 0 where
   pub start : State
   pub begins : Begins host command.form command.name start
+  pub steps : WritesSteps command.trace command.steps start.system first written
   pub text : AreTold host.images (drives_listed command.form begins.bytes) → written ≡ appended first (closed command.trace (after command.steps start).outputs)
-  pub images : AreTold host.images (drives_listed command.form begins.bytes) → HaveImages disks (after command.steps start).filing.drives
+  pub images : AreTold host.images (drives_listed command.form begins.bytes)
+      → StandFor left (drives_listed command.form begins.bytes) (after command.steps start).filing.drives
 
 -- writing stopped at a step of so many after a state, in the text of that step, or as the unfinished lines were closed
 abbrev pub StopsAt : Bool → State → ℕ → Option (List ℕ) → Option (List ℕ) → ℕ → Type 0
@@ -158,11 +175,14 @@ StopsAt trace s steps first written step =
     EndsInStep SinkFailed trace written first s steps step
     ⊎ ((step ≡ steps) × EndsBetween written first (rendered trace (after steps s).outputs) (closed trace (after steps s).outputs))
 
--- writing stopped at a step
-pub record WritesPart (host : Host) (command : Command) (first written : Option (List ℕ)) (step : ℕ) : Type 0 where
+-- writing stopped at a step, and the images that are left stand for what is on the drives after it
+pub record WritesPart (host : Host) (left : Images) (command : Command) (first written : Option (List ℕ)) (step : ℕ) : Type 0 where
   pub start : State
   pub begins : Begins host command.form command.name start
+  pub within : step ≤ command.steps
   pub text : AreTold host.images (drives_listed command.form begins.bytes) → StopsAt command.trace start command.steps first written step
+  pub images : AreTold host.images (drives_listed command.form begins.bytes)
+      → StandFor left (drives_listed command.form begins.bytes) (after (step - start.system.steps) start).filing.drives
 
 -- all steps are done, and the unfinished lines were closed; or the sink failed besides, and a first part of that was written
 abbrev pub Closes : Bool → State → Option (List ℕ) → Option (List ℕ) → ℕ → ℕ → Type 0
@@ -175,22 +195,32 @@ abbrev pub ClosesAfter : StepFault → Bool → State → Option (List ℕ) → 
 ClosesAfter SinkFailed trace s first written before now = ⊤
 ClosesAfter SyncFailed trace s first written before now = Closes trace s first written before now
 
--- a drive failed in that step, and the unfinished lines of the steps before it were closed
-pub record ClosesBefore (trace : Bool) (s : State) (steps : ℕ) (first written : Option (List ℕ)) (before now step : ℕ) : Type 0 where
+-- a drive failed in the step behind a state, and what that left on the drives stands
+pub record LeftBefore (Stand : List (Option Drive) → Type 0) (s : State) : Type 0 where
+  pub drives : List (Option Drive)
+  pub fails : StopsOn SyncFailed s.system s.filing drives
+  pub stand : Stand drives
+
+-- in that step, and the unfinished lines of the steps before it were closed
+pub record ClosesBefore (Stand : List (Option Drive) → Type 0) (trace : Bool) (s : State) (steps : ℕ) (first written : Option (List ℕ)) (before now step : ℕ) : Type 0 where
   pub later : s.system.steps < step
   pub within : step ≤ s.system.steps + steps
   pub text : Closes trace (after (step - 1 - s.system.steps) s) first written before now
+  pub left : LeftBefore Stand (after (step - 1 - s.system.steps) s)
 
 -- or as it was synced, after all steps
-abbrev pub ClosesAt : Bool → State → ℕ → Option (List ℕ) → Option (List ℕ) → ℕ → ℕ → ℕ → Type 0
-ClosesAt trace s steps first written before now step =
-    ClosesBefore trace s steps first written before now step ⊎ ((step ≡ steps) × Closes trace (after steps s) first written before now)
+abbrev pub ClosesAt : (List (Option Drive) → Type 0) → Bool → State → ℕ → Option (List ℕ) → Option (List ℕ) → ℕ → ℕ → ℕ → Type 0
+ClosesAt Stand trace s steps first written before now step =
+    ClosesBefore Stand trace s steps first written before now step
+    ⊎ ((step ≡ steps) × Closes trace (after steps s) first written before now × Stand (after steps s).filing.drives)
 
--- a drive failed later
-pub record WritesClosed (host : Host) (command : Command) (first written : Option (List ℕ)) (before now step : ℕ) : Type 0 where
+-- a drive failed later; the images that are left stand for what is then on the drives
+pub record WritesClosed (host : Host) (left : Images) (command : Command) (first written : Option (List ℕ)) (before now step : ℕ) : Type 0 where
   pub start : State
   pub begins : Begins host command.form command.name start
-  pub text : AreTold host.images (drives_listed command.form begins.bytes) → ClosesAt command.trace start command.steps first written before now step
+  pub within : step ≤ command.steps
+  pub text : AreTold host.images (drives_listed command.form begins.bytes)
+      → ClosesAt (StandFor left (drives_listed command.form begins.bytes)) command.trace start command.steps first written before now step
 
 -- why a file wasn't fetched as an input: it is longer than it may be, its name joined the failed names, or there was no
 -- memory. A file that isn't told may have been longer
@@ -360,10 +390,11 @@ ended_by SyncFailed step = DiskFault step
 abbrev pub stopped_by : RunFault → Status
 stopped_by error = ended_by error.fault error.step
 
--- what was written where a run stopped
-abbrev pub StopsRun : StepFault → Bool → State → ℕ → Option (List ℕ) → Option (List ℕ) → ℕ → ℕ → ℕ → Type 0
-StopsRun SinkFailed trace s steps first written before now step = StopsAt trace s steps first written step
-StopsRun SyncFailed trace s steps first written before now step = ClosesAt trace s steps first written before now step
+-- what was written where a run stopped, and what then stands of the drives
+abbrev pub StopsRun : (List (Option Drive) → Type 0) → StepFault → Bool → State → ℕ → Option (List ℕ) → Option (List ℕ) → ℕ → ℕ → ℕ → Type 0
+StopsRun Stand SinkFailed trace s steps first written before now step =
+    StopsAt trace s steps first written step × Stand (after (step - s.system.steps) s).filing.drives
+StopsRun Stand SyncFailed trace s steps first written before now step = ClosesAt Stand trace s steps first written before now step
 
 -- which count rose where a run stopped
 abbrev pub Causes : StepFault → Counts → Counts → Type 0

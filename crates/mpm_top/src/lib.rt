@@ -2,9 +2,14 @@
 #![tactic(auto)]
 
 mod boot;
+mod data;
+mod report;
 mod run;
+mod seeded;
+mod seeds;
 mod status;
 mod words;
 
 pub use run::run_words;
+pub use seeds::generated;
 pub use status::{Input, Status};

@@ -1,18 +1,23 @@
-ghost use Rattle.std.specs.Prelude.{◌≡◌, ◌≢◌, ◌≤◌, ◌<◌, ◌⊎◌, ◌↔◌, [], ℕ, List, Option, Some, None, IfOk, OnOk, IfErr, MatchResult, length, slice_index_or};
+ghost use Rattle.std.specs.Prelude.{◌≡◌, ◌≢◌, ◌≤◌, ◌<◌, ◌⊎◌, ◌↔◌, [], ℕ, List, Option, Some, None, OnOk, IfErr, MatchResult, length, slice_index_or};
+ghost use Rattle.std.specs.List.{AllByRecursion};
 ghost use Rattle.mpm_script.specs.declared.line.TheConstants.{GREATEST_STEP};
 ghost use Rattle.mpm_port.specs.Causes.{Rose};
 ghost use Rattle.mpm_port.specs.Texts.{appended};
 ghost use Rattle.mpm_render.specs.Outputs.{closed};
+ghost use Rattle.mpm_machine_file.specs.declared.lists.DriveSpec.{DriveSpec};
 ghost use Rattle.mpm_drives.specs.Images.{image_named};
 ghost use Rattle.mpm_drives.specs.Mounted.{NumberedDrive, placed};
 ghost use Rattle.mpm_machine.specs.State.{State, StandsForFiles, HoldsDrives, IsWhole};
 ghost use Rattle.mpm_machine.specs.Faults.{counts};
-ghost use Rattle.mpm_machine.specs.Mounting.{HasNoDrive, untouched};
+ghost use Rattle.mpm_machine.specs.Mounting.{HasDrives, HasNoDrive, untouched};
 ghost use Rattle.mpm_machine.specs.After.{after, ShowsBefore};
 ghost use Rattle.mpm_top.specs.Words.{Command, texts, command_of};
-ghost use Rattle.mpm_top.specs.Runs.{command_on, input_of as input_said, room_for, script_name, host, failed, begun, HaveImages, StopsRun, ClosesAfter, Causes, stopped_by, WritesAll, WritesPart, WritesClosed, Ends, EndsAs, ending, IsRefusal, UnlessWriteFault, UnlessReadFault, UnlessDiskFault};
+ghost use Rattle.mpm_top.specs.Runs.{command_on, input_of as input_said, room_for, script_name, drives_listed, host, failed, begun, SameImages, StandFor, StopsRun, ClosesAfter, Causes, stopped_by, WritesAll, WritesSteps, WritesPart, WritesClosed, Ends, EndsAs, ending, IsRefusal, IsEarly, UnlessWriteFault, UnlessReadFault, UnlessDiskFault};
+ghost use Rattle.mpm_top.specs.Seeds.{seeded_of, EndsSeeded};
 
 use crate::boot::boot;
+use crate::seeded::run_seeded_words;
+use crate::seeds::Seeded;
 use crate::status::Status;
 use crate::words::{Asked, Form, read_words};
 use mpm_base::Steps;
@@ -24,6 +29,7 @@ use std::marker::Brand;
 use std::sync::ledger::{Blank, Ledger};
 
 /// Does what the words after the program's name ask.
+#[tactic(auto, using(crate::proofs::SeedLaws::asks_one, crate::proofs::SeedLaws::unless_read_always, crate::proofs::BootLaws::unless_disk_always))]
 pub fn run_words<F: Files, D: Drives, S: Sink>(
     alloc: Global,
     words: &[String],
@@ -32,14 +38,14 @@ pub fn run_words<F: Files, D: Drives, S: Sink>(
     sink: &mut S,
 ) -> Status
     // Usage comes exactly where the words have no form of a command.
-    ensures usage { (result ≡ Status.Usage) ↔ (command_of (texts words.now) ≡ None) }
+    ensures usage { (result ≡ Status.Usage) ↔ ((command_of (texts words.now) ≡ None) × (seeded_of (texts words.now) ≡ None)) }
     ensures usage_files { result ≡ Status.Usage → files.new ≡ files.old }
     ensures usage_drives { result ≡ Status.Usage → drives.new ≡ drives.old }
 
-    // Ran: what the sink was given is exactly the text of the outputs after those steps, the images stand for what is on the
-    // drives after them, and nothing failed.
+    // Ran: what the sink was given is exactly the text of the outputs after those steps, the images of the names that the machine
+    // file lists stand for what is on its drives after them, and nothing failed.
     ensures ran { (command : Command) → command_of (texts words.now) ≡ Some command → result ≡ Status.Ran
-        → WritesAll (host F.contents D.disks files.old drives.old) (D.disks drives.new) command (S.written sink.old) (S.written sink.new) }
+        → WritesAll (host F.contents D.disks files.old drives.old) (image_named (D.disks drives.new)) command (S.written sink.old) (S.written sink.new) }
 
     // Every ending has its reason in what the files hold and in the images, or in what failed: MachineFault, ScriptFault,
     // ImageFault, TooLong, ReadFault and DiskFault among them.
@@ -66,26 +72,39 @@ pub fn run_words<F: Files, D: Drives, S: Sink>(
         → ending (host F.contents D.disks files.old drives.old) command.form command.name ≡ Some (Status.DiskFault 0)
         → F.failed_names files.new ≡ F.failed_names files.old → EndsAs (Status.DiskFault 0) result }
 
-    // WriteFault comes only where the sink's count rose, in the step and after the text that it says.
+    // WriteFault comes only where the sink's count rose, in the step and after the text that it says; the images stand for what is
+    // on the drives after that step.
     ensures write { (step : ℕ) → result ≡ Status.WriteFault step → Rose (S.faults sink.old) (S.faults sink.new) }
     ensures write_text { (command : Command) → command_of (texts words.now) ≡ Some command → (step : ℕ) → result ≡ Status.WriteFault step
-        → WritesPart (host F.contents D.disks files.old drives.old) command (S.written sink.old) (S.written sink.new) step }
+        → WritesPart (host F.contents D.disks files.old drives.old) (image_named (D.disks drives.new)) command (S.written sink.old) (S.written sink.new) step }
     ensures count { UnlessWriteFault result (S.faults sink.new ≡ S.faults sink.old) }
 
     // DiskFault comes as the drives are mounted, with nothing written, or in the step that it says, or as they are synced, after
-    // all steps.
+    // all steps. Each image stands for what was on its drive before that step, or, of the drive of the call that failed, for that
+    // within a turn of the call; or for what is on the drives after all steps.
     ensures disk_text { (command : Command) → command_of (texts words.now) ≡ Some command → (step : ℕ) → result ≡ Status.DiskFault step
-        → ((step ≡ 0) × (sink.new ≡ sink.old)) ⊎ WritesClosed (host F.contents D.disks files.old drives.old) command (S.written sink.old) (S.written sink.new)
+        → ((step ≡ 0) × (sink.new ≡ sink.old)) ⊎ WritesClosed (host F.contents D.disks files.old drives.old) (image_named (D.disks drives.new)) command (S.written sink.old) (S.written sink.new)
         (S.faults sink.old) (S.faults sink.new) step }
 
-    // After a refusal nothing is written, and images are as they were. So is what the files hold; `program` has no drive.
+    // After a refusal nothing is written. Before the first step, and where a drive fails with step 0, images are as they were, as
+    // those that the machine file doesn't list are after any ending. So is what the files hold; `program` has no drive.
     ensures nothing { IsRefusal result → sink.new ≡ sink.old }
-    ensures images { IsRefusal result → (image : List ℕ) → image_named (D.disks drives.new) image ≡ image_named (D.disks drives.old) image }
+    ensures images { IsEarly result → SameImages (D.disks drives.old) (D.disks drives.new) }
+    ensures others { (command : Command) → command_of (texts words.now) ≡ Some command → (bytes : List ℕ) → F.contents files.old command.name ≡ Some bytes
+        → (image : List ℕ) → AllByRecursion (λ spec. spec.image ≢ image) (drives_listed command.form bytes)
+        → image_named (D.disks drives.new) image ≡ image_named (D.disks drives.old) image }
     ensures files { (other : List ℕ) → F.contents files.new other ≡ F.contents files.old other }
     ensures program { (command : Command) → command_of (texts words.now) ≡ Some command → command.form ≡ Form.Program → drives.new ≡ drives.old }
+
+    // The run of a seed's machine is reported in three lines, by the outputs of its model after those steps; files and drives are
+    // as they were.
+    ensures seeded { (asked : Seeded) → seeded_of (texts words.now) ≡ Some asked
+        → EndsSeeded asked (S.written sink.old) (S.written sink.new) (S.faults sink.old) (S.faults sink.new) result }
+    ensures seeded_files { (asked : Seeded) → seeded_of (texts words.now) ≡ Some asked → files.new ≡ files.old }
+    ensures seeded_drives { (asked : Seeded) → seeded_of (texts words.now) ≡ Some asked → drives.new ≡ drives.old }
 {
     let Some(asked) = read_words(words) else {
-        return Status::Usage;
+        return run_seeded_words(alloc, words, sink);
     };
     run_command(alloc, name_of(words), asked, files, drives, sink)
 }
@@ -110,7 +129,7 @@ fn run_command<F: Files, D: Drives, S: Sink>(
     requires { asked.steps ≤ GREATEST_STEP }
     ensures usage { result ≢ Status.Usage }
     ensures ran { result ≡ Status.Ran
-        → WritesAll (host F.contents D.disks files.old drives.old) (D.disks drives.new) (command_on name.now asked) (S.written sink.old) (S.written sink.new) }
+        → WritesAll (host F.contents D.disks files.old drives.old) (image_named (D.disks drives.new)) (command_on name.now asked) (S.written sink.old) (S.written sink.new) }
     ensures reason { Ends (host F.contents D.disks files.old drives.old) asked.form name.now
         (failed F.failed_names D.faults D.failed_names files.old drives.old) (failed F.failed_names D.faults D.failed_names files.new drives.new) result }
     ensures names { UnlessReadFault result (F.failed_names files.new ≡ F.failed_names files.old) }
@@ -121,13 +140,16 @@ fn run_command<F: Files, D: Drives, S: Sink>(
         → script_name asked.form bytes ≡ Some script → F.missing files.old script → EndsAs Status.ReadFault result }
     ensures write { (step : ℕ) → result ≡ Status.WriteFault step → Rose (S.faults sink.old) (S.faults sink.new) }
     ensures write_text { (step : ℕ) → result ≡ Status.WriteFault step
-        → WritesPart (host F.contents D.disks files.old drives.old) (command_on name.now asked) (S.written sink.old) (S.written sink.new) step }
+        → WritesPart (host F.contents D.disks files.old drives.old) (image_named (D.disks drives.new)) (command_on name.now asked) (S.written sink.old) (S.written sink.new) step }
     ensures count { UnlessWriteFault result (S.faults sink.new ≡ S.faults sink.old) }
     ensures disk_text { (step : ℕ) → result ≡ Status.DiskFault step
-        → ((step ≡ 0) × (sink.new ≡ sink.old)) ⊎ WritesClosed (host F.contents D.disks files.old drives.old) (command_on name.now asked) (S.written sink.old) (S.written sink.new)
+        → ((step ≡ 0) × (sink.new ≡ sink.old)) ⊎ WritesClosed (host F.contents D.disks files.old drives.old) (image_named (D.disks drives.new)) (command_on name.now asked) (S.written sink.old) (S.written sink.new)
         (S.faults sink.old) (S.faults sink.new) step }
     ensures nothing { IsRefusal result → sink.new ≡ sink.old }
-    ensures images { IsRefusal result → (image : List ℕ) → image_named (D.disks drives.new) image ≡ image_named (D.disks drives.old) image }
+    ensures images { IsEarly result → SameImages (D.disks drives.old) (D.disks drives.new) }
+    ensures others { (bytes : List ℕ) → F.contents files.old name.now ≡ Some bytes
+        → (image : List ℕ) → AllByRecursion (λ spec. spec.image ≢ image) (drives_listed asked.form bytes)
+        → image_named (D.disks drives.new) image ≡ image_named (D.disks drives.old) image }
     ensures files { (other : List ℕ) → F.contents files.new other ≡ F.contents files.old other }
     ensures program { asked.form ≡ Form.Program → drives.new ≡ drives.old }
 {
@@ -185,11 +207,18 @@ fn run_to_end<D: Drives, S: Sink, L: Ledger>(
     requires some_part { 0 < L.parts }
     ensures ok { (on : List NumberedDrive) → StandsForFiles machine.old.bdos (D.disks drives.old) (untouched (placed on))
         → OnOk result (S.written sink.new ≡ appended (S.written sink.old) (closed asked.trace (after asked.steps (begun machine.old.system on)).outputs)) }
-    ensures images { (on : List NumberedDrive) → StandsForFiles machine.old.bdos (D.disks drives.old) (untouched (placed on))
-        → OnOk result (HaveImages (D.disks drives.new) (after asked.steps (begun machine.old.system on)).filing.drives) }
-    ensures err { (on : List NumberedDrive) → StandsForFiles machine.old.bdos (D.disks drives.old) (untouched (placed on))
-        → IfErr result (λ error. StopsRun error.fault asked.trace (begun machine.old.system on) asked.steps (S.written sink.old) (S.written sink.new)
-        (S.faults sink.old) (S.faults sink.new) error.step) }
+    ensures steps { OnOk result (WritesSteps asked.trace asked.steps machine.old.system (S.written sink.old) (S.written sink.new)) }
+    ensures images { (specs : List DriveSpec) (on : List NumberedDrive) → HasDrives (D.disks drives.old) specs machine.old.bdos.mounted
+        → StandsForFiles machine.old.bdos (D.disks drives.old) (untouched (placed on))
+        → OnOk result (StandFor (image_named (D.disks drives.new)) specs (after asked.steps (begun machine.old.system on)).filing.drives) }
+    ensures err { (specs : List DriveSpec) (on : List NumberedDrive) → HasDrives (D.disks drives.old) specs machine.old.bdos.mounted
+        → StandsForFiles machine.old.bdos (D.disks drives.old) (untouched (placed on))
+        → IfErr result (λ error. StopsRun (StandFor (image_named (D.disks drives.new)) specs) error.fault asked.trace (begun machine.old.system on) asked.steps
+        (S.written sink.old) (S.written sink.new) (S.faults sink.old) (S.faults sink.new) error.step) }
+    ensures others { (specs : List DriveSpec) → HasDrives (D.disks drives.old) specs machine.old.bdos.mounted
+        → (image : List ℕ) → AllByRecursion (λ spec. spec.image ≢ image) specs → image_named (D.disks drives.new) image ≡ image_named (D.disks drives.old) image }
+    ensures within { IfErr result (λ error. error.step ≤ asked.steps) }
+    ensures early { IfErr result (λ error. error.step ≡ 0 → SameImages (D.disks drives.old) (D.disks drives.new)) }
     ensures cause { MatchResult result (λ _. counts S.faults D.faults sink.new drives.new ≡ counts S.faults D.faults sink.old drives.old)
         (λ error. Causes error.fault (counts S.faults D.faults sink.old drives.old) (counts S.faults D.faults sink.new drives.new)) }
     ensures names { D.failed_names drives.new ≡ D.failed_names drives.old }

@@ -25,7 +25,7 @@ pub(crate) struct Asked {
 
 /// The number of steps that a word says.
 #[tactic(auto, unfolding(crate::specs::Words::steps_of))]
-fn steps_of(word: &str) -> Option<u64>
+pub(crate) fn steps_of(word: &str) -> Option<u64>
     ensures number { result ≡ number_of word.now }
     ensures limit { IfSome result (λ n. n ≤ GREATEST_STEP) }
 {

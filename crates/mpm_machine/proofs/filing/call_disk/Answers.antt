@@ -1,4 +1,5 @@
 use Rattle.mpm_machine.proofs.FilingLaws.{disk_is, bare_still}
+use Rattle.mpm_machine.proofs.FailingLaws.{disk_fails, disk_calls}
 use Rattle.mpm_machine.proofs.filing.call_disk.Goals as goal
 
 pub returns-clause-ok : goal.returns-clause-ok
@@ -9,3 +10,15 @@ returns-clause-ok g c filing stands =
 
 pub returns-clause-bare : goal.returns-clause-bare
 returns-clause-bare g c none = bare_still c.args.bdos.now.mounted c.call_at_once.new.self.mounted c.call_at_once.ensures.labels none
+
+pub returns-clause-err : goal.returns-clause-err
+returns-clause-err g c filing stands =
+    disk_fails (g.D.Drives.disks c.args.drives.now) (g.D.Drives.disks c.call_at_once.new.drives) filing c.args.p c.args.system.now c.args.bdos.now c.call_at_once.new.self
+    c.looked_at-caller.result c.living.result.now c.kept_call.result.now c.now-now.result c.call_at_once.result
+    c.looked_at-caller.ensures.process c.living.ensures c.kept_call.ensures c.now-now.ensures.moment c.requires.function stands c.call_at_once.ensures.err c.call_at_once.ensures.alone
+    c.call_at_once.ensures.labels
+
+pub returns-clause-calls : goal.returns-clause-calls
+returns-clause-calls g c filing stands =
+    disk_calls (g.D.Drives.disks c.args.drives.now) filing c.args.p c.args.system.now c.args.bdos.now c.looked_at-caller.result c.living.result.now c.kept_call.result.now c.now-now.result _ _
+    c.looked_at-caller.ensures.process c.living.ensures c.kept_call.ensures c.now-now.ensures.moment c.requires.function stands c.call_at_once.ensures.calls

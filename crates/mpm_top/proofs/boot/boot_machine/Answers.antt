@@ -35,7 +35,7 @@ pub returns-in-Ok-boot-clause-starts : goal.returns-in-Ok-boot-clause-starts
 returns-in-Ok-boot-clause-starts g c =
     starts_of_file (host g.F.Files.contents g.D.Drives.disks c.args.files.now c.args.drives.now) c.args.bytes.now c.in-Ok.file c.in-Ok-read_script_of.script
     c.in-Ok-boot.machine.system (g.D.Drives.attached c.boot.new.drives) (g.D.Drives.disks c.boot.new.drives) c.in-Ok-boot.machine.bdos c.in-Ok.ensures.ok
-    c.in-Ok-read_script_of.ensures.scripted c.in-Ok-boot.ensures.opening c.in-Ok-boot.ensures.mounted
+    c.in-Ok-read_script_of.ensures.scripted c.in-Ok-boot.ensures.opening c.in-Ok-boot.ensures.mounted c.in-Ok-boot.ensures.drives
 
 pub returns-in-Ok-boot-clause-missing : goal.returns-in-Ok-boot-clause-missing
 returns-in-Ok-boot-clause-missing g c script named missing =

@@ -1,8 +1,7 @@
 use Rattle.std.proofs.Common.{sym, subst}
 use Rattle.mpm_bdos.specs.Serving.{Kept}
 use Rattle.mpm_machine.specs.Mounting.{HasNoDrive}
-use Rattle.mpm_machine.proofs.MountedLaws.{holds_nothing}
-use Rattle.mpm_top.proofs.Placing.{none_mounted}
+use Rattle.mpm_machine.proofs.MountedLaws.{none_mounted, holds_nothing}
 use Rattle.mpm_top.proofs.BootLaws.{program_starts}
 use Rattle.mpm_top.proofs.boot.boot_program.Goals as goal
 

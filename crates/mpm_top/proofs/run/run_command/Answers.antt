@@ -1,7 +1,9 @@
-use Rattle.std.proofs.Common.{◌≡◌, ◌∙◌, ℕ, [], Some, sym, ap, subst, inr}
+use Rattle.std.proofs.Common.{◌∙◌, ℕ, sym, subst, inr}
 use Rattle.mpm_machine.specs.Faults.{counts}
-use Rattle.mpm_top.specs.Runs.{host, failed, begun, command_on, Causes}
-use Rattle.mpm_top.proofs.RunLaws.{ends_by_fault, disk_closed, writes_part, stopped_late}
+use Rattle.mpm_drives.specs.Images.{image_named}
+use Rattle.mpm_top.specs.Runs.{host, failed, begun, command_on, drives_listed, Causes}
+use Rattle.mpm_top.proofs.RunLaws.{ends_by_fault, disk_closed, writes_part, stopped_early}
+use Rattle.mpm_top.proofs.Naming.{others_told}
 use Rattle.mpm_top.proofs.run.run_command.Goals as goal
 
 -- all is done
@@ -12,9 +14,19 @@ returns-in-Ok-run_to_end-clause-ran g c is =
     record {
       start = begun c.in-Ok.machine.system starts.drives;
       begins = starts.begins;
+      steps = c.in-Ok-run_to_end.ensures.steps;
       text = λ told. c.in-Ok-run_to_end.ensures.ok starts.drives (starts.files told);
-      images = λ told. c.in-Ok-run_to_end.ensures.images starts.drives (starts.files told);
+      images = λ told.
+          c.in-Ok-run_to_end.ensures.images (drives_listed c.args.asked.form starts.begins.bytes) starts.drives starts.listed (starts.files told);
     }
+
+pub returns-in-Ok-run_to_end-clause-others : goal.returns-in-Ok-run_to_end-clause-others
+returns-in-Ok-run_to_end-clause-others g c bytes told image apart =
+    let starts = c.in-Ok.ensures.starts in
+    c.in-Ok-run_to_end.ensures.others (drives_listed c.args.asked.form starts.begins.bytes) starts.listed image
+    (others_told (host g.F.Files.contents g.D.Drives.disks c.args.files.now c.args.drives.now) c.args.asked.form c.args.name.now bytes c.in-Ok.machine.system c.in-Ok.machine.bdos
+    (g.D.Drives.disks c.boot.new.drives) image starts told apart)
+    ∙ c.in-Ok.ensures.images image
 
 -- the run stopped
 
@@ -37,18 +49,30 @@ pub returns-in-Ok-clause-disk_text : goal.returns-in-Ok-clause-disk_text
 returns-in-Ok-clause-disk_text g c step is =
     let starts = c.in-Ok.ensures.starts in
     let found = host g.F.Files.contents g.D.Drives.disks c.args.files.now c.args.drives.now in
-    inr (disk_closed found (command_on c.args.name.now c.args.asked) (begun c.in-Ok.machine.system starts.drives) c.in-Err-run_to_end.error.fault c.in-Err-run_to_end.error.step step c.stopped.result
+    inr (disk_closed found (image_named (g.D.Drives.disks c.run_to_end.new.drives)) (command_on c.args.name.now c.args.asked) (begun c.in-Ok.machine.system starts.drives) c.in-Err-run_to_end.error.fault c.in-Err-run_to_end.error.step step c.stopped.result
     (g.S.Sink.written c.args.sink.now) (g.S.Sink.written c.run_to_end.new.sink) (g.S.Sink.faults c.args.sink.now) (g.S.Sink.faults c.run_to_end.new.sink)
-    c.stopped.ensures is starts.begins (λ told. c.in-Err-run_to_end.ensures.err starts.drives (starts.files told)))
+    c.stopped.ensures is starts.begins c.in-Err-run_to_end.ensures.within
+    (λ told. c.in-Err-run_to_end.ensures.err (drives_listed c.args.asked.form starts.begins.bytes) starts.drives starts.listed (starts.files told)))
 
 pub returns-in-Ok-clause-write_text : goal.returns-in-Ok-clause-write_text
 returns-in-Ok-clause-write_text g c step is =
     let starts = c.in-Ok.ensures.starts in
     let found = host g.F.Files.contents g.D.Drives.disks c.args.files.now c.args.drives.now in
-    writes_part found (command_on c.args.name.now c.args.asked) (begun c.in-Ok.machine.system starts.drives) c.in-Err-run_to_end.error.fault c.in-Err-run_to_end.error.step step c.stopped.result
+    writes_part found (image_named (g.D.Drives.disks c.run_to_end.new.drives)) (command_on c.args.name.now c.args.asked) (begun c.in-Ok.machine.system starts.drives) c.in-Err-run_to_end.error.fault c.in-Err-run_to_end.error.step step c.stopped.result
     (g.S.Sink.written c.args.sink.now) (g.S.Sink.written c.run_to_end.new.sink) (g.S.Sink.faults c.args.sink.now) (g.S.Sink.faults c.run_to_end.new.sink)
-    c.stopped.ensures is starts.begins (λ told. c.in-Err-run_to_end.ensures.err starts.drives (starts.files told))
+    c.stopped.ensures is starts.begins c.in-Err-run_to_end.ensures.within
+    (λ told. c.in-Err-run_to_end.ensures.err (drives_listed c.args.asked.form starts.begins.bytes) starts.drives starts.listed (starts.files told))
 
 pub returns-in-Ok-clause-images : goal.returns-in-Ok-clause-images
-returns-in-Ok-clause-images g c refusal =
-    absurd (stopped_late c.in-Err-run_to_end.error.fault c.in-Err-run_to_end.error.step c.stopped.result c.stopped.ensures refusal)
+returns-in-Ok-clause-images g c early image =
+    c.in-Err-run_to_end.ensures.early
+    (stopped_early c.in-Err-run_to_end.error.fault c.in-Err-run_to_end.error.step c.stopped.result c.stopped.ensures early) image
+    ∙ c.in-Ok.ensures.images image
+
+pub returns-in-Ok-clause-others : goal.returns-in-Ok-clause-others
+returns-in-Ok-clause-others g c bytes told image apart =
+    let starts = c.in-Ok.ensures.starts in
+    c.in-Err-run_to_end.ensures.others (drives_listed c.args.asked.form starts.begins.bytes) starts.listed image
+    (others_told (host g.F.Files.contents g.D.Drives.disks c.args.files.now c.args.drives.now) c.args.asked.form c.args.name.now bytes c.in-Ok.machine.system c.in-Ok.machine.bdos
+    (g.D.Drives.disks c.boot.new.drives) image starts told apart)
+    ∙ c.in-Ok.ensures.images image

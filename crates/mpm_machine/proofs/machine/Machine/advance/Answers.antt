@@ -1,8 +1,12 @@
 use Rattle.std.proofs.Common.{sym, ap, subst, arith, ℕ}
+use Rattle.mpm_bdos.specs.Serving.{Kept}
 use Rattle.mpm_machine.specs.declared.system.System.{System}
 use Rattle.mpm_machine.specs.State.{State, StandsWithDrives, HoldsDrives}
-use Rattle.mpm_machine.specs.After.{after}
-use Rattle.mpm_machine.proofs.NextLaws.{after_more, ends_in_step, shows_in_step, run_silent, run_and_step}
+use Rattle.mpm_machine.specs.After.{after, ShowsBefore}
+use Rattle.mpm_machine.proofs.NextLaws.{after_more, ends_in_step, run_silent, run_and_step, stopped_in_step, so_in_step}
+use Rattle.mpm_machine.specs.Mounting.{KeepsMounted}
+use Rattle.mpm_machine.specs.Failing.{StopsWithImages}
+use Rattle.mpm_machine.proofs.DriveLaws.{keeps_still}
 use Rattle.mpm_machine.proofs.StandingLaws.{ran_on}
 use Rattle.mpm_machine.proofs.machine.Machine.advance.Goals as goal
 
@@ -48,7 +52,37 @@ returns-in-Err-clause-shown g c s first stands =
     let done = c.run_on-done.result in
     let steps : System → ℕ = λ system. system.steps in
     let same = ap steps stands.system.parts in
-    shows_in_step c.in-Err.fault c.step.new.render (g.S.Sink.written c.step.new.sink) first s done _
+    so_in_step (λ t. ShowsBefore c.in-Err.fault c.step.new.render (g.S.Sink.written c.step.new.sink) t first) s done _
     (omega (arith, c.steps_done-step.ensures, c.run_on-done.ensures.done, same))
     (c.in-Err.ensures.shown (after done s) first
     (ran_on c.args.self.now c.run_on-done.new.self _ _ _ (after done s) s first c.run_on-done.ensures.bdos (c.run_on-done.ensures.states s) stands))
+
+pub returns-in-Err-clause-stops : goal.returns-in-Err-clause-stops
+returns-in-Err-clause-stops g c =
+    stopped_in_step c.args.most c.run_on-done.result c.in-Err.fault _ _ _ c.args.self.now.system c.run_on-done.new.self.system
+    (omega (arith, c.run_on-done.ensures.count, c.if-done-most.false))
+    (omega (arith, c.steps_done-step.ensures, c.run_on-done.ensures.done))
+    c.run_on-done.ensures.steps c.in-Err.ensures.stops
+
+pub returns-in-Err-clause-images : goal.returns-in-Err-clause-images
+returns-in-Err-clause-images g c s first stands =
+    let done = c.run_on-done.result in
+    let steps : System → ℕ = λ system. system.steps in
+    let same = ap steps stands.system.parts in
+    so_in_step (StopsWithImages c.in-Err.fault (g.D.Drives.disks c.step.new.drives) c.step.new.self.bdos.mounted) s done _
+    (omega (arith, c.steps_done-step.ensures, c.run_on-done.ensures.done, same))
+    (c.in-Err.ensures.images (after done s) first
+    (ran_on c.args.self.now c.run_on-done.new.self _ _ _ (after done s) s first c.run_on-done.ensures.bdos (c.run_on-done.ensures.states s) stands))
+
+pub returns-then-done-most-clause-keeps : goal.returns-then-done-most-clause-keeps
+returns-then-done-most-clause-keeps g c = keeps_still _ _ _ (ap (λ (k : Kept). k.mounted) c.run_on-done.ensures.bdos)
+
+pub returns-in-Err-clause-keeps : goal.returns-in-Err-clause-keeps
+returns-in-Err-clause-keeps g c =
+    subst (λ (k : Kept). KeepsMounted (g.D.Drives.disks c.args.drives.now) (g.D.Drives.disks c.step.new.drives) k.mounted c.step.new.self.bdos.mounted) c.run_on-done.ensures.bdos
+    c.in-Err.ensures.keeps
+
+pub returns-clause-keeps : goal.returns-clause-keeps
+returns-clause-keeps g c =
+    subst (λ (k : Kept). KeepsMounted (g.D.Drives.disks c.args.drives.now) (g.D.Drives.disks c.step.new.drives) k.mounted c.step.new.self.bdos.mounted) c.run_on-done.ensures.bdos
+    c.in_default.ensures.keeps

@@ -1,4 +1,5 @@
 use Rattle.mpm_machine.proofs.MountedLaws.{mounted_here, holds_mounted}
+use Rattle.mpm_machine.proofs.DriveLaws.{mounted_drives}
 use Rattle.mpm_machine.proofs.machine.Machine.boot_bare.Goals as goal
 
 pub returns-in-Ok-bare-clause-mounted : goal.returns-in-Ok-bare-clause-mounted
@@ -8,4 +9,9 @@ returns-in-Ok-bare-clause-mounted g c =
 pub returns-in-Ok-bare-clause-holds : goal.returns-in-Ok-bare-clause-holds
 returns-in-Ok-bare-clause-holds g c =
     holds_mounted g.D.Drives.attached g.D.Drives.disks _ c.args.file.now.drives c.in-Ok-bare.machine.bdos c.mount.new.drives c.requires.images
+    (mounted_here _ _ _ _ c.in-Ok.mounted c.into_mounted.result.items c.in-Ok-bare.machine.bdos c.as_slice.ensures c.in-Ok.ensures.mounted c.into_mounted.ensures c.in-Ok-bare.ensures.bdos)
+
+pub returns-in-Ok-bare-clause-drives : goal.returns-in-Ok-bare-clause-drives
+returns-in-Ok-bare-clause-drives g c =
+    mounted_drives _ _ _ c.args.file.now c.in-Ok-bare.machine.bdos c.requires
     (mounted_here _ _ _ _ c.in-Ok.mounted c.into_mounted.result.items c.in-Ok-bare.machine.bdos c.as_slice.ensures c.in-Ok.ensures.mounted c.into_mounted.ensures c.in-Ok-bare.ensures.bdos)

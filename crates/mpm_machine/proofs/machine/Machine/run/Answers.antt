@@ -1,8 +1,10 @@
 use Rattle.std.proofs.Common.{◌∙◌, ◌-◌, sym, subst, refl, arith, Bool}
 use Rattle.mpm_machine.specs.State.{State, StandsWithDrives}
+use Rattle.mpm_machine.specs.Failing.{StopsWithImages}
 use Rattle.mpm_machine.specs.Faults.{Counts, counts, HasFailed}
-use Rattle.mpm_machine.specs.After.{after, EndsInStep}
-use Rattle.mpm_machine.proofs.NextLaws.{after_nothing, after_both, ends_later, shows_later, run_nothing, run_both, next_in_run}
+use Rattle.mpm_machine.specs.After.{after, EndsInStep, ShowsBefore}
+use Rattle.mpm_machine.proofs.NextLaws.{after_nothing, after_both, ends_later, run_nothing, run_both, next_in_run, stopped_later, so_later}
+use Rattle.mpm_machine.proofs.DriveLaws.{keeps_still, keeps_both}
 use Rattle.mpm_machine.proofs.machine.Machine.run.Goals as goal
 
 pub loop-done-init : goal.loop-done-init
@@ -20,7 +22,9 @@ loop-done-init g c = record {
   trace = refl;
   holds = c.requires.holds;
   names = refl;
+  keeps = keeps_still _ _ _ refl;
   bare = λ none. none;
+  still = λ zero. refl;
   none = λ none. refl;
   attached = λ number. refl;
 }
@@ -41,7 +45,9 @@ loop-done-preserved g c = record {
   trace = c.in-Ok.ensures.trace ∙ c.loop-done.invariant.trace;
   holds = c.in-Ok.ensures.holds;
   names = c.in-Ok.ensures.names ∙ c.loop-done.invariant.names;
+  keeps = keeps_both _ _ _ c.args.self.now.bdos.mounted c.loop-done.self.bdos.mounted c.advance.new.self.bdos.mounted c.loop-done.invariant.keeps c.in-Ok.ensures.keeps;
   bare = λ none. c.in-Ok.ensures.bare (c.loop-done.invariant.bare none);
+  still = λ zero. absurd (omega (arith, zero, c.in-Ok.ensures.some));
   none = λ none. c.in-Ok.ensures.none (c.loop-done.invariant.bare none) ∙ c.loop-done.invariant.none none;
   attached = λ number. c.in-Ok.ensures.attached number ∙ c.loop-done.invariant.attached number;
 }
@@ -56,6 +62,12 @@ returns-in-Err-clause-err g c s first stands =
 
 pub returns-clause-due : goal.returns-clause-due
 returns-clause-due g c some = c.loop-done.invariant.due (omega (arith, some, c.loop-done-test.false))
+
+pub returns-clause-still : goal.returns-clause-still
+returns-clause-still g c zero = c.loop-done.invariant.still (omega (arith, zero, c.loop-done.invariant.few))
+
+pub returns-in-Err-clause-still : goal.returns-in-Err-clause-still
+returns-in-Err-clause-still g c zero = absurd (omega (arith, zero, c.loop-done-test.true))
 
 pub returns-in-Err-clause-each : goal.returns-in-Err-clause-each
 returns-in-Err-clause-each g c s is k below = next_in_run k s c.args.self.now.system is c.requires.whole c.requires.no_completions
@@ -74,7 +86,7 @@ pub returns-in-Err-clause-shown : goal.returns-in-Err-clause-shown
 returns-in-Err-clause-shown g c s first stands =
     let done = c.loop-done.done in
     let there = c.loop-done.invariant.stands s first stands in
-    shows_later c.in-Err.error.fault c.advance.new.render (g.S.Sink.written c.advance.new.sink) first s done c.in-Err.error.step
+    so_later (λ t. ShowsBefore c.in-Err.error.fault c.advance.new.render (g.S.Sink.written c.advance.new.sink) t first) s done c.in-Err.error.step
     (c.in-Err.ensures.err (after done s) first there).later (c.in-Err.ensures.shown (after done s) first there)
 
 pub returns-in-Err-clause-bare : goal.returns-in-Err-clause-bare
@@ -85,3 +97,19 @@ returns-in-Err-clause-none g c none = c.in-Err.ensures.none (c.loop-done.invaria
 
 pub returns-in-Err-clause-unfailing : goal.returns-in-Err-clause-unfailing
 returns-in-Err-clause-unfailing g c none = c.in-Err.ensures.unfailing (c.loop-done.invariant.bare none)
+
+pub returns-in-Err-clause-stops : goal.returns-in-Err-clause-stops
+returns-in-Err-clause-stops g c =
+    stopped_later c.args.n c.loop-done.done c.in-Err.error.fault c.in-Err.error.step _ _ _ c.args.self.now.system c.loop-done.self.system
+    c.loop-done.invariant.few c.loop-done.invariant.steps c.loop-done.invariant.ran c.in-Err.ensures.stops
+
+pub returns-in-Err-clause-images : goal.returns-in-Err-clause-images
+returns-in-Err-clause-images g c s first stands =
+    let done = c.loop-done.done in
+    let there = c.loop-done.invariant.stands s first stands in
+    so_later (StopsWithImages c.in-Err.error.fault (g.D.Drives.disks c.advance.new.drives) c.advance.new.self.bdos.mounted) s done c.in-Err.error.step
+    (c.in-Err.ensures.err (after done s) first there).later (c.in-Err.ensures.images (after done s) first there)
+
+pub returns-in-Err-clause-keeps : goal.returns-in-Err-clause-keeps
+returns-in-Err-clause-keeps g c =
+    keeps_both _ _ _ c.args.self.now.bdos.mounted c.loop-done.self.bdos.mounted c.advance.new.self.bdos.mounted c.loop-done.invariant.keeps c.in-Err.ensures.keeps

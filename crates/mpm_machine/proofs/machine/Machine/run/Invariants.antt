@@ -2,7 +2,7 @@ use Rattle.std.proofs.Common.{◌≡◌, ◌≤◌, ◌<◌, ◌+◌, ◌-◌, �
 use Rattle.mpm_output.specs.Outside.{seen}
 use Rattle.mpm_machine.specs.State.{State, IsWhole, StandsWithDrives, HoldsDrives}
 use Rattle.mpm_machine.specs.Due.{NobodyDue}
-use Rattle.mpm_machine.specs.Mounting.{HasNoDrive}
+use Rattle.mpm_machine.specs.Mounting.{HasNoDrive, KeepsMounted}
 use Rattle.mpm_machine.specs.Faults.{counts}
 use Rattle.mpm_machine.specs.After.{after, HasRun}
 use Rattle.mpm_machine.proofs.machine.Machine.run.Given as goal
@@ -22,7 +22,9 @@ invariant-loop-done g l = record {
   trace : l.render.trace ≡ l.initial.render.trace;
   holds : HoldsDrives g.D.Drives.attached g.D.Drives.disks l.self.bdos l.drives;
   names : g.D.Drives.failed_names l.drives ≡ g.D.Drives.failed_names l.initial.drives;
+  keeps : KeepsMounted (g.D.Drives.disks l.initial.drives) (g.D.Drives.disks l.drives) l.initial.self.bdos.mounted l.self.bdos.mounted;
   bare : HasNoDrive l.initial.self.bdos.mounted → HasNoDrive l.self.bdos.mounted;
+  still : l.done ≡ 0 → l.drives ≡ l.initial.drives;
   none : HasNoDrive l.initial.self.bdos.mounted → l.drives ≡ l.initial.drives;
   attached : (number : ℕ) → g.D.Drives.attached l.drives number ≡ g.D.Drives.attached l.initial.drives number;
 }

@@ -1,5 +1,9 @@
+use Rattle.std.proofs.Common.{sym, subst}
+use Rattle.mpm_bdos.specs.Serving.{Kept}
+use Rattle.mpm_machine.specs.Mounting.{KeepsMounted}
 use Rattle.mpm_machine.proofs.StandingLaws.{Leaves, step_stands, step_stops, step_shows}
 use Rattle.mpm_machine.proofs.FilesStepLaws.{step_whole, step_handed, step_settled, step_counted}
+use Rattle.mpm_machine.proofs.FailingLaws.{step_leaves}
 use Rattle.mpm_machine.proofs.machine.Machine.step.Goals as goal
 
 pub returns-in-Err-clause-err : goal.returns-in-Err-clause-err
@@ -27,3 +31,13 @@ returns-in-Ok-clause-count g c = step_counted _ _ c.args.self.now.system c.take_
 
 pub returns-in-Ok-clause-due : goal.returns-in-Ok-clause-due
 returns-in-Ok-clause-due g c = step_settled _ _ c.args.self.now.system c.take_step.new.self.system c.requires.whole c.in-Ok.ensures.step
+
+pub returns-in-Err-clause-images : goal.returns-in-Err-clause-images
+returns-in-Err-clause-images g c s first stands =
+    step_leaves c.args.self.now (g.D.Drives.disks c.args.drives.now) (g.D.Drives.disks c.take_step.new.drives) c.take_step.new.self.bdos.mounted c.in-Err.fault
+    c.args.render.now (g.S.Sink.written c.args.sink.now) s first c.in-Err.ensures.images stands
+
+pub returns-in-Ok-clause-keeps : goal.returns-in-Ok-clause-keeps
+returns-in-Ok-clause-keeps g c =
+    subst (λ (k : Kept). KeepsMounted (g.D.Drives.disks c.args.drives.now) (g.D.Drives.disks c.take_step.new.drives) c.args.self.now.bdos.mounted k.mounted) (sym c.leave_files.ensures.rest)
+    c.in-Ok.ensures.keeps

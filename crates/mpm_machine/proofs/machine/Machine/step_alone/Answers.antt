@@ -1,4 +1,6 @@
-use Rattle.mpm_machine.proofs.FilesStepLaws.{alone_has_filed, alone_has_stepped, alone_stops}
+use Rattle.mpm_machine.proofs.FilesStepLaws.{alone_has_filed, alone_has_stepped, alone_has_stopped, alone_stops}
+use Rattle.std.proofs.Common.{refl}
+use Rattle.mpm_machine.proofs.FailingLaws.{alone_stops_on}
 use Rattle.mpm_machine.proofs.machine.Machine.step_alone.Goals as goal
 
 pub returns-in-Ok-clause-ok : goal.returns-in-Ok-clause-ok
@@ -11,3 +13,11 @@ returns-in-Ok-clause-step g c =
 
 pub returns-in-Err-clause-err : goal.returns-in-Err-clause-err
 returns-in-Err-clause-err g c filing = alone_stops filing _ _ c.args.self.now.system c.requires.none c.in-Err.ensures.wrote.err
+
+pub returns-in-Err-clause-stops : goal.returns-in-Err-clause-stops
+returns-in-Err-clause-stops g c =
+    alone_has_stopped _ _ c.args.self.now.system c.requires.whole c.requires.no_completions c.requires.none c.in-Err.ensures.wrote.err
+
+pub returns-in-Err-clause-images : goal.returns-in-Err-clause-images
+returns-in-Err-clause-images g c filing stands =
+    alone_stops_on filing c.args.self.now.system _ c.args.self.now.bdos c.args.self.now.bdos c.requires.none refl stands

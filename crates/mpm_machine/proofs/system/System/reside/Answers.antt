@@ -1,13 +1,27 @@
-use Rattle.std.proofs.Common.{◌∙◌, sym, ap}
+use Rattle.std.proofs.Common.{◌≡◌, ◌∙◌, OnOk, sym, ap, subst}
 use Rattle.mpm_machine.specs.State.{Change}
-use Rattle.mpm_machine.proofs.ChangeLaws.{wrote_silent}
-use Rattle.mpm_machine.proofs.ResidingLaws.{nobody_asks}
+use Rattle.mpm_output.specs.Outside.{by_sink}
+use Rattle.mpm_machine.proofs.ChangeLaws.{wrote_silent, emits_as}
+use Rattle.mpm_machine.proofs.ResidingLaws.{resides, nobody_resides}
 use Rattle.mpm_machine.proofs.system.System.reside.Goals as goal
 
-pub returns-else-asks : goal.returns-else-asks
-returns-else-asks g c =
-    let nobody = nobody_asks c.args.p c.args.self.now (sym c.asks.ensures ∙ c.if-asks.false) in
+pub returns-then-not-has : goal.returns-then-not-has
+returns-then-not-has g c =
+    let nobody = nobody_resides c.args.p c.args.self.now (sym c.has.ensures ∙ c.if-not-has.true) in
     record {
       system = sym (ap (λ (change : Change). change.system) nobody);
       wrote = record { ok = wrote_silent _ _ _ nobody; err = tt };
     }
+
+pub act_native-requires : goal.act_native-requires
+act_native-requires g c =
+    let acts = resides c.args.p c.ask_call-act.result c.args.self.now c.ask_call-act.new.self c.requires.whole c.requires.lives (sym c.has.ensures ∙ c.if-not-has.false)
+    c.ask_call-act.ensures.system c.ask_call-act.ensures.act in
+    record { whole = acts.whole; lives = acts.lives; ready = acts.ready c.requires.ready; has = acts.has }
+
+pub returns : goal.returns
+returns g c =
+    let acts = resides c.args.p c.ask_call-act.result c.args.self.now c.ask_call-act.new.self c.requires.whole c.requires.lives (sym c.has.ensures ∙ c.if-not-has.false)
+    c.ask_call-act.ensures.system c.ask_call-act.ensures.act in
+    let P : Change → Type 0 = λ change. OnOk c.act_native.result (c.act_native.new.self ≡ change.system) in
+    record { system = subst P acts.change c.act_native.ensures.system; wrote = emits_as by_sink _ _ _ _ _ acts.change c.act_native.ensures.wrote }

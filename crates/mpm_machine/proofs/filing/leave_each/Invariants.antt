@@ -5,7 +5,7 @@ use Rattle.mpm_mount.specs.Drives.{Drive}
 use Rattle.mpm_bdos.specs.Serving.{filing_of}
 use Rattle.mpm_machine.specs.FileCalls.{is_gone, left_each, left_behind}
 use Rattle.mpm_machine.specs.Filed.{AreLiving}
-use Rattle.mpm_machine.proofs.filing.leave_files.Given as goal
+use Rattle.mpm_machine.proofs.filing.leave_each.Given as goal
 
 abbrev pub invariant-loop-number : goal.invariant-loop-number
 invariant-loop-number l = record {

@@ -1,0 +1,168 @@
+-- The machine of a seed as it begins, and the words that ask for it.
+use Rattle.std.proofs.Common.{◌≡◌, ◌≢◌, ◌∙◌, ℕ, Bool, true, false, List, [], ◌∷◌, Option, Some, None, Ok, refl, sym, ap, subst, inl, inr, arith}
+use Rattle.std.specs.Prelude.{◌++◌, Result, Err, IfOk, bytes_eq, codes, if◌then◌else◌}
+use Rattle.std.specs.List.{AllZip}
+use Rattle.mpm_base.specs.declared.kind.Kind.TheVariants.{Hd4}
+use Rattle.std.proofs.lemmas.Slice.Eq.{bytes_eq-Decides}
+use Rattle.mpm_port.specs.Causes.{Rose}
+use Rattle.mpm_port.specs.Disks.{Disks}
+use Rattle.mpm_port.specs.MemoryDisks.{MemoryDisks, disks_of}
+use Rattle.mpm_port.proofs.Shelves.{contents_of_here}
+use Rattle.mpm_machine_file.specs.declared.lists.DriveSpec.{DriveSpec}
+use Rattle.mpm_machine_file.specs.declared.machine_file.MachineFile.{MachineFile}
+use Rattle.mpm_script.specs.declared.event.Timed.{Timed}
+use Rattle.mpm_generator.specs.Images.{image_of}
+use Rattle.mpm_generator.specs.Machines.{machine, script, name_of_image, drives_of}
+use Rattle.mpm_mount.specs.Drives.{Drive}
+use Rattle.mpm_mount.specs.Directories.{Directory}
+use Rattle.mpm_mount.specs.Images.{files_of}
+use Rattle.mpm_drives.specs.Images.{ToldImage, Untold, Bytes, Images, image_named, found, HasFiles}
+use Rattle.mpm_drives.specs.Mounted.{NumberedDrive, AreTold, IsDriveOf, IsMountedAs, drives_on, placed}
+use Rattle.mpm_drives.proofs.Opening.{drives_are}
+use Rattle.mpm_bdos.specs.Serving.{Kept as Filed}
+use Rattle.mpm_machine.specs.declared.machine.StepFault.{StepFault}
+use Rattle.mpm_machine.specs.declared.machine.StepFault.TheVariants.{WriteFault as SinkFailed, DiskFault as SyncFailed}
+use Rattle.mpm_machine.specs.Faults.{HasFailed}
+use Rattle.mpm_machine.specs.declared.system.System.{System}
+use Rattle.mpm_machine.specs.Opening.{opened}
+use Rattle.mpm_machine.specs.After.{after}
+use Rattle.mpm_machine.specs.State.{State, StandsForFiles}
+use Rattle.mpm_machine.specs.Mounting.{HasMounted, untouched}
+use Rattle.mpm_devices.specs.Kinds.{counted}
+use Rattle.mpm_render.specs.Outputs.{closed}
+use Rattle.mpm_top.specs.declared.status.Status.{Status}
+use Rattle.mpm_top.specs.declared.status.Status.TheVariants.{Ran, Usage, MachineFault, ScriptFault, ImageFault, TooLong, ReadFault, DiskFault, WriteFault, OutOfMemory}
+use Rattle.mpm_top.specs.Runs.{begun, UnlessReadFault}
+use Rattle.mpm_top.specs.Words.{Command, command_of, command_with, form_of}
+use Rattle.mpm_top.specs.declared.seeds.Seeded.{Seeded}
+use Rattle.mpm_top.specs.declared.seeds.Found.{Found}
+use Rattle.mpm_top.specs.Seeds.{seeded_of, drive_a, AreOf, AreFound}
+use Rattle.mpm_top.proofs.Placing.{mounted_stand}
+
+-- a device whose count stays 0 doesn't fail
+
+pub never_rose : Rose 0 0 → ⊥
+unfolding Rose
+never_rose (inl rose) = absurd (omega (arith, rose))
+never_rose (inr last) = absurd (omega (arith, last.0))
+
+pub none_failed : (fault : StepFault) → HasFailed fault (record { sink = 0; drives = 0 }) (record { sink = 0; drives = 0 }) → ⊥
+none_failed SinkFailed failed = never_rose failed.0
+none_failed SyncFailed failed = never_rose failed.0
+
+pub unless_read_always : (status : Status) (P : Type 0) → P → UnlessReadFault status P
+unless_read_always Ran P p = p
+unless_read_always Usage P p = p
+unless_read_always MachineFault P p = p
+unless_read_always (ScriptFault line) P p = p
+unless_read_always (ImageFault drive cause place) P p = p
+unless_read_always (TooLong what) P p = p
+unless_read_always ReadFault P p = tt
+unless_read_always (DiskFault step) P p = p
+unless_read_always (WriteFault step) P p = p
+unless_read_always OutOfMemory P p = p
+
+-- what a sink counted that was told the closed text of some steps
+
+pub same_some : (xs ys : List ℕ) → Some xs ≡ Some ys → xs ≡ ys
+same_some xs ys e = cc
+
+pub are_found : (seed steps : ℕ) (system : System) (begins_files : Drive) {E : Type 0} (result : Result Found E) → files_of (image_of seed) Hd4 ≡ Ok begins_files
+    → system ≡ opened machine script → IfOk result (λ found. AreOf steps (begun system (drive_a begins_files)) found) → IfOk result (λ found. AreFound seed steps found)
+are_found seed steps system files (Err error) are is of = tt
+are_found seed steps system files (Ok found) are is of = record {
+  files = files;
+  are = are;
+  found_are = subst (λ (s : System). AreOf steps (begun s (drive_a files)) found) is of;
+}
+
+-- the image of a seed is that of its name
+
+pub image_there : (seed : ℕ) → image_named (Some (disks_of (drives_of seed))) name_of_image ≡ Bytes (image_of seed)
+unfolding image_named
+image_there seed = ap found (contents_of_here [] name_of_image (image_of seed))
+
+is_told : (image : ToldImage) (bytes : List ℕ) → image ≡ Bytes bytes → image ≢ Untold
+is_told image bytes is none = let e : Bytes bytes ≡ Untold = sym is ∙ none in absurd (cc)
+
+only_one : {X Y : Type 0} (P : X → Y → Type 0) (x : X) (ys : List Y) → AllZip P (x ∷ []) ys → (y : Y) × (ys ≡ y ∷ []) × P x y
+only_one P x [] all = absurd all
+only_one P x (y ∷ []) all = (y, refl, all.0)
+only_one P x (y ∷ z ∷ ys) all = absurd all.1
+
+-- with what its machine begins: files that its image stands for, on the one drive, which has the size of its kind
+pub record BeginsSeeded (seed : ℕ) (attached : ℕ → Option ℕ) (disks : Option Disks) (kept : Filed) : Type 0 where
+  pub files : Drive
+  pub are : files_of (image_of seed) Hd4 ≡ Ok files
+  pub stand : StandsForFiles kept disks (untouched (placed (drive_a files)))
+  pub size : attached 0 ≡ Some 4194304
+
+abbrev its_drive : DriveSpec
+its_drive = record { letter = 65; kind = Hd4; image = name_of_image }
+
+one_drive : (images : Images) (image : List ℕ) (drives : List NumberedDrive) → images name_of_image ≡ Bytes image → AllZip (IsDriveOf images) (its_drive ∷ []) drives
+    → (files : Drive) × (drives ≡ drive_a files) × (files_of image Hd4 ≡ Ok files)
+one_drive images image drives there are =
+    let one = only_one (IsDriveOf images) its_drive drives are in
+    let P : ToldImage → Type 0 = λ told. HasFiles told Hd4 one.0.files in
+    (one.0.files, one.1 ∙ (λ i. record { number = one.2.number i; files = one.0.files } ∷ []), subst P there one.2.files)
+
+one_size : (attached : ℕ → Option ℕ) (disks : Option Disks) (images : Images) (mounted : List Directory) → AllZip (IsMountedAs attached disks images) (its_drive ∷ []) mounted
+    → attached 0 ≡ Some 4194304
+one_size attached disks images mounted are =
+    let one = only_one (IsMountedAs attached disks images) its_drive mounted are in
+    let P : ℕ → Type 0 = λ number. attached number ≡ Some 4194304 in
+    subst P one.2.number one.2.size
+
+pub begins_seeded : (seed : ℕ) (attached : ℕ → Option ℕ) (disks : Option Disks) (kept : Filed)
+    → HasMounted attached disks (image_named (Some (disks_of (drives_of seed)))) machine.drives kept → BeginsSeeded seed attached disks kept
+begins_seeded seed attached disks kept has =
+    let images : Images = image_named (Some (disks_of (drives_of seed))) in
+    let there = image_there seed in
+    let ds = has.directories in
+    let one = one_drive images (image_of seed) (drives_on disks ds) there (drives_are attached disks images machine.drives ds has.mounted) in
+    let told : AreTold images machine.drives = (is_told (images name_of_image) (image_of seed) there, tt) in
+    let stand = mounted_stand attached disks images machine.drives ds has.mounted told in
+    let on_drives : StandsForFiles kept disks (untouched (placed (drives_on disks ds))) =
+    subst (λ (k : Filed). StandsForFiles k disks (untouched (placed (drives_on disks ds)))) (sym has.is) (record { filing_is = refl; stand = stand }) in
+    record {
+      files = one.0;
+      are = one.2;
+      stand = subst (λ (on : List NumberedDrive). StandsForFiles kept disks (untouched (placed on))) one.1 on_drives;
+      size = one_size attached disks images ds has.mounted;
+    }
+
+-- so it is of a machine that is booted by them
+pub begins_booted : (seed : ℕ) (file : MachineFile) (old : MemoryDisks) (attached : ℕ → Option ℕ) (disks : Option Disks) (kept : Filed) → file ≡ machine → old ≡ drives_of seed
+    → HasMounted attached disks (image_named (Some (disks_of old))) file.drives kept → BeginsSeeded seed attached disks kept
+begins_booted seed file old attached disks kept same was has =
+    let P : MachineFile → Type 0 = λ f. HasMounted attached disks (image_named (Some (disks_of old))) f.drives kept in
+    let Q : MemoryDisks → Type 0 = λ d. HasMounted attached disks (image_named (Some (disks_of d))) machine.drives kept in
+    begins_seeded seed attached disks kept (subst Q was (subst P same has))
+
+pub opened_as : (system : System) (file : MachineFile) (events : List Timed) → system ≡ opened file events → file ≡ machine → events ≡ script → system ≡ opened machine script
+opened_as system file events is same typed = is ∙ (λ i. opened (same i) (typed i))
+
+-- words don't ask for both
+
+other_word : (word : List ℕ) (file : List ℕ) (steps : Option ℕ) (trace : Bool) (command : Command) → bytes_eq word (codes "gen") ≡ true
+    → command_with (form_of word) file steps trace ≡ Some command → ⊥
+unfolding form_of command_with
+other_word word file steps trace command gen is =
+    let same : word ≡ codes "gen" = grind (arith, bytes_eq-Decides word (codes "gen"), gen) in
+    let none : command_with (form_of (codes "gen")) file steps trace ≡ Some command = subst (λ (w : List ℕ). command_with (form_of w) file steps trace ≡ Some command) same is in
+    absurd (cc)
+
+by_word : (gen : Bool) (asked : Option Seeded) (seeded : Seeded) (P : Type 0) → (gen ≡ true → P) → (if gen then asked else None) ≡ Some seeded → P
+by_word true asked seeded P so is = so refl
+by_word false asked seeded P so is = absurd (cc)
+
+pub asks_one : (words : List (List ℕ)) (command : Command) (seeded : Seeded) → command_of words ≡ Some command → seeded_of words ≡ Some seeded → ⊥
+unfolding command_of seeded_of
+asks_one [] command seeded is other = absurd (cc)
+asks_one (word ∷ []) command seeded is other = absurd (cc)
+asks_one (word ∷ file ∷ []) command seeded is other = absurd (cc)
+asks_one (word ∷ file ∷ steps ∷ []) command seeded is other =
+    by_word (bytes_eq word (codes "gen")) _ seeded ⊥ (λ gen. other_word word file _ false command gen is) other
+asks_one (word ∷ file ∷ steps ∷ last ∷ []) command seeded is other = absurd (cc)
+asks_one (word ∷ file ∷ steps ∷ last ∷ more ∷ rest) command seeded is other = absurd (cc)

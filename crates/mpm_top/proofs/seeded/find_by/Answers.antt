@@ -1,0 +1,18 @@
+use Rattle.std.proofs.Common.{Some}
+use Rattle.mpm_port.specs.MemoryDisks.{disks_of, size_of}
+use Rattle.mpm_top.proofs.SeedLaws.{BeginsSeeded, begins_booted, opened_as, are_found}
+use Rattle.mpm_top.proofs.seeded.find_by.Goals as goal
+
+pub find_of-requires-clause-size : goal.find_of-requires-clause-size
+find_of-requires-clause-size c =
+    (begins_booted c.args.asked.seed c.args.file.now c.args.drives.now (size_of c.boot.new.drives) (Some (disks_of c.boot.new.drives)) c.in-Ok.machine.bdos c.requires.machine
+    c.requires.drives c.in-Ok.ensures.mounted).size
+
+pub returns-in-Ok : goal.returns-in-Ok
+returns-in-Ok c =
+    let begins : BeginsSeeded c.args.asked.seed (size_of c.boot.new.drives) (Some (disks_of c.boot.new.drives)) c.in-Ok.machine.bdos =
+    begins_booted c.args.asked.seed c.args.file.now c.args.drives.now (size_of c.boot.new.drives) (Some (disks_of c.boot.new.drives)) c.in-Ok.machine.bdos c.requires.machine
+    c.requires.drives c.in-Ok.ensures.mounted in
+    are_found c.args.asked.seed c.args.asked.steps c.in-Ok.machine.system begins.files c.find_of.result begins.are
+    (opened_as c.in-Ok.machine.system c.args.file.now c.args.script c.in-Ok.ensures.opening c.requires.machine c.requires.script)
+    (c.find_of.ensures _ begins.stand)

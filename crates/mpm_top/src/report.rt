@@ -1,0 +1,44 @@
+ghost use Rattle.std.specs.Prelude.{◌≡◌, ◌≤◌, ◌+◌, ◌++◌, ◌∷◌, [], OnOk, OnErr, length, decimal};
+ghost use Rattle.mpm_port.specs.Causes.{HasCause};
+ghost use Rattle.mpm_port.specs.Texts.{appended, AppendsPart};
+ghost use Rattle.mpm_top.specs.Seeds.{report as report_said};
+
+use crate::seeds::Found;
+use arrayvec::ArrayVec;
+use itoa::Buffer;
+use mpm_port::{Failed, Sink};
+
+/// Writes what is reported of a run, by one put.
+pub(crate) fn put_report<S: Sink>(found: &Found, sink: &mut S) -> Result<(), Failed>
+    ensures ok { OnOk result (S.written sink.new ≡ appended (S.written sink.old) (report_said found.now)) }
+    ensures err { OnErr result (AppendsPart (S.written sink.old) (report_said found.now) (S.written sink.new)) }
+    ensures cause { HasCause (S.faults sink.old) (S.faults sink.new) result }
+{
+    let text = report(found);
+    sink.put(text.as_slice())
+}
+
+/// The three lines of a report.
+#[tactic(auto, unfolding(crate::specs::Seeds::report))]
+fn report(found: &Found) -> ArrayVec<u8, 96>
+    ensures { result.items ≡ report_said found.now }
+{
+    let mut text = ArrayVec::new();
+    push_line(b"lines ", found.lines, &mut text);
+    push_line(b"calls ", found.calls, &mut text);
+    push_line(b"data ", found.data, &mut text);
+    text
+}
+
+/// A line of a word and a number behind the text.
+fn push_line(word: &[u8], number: u64, text: &mut ArrayVec<u8, 96>)
+    requires { length text.old.items + length word.now + 21 ≤ 96 }
+    ensures text { text.new.items ≡ text.old.items ++ (word.now ++ (decimal number ++ (10 ∷ []))) }
+    ensures size { length text.new.items ≤ length text.old.items + length word.now + 21 }
+{
+    text.try_extend_from_slice(word).unwrap();
+    let mut buffer = Buffer::new();
+    let digits = buffer.format(number).as_bytes();
+    text.try_extend_from_slice(digits).unwrap();
+    text.push(b'\n');
+}

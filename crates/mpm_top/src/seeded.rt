@@ -1,0 +1,179 @@
+ghost use Rattle.std.specs.Prelude.{◌≡◌, ◌≢◌, ◌≤◌, ◌<◌, ◌++◌, [], ℕ, true, List, Some, None, IfOk, ◌↔◌};
+ghost use Rattle.mpm_script.specs.declared.line.TheConstants.{GREATEST_STEP};
+ghost use Rattle.mpm_port.specs.Causes.{Rose};
+ghost use Rattle.mpm_port.specs.MemoryDisks.{disks_of, size_of};
+ghost use Rattle.mpm_render.specs.Outputs.{closed};
+ghost use Rattle.mpm_generator.specs.Machines.{machine as machine_said, script as script_said, drives_of};
+ghost use Rattle.mpm_drives.specs.Mounted.{NumberedDrive, placed};
+ghost use Rattle.mpm_machine.specs.State.{StandsForFiles, HoldsDrives, IsWhole};
+ghost use Rattle.mpm_machine.specs.Mounting.{untouched};
+ghost use Rattle.mpm_machine.specs.After.{after};
+ghost use Rattle.mpm_top.specs.Words.{texts};
+ghost use Rattle.mpm_top.specs.Runs.{begun, IsRefusal, UnlessWriteFault};
+ghost use Rattle.mpm_top.specs.Seeds.{seeded_of, AreOf, AreFound, EndsSeeded};
+
+use crate::data::data_sum;
+use crate::report::put_report;
+use crate::seeds::{Found, Seeded, generated, read_seeded};
+use crate::status::Status;
+use mpm_base::Steps;
+use mpm_devices::{LineCounts, SteadyDrives};
+use mpm_generator::Generated;
+use mpm_machine::Machine;
+use mpm_machine_file::MachineFile;
+use mpm_port::{Failed, OutOfMemory, Sink};
+use mpm_render::Render;
+use mpm_script::Script;
+use std::alloc::Global;
+use std::marker::Brand;
+use std::sync::ledger::{Blank, Ledger};
+
+/// Does what words ask of `gen`. Usage comes exactly where they have no such form.
+pub(crate) fn run_seeded_words<S: Sink>(alloc: Global, words: &[String], sink: &mut S) -> Status
+    ensures usage { (result ≡ Status.Usage) ↔ (seeded_of (texts words.now) ≡ None) }
+    ensures ends { (asked : Seeded) → seeded_of (texts words.now) ≡ Some asked
+        → EndsSeeded asked (S.written sink.old) (S.written sink.new) (S.faults sink.old) (S.faults sink.new) result }
+    ensures write { (step : ℕ) → result ≡ Status.WriteFault step → Rose (S.faults sink.old) (S.faults sink.new) }
+    ensures count { UnlessWriteFault result (S.faults sink.new ≡ S.faults sink.old) }
+    ensures nothing { IsRefusal result → sink.new ≡ sink.old }
+{
+    match read_seeded(words) {
+        Some(asked) => run_seeded(alloc, asked, sink),
+        None => Status::Usage,
+    }
+}
+
+/// Runs the machine of a seed for so many steps, and reports what was found.
+fn run_seeded<S: Sink>(alloc: Global, asked: Seeded, sink: &mut S) -> Status
+    requires seed { asked.seed < 2147483648 }
+    requires steps { asked.steps ≤ GREATEST_STEP }
+    ensures usage { result ≢ Status.Usage }
+    ensures ends { EndsSeeded asked (S.written sink.old) (S.written sink.new) (S.faults sink.old) (S.faults sink.new) result }
+    ensures write { (step : ℕ) → result ≡ Status.WriteFault step → Rose (S.faults sink.old) (S.faults sink.new) }
+    ensures count { UnlessWriteFault result (S.faults sink.new ≡ S.faults sink.old) }
+    ensures nothing { IsRefusal result → sink.new ≡ sink.old }
+{
+    match find(alloc, asked) {
+        Ok(found) => match put_report(&found, sink) {
+            Ok(()) => Status::Ran,
+            Err(Failed) => Status::WriteFault { step: asked.steps },
+        },
+        Err(_) => Status::OutOfMemory,
+    }
+}
+
+/// What is found of the machine of a seed after so many steps.
+///
+/// # Errors
+/// Where no memory is found, before the first step.
+fn find(alloc: Global, asked: Seeded) -> Result<Found, OutOfMemory>
+    requires seed { asked.seed < 2147483648 }
+    requires steps { asked.steps ≤ GREATEST_STEP }
+    ensures { IfOk result (λ found. AreFound asked.seed asked.steps found) }
+{
+    match generated(alloc, asked.seed) {
+        Ok(made) => find_in(alloc, asked, made),
+        Err(error) => Err(error),
+    }
+}
+
+/// What is found of a machine that was made of the seed.
+fn find_in(alloc: Global, asked: Seeded, made: Generated) -> Result<Found, OutOfMemory>
+    requires seed { asked.seed < 2147483648 }
+    requires steps { asked.steps ≤ GREATEST_STEP }
+    requires machine { made.machine ≡ machine_said }
+    requires script { made.script ≡ script_said }
+    requires drives { made.drives ≡ drives_of asked.seed }
+    ensures { IfOk result (λ found. AreFound asked.seed asked.steps found) }
+{
+    let Generated {
+        machine: file,
+        script,
+        drives,
+    } = made;
+    let mut drives = SteadyDrives::of(drives);
+    find_by(alloc, asked, &file, script, &mut drives)
+}
+
+/// What is found of the machine of a file and a script, over the drives of the seed.
+fn find_by(
+    alloc: Global,
+    asked: Seeded,
+    file: &MachineFile,
+    script: Script,
+    drives: &mut SteadyDrives,
+) -> Result<Found, OutOfMemory>
+    requires steps { asked.steps ≤ GREATEST_STEP }
+    requires machine { file.now ≡ machine_said }
+    requires script { script ≡ script_said }
+    requires drives { drives.old ≡ drives_of asked.seed }
+    ensures { IfOk result (λ found. AreFound asked.seed asked.steps found) }
+{
+    // The drives don't fail, and the image is there and has no fault: what is left is want of memory.
+    match Machine::boot(alloc, file, script, drives) {
+        Ok(mut machine) => find_of(alloc, asked.steps, &mut machine, drives),
+        Err(_) => Err(OutOfMemory),
+    }
+}
+
+/// What is found of a machine that begins, after so many steps.
+fn find_of(
+    alloc: Global,
+    steps: u64,
+    machine: &mut Machine,
+    drives: &mut SteadyDrives,
+) -> Result<Found, OutOfMemory>
+    requires whole { IsWhole machine.old.system }
+    requires no_completions { machine.old.system.kernel.dispatcher.completed ≡ [] }
+    requires start { machine.old.system.steps ≡ 0 }
+    requires holds { HoldsDrives size_of (λ d. Some (disks_of d)) machine.old.bdos drives.old }
+    requires limit { steps ≤ GREATEST_STEP }
+    requires size { size_of drives.old 0 ≡ Some 4194304 }
+    ensures { (on : List NumberedDrive) → StandsForFiles machine.old.bdos (Some (disks_of drives.old)) (untouched (placed on))
+        → IfOk result (λ found. AreOf steps (begun machine.old.system on) found) }
+{
+    match LineCounts::new(alloc) {
+        Ok(mut counts) => {
+            run_counted::<Brand>(machine, steps, drives, &mut counts, Blank::new(1));
+            Ok(Found {
+                lines: counts.of_consoles(),
+                calls: counts.of_calls(),
+                data: data_sum(drives),
+            })
+        }
+        Err(error) => Err(error),
+    }
+}
+
+/// Runs a machine that begins for so many steps, with records of completed calls, counts the lines, and syncs its drives.
+/// Neither these nor the count fails.
+fn run_counted<L: Ledger>(
+    machine: &mut Machine,
+    steps: u64,
+    drives: &mut SteadyDrives,
+    counts: &mut LineCounts,
+    blank: Blank,
+)
+    requires whole { IsWhole machine.old.system }
+    requires no_completions { machine.old.system.kernel.dispatcher.completed ≡ [] }
+    requires start { machine.old.system.steps ≡ 0 }
+    requires holds { HoldsDrives size_of (λ d. Some (disks_of d)) machine.old.bdos drives.old }
+    requires limit { steps ≤ GREATEST_STEP }
+    requires name { blank.name ≡ L.name }
+    requires parts { blank.parts ≡ L.parts }
+    requires some_part { 0 < L.parts }
+    ensures text { (on : List NumberedDrive) → StandsForFiles machine.old.bdos (Some (disks_of drives.old)) (untouched (placed on))
+        → counts.new ≡ counts.old ++ closed true (after steps (begun machine.old.system on)).outputs }
+    ensures attached { (number : ℕ) → size_of drives.new number ≡ size_of drives.old number }
+{
+    let mut calls = Steps::<L>::new(blank);
+    let mut render = Render::new(true);
+    match machine.run(steps, drives, &mut render, counts, &mut calls) {
+        Ok(()) => {}
+        Err(_) => unreachable!(),
+    }
+    match machine.settle(drives, &mut render, counts, &mut calls) {
+        Ok(()) => {}
+        Err(_) => unreachable!(),
+    }
+}
