@@ -2,3 +2,4 @@ pub mod Sizes
 pub mod Blocks
 pub mod Places
 pub mod Typed
+pub mod ProgramSizes

@@ -4,5 +4,8 @@ pub mod Examples
 pub mod EndingLaws
 pub mod Placing
 pub mod Naming
+pub mod DataLaws
+pub mod SeedFiles
+pub mod SeedImages
 pub mod BootLaws
 pub mod SeedLaws

@@ -1,5 +1,5 @@
 -- The images by the names that a machine file lists, and what they stand for.
-use Rattle.std.proofs.Common.{◌≡◌, ◌≢◌, ◌∙◌, ◌<◌, ℕ, true, false, List, [], ◌∷◌, Option, Some, None, length, inl, inr, refl, sym, ap, subst, arith}
+use Rattle.std.proofs.Common.{◌≡◌, ◌≢◌, ◌∙◌, ◌<◌, ℕ, true, List, [], ◌∷◌, Option, Some, None, length, inl, inr, refl, sym, ap, subst, arith}
 use Rattle.std.proofs.Math.Path.{fun_ext}
 use Rattle.std.specs.Prelude.{◌⊎◌, Ok, is_some, option_map, option_and_then, slice_index_or, unwrap_or}
 use Rattle.std.specs.List.{AllByRecursion}
@@ -29,7 +29,7 @@ use Rattle.mpm_top.specs.declared.words.Form.{Form}
 use Rattle.mpm_top.specs.Runs.{Host, Starts, drives_listed, StandFor}
 use Rattle.mpm_top.proofs.EndingLaws.{known_contents}
 
-none_some : {X : Type 0} {x : X} → None ≡ Some x → ⊥
+pub none_some : {X : Type 0} {x : X} → None ≡ Some x → ⊥
 none_some e = absurd (cc)
 
 -- an image on which a directory stands is told
@@ -43,7 +43,7 @@ told_by_size : (image : Option (List ℕ)) (bytes : ℕ) → length (unwrap_or i
 told_by_size None bytes size some = absurd (omega (arith, size, some))
 told_by_size (Some image) bytes size some = refl
 
-told_there : (x : Option Disks) (number : ℕ) (kind : Kind) → length (told_images x number) ≡ (geometry_of kind).bytes → told_image x number ≡ Some (told_images x number)
+pub told_there : (x : Option Disks) (number : ℕ) (kind : Kind) → length (told_images x number) ≡ (geometry_of kind).bytes → told_image x number ≡ Some (told_images x number)
 unfolding told_images
 told_there x number kind size = told_by_size (told_image x number) (geometry_of kind).bytes size (some_bytes kind)
 
@@ -68,7 +68,7 @@ record Named (x : Option Disks) (drives : List (Option Drive)) (spec : DriveSpec
   pub is : IsDriveOf (image_named x) spec drive
   pub here : slice_index_or drives drive.number None ≡ Some drive.files
 
-kind_labelled : (d : Directory) (number : ℕ) (kind : Kind) → Some (labelled d) ≡ Some (number, kind) → d.kind ≡ kind
+pub kind_labelled : (d : Directory) (number : ℕ) (kind : Kind) → Some (labelled d) ≡ Some (number, kind) → d.kind ≡ kind
 kind_labelled d number kind same = ap (λ (label : Option (ℕ × Kind)). (unwrap_or label (number, kind)).1) same
 
 named_by : (x : Option Disks) (drives : List (Option Drive)) (spec : DriveSpec) (directory : Option Directory) (drive : Option Drive)

@@ -1,6 +1,6 @@
 -- The machine of a seed as it begins, and the words that ask for it.
 use Rattle.std.proofs.Common.{◌≡◌, ◌≢◌, ◌∙◌, ℕ, Bool, true, false, List, [], ◌∷◌, Option, Some, None, Ok, refl, sym, ap, subst, inl, inr, arith}
-use Rattle.std.specs.Prelude.{◌++◌, Result, Err, IfOk, bytes_eq, codes, if◌then◌else◌}
+use Rattle.std.specs.Prelude.{Result, Err, IfOk, bytes_eq, codes, option_map, if◌then◌else◌}
 use Rattle.std.specs.List.{AllZip}
 use Rattle.mpm_base.specs.declared.kind.Kind.TheVariants.{Hd4}
 use Rattle.std.proofs.lemmas.Slice.Eq.{bytes_eq-Decides}
@@ -16,20 +16,22 @@ use Rattle.mpm_generator.specs.Machines.{machine, script, name_of_image, drives_
 use Rattle.mpm_mount.specs.Drives.{Drive}
 use Rattle.mpm_mount.specs.Directories.{Directory}
 use Rattle.mpm_mount.specs.Images.{files_of}
-use Rattle.mpm_drives.specs.Images.{ToldImage, Untold, Bytes, Images, image_named, found, HasFiles}
+use Rattle.mpm_mount.specs.declared.errors.ImageFault.{ImageFault as FaultOfImage}
+use Rattle.mpm_drives.specs.declared.error.BootError.{BootError}
+use Rattle.mpm_drives.specs.declared.error.BootError.TheVariants.{Image}
+use Rattle.mpm_drives.specs.Images.{ToldImage, Untold, Bytes, Images, image_named, found, HasFiles, HasFault}
+use Rattle.mpm_drives.specs.Stopping.{Failures, StopsAt, IsFirst, Stops}
 use Rattle.mpm_drives.specs.Mounted.{NumberedDrive, AreTold, IsDriveOf, IsMountedAs, drives_on, placed}
 use Rattle.mpm_drives.proofs.Opening.{drives_are}
-use Rattle.mpm_bdos.specs.Serving.{Kept as Filed}
+use Rattle.mpm_bdos.specs.Serving.{Kept as Filed, directory_at}
+use Rattle.mpm_bdos.specs.Turns.{labelled}
 use Rattle.mpm_machine.specs.declared.machine.StepFault.{StepFault}
 use Rattle.mpm_machine.specs.declared.machine.StepFault.TheVariants.{WriteFault as SinkFailed, DiskFault as SyncFailed}
 use Rattle.mpm_machine.specs.Faults.{HasFailed}
 use Rattle.mpm_machine.specs.declared.system.System.{System}
 use Rattle.mpm_machine.specs.Opening.{opened}
-use Rattle.mpm_machine.specs.After.{after}
-use Rattle.mpm_machine.specs.State.{State, StandsForFiles}
-use Rattle.mpm_machine.specs.Mounting.{HasMounted, untouched}
-use Rattle.mpm_devices.specs.Kinds.{counted}
-use Rattle.mpm_render.specs.Outputs.{closed}
+use Rattle.mpm_machine.specs.State.{StandsForFiles}
+use Rattle.mpm_machine.specs.Mounting.{HasMounted, HasDrives, untouched}
 use Rattle.mpm_top.specs.declared.status.Status.{Status}
 use Rattle.mpm_top.specs.declared.status.Status.TheVariants.{Ran, Usage, MachineFault, ScriptFault, ImageFault, TooLong, ReadFault, DiskFault, WriteFault, OutOfMemory}
 use Rattle.mpm_top.specs.Runs.{begun, UnlessReadFault}
@@ -38,6 +40,7 @@ use Rattle.mpm_top.specs.declared.seeds.Seeded.{Seeded}
 use Rattle.mpm_top.specs.declared.seeds.Found.{Found}
 use Rattle.mpm_top.specs.Seeds.{seeded_of, drive_a, AreOf, AreFound}
 use Rattle.mpm_top.proofs.Placing.{mounted_stand}
+use Rattle.mpm_top.proofs.SeedImages.{has_files}
 
 -- a device whose count stays 0 doesn't fail
 
@@ -139,6 +142,36 @@ begins_booted seed file old attached disks kept same was has =
     let P : MachineFile → Type 0 = λ f. HasMounted attached disks (image_named (Some (disks_of old))) f.drives kept in
     let Q : MemoryDisks → Type 0 = λ d. HasMounted attached disks (image_named (Some (disks_of d))) machine.drives kept in
     begins_seeded seed attached disks kept (subst Q was (subst P same has))
+
+-- its image is at no fault
+
+apart : (files : Drive) (fault : FaultOfImage) (found : Result Drive FaultOfImage) → found ≡ Ok files → found ≡ Err fault → ⊥
+apart files fault found are is = absurd (cc)
+
+fault_nowhere : (images : Images) (image : List ℕ) (files : Drive) (old new : Failures) (drive cause place : ℕ) → images name_of_image ≡ Bytes image → files_of image Hd4 ≡ Ok files
+    → IsFirst images (λ spec. StopsAt images spec old new (Image drive cause place)) (its_drive ∷ []) → ⊥
+unfolding IsFirst
+fault_nowhere images image files old new drive cause place there are (inl stops) =
+    let fault : FaultOfImage = record { cause = cause; place = place } in
+    apart files fault (files_of image Hd4) are (subst (λ (told : ToldImage). HasFault told Hd4 fault) there stops.1)
+fault_nowhere images image files old new drive cause place there are (inr later) = absurd later.1
+
+pub no_image_fault : (seed : ℕ) (file : MachineFile) (drives : MemoryDisks) (old new : Failures) (error : BootError) (drive cause place : ℕ) → error ≡ Image drive cause place → file ≡ machine
+    → drives ≡ drives_of seed → Stops (image_named (Some (disks_of drives))) file.drives old new error → ⊥
+no_image_fault seed file drives old new error drive cause place is same was stops =
+    let sound = has_files seed in
+    let P : MachineFile → Type 0 = λ f. Stops (image_named (Some (disks_of drives))) f.drives old new (Image drive cause place) in
+    let Q : MemoryDisks → Type 0 = λ d. Stops (image_named (Some (disks_of d))) machine.drives old new (Image drive cause place) in
+    let R : BootError → Type 0 = λ e. Stops (image_named (Some (disks_of drives))) file.drives old new e in
+    fault_nowhere (image_named (Some (disks_of (drives_of seed)))) (image_of seed) sound.0 old new drive cause place (image_there seed) sound.1
+    (subst Q was (subst P same (subst R is stops)))
+
+-- its drive is drive A
+pub first_drive : (x : Option Disks) (file : MachineFile) (mounted : List (Option Directory)) → file ≡ machine → HasDrives x file.drives mounted
+    → option_map labelled (directory_at mounted 0) ≡ Some (0, Hd4)
+first_drive x file mounted same has =
+    let on : HasDrives x machine.drives mounted = subst (λ (f : MachineFile). HasDrives x f.drives mounted) same has in
+    on.each.0.label
 
 pub opened_as : (system : System) (file : MachineFile) (events : List Timed) → system ≡ opened file events → file ≡ machine → events ≡ script → system ≡ opened machine script
 opened_as system file events is same typed = is ∙ (λ i. opened (same i) (typed i))

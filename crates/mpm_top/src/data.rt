@@ -1,89 +1,132 @@
-ghost use Rattle.std.specs.Prelude.{◌≡◌, ◌<◌, ◌*◌, ◌+◌, ℕ, Some};
-ghost use Rattle.mpm_port.specs.MemoryDisks.{size_of};
+ghost use Rattle.std.specs.Prelude.{◌≡◌, ◌<◌, ◌≤◌, ◌+◌, ℕ, List, Option, Some, IfOk, IfSome, option_map, length};
+ghost use Rattle.mpm_base.specs.declared.kind.Kind.TheVariants.{Hd4};
+ghost use Rattle.mpm_port.specs.Disks.{sector_of as sector_said};
+ghost use Rattle.mpm_port.specs.MemoryDisks.{disks_of, size_of};
+ghost use Rattle.mpm_blocks.specs.Sectors.{told_image};
+ghost use Rattle.mpm_mount.specs.Drives.{Drive, visible_of};
+ghost use Rattle.mpm_mount.specs.Faults.{block_at};
+ghost use Rattle.mpm_mount.specs.Directories.{Stands};
+ghost use Rattle.mpm_top.specs.Data.{HasDriveA, data_file, first_of, weighed as weighed_said, data_of, data_on, sector_in as sector_within};
 
+use mpm_base::Kind;
 use mpm_devices::SteadyDrives;
-use mpm_dirent::{Entry, FileEntry, read_entry};
-use mpm_port::Drives;
+use mpm_dirent::{Entry, FileEntry};
+use mpm_mount::{Mounted, mount};
+use mpm_port::{Drives, OutOfMemory};
+use std::alloc::Global;
 
 /// The file whose records are summed.
 const NAME: [u8; 11] = *b"DATA    DAT";
 
 /// The sum over the first 32 records of DATA.DAT of user 0 on drive A, an `hd4` disk, counted from 1: that number times the
 /// record's first byte. A record that isn't there counts as 0.
-pub(crate) fn data_sum(drives: &mut SteadyDrives) -> u64
+///
+/// # Errors
+/// Where no memory is found.
+pub(crate) fn data_sum(alloc: Global, drives: &mut SteadyDrives) -> Result<u64, OutOfMemory>
     requires { size_of drives.old 0 ≡ Some 4194304 }
+    ensures { (on : List (Option Drive)) → HasDriveA (Some (disks_of drives.old)) on → IfOk result (λ sum. sum ≡ data_on on) }
 {
-    let Some(file) = find(drives) else {
-        return 0;
-    };
+    // The drive doesn't fail, and its image has no fault: what is left is want of memory.
+    match mount(alloc, drives, 0, Kind::Hd4) {
+        Ok(mounted) => Ok(sum_of(&mounted, drives)),
+        Err(_) => Err(OutOfMemory),
+    }
+}
+
+/// The sum over those records of a mounted drive A.
+fn sum_of(mounted: &Mounted, drives: &mut SteadyDrives) -> u64
+    requires size { size_of drives.old 0 ≡ Some 4194304 }
+    requires kind { mounted.now.kind ≡ Hd4 }
+    ensures { (image : List ℕ) (files : Drive) → told_image (Some (disks_of drives.old)) 0 ≡ Some image → Stands image mounted.now files
+        → result ≡ data_of files }
+{
     let mut sum: u64 = 0;
     for place in 0..32 {
-        let byte = first_byte(&file, place, drives);
-        sum = sum.saturating_add((u64::from(place) + 1).saturating_mul(u64::from(byte)));
+        sum += weighed(mounted, place, drives);
     }
     sum
 }
 
-/// The directory entry of the file's first extent.
-fn find(drives: &mut SteadyDrives) -> Option<FileEntry>
-    requires { size_of drives.old 0 ≡ Some 4194304 }
-    ensures same { (drive : ℕ) → size_of drives.new drive ≡ size_of drives.old drive }
+/// A record's part of the sum.
+fn weighed(mounted: &Mounted, place: u8, drives: &mut SteadyDrives) -> u64
+    requires size { size_of drives.old 0 ≡ Some 4194304 }
+    requires kind { mounted.now.kind ≡ Hd4 }
+    requires place { place < 32 }
+    ensures part { (image : List ℕ) (files : Drive) → told_image (Some (disks_of drives.old)) 0 ≡ Some image → Stands image mounted.now files
+        → result ≡ weighed_said files place }
+    ensures small { result ≤ 8160 }
+    ensures size { size_of drives.new 0 ≡ Some 4194304 }
+    ensures same { told_image (Some (disks_of drives.new)) 0 ≡ told_image (Some (disks_of drives.old)) 0 }
 {
-    for slot in 0..512 {
-        if let Entry::File { file } = entry_at(slot, drives) {
-            if is_data(&file) {
-                return Some(file);
-            }
-        }
-    }
-    None
+    (u64::from(place) + 1) * u64::from(first_byte(mounted, place, drives))
 }
 
-/// The directory entry of a slot.
-fn entry_at(slot: u16, drives: &mut SteadyDrives) -> Entry
+/// The first byte of a record, 0 where it isn't there.
+fn first_byte(mounted: &Mounted, place: u8, drives: &mut SteadyDrives) -> u8
     requires size { size_of drives.old 0 ≡ Some 4194304 }
-    requires slot { slot < 512 }
-    ensures same { (drive : ℕ) → size_of drives.new drive ≡ size_of drives.old drive }
+    requires kind { mounted.now.kind ≡ Hd4 }
+    requires place { place < 32 }
+    ensures byte { (image : List ℕ) (files : Drive) → told_image (Some (disks_of drives.old)) 0 ≡ Some image → Stands image mounted.now files
+        → result ≡ first_of (visible_of files data_file place) }
+    ensures size { size_of drives.new 0 ≡ Some 4194304 }
+    ensures same { told_image (Some (disks_of drives.new)) 0 ≡ told_image (Some (disks_of drives.old)) 0 }
 {
-    let sector = sector_at(u32::from(slot / 4), drives);
-    let from = 32 * usize::from(slot % 4);
-    let mut bytes = [0; 32];
-    bytes.copy_from_slice(&sector[from..from + 32]);
-    read_entry(&bytes, true)
+    match sector_of(mounted, place) {
+        Some(sector) => {
+            let bytes = sector_at(sector, drives);
+            bytes[0]
+        }
+        None => 0,
+    }
+}
+
+/// The sector of a record that is there.
+#[tactic(auto, using(crate::proofs::DataLaws::slot_within))]
+fn sector_of(mounted: &Mounted, place: u8) -> Option<u32>
+    requires kind { mounted.now.kind ≡ Hd4 }
+    requires place { place < 32 }
+    ensures record { (image : List ℕ) (files : Drive) → Stands image mounted.now files
+        → visible_of files data_file place ≡ option_map (sector_said image) result }
+    ensures within { IfSome result (λ sector. sector < 32768) }
+{
+    let _kind = mounted.kind();
+    match mounted.extent(0, &NAME, 0) {
+        Some(slot) => match mounted.entry(slot) {
+            Entry::File { file } => sector_in(file, place),
+            Entry::Free => None,
+            Entry::Xfcb { .. } => None,
+            Entry::Label { .. } => None,
+            Entry::Kept { .. } => None,
+        },
+        None => None,
+    }
+}
+
+/// The sector of a record, where the entry of its file's extent 0 has it.
+fn sector_in(file: &FileEntry, place: u8) -> Option<u32>
+    requires { place < 32 }
+    ensures { result ≡ sector_within place file.now }
+{
+    let block = file.blocks[usize::from(place / 16)];
+    if place < file.rc && block != 0 {
+        Some(16 * u32::from(block) + u32::from(place % 16))
+    } else {
+        None
+    }
 }
 
 /// A sector of the drive.
 fn sector_at(sector: u32, drives: &mut SteadyDrives) -> [u8; 128]
     requires size { size_of drives.old 0 ≡ Some 4194304 }
     requires sector { sector < 32768 }
-    ensures same { (drive : ℕ) → size_of drives.new drive ≡ size_of drives.old drive }
+    ensures bytes { (image : List ℕ) → told_image (Some (disks_of drives.old)) 0 ≡ Some image → result ≡ sector_said image sector }
+    ensures size { size_of drives.new 0 ≡ Some 4194304 }
+    ensures same { told_image (Some (disks_of drives.new)) 0 ≡ told_image (Some (disks_of drives.old)) 0 }
 {
     let mut bytes = [0; 128];
     match drives.read(0, sector, &mut bytes) {
         Ok(()) => bytes,
         Err(_) => unreachable!(),
     }
-}
-
-/// Whether an entry is that of the file's first extent. Bit 7 of a name is no part of it.
-fn is_data(file: &FileEntry) -> bool {
-    let mut plain = file.name;
-    for byte in &mut plain {
-        *byte %= 128;
-    }
-    file.user == 0 && plain == NAME && file.ex == 0 && file.s2 == 0
-}
-
-/// The first byte of a record, of the first 32 in the file's first extent; 0 where it isn't there.
-fn first_byte(file: &FileEntry, place: u8, drives: &mut SteadyDrives) -> u8
-    requires size { size_of drives.old 0 ≡ Some 4194304 }
-    requires place { place < 32 }
-    ensures same { (drive : ℕ) → size_of drives.new drive ≡ size_of drives.old drive }
-{
-    let block = file.blocks[usize::from(place / 16)];
-    if place >= file.rc || block == 0 || block > 2047 {
-        return 0;
-    }
-    let sector = sector_at(16 * u32::from(block) + u32::from(place % 16), drives);
-    sector[0]
 }

@@ -1,15 +1,19 @@
-ghost use Rattle.std.specs.Prelude.{◌≡◌, ◌≢◌, ◌≤◌, ◌<◌, ◌++◌, [], ℕ, true, List, Some, None, IfOk, ◌↔◌};
+ghost use Rattle.std.specs.Prelude.{◌≡◌, ◌≢◌, ◌≤◌, ◌<◌, ◌++◌, [], ℕ, true, List, Some, None, IfOk, ◌↔◌, option_map};
 ghost use Rattle.mpm_script.specs.declared.line.TheConstants.{GREATEST_STEP};
+ghost use Rattle.mpm_base.specs.declared.kind.Kind.TheVariants.{Hd4};
 ghost use Rattle.mpm_port.specs.Causes.{Rose};
 ghost use Rattle.mpm_port.specs.MemoryDisks.{disks_of, size_of};
 ghost use Rattle.mpm_render.specs.Outputs.{closed};
 ghost use Rattle.mpm_generator.specs.Machines.{machine as machine_said, script as script_said, drives_of};
 ghost use Rattle.mpm_drives.specs.Mounted.{NumberedDrive, placed};
+ghost use Rattle.mpm_bdos.specs.Serving.{directory_at};
+ghost use Rattle.mpm_bdos.specs.Turns.{labelled};
 ghost use Rattle.mpm_machine.specs.State.{StandsForFiles, HoldsDrives, IsWhole};
 ghost use Rattle.mpm_machine.specs.Mounting.{untouched};
 ghost use Rattle.mpm_machine.specs.After.{after};
 ghost use Rattle.mpm_top.specs.Words.{texts};
 ghost use Rattle.mpm_top.specs.Runs.{begun, IsRefusal, UnlessWriteFault};
+ghost use Rattle.mpm_top.specs.Data.{HasDriveA};
 ghost use Rattle.mpm_top.specs.Seeds.{seeded_of, AreOf, AreFound, EndsSeeded};
 
 use crate::data::data_sum;
@@ -19,7 +23,7 @@ use crate::status::Status;
 use mpm_base::Steps;
 use mpm_devices::{LineCounts, SteadyDrives};
 use mpm_generator::Generated;
-use mpm_machine::Machine;
+use mpm_machine::{BootError, Machine};
 use mpm_machine_file::MachineFile;
 use mpm_port::{Failed, OutOfMemory, Sink};
 use mpm_render::Render;
@@ -65,7 +69,7 @@ fn run_seeded<S: Sink>(alloc: Global, asked: Seeded, sink: &mut S) -> Status
 /// What is found of the machine of a seed after so many steps.
 ///
 /// # Errors
-/// Where no memory is found, before the first step.
+/// Where no memory is found.
 fn find(alloc: Global, asked: Seeded) -> Result<Found, OutOfMemory>
     requires seed { asked.seed < 2147483648 }
     requires steps { asked.steps ≤ GREATEST_STEP }
@@ -109,10 +113,12 @@ fn find_by(
     requires drives { drives.old ≡ drives_of asked.seed }
     ensures { IfOk result (λ found. AreFound asked.seed asked.steps found) }
 {
-    // The drives don't fail, and the image is there and has no fault: what is left is want of memory.
     match Machine::boot(alloc, file, script, drives) {
         Ok(mut machine) => find_of(alloc, asked.steps, &mut machine, drives),
-        Err(_) => Err(OutOfMemory),
+        Err(BootError::Image { .. }) => unreachable!(),
+        // The drives don't fail, and the image is there: what is left is want of memory.
+        Err(BootError::DiskFault) => Err(OutOfMemory),
+        Err(BootError::OutOfMemory) => Err(OutOfMemory),
     }
 }
 
@@ -129,17 +135,21 @@ fn find_of(
     requires holds { HoldsDrives size_of (λ d. Some (disks_of d)) machine.old.bdos drives.old }
     requires limit { steps ≤ GREATEST_STEP }
     requires size { size_of drives.old 0 ≡ Some 4194304 }
+    requires drive { option_map labelled (directory_at machine.old.bdos.mounted 0) ≡ Some (0, Hd4) }
     ensures { (on : List NumberedDrive) → StandsForFiles machine.old.bdos (Some (disks_of drives.old)) (untouched (placed on))
         → IfOk result (λ found. AreOf steps (begun machine.old.system on) found) }
 {
     match LineCounts::new(alloc) {
         Ok(mut counts) => {
             run_counted::<Brand>(machine, steps, drives, &mut counts, Blank::new(1));
-            Ok(Found {
-                lines: counts.of_consoles(),
-                calls: counts.of_calls(),
-                data: data_sum(drives),
-            })
+            match data_sum(alloc, drives) {
+                Ok(data) => Ok(Found {
+                    lines: counts.of_consoles(),
+                    calls: counts.of_calls(),
+                    data,
+                }),
+                Err(error) => Err(error),
+            }
         }
         Err(error) => Err(error),
     }
@@ -159,11 +169,14 @@ fn run_counted<L: Ledger>(
     requires start { machine.old.system.steps ≡ 0 }
     requires holds { HoldsDrives size_of (λ d. Some (disks_of d)) machine.old.bdos drives.old }
     requires limit { steps ≤ GREATEST_STEP }
+    requires drive { option_map labelled (directory_at machine.old.bdos.mounted 0) ≡ Some (0, Hd4) }
     requires name { blank.name ≡ L.name }
     requires parts { blank.parts ≡ L.parts }
     requires some_part { 0 < L.parts }
     ensures text { (on : List NumberedDrive) → StandsForFiles machine.old.bdos (Some (disks_of drives.old)) (untouched (placed on))
         → counts.new ≡ counts.old ++ closed true (after steps (begun machine.old.system on)).outputs }
+    ensures files { (on : List NumberedDrive) → StandsForFiles machine.old.bdos (Some (disks_of drives.old)) (untouched (placed on))
+        → HasDriveA (Some (disks_of drives.new)) (after steps (begun machine.old.system on)).filing.drives }
     ensures attached { (number : ℕ) → size_of drives.new number ≡ size_of drives.old number }
 {
     let mut calls = Steps::<L>::new(blank);

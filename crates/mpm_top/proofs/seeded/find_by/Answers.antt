@@ -1,12 +1,20 @@
 use Rattle.std.proofs.Common.{Some}
 use Rattle.mpm_port.specs.MemoryDisks.{disks_of, size_of}
-use Rattle.mpm_top.proofs.SeedLaws.{BeginsSeeded, begins_booted, opened_as, are_found}
+use Rattle.mpm_top.proofs.SeedLaws.{BeginsSeeded, begins_booted, no_image_fault, first_drive, opened_as, are_found}
 use Rattle.mpm_top.proofs.seeded.find_by.Goals as goal
 
 pub find_of-requires-clause-size : goal.find_of-requires-clause-size
 find_of-requires-clause-size c =
     (begins_booted c.args.asked.seed c.args.file.now c.args.drives.now (size_of c.boot.new.drives) (Some (disks_of c.boot.new.drives)) c.in-Ok.machine.bdos c.requires.machine
     c.requires.drives c.in-Ok.ensures.mounted).size
+
+pub find_of-requires-clause-drive : goal.find_of-requires-clause-drive
+find_of-requires-clause-drive c =
+    first_drive (Some (disks_of c.boot.new.drives)) c.args.file.now c.in-Ok.machine.bdos.mounted c.requires.machine c.in-Ok.ensures.drives
+
+pub unreachable-requires : goal.unreachable-requires
+unreachable-requires c =
+    no_image_fault c.args.asked.seed c.args.file.now c.args.drives.now _ _ c.in-Err-Image.field-0 _ _ _ c.in-Err-Image.field-0-is c.requires.machine c.requires.drives c.in-Err-Image.ensures.err
 
 pub returns-in-Ok : goal.returns-in-Ok
 returns-in-Ok c =

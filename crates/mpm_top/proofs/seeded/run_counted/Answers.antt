@@ -4,6 +4,7 @@ use Rattle.mpm_render.specs.Outputs.{closed}
 use Rattle.mpm_machine.specs.After.{after}
 use Rattle.mpm_top.specs.Runs.{begun}
 use Rattle.mpm_top.proofs.RunLaws.{stands_begun}
+use Rattle.mpm_top.proofs.DataLaws.{has_drive_a}
 use Rattle.mpm_top.proofs.SeedLaws.{none_failed, same_some}
 use Rattle.mpm_top.proofs.seeded.run_counted.Goals as goal
 
@@ -22,3 +23,11 @@ returns-clause-text g c on stand =
     let traces = c.in-Ok.ensures.trace ∙ c.new-render.ensures.trace in
     let P : Bool → Type 0 = λ trace. Some c.settle.new.sink ≡ Some (c.args.counts.now ++ closed trace (after c.args.steps s).outputs) in
     same_some _ _ (subst P traces (c.in-Ok-settle.ensures.ok (after c.args.steps s).outputs first shows))
+
+pub returns-clause-files : goal.returns-clause-files
+returns-clause-files g c on stand =
+    let first : Option (List ℕ) = Some c.args.counts.now in
+    let s = begun c.args.machine.now.system on in
+    let stands = stands_begun c.args.machine.now on c.new-render.result first (Some (disks_of c.args.drives.now)) (c.new-render.ensures.fresh first) stand in
+    has_drive_a (Some (disks_of c.run.new.drives)) (Some (disks_of c.settle.new.drives)) c.run.new.self.bdos.mounted (after c.args.steps s).filing.drives
+    (c.in-Ok.ensures.keeps.labels 0 ∙ c.requires.drive) (c.in-Ok.ensures.ok s first stands).files.stand c.in-Ok-settle.ensures.drives.images
