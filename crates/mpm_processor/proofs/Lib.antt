@@ -1,3 +1,4 @@
 pub mod GateLaws
 pub mod MovingLaws
 pub mod AloneLaws
+pub mod PlainLaws

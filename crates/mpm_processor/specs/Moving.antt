@@ -1,8 +1,8 @@
 -- Instructions of one process, one after another, as long as nothing else may come between them.
-use Rattle.std.specs.Prelude.{◌≡◌, ℕ, zero, suc, ◌<◌, ◌≤◌, Bool, List, Option, None, IsSome}
+use Rattle.std.specs.Prelude.{◌≡◌, ℕ, zero, suc, ◌<◌, ◌≤◌, Bool, List, Option, None, IsSome, IfSome}
 use Rattle.z80_regs.specs.declared.regs.Regs.{Regs}
 use Rattle.z80_regs.specs.Outcome.{Outcome}
-use Rattle.z80_ext.specs.Instruction.{instruction, registers_after, actions_of}
+use Rattle.z80_ext.specs.Instruction.{IsRareAt, instruction, registers_after, actions_of}
 use Rattle.mpm_base.specs.declared.devices.Devices.{Devices}
 use Rattle.mpm_base.specs.declared.segment.SegmentSpec.{SegmentSpec}
 use Rattle.mpm_banks.specs.Memory.{Memory, byte_at}
@@ -10,6 +10,7 @@ use Rattle.mpm_banks.specs.Sides.{alone}
 use Rattle.mpm_banks.specs.Ports.{port_byte}
 use Rattle.mpm_banks.specs.Actions.{memory_after, devices_after}
 use Rattle.mpm_processor.specs.declared.instruction.Instructions.{Instructions}
+use Rattle.mpm_processor.specs.declared.instruction.Paused.{Paused}
 use Rattle.mpm_processor.specs.Gates.{gate_of}
 
 -- what an instruction changes: the registers of its process, memory, and the devices
@@ -57,3 +58,12 @@ pub record BurstOf (burst : Instructions) (regs : Regs) (memory : Memory) (devic
   pub moved : Moves burst.inside n 0 (record { regs = regs; memory = memory; devices = devices })
       (record { regs = new_regs; memory = new_memory; devices = new_devices })
   pub stopped : n < burst.most → CanMove burst.inside 0 (record { regs = new_regs; memory = new_memory; devices = new_devices }) → ⊥
+
+-- what plain instructions in a row leave, at most so many: they stop early only at a gate, or at what isn't one of them
+pub record IsPaused (inside : Bool) (most : ℕ) (old new : View) (paused : Paused) : Type 0 where
+  pub count : paused.done ≤ most
+  pub moved : Moves inside paused.done 0 old new
+  pub stopped : paused.opcode ≡ None → paused.done < most → CanMove inside 0 new → ⊥
+  pub below : IsSome paused.opcode → paused.done < most
+  pub gate : IsSome paused.opcode → gate_of inside new.memory 0 new.regs.pc ≡ None
+  pub rare : IfSome paused.opcode (λ opcode. IsRareAt opcode new.regs (byte_at new.memory 0))

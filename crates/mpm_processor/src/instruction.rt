@@ -1,18 +1,21 @@
 ghost use Rattle.std.specs.Prelude.{◌≡◌, ◌↔◌, ◌<◌, ◌≤◌, ◌+◌, ◌-◌, ◌*◌, ℕ, List, true, false, length, None, IsNone, IsSome, IfSome, MatchOption, is_none, is_some};
 ghost use Rattle.z80_regs.specs.declared.regs.Regs.{Regs};
-ghost use Rattle.z80_ext.specs.Instruction.{IsPrefixAt, IsLoadUpAt, instruction, registers_after, actions_of};
+ghost use Rattle.z80_ext.specs.Instruction.{IsRareAt, IsIndexedAt, IsOtherAt, IsLoadUpAt, is_plain_at, unbegun, instruction, registers_after, actions_of};
 ghost use Rattle.mpm_banks.specs.Allocations.{FitsBelowCommon};
 ghost use Rattle.mpm_banks.specs.Memory.{byte_at};
 ghost use Rattle.mpm_banks.specs.Sides.{alone};
 ghost use Rattle.mpm_banks.specs.Ports.{port_byte};
 ghost use Rattle.mpm_banks.specs.Actions.{memory_after, devices_after};
 ghost use Rattle.mpm_processor.specs.Gates.{IsHome, gate_in, gate_of};
-ghost use Rattle.mpm_processor.specs.Moving.{CanMove, Moves, view_of};
+ghost use Rattle.mpm_processor.specs.Moving.{CanMove, Moves, IsPaused, view_of};
 
 use crate::gate::is_gate;
 use mpm_banks::{Banks, Burst, SliceBus, last_page};
 use mpm_base::{Devices, Seg, SegmentSpec};
-use z80_ext::{Stepped, step_load_up, step_opcode, step_prefixed};
+use z80_ext::{
+    Stepped, begin_all, is_behind_prefix, is_indexed, step_indexed, step_load_up, step_other,
+    step_unbegun,
+};
 use z80_regs::{Bus, Regs};
 
 /// The opcode at an address of a segment below its last page, in which the gates are. Most instructions stand there, so that
@@ -66,10 +69,10 @@ fn fetch(
     Some(bus.read(address))
 }
 
-/// One instruction of a process with these registers, whose segment lies there and whose opcode is read, but where that is
-/// a prefix: it is answered then, and nothing has changed.
+/// Acts as the instruction at PC does, whose opcode is read, but for how it begins. A prefix, HALT and EI are answered, and
+/// nothing has changed.
 #[inline(always)]
-fn execute_unprefixed(
+fn execute_unbegun(
     opcode: u8,
     spec: SegmentSpec,
     regs: &mut Regs,
@@ -78,11 +81,11 @@ fn execute_unprefixed(
     devices: &mut Devices,
 ) -> Option<u8>
     requires { opcode ≡ byte_at (alone spec segment.old common.old) 0 regs.old.pc }
-    ensures prefix { IfSome result (λ prefix. IsPrefixAt prefix regs.old (byte_at (alone spec segment.old common.old) 0)) }
-    ensures listed { IsNone result → IsSome (instruction regs.old (byte_at (alone spec segment.old common.old) 0) (port_byte devices.old)) }
-    ensures registers { MatchOption result (regs.new ≡ registers_after (instruction regs.old (byte_at (alone spec segment.old common.old) 0) (port_byte devices.old)) regs.old) (λ prefix. regs.new ≡ regs.old) }
-    ensures memory { MatchOption result (alone spec segment.new common.new ≡ memory_after (actions_of (instruction regs.old (byte_at (alone spec segment.old common.old) 0) (port_byte devices.old))) 0 (alone spec segment.old common.old)) (λ prefix. alone spec segment.new common.new ≡ alone spec segment.old common.old) }
-    ensures devices { MatchOption result (devices.new ≡ devices_after (actions_of (instruction regs.old (byte_at (alone spec segment.old common.old) 0) (port_byte devices.old))) devices.old) (λ prefix. devices.new ≡ devices.old) }
+    ensures plain { is_none result ≡ is_plain_at regs.old (byte_at (alone spec segment.old common.old) 0) }
+    ensures rare { IfSome result (λ rare. IsRareAt rare regs.old (byte_at (alone spec segment.old common.old) 0)) }
+    ensures registers { MatchOption result (regs.new ≡ (unbegun regs.old (byte_at (alone spec segment.old common.old) 0) (port_byte devices.old)).registers) (λ rare. regs.new ≡ regs.old) }
+    ensures memory { MatchOption result (alone spec segment.new common.new ≡ memory_after (unbegun regs.old (byte_at (alone spec segment.old common.old) 0) (port_byte devices.old)).actions 0 (alone spec segment.old common.old)) (λ rare. alone spec segment.new common.new ≡ alone spec segment.old common.old) }
+    ensures devices { MatchOption result (devices.new ≡ devices_after (unbegun regs.old (byte_at (alone spec segment.old common.old) 0) (port_byte devices.old)).actions devices.old) (λ rare. devices.new ≡ devices.old) }
 {
     let mut bus = SliceBus {
         spec,
@@ -90,12 +93,12 @@ fn execute_unprefixed(
         common,
         devices,
     };
-    step_opcode(opcode, regs, &mut bus)
+    step_unbegun(opcode, regs, &mut bus)
 }
 
-/// One instruction of a process that stands at a prefix, with these registers.
+/// One instruction of a process that stands at CBh, DDh or FDh: over a bus that stays in registers.
 #[inline(always)]
-fn execute_prefixed(
+fn execute_indexed(
     prefix: u8,
     spec: SegmentSpec,
     regs: &mut Regs,
@@ -103,7 +106,7 @@ fn execute_prefixed(
     common: &mut [u8],
     devices: &mut Devices,
 ) -> Stepped
-    requires { IsPrefixAt prefix regs.old (byte_at (alone spec segment.old common.old) 0) }
+    requires { IsIndexedAt prefix regs.old (byte_at (alone spec segment.old common.old) 0) }
     ensures illegal { (result ≡ Stepped.Illegal) ↔ IsNone (instruction regs.old (byte_at (alone spec segment.old common.old) 0) (port_byte devices.old)) }
     ensures registers { regs.new ≡ registers_after (instruction regs.old (byte_at (alone spec segment.old common.old) 0) (port_byte devices.old)) regs.old }
     ensures memory { alone spec segment.new common.new ≡ memory_after (actions_of (instruction regs.old (byte_at (alone spec segment.old common.old) 0) (port_byte devices.old))) 0 (alone spec segment.old common.old) }
@@ -115,39 +118,37 @@ fn execute_prefixed(
         common,
         devices,
     };
-    step_prefixed(prefix, regs, &mut bus)
+    step_indexed(prefix, regs, &mut bus)
 }
 
-/// Whether LDIR is at PC, whose first byte is read, with its second byte below the last page of the segment.
+/// One instruction of a process whose processor stands in a HALT, or is at EDh, HALT or EI.
 #[inline(always)]
-fn is_load(prefix: u8, spec: SegmentSpec, pc: u16, segment: &[u8]) -> bool
-    requires { FitsBelowCommon spec }
-    ensures { (regs : Regs) (common : List ℕ) → regs.pc ≡ pc → regs.halted ≡ false → prefix ≡ byte_at (alone spec segment.now common) 0 pc
-        → result ≡ true → IsLoadUpAt regs (byte_at (alone spec segment.now common) 0) }
+fn execute_other(
+    opcode: u8,
+    spec: SegmentSpec,
+    regs: &mut Regs,
+    segment: &mut [u8],
+    common: &mut [u8],
+    devices: &mut Devices,
+) -> Stepped
+    requires { IsOtherAt opcode regs.old (byte_at (alone spec segment.old common.old) 0) }
+    ensures illegal { (result ≡ Stepped.Illegal) ↔ IsNone (instruction regs.old (byte_at (alone spec segment.old common.old) 0) (port_byte devices.old)) }
+    ensures registers { regs.new ≡ registers_after (instruction regs.old (byte_at (alone spec segment.old common.old) 0) (port_byte devices.old)) regs.old }
+    ensures memory { alone spec segment.new common.new ≡ memory_after (actions_of (instruction regs.old (byte_at (alone spec segment.old common.old) 0) (port_byte devices.old))) 0 (alone spec segment.old common.old) }
+    ensures devices { devices.new ≡ devices_after (actions_of (instruction regs.old (byte_at (alone spec segment.old common.old) 0) (port_byte devices.old))) devices.old }
 {
-    match opcode_below_gates(spec, pc.wrapping_add(1), segment) {
-        Some(opcode) => u16::from_le_bytes([prefix, opcode]) == 0xB0ED,
-        None => false,
-    }
-}
-
-/// The same where a prefix is known to be there: of the four, EDh alone has these bits. Most prefixes so cost no look at the
-/// second byte, and a comparison with EDh itself would be made one of each step.
-#[inline(always)]
-fn is_load_at_prefix(prefix: u8, spec: SegmentSpec, pc: u16, segment: &[u8]) -> bool
-    requires { FitsBelowCommon spec }
-    ensures { (regs : Regs) (common : List ℕ) → regs.pc ≡ pc → regs.halted ≡ false → prefix ≡ byte_at (alone spec segment.now common) 0 pc
-        → result ≡ true → IsLoadUpAt regs (byte_at (alone spec segment.now common) 0) }
-{
-    if prefix / 16 % 4 != 2 {
-        return false;
-    }
-    is_load(prefix, spec, pc, segment)
+    let mut bus = SliceBus {
+        spec,
+        segment,
+        common,
+        devices,
+    };
+    step_other(opcode, regs, &mut bus)
 }
 
 /// Whether LDIR is at PC, with both its bytes below the last page of the segment, where no gate is.
 #[inline(always)]
-fn is_load_again(spec: SegmentSpec, regs: &Regs, segment: &[u8]) -> bool
+fn is_load_up(spec: SegmentSpec, regs: &Regs, segment: &[u8]) -> bool
     requires { FitsBelowCommon spec }
     ensures load { (common : List ℕ) → result ≡ true → IsLoadUpAt regs.now (byte_at (alone spec segment.now common) 0) }
     ensures below { result ≡ true → regs.now.pc < 256 * (spec.base + spec.pages - 1) }
@@ -155,9 +156,12 @@ fn is_load_again(spec: SegmentSpec, regs: &Regs, segment: &[u8]) -> bool
     if regs.halted {
         return false;
     }
-    match opcode_below_gates(spec, regs.pc, segment) {
-        Some(prefix) => is_load(prefix, spec, regs.pc, segment),
-        None => false,
+    match (
+        opcode_below_gates(spec, regs.pc, segment),
+        opcode_below_gates(spec, regs.pc.wrapping_add(1), segment),
+    ) {
+        (Some(prefix), Some(opcode)) => prefix == 0xED && opcode == 0xB0,
+        _ => false,
     }
 }
 
@@ -185,8 +189,7 @@ fn execute_load(
     step_load_up(regs, &mut bus);
 }
 
-/// Transfers of LDIR, which is at PC, one after another: at least one, at most so many. It is code of its own, so that its
-/// bus stays in registers.
+/// Transfers of LDIR, as long as it is at PC, at most so many. It is code of its own, so that its bus stays in registers.
 #[inline(never)]
 fn execute_loads(
     inside: bool,
@@ -197,24 +200,211 @@ fn execute_loads(
     common: &mut [u8],
     devices: &mut Devices,
 ) -> u64
-    requires fits { FitsBelowCommon spec }
-    requires some { 0 < most }
-    requires load { IsLoadUpAt regs.old (byte_at (alone spec segment.old common.old) 0) }
-    requires gate { gate_of inside (alone spec segment.old common.old) 0 regs.old.pc ≡ None }
+    requires { FitsBelowCommon spec }
     ensures count { result ≤ most }
-    ensures some { 0 < result }
     ensures moved { Moves inside result 0 (view_of spec regs.old segment.old common.old devices.old)
         (view_of spec regs.new segment.new common.new devices.new) }
     ensures segment { length segment.new ≡ length segment.old }
     ensures common { length common.new ≡ length common.old }
 {
-    let mut done = 0;
-    loop {
-        execute_load(spec, regs, segment, common, devices);
-        done += 1;
-        if done == most || !is_load_again(spec, regs, segment) {
+    for done in 0..most {
+        if !is_load_up(spec, regs, segment) {
             return done;
         }
+        execute_load(spec, regs, segment, common, devices);
+    }
+    most
+}
+
+/// One instruction of a process whose processor stands in a HALT, or is at EDh, HALT or EI, and what LDIR at PC does more, at
+/// most so many in all. None is done exactly where the opcode isn't listed. It is code of its own, over a bus in memory.
+#[inline(never)]
+fn execute_others(
+    opcode: u8,
+    inside: bool,
+    most: u64,
+    spec: SegmentSpec,
+    regs: &mut Regs,
+    segment: &mut [u8],
+    common: &mut [u8],
+    devices: &mut Devices,
+) -> u64
+    requires fits { FitsBelowCommon spec }
+    requires some { 0 < most }
+    requires rare { IsOtherAt opcode regs.old (byte_at (alone spec segment.old common.old) 0) }
+    requires gate { gate_of inside (alone spec segment.old common.old) 0 regs.old.pc ≡ None }
+    ensures count { result ≤ most }
+    ensures moved { Moves inside result 0 (view_of spec regs.old segment.old common.old devices.old)
+        (view_of spec regs.new segment.new common.new devices.new) }
+    ensures stopped { result ≡ 0 → CanMove inside 0 (view_of spec regs.new segment.new common.new devices.new) → ⊥ }
+    ensures segment { length segment.new ≡ length segment.old }
+    ensures common { length common.new ≡ length common.old }
+{
+    let pc = regs.pc;
+    match execute_other(opcode, spec, regs, segment, common, devices) {
+        Stepped::Ran => {}
+        Stepped::Illegal => return 0,
+    }
+    // What is at PC once more may be LDIR.
+    if regs.pc != pc {
+        return 1;
+    }
+    1 + execute_loads(inside, most - 1, spec, regs, segment, common, devices)
+}
+
+/// The instruction that isn't plain at this opcode, and what LDIR does more, at most so many in all. None is done exactly
+/// where the opcode isn't listed.
+#[inline(always)]
+fn execute_rare(
+    opcode: u8,
+    inside: bool,
+    most: u64,
+    spec: SegmentSpec,
+    regs: &mut Regs,
+    segment: &mut [u8],
+    common: &mut [u8],
+    devices: &mut Devices,
+) -> u64
+    requires fits { FitsBelowCommon spec }
+    requires some { 0 < most }
+    requires rare { IsRareAt opcode regs.old (byte_at (alone spec segment.old common.old) 0) }
+    requires gate { gate_of inside (alone spec segment.old common.old) 0 regs.old.pc ≡ None }
+    ensures count { result ≤ most }
+    ensures moved { Moves inside result 0 (view_of spec regs.old segment.old common.old devices.old)
+        (view_of spec regs.new segment.new common.new devices.new) }
+    ensures stopped { result ≡ 0 → CanMove inside 0 (view_of spec regs.new segment.new common.new devices.new) → ⊥ }
+    ensures segment { length segment.new ≡ length segment.old }
+    ensures common { length common.new ≡ length common.old }
+{
+    if regs.halted || !is_indexed(opcode) {
+        return execute_others(opcode, inside, most, spec, regs, segment, common, devices);
+    }
+    match execute_indexed(opcode, spec, regs, segment, common, devices) {
+        Stepped::Ran => 1,
+        Stepped::Illegal => 0,
+    }
+}
+
+/// Whether what stands at an opcode isn't plain: the processor stands in a HALT, or it is a prefix.
+#[inline(always)]
+#[tactic(auto, using(crate::proofs::PlainLaws::rare_halted))]
+fn is_rare(opcode: u8, regs: &Regs) -> bool
+    ensures { (memory : ℕ → ℕ) → opcode ≡ memory regs.now.pc → result ≡ true → IsRareAt opcode regs.now memory }
+{
+    if regs.halted {
+        return true;
+    }
+    is_behind_prefix(opcode)
+}
+
+/// The opcode at PC below the gates, where it is a prefix, or the processor stands in a HALT.
+#[inline(always)]
+fn rare_below_gates(spec: SegmentSpec, regs: &Regs, segment: &[u8]) -> Option<u8>
+    requires { FitsBelowCommon spec }
+    ensures rare { (common : List ℕ) → IfSome result (λ opcode. IsRareAt opcode regs.now (byte_at (alone spec segment.now common) 0)) }
+    ensures below { IsSome result → regs.now.pc < 256 * (spec.base + spec.pages - 1) }
+{
+    match opcode_below_gates(spec, regs.pc, segment) {
+        Some(opcode) if is_rare(opcode, regs) => Some(opcode),
+        _ => None,
+    }
+}
+
+/// Instructions in a row that aren't plain, the first of which stands at this opcode: at most so many, as long as a prefix is
+/// at PC, or the processor stands in a HALT. None is done exactly where the first isn't listed. It is code of its own, so that
+/// the loop over plain ones keeps its registers.
+#[inline(never)]
+fn execute_prefixed(
+    first: u8,
+    inside: bool,
+    most: u64,
+    spec: SegmentSpec,
+    regs: &mut Regs,
+    segment: &mut [u8],
+    common: &mut [u8],
+    devices: &mut Devices,
+) -> u64
+    requires fits { FitsBelowCommon spec }
+    requires some { 0 < most }
+    requires rare { IsRareAt first regs.old (byte_at (alone spec segment.old common.old) 0) }
+    requires gate { gate_of inside (alone spec segment.old common.old) 0 regs.old.pc ≡ None }
+    ensures count { result ≤ most }
+    ensures moved { Moves inside result 0 (view_of spec regs.old segment.old common.old devices.old)
+        (view_of spec regs.new segment.new common.new devices.new) }
+    ensures stopped { result ≡ 0 → CanMove inside 0 (view_of spec regs.new segment.new common.new devices.new) → ⊥ }
+    ensures segment { length segment.new ≡ length segment.old }
+    ensures common { length common.new ≡ length common.old }
+{
+    let mut opcode = first;
+    let mut done = 0;
+    while done < most {
+        let left = most - done;
+        let more = execute_rare(opcode, inside, left, spec, regs, segment, common, devices);
+        if more == 0 {
+            return done;
+        }
+        done += more;
+        match rare_below_gates(spec, regs, segment) {
+            Some(next) => opcode = next,
+            None => return done,
+        }
+    }
+    done
+}
+
+/// What plain instructions in a row came to.
+#[derive(Clone, Copy)]
+struct Paused {
+    done: u64,
+    /// The opcode at PC, where the next instruction isn't plain; None where so many were done, or a gate is there.
+    opcode: Option<u8>,
+}
+
+/// Plain instructions in a row, at most so many: R and the shadow of an EI are changed once for all of them.
+#[inline(always)]
+fn execute_plain(
+    inside: bool,
+    most: u64,
+    spec: SegmentSpec,
+    regs: &mut Regs,
+    segment: &mut [u8],
+    common: &mut [u8],
+    devices: &mut Devices,
+) -> Paused
+    requires fits { FitsBelowCommon spec }
+    requires some { 0 < most }
+    ensures paused { IsPaused inside most (view_of spec regs.old segment.old common.old devices.old)
+        (view_of spec regs.new segment.new common.new devices.new) result }
+    ensures segment { length segment.new ≡ length segment.old }
+    ensures common { length common.new ≡ length common.old }
+{
+    if regs.halted {
+        let opcode = fetch(inside, spec, regs.pc, segment, common, devices);
+        return Paused { done: 0, opcode };
+    }
+    for done in 0..most {
+        let opcode = match fetch(inside, spec, regs.pc, segment, common, devices) {
+            None => {
+                begin_all(done, regs);
+                return Paused { done, opcode: None };
+            }
+            Some(opcode) => opcode,
+        };
+        match execute_unbegun(opcode, spec, regs, segment, common, devices) {
+            None => {}
+            Some(rare) => {
+                begin_all(done, regs);
+                return Paused {
+                    done,
+                    opcode: Some(rare),
+                };
+            }
+        }
+    }
+    begin_all(most, regs);
+    Paused {
+        done: most,
+        opcode: None,
     }
 }
 
@@ -245,23 +435,19 @@ impl Burst for Instructions {
         let most = self.most;
         let mut done = 0;
         while done < most {
-            let opcode = match fetch(inside, spec, regs.pc, segment, common, devices) {
+            let left = most - done;
+            let paused = execute_plain(inside, left, spec, regs, segment, common, devices);
+            done += paused.done;
+            let opcode = match paused.opcode {
                 None => return done,
                 Some(opcode) => opcode,
             };
-            match execute_unprefixed(opcode, spec, regs, segment, common, devices) {
-                None => done += 1,
-                Some(prefix) if is_load_at_prefix(prefix, spec, regs.pc, segment) => {
-                    let most = most - done;
-                    done += execute_loads(inside, most, spec, regs, segment, common, devices);
-                }
-                Some(prefix) => {
-                    match execute_prefixed(prefix, spec, regs, segment, common, devices) {
-                        Stepped::Ran => done += 1,
-                        Stepped::Illegal => return done,
-                    }
-                }
+            let left = most - done;
+            let more = execute_prefixed(opcode, inside, left, spec, regs, segment, common, devices);
+            if more == 0 {
+                return done;
             }
+            done += more;
         }
         done
     }

@@ -1,6 +1,6 @@
 -- What the instructions without prefix do, PC being behind them: every byte is read from memory and ports as they stand
 -- before. (UM0080, "Z80 Instruction Description".)
-use Rattle.std.specs.Prelude.{ℕ, Option, None, Some, true, false}
+use Rattle.std.specs.Prelude.{ℕ, Bool, Option, None, Some, true, false}
 use Rattle.z80_regs.specs.Words.{onward, back, low}
 use Rattle.z80_regs.specs.Outcome.{Outcome}
 use Rattle.z80_regs.specs.declared.regs.Regs.{Regs}
@@ -99,3 +99,10 @@ next_by None opcode regs memory ports = quiet regs
 next_by (Some form) opcode regs memory ports =
     let instr = instr_with (tail_of form) Main 1 opcode (memory (onward regs.pc 1)) (memory (onward regs.pc 2)) in
     performed form instr (behind instr.length regs) memory ports
+
+-- a listed instruction without prefix that neither halts the processor nor casts a shadow
+abbrev pub is_plain : Option Form → Bool
+is_plain None = false
+is_plain (Some Halt) = false
+is_plain (Some EnableInterrupts) = false
+is_plain (Some form) = true

@@ -1,7 +1,8 @@
-ghost use Rattle.std.specs.Prelude.{◌≡◌, ℕ, true, false};
+ghost use Rattle.std.specs.Prelude.{◌≡◌, ℕ, true, false, Some};
+ghost use Rattle.std.specs.Bool.{OnTrue, OnFalse};
 ghost use Rattle.z80_regs.specs.Outcome.{Leaves};
 ghost use Rattle.z80_decode.specs.Opcodes.{form_of};
-ghost use Rattle.z80_exec.specs.Performing.{number, performed, main_outcome, next_by};
+ghost use Rattle.z80_exec.specs.Performing.{number, performed, main_outcome, next_by, is_plain};
 
 use crate::calculations::{
     add_pair, calculate, calculate_operand, complement, decimal_adjust, decrement, increment,
@@ -110,24 +111,40 @@ pub fn main_page<B: Bus>(instr: &Instr, regs: &mut Regs, bus: &mut B)
     }
 }
 
-/// Acts as the instruction without prefix at PC, whose opcode is read; what stands behind it is read where it is needed.
-/// Where the opcode is a prefix nothing changes. (UM0080, "Z80 Instruction Description".)
+/// Whether an instruction neither halts the processor nor casts a shadow on the next one: all but HALT and EI.
+#[inline(always)]
+fn is_plain_form(form: Form) -> bool
+    ensures { result ≡ is_plain (Some form) }
+{
+    match form {
+        Form::Halt | Form::EnableInterrupts => false,
+        _ => true,
+    }
+}
+
+/// Acts as the plain instruction at PC, whose opcode is read; what stands behind it is read where it is needed. Where the
+/// opcode is a prefix, HALT or EI the answer is false, and nothing changes. (UM0080, "Z80 Instruction Description".)
 #[inline(always)]
 #[tactic(auto, unfolding(z80_regs::specs::Outcome::Leaves))]
-pub fn main_next<B: Bus>(opcode: u8, regs: &mut Regs, bus: &mut B)
-    ensures registers { regs.new ≡ (next_by (form_of opcode) opcode regs.old (B.byte bus.old) (B.port_byte bus.old)).registers }
-    ensures bus { Leaves B.wrote B.took
-        (next_by (form_of opcode) opcode regs.old (B.byte bus.old) (B.port_byte bus.old)).actions bus.old bus.new }
+pub fn main_next<B: Bus>(opcode: u8, regs: &mut Regs, bus: &mut B) -> bool
+    ensures plain { result ≡ is_plain (form_of opcode) }
+    ensures registers { OnTrue result (regs.new ≡ (next_by (form_of opcode) opcode regs.old (B.byte bus.old) (B.port_byte bus.old)).registers) }
+    ensures bus { OnTrue result (Leaves B.wrote B.took
+        (next_by (form_of opcode) opcode regs.old (B.byte bus.old) (B.port_byte bus.old)).actions bus.old bus.new) }
+    ensures registers_stay { OnFalse result (regs.new ≡ regs.old) }
+    ensures bus_stays { OnFalse result (bus.new ≡ bus.old) }
 {
     match main_form(opcode) {
-        None => {}
-        Some(form) => {
+        None => false,
+        Some(form) if is_plain_form(form) => {
             let unread = Unread {
                 opcode,
                 address: regs.pc,
             };
             regs.pc = regs.pc.wrapping_add(u16::from(main_length(form)));
             perform(form, &unread, regs, bus);
+            true
         }
+        Some(_) => false,
     }
 }

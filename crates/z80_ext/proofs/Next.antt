@@ -1,6 +1,6 @@
 -- The step that reads by the opcode does the instruction that four bytes begin with.
 use Rattle.std.proofs.Common.{◌≡◌, ℕ, Bool, true, false, List, Option, None, Some, if◌then◌else◌, ap, refl, rules}
-use Rattle.std.specs.Prelude.{IsNone}
+use Rattle.std.specs.Prelude.{IsNone, ◌↔◌}
 use Rattle.std.proofs.lemmas.Grind.{common_steps}
 use Rattle.z80_regs.specs.Words.{onward}
 use Rattle.z80_regs.specs.Outcome.{Outcome}
@@ -53,28 +53,6 @@ by_tail Word form opcode first second regs memory ports known = search (rules, c
 by_tail Displacement form opcode first second regs memory ports known = search (rules, common_steps)
 by_tail DisplacementByte form opcode first second regs memory ports known = search (rules, common_steps)
 
--- where the opcode is a prefix
-by_none : (form : Option Form) (opcode : ℕ) (first second : ℕ) (bytes : List ℕ) → IsNone form →
-    main_or_prefixed (main_instr_by form opcode first second) bytes ≡ prefixed_instr_of bytes
-by_none None opcode first second bytes none = refl
-by_none (Some form) opcode first second bytes none = search rules
-
-pub prefixed : (memory : ℕ → ℕ) (pc : ℕ) → IsNone (form_of (memory pc)) →
-    instr_of (four_from memory pc) ≡ prefixed_instr_of (four_from memory pc)
-unfolding instr_of main_instr_of
-prefixed memory pc none = by_none (form_of (memory pc)) _ _ _ (four_from memory pc) none
-
--- where it isn't
-never_none : (form : Option Form) (opcode first second : ℕ) (bytes : List ℕ) → (IsNone form → ⊥) →
-    IsNone (main_or_prefixed (main_instr_by form opcode first second) bytes) → ⊥
-never_none None opcode first second bytes some none = some refl
-never_none (Some form) opcode first second bytes some none = search rules
-
-pub found : (memory : ℕ → ℕ) (pc : ℕ) → (IsNone (form_of (memory pc)) → ⊥) →
-    IsNone (instr_of (four_from memory pc)) → ⊥
-unfolding instr_of main_instr_of
-found memory pc some none = never_none (form_of (memory pc)) _ _ _ (four_from memory pc) some none
-
 by_some : (form : Option Form) (opcode : ℕ) (bytes : List ℕ) (regs : Regs) (memory ports : ℕ → ℕ) →
     form_of opcode ≡ form → (IsNone form → ⊥) →
     outcome_of (main_or_prefixed (main_instr_by form opcode (memory (onward regs.pc 1)) (memory (onward regs.pc 2))) bytes)
@@ -89,6 +67,19 @@ pub listed : (regs : Regs) (memory ports : ℕ → ℕ) → (IsNone (form_of (me
 unfolding instr_of main_instr_of
 listed regs memory ports some =
     by_some (form_of (memory regs.pc)) (memory regs.pc) (four_from memory regs.pc) regs memory ports refl some
+
+-- no listed instruction is done exactly where none is at PC and the processor doesn't stand in a HALT
+
+by_halt : (halted : Bool) (instr : Option Instr) (regs : Regs) (memory ports : ℕ → ℕ)
+    → IsNone (if halted then Some (quiet (risen regs)) else (outcome_of instr regs memory ports)) ↔ ((halted ≡ false) × IsNone instr)
+by_halt true instr regs memory ports = (λ none. absurd (cc none), λ both. absurd (cc both.0))
+by_halt false None regs memory ports = (λ none. (refl, refl), λ both. refl)
+by_halt false (Some instr) regs memory ports = (λ none. absurd (cc none), λ both. absurd (cc both.1))
+
+pub unlisted_exactly : (regs : Regs) (memory ports : ℕ → ℕ)
+    → IsNone (instruction regs memory ports) ↔ ((regs.halted ≡ false) × IsNone (instr_of (four_from memory regs.pc)))
+unfolding instruction
+unlisted_exactly regs memory ports = by_halt regs.halted (instr_of (four_from memory regs.pc)) regs memory ports
 
 -- in a HALT R rises, and that is all
 

@@ -1,6 +1,6 @@
 -- One step of the processor: the instruction at PC, or R alone where it stands in a HALT. (UM0080, "Z80 Instruction
 -- Description" and "HALT".)
-use Rattle.std.specs.Prelude.{◌≡◌, ℕ, IsNone, List, [], ◌∷◌, Option, None, Some, false, if◌then◌else◌}
+use Rattle.std.specs.Prelude.{◌≡◌, ◌==◌, ◌&&◌, ◌||◌, ◌+◌, ◌*◌, ◌/◌, ◌%◌, ℕ, Bool, List, [], ◌∷◌, Option, None, Some, true, false, if◌then◌else◌}
 use Rattle.z80_regs.specs.Words.{onward, refreshed}
 use Rattle.z80_regs.specs.Outcome.{Action, Outcome}
 use Rattle.z80_regs.specs.declared.regs.Regs.{Regs}
@@ -10,11 +10,15 @@ use Rattle.z80_decode.specs.declared.instr.Page.TheVariants.{Main, Cb, Ed, Ix, I
 use Rattle.z80_decode.specs.Opcodes.{form_of}
 use Rattle.z80_decode.specs.Decoding.{instr_of}
 use Rattle.z80_exec.specs.Operands.{quiet}
-use Rattle.z80_exec.specs.Performing.{main_outcome}
+use Rattle.z80_exec.specs.Performing.{behind, main_outcome, next_by, is_plain}
 use Rattle.z80_ext.specs.declared.index.IndexRegister.TheVariants as index
 use Rattle.z80_ext.specs.Bits.{bits_outcome}
 use Rattle.z80_ext.specs.Extended.{extended_outcome}
 use Rattle.z80_ext.specs.Index.{index_outcome, index_bits_outcome}
+
+-- the refresh register n further on
+abbrev pub refreshed_times : ℕ → ℕ → ℕ
+refreshed_times n r = r / 128 * 128 + (r + n) % 128
 
 -- R one on
 abbrev pub risen : Regs → Regs
@@ -23,6 +27,10 @@ risen regs = record regs { r = refreshed regs.r }
 -- an instruction begins: R is one on, and the shadow of an EI before it ends
 abbrev pub begun : Regs → Regs
 begun regs = record (risen regs) { shadow = false }
+
+-- so many instructions begin, one after another
+abbrev pub begun_times : ℕ → Regs → Regs
+begun_times n regs = record regs { r = refreshed_times n regs.r; shadow = (n == 0) && regs.shadow }
 
 -- the four bytes from an address on
 abbrev pub four_from : (ℕ → ℕ) → ℕ → List ℕ
@@ -51,6 +59,14 @@ instruction regs memory ports =
     if regs.halted then Some (quiet (risen regs))
     else (outcome_of (instr_of (four_from memory regs.pc)) regs memory ports)
 
+-- a plain instruction is at PC: no prefix, HALT or EI
+abbrev pub is_plain_at : Regs → (ℕ → ℕ) → Bool
+is_plain_at regs memory = is_plain (form_of (memory regs.pc))
+
+-- what the instruction without prefix at PC does, but for how it begins
+abbrev pub unbegun : Regs → (ℕ → ℕ) → (ℕ → ℕ) → Outcome
+unbegun regs memory ports = next_by (form_of (memory regs.pc)) (memory regs.pc) regs memory ports
+
 -- the registers after a step: as they were where it had no outcome
 abbrev pub registers_after : Option Outcome → Regs → Regs
 registers_after None regs = regs
@@ -61,11 +77,31 @@ abbrev pub actions_of : Option Outcome → List Action
 actions_of None = []
 actions_of (Some outcome) = outcome.actions
 
--- the processor is about to do an instruction behind this prefix
-pub record IsPrefixAt (prefix : ℕ) (regs : Regs) (memory : ℕ → ℕ) : Type 0 where
+-- the processor stands in a HALT, or is about to do HALT, EI or an instruction behind a prefix
+pub record IsRareAt (opcode : ℕ) (regs : Regs) (memory : ℕ → ℕ) : Type 0 where
+  pub here : opcode ≡ memory regs.pc
+  pub rare : regs.halted ≡ false → is_plain (form_of opcode) ≡ false
+
+-- the registers after HALT, 76h, and after EI
+abbrev pub halted_or_enabled : ℕ → Regs → Regs
+halted_or_enabled opcode regs =
+    if opcode == 118 then record (behind 1 (begun regs)) { halted = true }
+    else (record (behind 1 (begun regs)) { iff1 = true; iff2 = true; shadow = true })
+
+-- CBh, DDh and FDh, the prefixes of rotations, single bits and the index registers
+abbrev pub is_indexed : ℕ → Bool
+is_indexed opcode = (opcode == 203) || ((opcode == 221) || (opcode == 253))
+
+-- the processor is about to do an instruction behind one of these
+pub record IsIndexedAt (prefix : ℕ) (regs : Regs) (memory : ℕ → ℕ) : Type 0 where
   pub runs : regs.halted ≡ false
   pub here : prefix ≡ memory regs.pc
-  pub none : IsNone (form_of prefix)
+  pub indexed : is_indexed prefix ≡ true
+
+-- the processor stands in a HALT, or is about to do HALT, EI or an instruction behind EDh
+pub record IsOtherAt (opcode : ℕ) (regs : Regs) (memory : ℕ → ℕ) : Type 0 where
+  pub rare : IsRareAt opcode regs memory
+  pub other : regs.halted ≡ false → is_indexed opcode ≡ false
 
 -- the processor is about to do LDIR, EDh B0h
 pub record IsLoadUpAt (regs : Regs) (memory : ℕ → ℕ) : Type 0 where

@@ -21,6 +21,7 @@ use z80_exec::{operand, set_operand};
 use z80_regs::{Bus, Regs};
 
 /// Which rotation or shift of a byte a form names.
+#[inline(always)]
 fn kind(shift: Shift) -> Rotate
     ensures { result ≡ kind_of shift }
 {
@@ -37,6 +38,7 @@ fn kind(shift: Shift) -> Rotate
 }
 
 /// What a rotation, a shift, RES or SET makes of a byte, and the new F.
+#[inline(always)]
 fn changed(change: BitChange, byte: u8, f: u8) -> (u8, u8)
     ensures byte { result.0 ≡ changed_byte change byte f }
     ensures flags { result.1 ≡ changed_flags change byte f }
@@ -49,6 +51,7 @@ fn changed(change: BitChange, byte: u8, f: u8) -> (u8, u8)
 }
 
 /// BIT of a byte.
+#[inline(always)]
 fn test_bit(weight: u8, byte: u8, regs: &mut Regs)
     ensures { regs.new ≡ bit_tested weight byte regs.old }
 {
@@ -56,6 +59,7 @@ fn test_bit(weight: u8, byte: u8, regs: &mut Regs)
 }
 
 /// Acts on an operand whose byte is known.
+#[inline(always)]
 #[tactic(auto, unfolding(z80_regs::specs::Outcome::Leaves))]
 fn act_on_operand<B: Bus>(form: BitForm, at: Operand, byte: u8, regs: &mut Regs, bus: &mut B)
     ensures registers { regs.new ≡ (operand_bits form at byte regs.old).registers }
@@ -73,6 +77,7 @@ fn act_on_operand<B: Bus>(form: BitForm, at: Operand, byte: u8, regs: &mut Regs,
 
 /// Acts on the byte at an address, which is known. Memory comes before the registers, so that what was read before it and
 /// this write look up where memory lies once.
+#[inline(always)]
 #[tactic(auto, unfolding(z80_regs::specs::Outcome::Leaves))]
 pub fn act_on_memory<B: Bus>(form: BitForm, address: u16, byte: u8, regs: &mut Regs, bus: &mut B)
     ensures registers { regs.new ≡ (memory_bits form address byte regs.old).registers }
@@ -89,6 +94,7 @@ pub fn act_on_memory<B: Bus>(form: BitForm, address: u16, byte: u8, regs: &mut R
 }
 
 /// One step where CBh is at PC. (UM0080, "Rotate and Shift Group", "Bit Set, Reset, and Test Group".)
+#[inline(always)]
 #[tactic(auto, unfolding(crate::specs::Bits::bits_outcome, z80_regs::specs::Outcome::Leaves))]
 pub fn step_bits<B: Bus>(regs: &mut Regs, bus: &mut B)
     ensures registers { regs.new ≡

@@ -43,6 +43,7 @@ pub enum IndexRegister {
 }
 
 /// The word in an index register.
+#[inline(always)]
 fn index_at(regs: &Regs, index: IndexRegister) -> u16
     ensures { result ≡ index_word index regs.now }
 {
@@ -53,6 +54,7 @@ fn index_at(regs: &Regs, index: IndexRegister) -> u16
 }
 
 /// Sets an index register.
+#[inline(always)]
 fn set_index(regs: &mut Regs, index: IndexRegister, word: u16)
     ensures { regs.new ≡ with_index index word regs.old }
 {
@@ -63,6 +65,7 @@ fn set_index(regs: &mut Regs, index: IndexRegister, word: u16)
 }
 
 /// The word in a pair, where an index register stands for HL.
+#[inline(always)]
 fn index_pair_at(regs: &Regs, index: IndexRegister, pair: Pair) -> u16
     ensures { result ≡ index_pair_word index pair regs.now }
 {
@@ -73,6 +76,7 @@ fn index_pair_at(regs: &Regs, index: IndexRegister, pair: Pair) -> u16
 }
 
 /// IX+d or IY+d.
+#[inline(always)]
 fn address_at(index: IndexRegister, instr: &Instr, regs: &Regs) -> u16
     ensures { result ≡ indexed_address index instr.now regs.now }
 {
@@ -80,6 +84,7 @@ fn address_at(index: IndexRegister, instr: &Instr, regs: &Regs) -> u16
 }
 
 /// ADD IX,pp.
+#[inline(always)]
 fn add_pair(index: IndexRegister, pair: Pair, regs: &mut Regs)
     ensures { regs.new ≡ index_added index pair regs.old }
 {
@@ -160,6 +165,7 @@ fn decrement<B: Bus>(index: IndexRegister, at: Operand, address: u16, regs: &mut
 }
 
 /// EX (SP),IX.
+#[inline(always)]
 fn exchange_stack<B: Bus>(index: IndexRegister, regs: &mut Regs, bus: &mut B)
     ensures registers { regs.new ≡ (index_exchanged index regs.old (B.byte bus.old)).registers }
     ensures bus { Leaves B.wrote B.took (index_exchanged index regs.old (B.byte bus.old)).actions bus.old bus.new }
@@ -169,6 +175,7 @@ fn exchange_stack<B: Bus>(index: IndexRegister, regs: &mut Regs, bus: &mut B)
 }
 
 /// PUSH IX.
+#[inline(always)]
 fn push_index<B: Bus>(index: IndexRegister, regs: &mut Regs, bus: &mut B)
     ensures registers { regs.new ≡ (index_pushed index regs.old).registers }
     ensures bus { Leaves B.wrote B.took (index_pushed index regs.old).actions bus.old bus.new }
@@ -177,6 +184,7 @@ fn push_index<B: Bus>(index: IndexRegister, regs: &mut Regs, bus: &mut B)
 }
 
 /// POP IX.
+#[inline(always)]
 fn pop_index<B: Bus>(index: IndexRegister, regs: &mut Regs, bus: &B)
     ensures { regs.new ≡ index_popped index regs.old (B.byte bus.now) }
 {
@@ -186,6 +194,7 @@ fn pop_index<B: Bus>(index: IndexRegister, regs: &mut Regs, bus: &B)
 }
 
 /// Acts as a form's instruction, which PC is behind.
+#[inline(always)]
 #[tactic(auto, unfolding(crate::specs::Index::index_performed, z80_regs::specs::Outcome::Leaves))]
 fn perform<B: Bus>(
     form: IndexForm,
@@ -231,6 +240,7 @@ fn perform<B: Bus>(
 }
 
 /// The page that the register's prefix opens.
+#[inline(always)]
 fn page(index: IndexRegister) -> Page
     ensures { result ≡ page_of index }
 {
@@ -241,6 +251,7 @@ fn page(index: IndexRegister) -> Page
 }
 
 /// The page that CBh behind it opens.
+#[inline(always)]
 fn bits_page(index: IndexRegister) -> Page
     ensures { result ≡ bits_page_of index }
 {
@@ -251,6 +262,7 @@ fn bits_page(index: IndexRegister) -> Page
 }
 
 /// One step where DDh CBh or FDh CBh is at PC. (UM0080, "Rotate and Shift Group", "Bit Set, Reset, and Test Group".)
+#[inline(always)]
 #[tactic(auto, using(crate::proofs::Next::index_bits_page, crate::proofs::Next::bits_behind), unfolding(crate::specs::Index::index_bits_outcome, z80_regs::specs::Outcome::Leaves))]
 fn step_index_bits<B: Bus>(index: IndexRegister, regs: &mut Regs, bus: &mut B) -> Stepped
     ensures illegal { let opcode = B.byte bus.old (onward regs.old.pc 3) in (result ≡ Stepped.Illegal) ↔ IsNone
@@ -276,6 +288,7 @@ fn step_index_bits<B: Bus>(index: IndexRegister, regs: &mut Regs, bus: &mut B) -
 }
 
 /// One step where DDh or FDh is at PC. (UM0080, "Z80 Instruction Description".)
+#[inline(always)]
 #[tactic(auto, using(crate::proofs::Next::index_page), unfolding(z80_decode::specs::Decoding::index_instr_of, crate::specs::Index::index_outcome, z80_regs::specs::Outcome::Leaves))]
 pub fn step_index<B: Bus>(index: IndexRegister, regs: &mut Regs, bus: &mut B) -> Stepped
     ensures illegal { (result ≡ Stepped.Illegal) ↔ IsNone

@@ -7,32 +7,69 @@ mod extended;
 mod index;
 mod stepped;
 
-ghost use Rattle.std.specs.Prelude.{◌≡◌, ◌↔◌, true, false, IsNone, IsSome, IfSome, MatchOption};
+ghost use Rattle.std.specs.Prelude.{◌≡◌, ◌↔◌, ℕ, true, false, IsNone, IsSome, IfSome, MatchOption, is_none};
 ghost use Rattle.z80_regs.specs.Outcome.{Leaves};
-ghost use Rattle.z80_decode.specs.Decoding.{prefixed_instr_of, instr_of};
-ghost use Rattle.z80_ext.specs.Instruction.{IsPrefixAt, IsLoadUpAt, risen, four_from, outcome_of, instruction, registers_after, actions_of};
+ghost use Rattle.z80_regs.specs.declared.regs.Regs.{Regs};
+ghost use Rattle.z80_decode.specs.Decoding.{instr_of};
+ghost use Rattle.z80_ext.specs.Instruction.{IsRareAt, IsIndexedAt, IsOtherAt, IsLoadUpAt, is_plain_at, is_indexed, halted_or_enabled, unbegun, risen, four_from, outcome_of, instruction, registers_after, actions_of};
 
 use crate::bits::step_bits;
 use crate::block::load_block;
 use crate::extended::step_extended;
 use crate::index::{IndexRegister, step_index};
-use crate::stepped::{begin, begin_behind, refresh};
-pub use stepped::Stepped;
+use crate::stepped::{begin_behind, refresh};
+pub use stepped::{Stepped, begin_all};
 use z80_decode::{Direction, is_prefix};
 use z80_exec::main_next;
 use z80_regs::{Bus, Regs};
 
-/// Acts as the instruction behind a prefix at PC.
+/// Acts as the instruction at PC does, whose opcode is read, but for how it begins: R and the shadow of an EI before it stay
+/// as they are, so that `begin_all` may change them once for many instructions. A prefix, HALT and EI are answered, and
+/// nothing has changed.
 #[inline(always)]
-#[tactic(auto, unfolding(z80_decode::specs::Decoding::prefixed_instr_of))]
-fn act_behind<B: Bus>(prefix: u8, regs: &mut Regs, bus: &mut B) -> Stepped
-    requires { prefix ≡ B.byte bus.old regs.old.pc }
-    ensures illegal { (result ≡ Stepped.Illegal) ↔ IsNone
-        (outcome_of (prefixed_instr_of (four_from (B.byte bus.old) regs.old.pc)) regs.old (B.byte bus.old) (B.port_byte bus.old)) }
-    ensures registers { regs.new ≡ registers_after
-        (outcome_of (prefixed_instr_of (four_from (B.byte bus.old) regs.old.pc)) regs.old (B.byte bus.old) (B.port_byte bus.old)) regs.old }
-    ensures bus { Leaves B.wrote B.took
-        (actions_of (outcome_of (prefixed_instr_of (four_from (B.byte bus.old) regs.old.pc)) regs.old (B.byte bus.old) (B.port_byte bus.old)))
+pub fn step_unbegun<B: Bus>(opcode: u8, regs: &mut Regs, bus: &mut B) -> Option<u8>
+    requires { opcode ≡ B.byte bus.old regs.old.pc }
+    ensures plain { is_none result ≡ is_plain_at regs.old (B.byte bus.old) }
+    ensures rare { IfSome result (λ rare. IsRareAt rare regs.old (B.byte bus.old)) }
+    ensures registers { MatchOption result
+        (regs.new ≡ (unbegun regs.old (B.byte bus.old) (B.port_byte bus.old)).registers)
+        (λ rare. regs.new ≡ regs.old) }
+    ensures bus { MatchOption result
+        (Leaves B.wrote B.took (unbegun regs.old (B.byte bus.old) (B.port_byte bus.old)).actions bus.old bus.new)
+        (λ rare. bus.new ≡ bus.old) }
+{
+    if main_next(opcode, regs, bus) {
+        None
+    } else {
+        Some(opcode)
+    }
+}
+
+/// Whether an opcode is a prefix, behind which the instruction isn't plain.
+#[inline(always)]
+#[tactic(auto, using(crate::proofs::Begun::prefix_is_rare))]
+pub fn is_behind_prefix(opcode: u8) -> bool
+    ensures { (regs : Regs) (memory : ℕ → ℕ) → opcode ≡ memory regs.pc → result ≡ true → IsRareAt opcode regs memory }
+{
+    is_prefix(opcode)
+}
+
+/// Whether an opcode is one of the prefixes that compiled programs live behind: CBh, DDh or FDh.
+#[inline(always)]
+pub fn is_indexed(opcode: u8) -> bool
+    ensures { result ≡ is_indexed opcode }
+{
+    opcode == 0xcb || opcode == 0xdd || opcode == 0xfd
+}
+
+/// One step where CBh, DDh or FDh is at PC. It is in line, so that a caller's bus stays in registers.
+#[inline(always)]
+#[tactic(auto, using(crate::proofs::Rare::bits_at, crate::proofs::Rare::ix_at, crate::proofs::Rare::iy_at))]
+pub fn step_indexed<B: Bus>(prefix: u8, regs: &mut Regs, bus: &mut B) -> Stepped
+    requires { IsIndexedAt prefix regs.old (B.byte bus.old) }
+    ensures illegal { (result ≡ Stepped.Illegal) ↔ IsNone (instruction regs.old (B.byte bus.old) (B.port_byte bus.old)) }
+    ensures registers { regs.new ≡ registers_after (instruction regs.old (B.byte bus.old) (B.port_byte bus.old)) regs.old }
+    ensures bus { Leaves B.wrote B.took (actions_of (instruction regs.old (B.byte bus.old) (B.port_byte bus.old)))
         bus.old bus.new }
 {
     match prefix {
@@ -40,53 +77,58 @@ fn act_behind<B: Bus>(prefix: u8, regs: &mut Regs, bus: &mut B) -> Stepped
             step_bits(regs, bus);
             Stepped::Ran
         }
-        0xed => step_extended(regs, bus),
         0xdd => step_index(IndexRegister::Ix, regs, bus),
         _ => step_index(IndexRegister::Iy, regs, bus),
     }
 }
 
-/// One step where a prefix is at PC, as `step_unprefixed` answered it.
+/// HALT or EI, of which the opcode is known.
+#[inline(always)]
+fn halt_or_enable(opcode: u8, regs: &mut Regs)
+    ensures { regs.new ≡ halted_or_enabled opcode regs.old }
+{
+    begin_behind(1, regs);
+    if opcode == 0x76 {
+        regs.halted = true;
+    } else {
+        (regs.iff1, regs.iff2, regs.shadow) = (true, true, true);
+    }
+}
+
+/// One step where the processor stands in a HALT, or EDh, HALT or EI is at PC.
 #[inline(never)]
-#[tactic(auto, using(crate::proofs::Next::prefixed), unfolding(crate::specs::Instruction::instruction))]
-pub fn step_prefixed<B: Bus>(prefix: u8, regs: &mut Regs, bus: &mut B) -> Stepped
-    requires { IsPrefixAt prefix regs.old (B.byte bus.old) }
+#[tactic(auto, using(crate::proofs::Rare::extended_at, crate::proofs::Rare::halt_or_enable_at, crate::proofs::Rare::rests_at), unfolding(z80_regs::specs::Outcome::Leaves))]
+pub fn step_other<B: Bus>(opcode: u8, regs: &mut Regs, bus: &mut B) -> Stepped
+    requires { IsOtherAt opcode regs.old (B.byte bus.old) }
     ensures illegal { (result ≡ Stepped.Illegal) ↔ IsNone (instruction regs.old (B.byte bus.old) (B.port_byte bus.old)) }
-    ensures unlisted { (result ≡ Stepped.Illegal)
-        ↔ ((regs.old.halted ≡ false) × IsNone (instr_of (four_from (B.byte bus.old) regs.old.pc))) }
     ensures registers { regs.new ≡ registers_after (instruction regs.old (B.byte bus.old) (B.port_byte bus.old)) regs.old }
     ensures bus { Leaves B.wrote B.took (actions_of (instruction regs.old (B.byte bus.old) (B.port_byte bus.old)))
         bus.old bus.new }
 {
-    act_behind(prefix, regs, bus)
-}
-
-/// One step, whose opcode is read, but where that is a prefix: it is answered then, and nothing has changed. A caller that
-/// gives the rest to `step_prefixed`, over a bus made for it, keeps its other buses in registers.
-#[inline(always)]
-#[tactic(auto, using(crate::proofs::Next::listed, crate::proofs::Next::found), unfolding(crate::specs::Instruction::instruction, z80_regs::specs::Outcome::Leaves))]
-pub fn step_opcode<B: Bus>(opcode: u8, regs: &mut Regs, bus: &mut B) -> Option<u8>
-    requires { opcode ≡ B.byte bus.old regs.old.pc }
-    ensures prefix { IfSome result (λ prefix. IsPrefixAt prefix regs.old (B.byte bus.old)) }
-    ensures listed { IsNone result → IsSome (instruction regs.old (B.byte bus.old) (B.port_byte bus.old)) }
-    ensures unlisted { IsNone result → (regs.old.halted ≡ false) → IsSome (instr_of (four_from (B.byte bus.old) regs.old.pc)) }
-    ensures registers { MatchOption result
-        (regs.new ≡ registers_after (instruction regs.old (B.byte bus.old) (B.port_byte bus.old)) regs.old)
-        (λ prefix. regs.new ≡ regs.old) }
-    ensures bus { MatchOption result
-        (Leaves B.wrote B.took (actions_of (instruction regs.old (B.byte bus.old) (B.port_byte bus.old))) bus.old bus.new)
-        (λ prefix. bus.new ≡ bus.old) }
-{
     if regs.halted {
         refresh(regs);
-        return None;
+        return Stepped::Ran;
     }
-    if is_prefix(opcode) {
-        return Some(opcode);
+    if opcode == 0xed {
+        return step_extended(regs, bus);
     }
-    begin(regs);
-    main_next(opcode, regs, bus);
-    None
+    halt_or_enable(opcode, regs);
+    Stepped::Ran
+}
+
+/// One step where the processor stands in a HALT, or a prefix, HALT or EI is at PC.
+#[inline(always)]
+fn step_rare<B: Bus>(opcode: u8, regs: &mut Regs, bus: &mut B) -> Stepped
+    requires { IsRareAt opcode regs.old (B.byte bus.old) }
+    ensures illegal { (result ≡ Stepped.Illegal) ↔ IsNone (instruction regs.old (B.byte bus.old) (B.port_byte bus.old)) }
+    ensures registers { regs.new ≡ registers_after (instruction regs.old (B.byte bus.old) (B.port_byte bus.old)) regs.old }
+    ensures bus { Leaves B.wrote B.took (actions_of (instruction regs.old (B.byte bus.old) (B.port_byte bus.old)))
+        bus.old bus.new }
+{
+    if !regs.halted && is_indexed(opcode) {
+        return step_indexed(opcode, regs, bus);
+    }
+    step_other(opcode, regs, bus)
 }
 
 /// One step where LDIR is at PC: what compiled programs copy with has code of its own.
@@ -102,20 +144,26 @@ pub fn step_load_up<B: Bus>(regs: &mut Regs, bus: &mut B)
     load_block(Direction::Up, true, regs, bus);
 }
 
-/// One step, but where a prefix is at PC: that is answered then, and nothing has changed.
+/// One step, whose opcode is read.
 #[inline(always)]
-pub fn step_unprefixed<B: Bus>(regs: &mut Regs, bus: &mut B) -> Option<u8>
-    ensures prefix { IfSome result (λ prefix. IsPrefixAt prefix regs.old (B.byte bus.old)) }
-    ensures listed { IsNone result → IsSome (instruction regs.old (B.byte bus.old) (B.port_byte bus.old)) }
-    ensures unlisted { IsNone result → (regs.old.halted ≡ false) → IsSome (instr_of (four_from (B.byte bus.old) regs.old.pc)) }
-    ensures registers { MatchOption result
-        (regs.new ≡ registers_after (instruction regs.old (B.byte bus.old) (B.port_byte bus.old)) regs.old)
-        (λ prefix. regs.new ≡ regs.old) }
-    ensures bus { MatchOption result
-        (Leaves B.wrote B.took (actions_of (instruction regs.old (B.byte bus.old) (B.port_byte bus.old))) bus.old bus.new)
-        (λ prefix. bus.new ≡ bus.old) }
+#[tactic(auto, using(crate::proofs::Begun::unbegun_once))]
+fn step_opcode<B: Bus>(opcode: u8, regs: &mut Regs, bus: &mut B) -> Stepped
+    requires { opcode ≡ B.byte bus.old regs.old.pc }
+    ensures illegal { (result ≡ Stepped.Illegal) ↔ IsNone (instruction regs.old (B.byte bus.old) (B.port_byte bus.old)) }
+    ensures registers { regs.new ≡ registers_after (instruction regs.old (B.byte bus.old) (B.port_byte bus.old)) regs.old }
+    ensures bus { Leaves B.wrote B.took (actions_of (instruction regs.old (B.byte bus.old) (B.port_byte bus.old)))
+        bus.old bus.new }
 {
-    step_opcode(bus.read(regs.pc), regs, bus)
+    if regs.halted {
+        return step_rare(opcode, regs, bus);
+    }
+    match step_unbegun(opcode, regs, bus) {
+        None => {
+            begin_all(1, regs);
+            Stepped::Ran
+        }
+        Some(rare) => step_rare(rare, regs, bus),
+    }
 }
 
 /// One step: the instruction at PC, or, where the processor stands in a HALT, R alone rises. Where no listed instruction
@@ -131,8 +179,5 @@ pub fn step<B: Bus>(regs: &mut Regs, bus: &mut B) -> Stepped
         bus.old bus.new }
     ensures halted { regs.old.halted ≡ true → regs.new ≡ risen regs.old }
 {
-    match step_unprefixed(regs, bus) {
-        None => Stepped::Ran,
-        Some(prefix) => step_prefixed(prefix, regs, bus),
-    }
+    step_opcode(bus.read(regs.pc), regs, bus)
 }

@@ -1,7 +1,7 @@
 ghost use Rattle.std.specs.Prelude.{◌≡◌, ℕ, false};
 ghost use Rattle.z80_regs.specs.Words.{refreshed};
 ghost use Rattle.z80_exec.specs.Performing.{behind};
-ghost use Rattle.z80_ext.specs.Instruction.{risen, begun};
+ghost use Rattle.z80_ext.specs.Instruction.{risen, begun, begun_times};
 
 use z80_regs::Regs;
 
@@ -38,4 +38,16 @@ pub fn begin_behind(length: u8, regs: &mut Regs)
 {
     begin(regs);
     regs.pc = regs.pc.wrapping_add(u16::from(length));
+}
+
+/// So many instructions begin: R rises once for each, and the shadow of an EI before the first ends.
+#[inline(always)]
+#[tactic(auto, using(crate::proofs::Begun::begun_none, crate::proofs::Begun::begun_some))]
+pub fn begin_all(count: u64, regs: &mut Regs)
+    ensures { regs.new ≡ begun_times count regs.old }
+{
+    if count != 0 {
+        regs.r = regs.r / 128 * 128 + (regs.r % 128 + (count % 128) as u8) % 128;
+        regs.shadow = false;
+    }
 }

@@ -7,22 +7,10 @@ use Rattle.mpm_processor.proofs.MovingLaws.{moves_none, moves_more, view_is}
 use Rattle.mpm_processor.proofs.instruction.execute_loads.Goals as goal
 
 pub loop-done-init : goal.loop-done-init
-loop-done-init c = record {
-  moved = moves_none c.args.inside 0 _;
-  load = c.requires.load;
-  gate = c.requires.gate;
-  below = c.requires.some;
-  segment = refl;
-  common = refl;
-}
+loop-done-init c = record { moved = moves_none c.args.inside 0 _; segment = refl; common = refl }
 
-pub returns-then-done-most-clause-moved : goal.returns-then-done-most-clause-moved
-returns-then-done-most-clause-moved c =
-    let now : View = view_of c.args.spec c.loop-done.regs c.loop-done.segment c.loop-done.common c.loop-done.devices in
-    let new : View = view_of c.args.spec c.execute_load.new.regs c.execute_load.new.segment c.execute_load.new.common c.execute_load.new.devices in
-    moves_more c.args.inside c.loop-done.done 0 _ now new c.loop-done.invariant.moved
-    (record { no_gate = c.loop-done.invariant.gate; listed = c.execute_load.ensures.listed })
-    (view_is new (moved 0 now) c.execute_load.ensures.registers c.execute_load.ensures.memory c.execute_load.ensures.devices)
+pub execute_load-requires : goal.execute_load-requires
+execute_load-requires c = c.if-not-is_load_up.ensures.load c.loop-done.common refl
 
 pub loop-done-preserved : goal.loop-done-preserved
 loop-done-preserved c =
@@ -31,11 +19,11 @@ loop-done-preserved c =
     let lengths = lengths_stay (actions_of (instruction_in 0 now)) c.args.spec c.loop-done.segment c.loop-done.common c.execute_load.new.segment c.execute_load.new.common c.execute_load.ensures.memory in
     record {
       moved = moves_more c.args.inside c.loop-done.done 0 _ now new c.loop-done.invariant.moved
-          (record { no_gate = c.loop-done.invariant.gate; listed = c.execute_load.ensures.listed })
+          (record {
+            no_gate = none_below c.args.inside _ c.loop-done.regs.pc (c.if-not-is_load_up.ensures.below refl);
+            listed = c.execute_load.ensures.listed;
+          })
           (view_is new (moved 0 now) c.execute_load.ensures.registers c.execute_load.ensures.memory c.execute_load.ensures.devices);
-      load = c.if-not-is_load_again.ensures.load c.execute_load.new.common refl;
-      gate = none_below c.args.inside _ c.execute_load.new.regs.pc (c.if-not-is_load_again.ensures.below refl);
-      below = omega arith;
       segment = lengths.0 ∙ c.loop-done.invariant.segment;
       common = lengths.1 ∙ c.loop-done.invariant.common;
     }
