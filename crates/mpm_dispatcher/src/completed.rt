@@ -1,4 +1,4 @@
-ghost use Rattle.std.specs.Prelude.{◌≡◌, ◌↔◌, ◌<◌, false, [], ◌∷◌, ◌++◌, drop, length};
+ghost use Rattle.std.specs.Prelude.{◌≡◌, ◌↔◌, ◌<◌, ◌≤◌, false, [], ◌∷◌, ◌++◌, drop, length};
 
 use mpm_base::Pid;
 use mpm_clock::Woken;
@@ -62,10 +62,11 @@ impl Completed {
         self.count += 1;
     }
 
-    /// Whether some are left.
+    /// Whether some are left: at most 64.
     #[inline]
     pub fn has_some(&self) -> bool
-        ensures { (result ≡ false) ↔ (self.now ≡ []) }
+        ensures some { (result ≡ false) ↔ (self.now ≡ []) }
+        ensures few { length self.now ≤ 64 }
     {
         !self.pids[..self.count as usize].is_empty()
     }

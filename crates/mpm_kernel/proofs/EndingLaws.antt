@@ -8,7 +8,7 @@ use Rattle.mpm_base.specs.Calls.{no_call}
 use Rattle.mpm_ready.proofs.TableLaws.{table_removed, list_of_removed, list_of_removed_other}
 use Rattle.mpm_clock.specs.Times.{clock_without_delay}
 use Rattle.mpm_clock.proofs.DelayLaws.{delays_without_own, delays_without_other}
-use Rattle.mpm_procs.specs.Table.{Table, lives, Lives, process_in, call_of, with_process, without}
+use Rattle.mpm_procs.specs.Table.{Table, lives, Lives, process_in, call_of, with_process, with_call, without}
 use Rattle.mpm_procs.specs.declared.process.Process.{Process}
 use Rattle.mpm_procs.proofs.MapLaws.{lives_below, lives_without, lives_without_other, process_without_other, slots_without}
 use Rattle.mpm_queues.specs.Queue.{is_full}
@@ -16,6 +16,7 @@ use Rattle.mpm_queues.specs.Queues.{Queues, IsMade, is_made, queue_in, holds, wa
 use Rattle.mpm_queues.specs.Handling.{queues_without_waiter, first_reader, written_by, procs_after_write, write_outcome, woken_by}
 use Rattle.mpm_queues.proofs.SoundLaws.{sound_queues_without, reader_waits}
 use Rattle.mpm_queues.proofs.WaitLaws.{waits_without_waiter, waits_without_other, waits_one, write_ends_waiter, holds_made}
+use Rattle.mpm_service.proofs.PlaceLaws.{at_without, at_without_other}
 use Rattle.mpm_consoles.specs.Console.{is_owner}
 use Rattle.mpm_consoles.specs.Consoles.{HasUnit, owns}
 use Rattle.mpm_consoles.specs.declared.unit.Unit.{Unit}
@@ -34,6 +35,7 @@ use Rattle.mpm_kernel.proofs.LeavingLaws.{OwnsNothing, left_units, owns_none}
 use Rattle.mpm_kernel.proofs.Staying.{all_and_one}
 use Rattle.mpm_kernel.proofs.QueueingLaws.{sound_given, write_waits, may_by_write, lives_written}
 use Rattle.mpm_kernel.proofs.QueueCalls.{queues_with_other}
+use Rattle.mpm_kernel.proofs.Beside.{StaysBeside, beside_same, beside_both, beside_other, beside_others_call, call_without_other, beside_gone}
 use Rattle.mpm_kernel.proofs.HomeLaws.{SameHomes, homes_stay, homes_both, homes_vacated, kept_delivered_to, procs_with_other}
 use Rattle.mpm_kernel.proofs.ProcedureLaws.{sound_outside, lives_outside, few_outside, others_outside, homes_given, homes_given_back}
 
@@ -41,13 +43,13 @@ use Rattle.mpm_kernel.proofs.ProcedureLaws.{sound_outside, lives_outside, few_ou
 dropped_nowhere : (p : ℕ) (kernel : Kernel) → places (dropped_out p kernel) p ≡ 0
 unfolding dropped_out clock_without_delay
 dropped_nowhere p kernel =
-    omega (arith, in_none _ (list_of_removed kernel.dispatcher.lists p), flags_without_own kernel.flags p, delays_without_own kernel.clock.delays p, waits_without_waiter kernel.queues p, units_without_own kernel.units p)
+    omega (arith, in_none _ (list_of_removed kernel.dispatcher.lists p), flags_without_own kernel.flags p, delays_without_own kernel.clock.delays p, waits_without_waiter kernel.queues p, units_without_own kernel.units p, at_without kernel.disk p)
 
 dropped_elsewhere : (p q : ℕ) (kernel : Kernel) → IsSound kernel → q ≢ p → places (dropped_out p kernel) q ≡ places kernel q
 unfolding dropped_out clock_without_delay
 dropped_elsewhere p q kernel s other =
     let same = list_of_removed_other kernel.dispatcher.lists p q s.table (not_equal p q (λ e. other (sym e))) in
-    omega (arith, ap in_lists same, flags_without_other kernel.flags p q other, delays_without_other kernel.clock.delays p q other, waits_without_other kernel.queues p q s.queues other, units_without_other kernel.units p q s.units other)
+    omega (arith, ap in_lists same, flags_without_other kernel.flags p q other, delays_without_other kernel.clock.delays p q other, waits_without_other kernel.queues p q s.queues other, units_without_other kernel.units p q s.units other, at_without_other kernel.disk p q other)
 
 made_without_waiter : (t : Queues) (p q : ℕ) → IsMade t q → IsMade (queues_without_waiter t p) q
 unfolding queues_without_waiter
@@ -363,16 +365,23 @@ record Keeps (q : ℕ) (old new : Kernel) : Type 0 where
   pub lives : lives new.dispatcher.procs q ≡ lives old.dispatcher.procs q
   pub call : waits old.queues q ≡ 0 → call_of new.dispatcher.procs q ≡ call_of old.dispatcher.procs q
   pub waits : waits old.queues q ≡ 0 → waits new.queues q ≡ 0
+  pub beside : StaysBeside q old.dispatcher.procs new.dispatcher.procs
 
 keeps_both : (q : ℕ) (old middle new : Kernel) → Keeps q old middle → Keeps q middle new → Keeps q old new
 keeps_both q old middle new first second = record {
   lives = second.lives ∙ first.lives;
   call = λ none. second.call (first.waits none) ∙ first.call none;
   waits = λ none. second.waits (first.waits none);
+  beside = beside_both q old.dispatcher.procs middle.dispatcher.procs new.dispatcher.procs first.beside second.beside;
 }
 
 keeps_same : (q : ℕ) (old new : Kernel) → new.dispatcher.procs ≡ old.dispatcher.procs → (waits old.queues q ≡ 0 → waits new.queues q ≡ 0) → Keeps q old new
-keeps_same q old new same none = record { lives = ap (λ procs. lives procs q) same; call = λ _. ap (λ procs. call_of procs q) same; waits = none }
+keeps_same q old new same none = record {
+  lives = ap (λ procs. lives procs q) same;
+  call = λ _. ap (λ procs. call_of procs q) same;
+  waits = none;
+  beside = beside_same q old.dispatcher.procs new.dispatcher.procs same;
+}
 
 keeps_itself : (q : ℕ) (kernel : Kernel) → Keeps q kernel kernel
 keeps_itself q kernel = keeps_same q kernel kernel refl (λ none. none)
@@ -381,12 +390,22 @@ keeps_dropped : (p q : ℕ) (kernel : Kernel) → IsSound kernel → q ≢ p →
 unfolding dropped_out
 keeps_dropped p q kernel s other = keeps_same q kernel (dropped_out p kernel) refl (λ none. waits_without_other kernel.queues p q s.queues other ∙ none)
 
+beside_outside : (p q : ℕ) (kernel : Kernel) → q ≢ p → StaysBeside q kernel.dispatcher.procs (outside p kernel).dispatcher.procs
+unfolding outside
+beside_outside p q kernel other =
+    let procs = kernel.dispatcher.procs in
+    let process = record (process_in procs p) { procedure = None } in
+    beside_both q procs (with_process procs p process) (with_call (with_process procs p process) p (writing (process_in procs p).kept))
+    (beside_other procs p q process other)
+    (beside_others_call (with_process procs p process) p q (writing (process_in procs p).kept) other)
+
 keeps_outside : (p q : ℕ) (kernel : Kernel) → q ≢ p → Keeps q kernel (outside p kernel)
 unfolding outside with_process Rattle.mpm_procs.specs.Table.with_call
 keeps_outside p q kernel other = record {
   lives = refl;
   call = λ none. get_or-set_other kernel.dispatcher.procs.calls p q (writing (process_in kernel.dispatcher.procs p).kept) no_call other;
   waits = λ none. none;
+  beside = beside_outside p q kernel other;
 }
 
 keeps_written : (p q k : ℕ) (kernel : Kernel) → IsSound kernel → Keeps k kernel (dispatched (with_other (woken_by (write_outcome kernel.queues q))) (given_to kernel p q))
@@ -396,10 +415,11 @@ keeps_written p q k kernel s =
     let other = woken_by (write_outcome t q) in
     let afterwards = dispatched (with_other other) (given_to kernel p q) in
     let kept = kept_delivered_to (is_full (queue_in t q)) (first_reader t q) (written_by t q kernel.dispatcher.procs p) kernel (valued 0 afterwards) (procs_with_other other (given_to kernel p q))
-    (λ r first. waits_one t q r s.queues (reader_waits t q r first)) in
+    (λ r first. waits_one t q r s.queues (reader_waits t q r first)) refl in
     record {
       lives = ap (λ procs. lives procs k) (procs_with_other other (given_to kernel p q)) ∙ lives_written t p q kernel.dispatcher.procs k;
       call = λ none. kept.call k none;
+      beside = kept.beside k;
       waits = λ none. omega (arith, none, ap (λ queues. waits queues k) (queues_with_other other (given_to kernel p q)), write_waits t p q kernel.dispatcher.procs k s.queues);
     }
 
@@ -445,15 +465,51 @@ pub lives_discharged : (kernel : Kernel) (p q : ℕ) → IsSound kernel → Live
 unfolding discharged
 lives_discharged kernel p q s h other = lives_without_other (relieved p kernel).dispatcher.procs p q other ∙ (keeps_relieved p q kernel s h other).lives
 
-call_without_other : (procs : Table) (p q : ℕ) → q ≢ p → call_of (without procs p) q ≡ call_of procs q
-unfolding without
-call_without_other procs p q other = get_or-set_other procs.calls p q no_call no_call other
-
 pub call_discharged : (kernel : Kernel) (p q : ℕ) → IsSound kernel → Lives kernel.dispatcher.procs p → q ≢ p → waits kernel.queues q ≡ 0
     → call_of (discharged kernel p).dispatcher.procs q ≡ call_of kernel.dispatcher.procs q
 unfolding discharged
 call_discharged kernel p q s h other none =
     call_without_other (relieved p kernel).dispatcher.procs p q other ∙ (keeps_relieved p q kernel s h other).call none
+
+-- what a process that leaves its resident procedure, or ends, leaves of each other one
+pub beside_given_back : (p q : ℕ) (kernel : Kernel) → IsSound kernel → Lives kernel.dispatcher.procs p → q ≢ p
+    → StaysBeside q kernel.dispatcher.procs (given_back p kernel).dispatcher.procs
+beside_given_back p q kernel s h other = (keeps_given_back p q kernel s h other).beside
+
+pub beside_discharged : (kernel : Kernel) (p q : ℕ) → IsSound kernel → Lives kernel.dispatcher.procs p → q ≢ p
+    → StaysBeside q kernel.dispatcher.procs (discharged kernel p).dispatcher.procs
+unfolding discharged
+beside_discharged kernel p q s h other =
+    let procs = (relieved p kernel).dispatcher.procs in
+    beside_both q kernel.dispatcher.procs procs (without procs p) (keeps_relieved p q kernel s h other).beside (beside_gone procs p q other)
+
+-- there are as many consoles
+
+consoles_given_back_to : (queue : Option ℕ) (p : ℕ) (kernel : Kernel) → length (given_back_to queue p kernel).units.consoles ≡ length kernel.units.consoles
+unfolding given_back_to
+consoles_given_back_to None p kernel = refl
+consoles_given_back_to (Some q) p kernel =
+    either (λ (k : Kernel). length k.units.consoles ≡ length kernel.units.consoles) (is_made kernel.queues q) _ _ (λ _. refl) (λ _. refl)
+
+pub consoles_given_back : (p : ℕ) (kernel : Kernel) → length (given_back p kernel).units.consoles ≡ length kernel.units.consoles
+unfolding given_back outside
+consoles_given_back p kernel = consoles_given_back_to (process_in kernel.dispatcher.procs p).procedure p (outside p kernel)
+
+consoles_all_returned : (qs : List ℕ) (p : ℕ) (kernel : Kernel) → length (all_returned qs p kernel).units.consoles ≡ length kernel.units.consoles
+unfolding all_returned returned
+consoles_all_returned [] p kernel = refl
+consoles_all_returned (q ∷ qs) p kernel =
+    consoles_all_returned qs p (returned p q kernel)
+    ∙ either (λ (k : Kernel). length k.units.consoles ≡ length kernel.units.consoles) (holds kernel.queues p q) _ _ (λ _. consoles_given_back_to (Some q) p kernel) (λ _. refl)
+
+pub consoles_discharged : (kernel : Kernel) (p : ℕ) → IsSound kernel → Lives kernel.dispatcher.procs p → length (discharged kernel p).units.consoles ≡ length kernel.units.consoles
+unfolding discharged relieved dropped_out
+consoles_discharged kernel p s h =
+    let back = given_back p (dropped_out p kernel) in
+    (left_units p (all_returned (range_with_len 0 32) p back) (leaves_messages p kernel s h).sound).consoles
+    ∙ consoles_all_returned (range_with_len 0 32) p back
+    ∙ consoles_given_back p (dropped_out p kernel)
+    ∙ length_units_without kernel.units p
 
 -- the code: after each part of an end
 pub leaves_let_go : (p : ℕ) (kernel gone back afterwards : Kernel) → IsSound kernel → Lives kernel.dispatcher.procs p → gone ≡ dropped_out p kernel

@@ -1,59 +1,80 @@
 -- In which segments the processes live, which of them are aborted, and which calls they keep, after the kernel's calls and
 -- events, and where a process is handed out. The laws on its parts are told here too.
-use Rattle.std.proofs.Common.{◌≡◌, ◌∙◌, ℕ, ◌≤◌, Bool, true, false, ◌==◌, List, length, Option, Some, None, inl, inr, drop, refl, sym, ap, arith}
-use Rattle.std.proofs.lemmas.Bool.{cases_eq, cases_lt}
-use Rattle.std.proofs.lemmas.List.{set_past}
+use Rattle.std.proofs.Common.{◌≡◌, ◌∙◌, ℕ, ◌||◌, Bool, true, false, ◌==◌, [], ◌∷◌, List, Option, Some, None, length, drop, refl, sym, ap, arith}
+use Rattle.std.specs.Prelude.{nat_lt}
+use Rattle.std.proofs.lemmas.Bool.{eqb-true}
+use Rattle.std.proofs.lemmas.List.{length-set}
+use Rattle.mpm_base.specs.Lists.{is_among}
 use Rattle.mpm_base.proofs.Choices.{either}
 use Rattle.mpm_base.specs.Calls.{Taken, word_at}
-use Rattle.mpm_base.specs.declared.functions.TheConstants.{CALL_RESIDENT_SYSTEM_PROCEDURE}
-use Rattle.mpm_procs.specs.Table.{Table, HasSlots, lives, Lives, process_in, call_of, with_process}
+use Rattle.mpm_base.specs.declared.functions.TheConstants.{SET_BDOS_ERROR_MODE, CALL_RESIDENT_SYSTEM_PROCEDURE}
+use Rattle.mpm_procs.specs.Table.{HasSlots, lives, Lives, process_in, call_of, with_process}
 use Rattle.mpm_procs.specs.declared.process.Process.{Process}
-use Rattle.mpm_procs.proofs.MapLaws.{process_changed, process_kept, lives_changed, call_after}
+use Rattle.mpm_procs.proofs.MapLaws.{lives_changed, call_after}
 use Rattle.mpm_dispatcher.specs.Dispatch.{ready, IsReady, with_completed, first_completed}
-use Rattle.mpm_kernel.specs.Kernel.{Kernel, IsSound, CompletedLive, is_aborted, with_changed, call_begun, dispatched}
+use Rattle.mpm_kernel.specs.Kernel.{Kernel, IsSound, CompletedLive, is_aborted, with_changed, call_begun, afresh, dispatched}
 use Rattle.mpm_kernel.specs.Called.{Called, low_parameter}
 use Rattle.mpm_kernel.specs.Calls.{call_done, called, does_echo}
-use Rattle.mpm_kernel.specs.Events.{happened, inside_of, with_procedure, with_first, handed_out}
+use Rattle.mpm_kernel.specs.Waiting.{is_flag}
+use Rattle.mpm_kernel.specs.Columns.{spoke}
+use Rattle.mpm_kernel.specs.Consoling.{key_done, key_came, echoed, is_of_resident}
+use Rattle.mpm_consoles.specs.Consoles.{owner_of}
+use Rattle.mpm_consoles.specs.Handling.{key_answer}
+use Rattle.mpm_consoles.specs.declared.keys.KeyDone.{KeyDone}
+use Rattle.mpm_consoles.specs.declared.keys.KeyDone.TheVariants.{Stored, Dropped, Wakes, Aborts, Passes, Nothing}
+use Rattle.mpm_consoles.specs.declared.unit.Unit.TheVariants.{Console as ConsoleUnit}
+use Rattle.mpm_kernel.proofs.KeyLaws.{consoles_after_key}
+use Rattle.mpm_kernel.specs.Events.{happens, clock_ticked, device_ready, flag_came, happened, inside_of, with_procedure, with_first, handed_out}
 use Rattle.mpm_kernel.specs.Procedures.{procedure_queue, inside}
 use Rattle.mpm_script.specs.declared.event.Event.{Event}
+use Rattle.mpm_script.specs.declared.event.Event.TheVariants.{Tick, Key, Ready, Int}
 use Rattle.mpm_kernel.proofs.SoundLaws.{listed_once, completed_lives, procs_happened, sound_begun}
 use Rattle.mpm_kernel.proofs.Homes.{aborted_same}
+use Rattle.mpm_kernel.proofs.Beside.{StaysBeside, beside_same, field_kept}
 use Rattle.mpm_queues.specs.Queue.{block_size}
 use Rattle.mpm_queues.specs.Queues.{waits}
 pub use Rattle.mpm_kernel.proofs.Homes.{IsLivedIn, SameHomes, homes_stay, homes_both, lived_in_changed, homes_changed, homes_call, homes_vacated, opening_home, aborts_admitted, homes_admitted, homes_in_slot, lives_on, keeps_call, keeps_process, procs_spoke}
 pub use Rattle.mpm_kernel.proofs.CallHomes.{KeepsHome, procs_with_other, kept_delivered_to}
 use Rattle.mpm_kernel.proofs.RowLaws.{by_table}
-use Rattle.mpm_kernel.proofs.CallHomes.{kept_same, kept_changed, kept_behind, kept_priority, kept_polled, kept_flag_waited, kept_flag_set, kept_slept, kept_queue_made, kept_opened, kept_deleted, kept_read_at, kept_write_at, kept_procedure_called, kept_date_set, procs_date_answered, procs_time_answered}
-use Rattle.mpm_kernel.proofs.UnitHomes.{kept_unit_called, kept_console_called}
+use Rattle.mpm_kernel.proofs.CallHomes.{kept_same, kept_changed, kept_behind, kept_priority, kept_polled, kept_flag_waited, kept_flag_set, kept_slept, kept_queue_made, kept_opened, kept_deleted, kept_read_at, kept_write_at, kept_procedure_called, kept_date_set, procs_date_answered, procs_time_answered, consoles_date_answered, consoles_time_answered, consoles_signalled}
+use Rattle.mpm_kernel.proofs.UnitHomes.{kept_unit_called, kept_console_called, consoles_spoken}
 
-kept_call_done : (call : Taken) (p : ℕ) (kernel : Kernel) → IsSound kernel → Lives kernel.dispatcher.procs p
+-- the one function of a row
+only : (one f : ℕ) → is_among f (one ∷ []) ≡ true → f ≡ one
+only one f is = eqb-true f one (or_off (f == one) is) where
+  or_off : (b : Bool) → (b || false) ≡ true → b ≡ true
+  or_off true e = refl
+  or_off false e = e
+
+kept_call_done : (call : Taken) (p : ℕ) (kernel : Kernel) → IsSound kernel → Lives kernel.dispatcher.procs p → call ≡ call_of kernel.dispatcher.procs p
     → KeepsHome kernel (call_done call p (process_in kernel.dispatcher.procs p) kernel)
-kept_call_done call p kernel s h =
-    let same : (called : Called) → called.kernel.dispatcher.procs ≡ kernel.dispatcher.procs → KeepsHome kernel called = kept_same kernel in
+kept_call_done call p kernel s h own =
+    let same : (called : Called) → called.kernel.dispatcher.procs ≡ kernel.dispatcher.procs
+    → length called.kernel.units.consoles ≡ length kernel.units.consoles → KeepsHome kernel called = kept_same kernel in
     by_table (KeepsHome kernel) call p (process_in kernel.dispatcher.procs p) kernel (
-      λ _. same _ refl,
+      λ _. same _ refl refl,
       (
         λ _. kept_console_called call p kernel s h,
         (
           λ _. kept_unit_called call p kernel s h,
           (
-            λ _. same _ refl,
+            λ _. same _ refl refl,
             (
-              λ _. same _ refl,
+              λ _. same _ refl refl,
               (
-                λ _. kept_changed p 0 kernel _ s h refl refl,
+                λ _. kept_changed p 0 kernel _ s h refl refl (λ _. refl),
                 (
-                  λ _. kept_changed p _ kernel _ s h refl refl,
+                  λ _. kept_changed p _ kernel _ s h refl refl (λ _. refl),
                   (
-                    λ _. kept_changed p _ kernel _ s h refl refl,
+                    λ _. kept_changed p _ kernel _ s h refl refl (λ _. refl),
                     (
-                      λ _. kept_changed p 0 kernel _ s h refl refl,
+                      λ is. kept_changed p 0 kernel _ s h refl refl (λ sets. absurd (sets (ap (λ (x : Taken). x.function) (sym own) ∙ only SET_BDOS_ERROR_MODE call.function is))),
                       (
                         λ _. kept_date_set call kernel,
                         (
-                          λ _. same _ (procs_date_answered call kernel),
+                          λ _. same _ (procs_date_answered call kernel) (consoles_date_answered call kernel),
                           (
-                            λ _. kept_changed p 0 kernel _ s h refl refl,
+                            λ _. kept_changed p 0 kernel _ s h refl refl (λ _. refl),
                             (
                               λ _. kept_polled call p kernel,
                               (
@@ -83,7 +104,7 @@ kept_call_done call p kernel s h =
                                                       (
                                                         λ _. kept_procedure_called call p kernel s h,
                                                         (
-                                                          λ _. same _ (procs_time_answered call kernel),
+                                                          λ _. same _ (procs_time_answered call kernel) (consoles_time_answered call kernel),
                                                           tt,
                                                         ),
                                                       ),
@@ -112,7 +133,7 @@ kept_call_done call p kernel s h =
         ),
       ),
     )
-    (same _ refl)
+    (same _ refl refl)
 
 homes_through : (echoes : Bool) (old new : Kernel) → SameHomes (call_begun echoes old) new → SameHomes old new
 homes_through echoes old new homes = homes_both old (call_begun echoes old) new (homes_stay old (call_begun echoes old) refl) homes
@@ -123,19 +144,62 @@ begun p kernel = call_begun (does_echo (call_of kernel.dispatcher.procs p).funct
 
 pub homes_called : (p : ℕ) (kernel : Kernel) → IsSound kernel → Lives kernel.dispatcher.procs p → SameHomes kernel (called p kernel).kernel
 homes_called p kernel s h =
-    homes_through _ kernel _ (kept_call_done (call_of kernel.dispatcher.procs p) p (begun p kernel) (sound_begun _ kernel s) h).homes
+    homes_through _ kernel _ (kept_call_done (call_of kernel.dispatcher.procs p) p (begun p kernel) (sound_begun _ kernel s) h refl).homes
 
 -- a call changes its own call as little as another that is kept, but that of a reader to whom it hands a message
 pub calls_called : (p : ℕ) (kernel : Kernel) → IsSound kernel → Lives kernel.dispatcher.procs p
     → (q : ℕ) → waits kernel.queues q ≡ 0 → call_of (called p kernel).kernel.dispatcher.procs q ≡ call_of kernel.dispatcher.procs q
 calls_called p kernel s h q none =
-    (kept_call_done (call_of kernel.dispatcher.procs p) p (begun p kernel) (sound_begun _ kernel s) h).call q none
+    (kept_call_done (call_of kernel.dispatcher.procs p) p (begun p kernel) (sound_begun _ kernel s) h refl).call q none
+
+-- what it leaves of each process
+pub beside_called : (p q : ℕ) (kernel : Kernel) → IsSound kernel → Lives kernel.dispatcher.procs p → StaysBeside q kernel.dispatcher.procs (called p kernel).kernel.dispatcher.procs
+beside_called p q kernel s h =
+    (kept_call_done (call_of kernel.dispatcher.procs p) p (begun p kernel) (sound_begun _ kernel s) h refl).beside q
+
+pub consoles_called : (p : ℕ) (kernel : Kernel) → IsSound kernel → Lives kernel.dispatcher.procs p → length (called p kernel).kernel.units.consoles ≡ length kernel.units.consoles
+consoles_called p kernel s h =
+    (kept_call_done (call_of kernel.dispatcher.procs p) p (begun p kernel) (sound_begun _ kernel s) h refl).consoles
 
 pub call_called : (p : ℕ) (kernel : Kernel) → IsSound kernel → Lives kernel.dispatcher.procs p → IsReady kernel.dispatcher p
     → call_of (called p kernel).kernel.dispatcher.procs p ≡ call_of kernel.dispatcher.procs p
 call_called p kernel s h is_ready = calls_called p kernel s h p (omega (arith, listed_once kernel p ready s is_ready))
 
 -- and so does an event
+pub beside_happened : (event : Event) (q : ℕ) (kernel : Kernel) → StaysBeside q kernel.dispatcher.procs (happened event kernel).dispatcher.procs
+beside_happened event q kernel = beside_same q kernel.dispatcher.procs (happened event kernel).dispatcher.procs (procs_happened event kernel)
+
+pub consoles_spoke : (kernel : Kernel) (console : ℕ) (bytes : List ℕ) → length (spoke kernel console bytes).units.consoles ≡ length kernel.units.consoles
+unfolding spoke
+consoles_spoke kernel console bytes = consoles_spoken kernel.units console bytes
+
+consoles_key_done : (answer : KeyDone) (console : ℕ) (waited : Bool) (kernel : Kernel) → length (key_done answer console waited kernel).units.consoles ≡ length kernel.units.consoles
+unfolding key_done echoed spoke Rattle.mpm_consoles.specs.Handling.spoke
+consoles_key_done Stored console waited kernel = refl
+consoles_key_done Dropped console waited kernel = refl
+consoles_key_done Nothing console waited kernel = refl
+consoles_key_done (Wakes p) console waited kernel = refl
+consoles_key_done (Aborts p) console waited kernel = length-set kernel.units.consoles console _
+consoles_key_done (Passes from to) console waited kernel = refl
+
+consoles_key_came : (console byte : ℕ) (kernel : Kernel) → length (key_came console byte kernel).units.consoles ≡ length kernel.units.consoles
+unfolding key_came
+consoles_key_came console byte kernel =
+    let resident = is_of_resident kernel.dispatcher.procs (owner_of kernel.units (ConsoleUnit console)) in
+    either (λ (k : Kernel). length k.units.consoles ≡ length kernel.units.consoles) (nat_lt console (length kernel.units.consoles)) _ _
+    (λ _. consoles_key_done (key_answer kernel.units console byte resident) console _ _ ∙ consoles_after_key kernel.units console byte resident) (λ _. refl)
+
+consoles_happens : (event : Event) (kernel : Kernel) → length (happens event kernel).units.consoles ≡ length kernel.units.consoles
+unfolding happens clock_ticked device_ready flag_came
+consoles_happens Tick kernel = refl
+consoles_happens (Key console byte) kernel = consoles_key_came console byte kernel
+consoles_happens (Ready device byte) kernel = refl
+consoles_happens (Int flag) kernel =
+    either (λ (k : Kernel). length k.units.consoles ≡ length kernel.units.consoles) (is_flag flag) _ _ (λ _. consoles_signalled flag kernel) (λ _. refl)
+
+pub consoles_happened : (event : Event) (kernel : Kernel) → length (happened event kernel).units.consoles ≡ length kernel.units.consoles
+consoles_happened event kernel = consoles_happens event (afresh kernel)
+
 pub homes_happened : (event : Event) (kernel : Kernel) → SameHomes kernel (happened event kernel)
 homes_happened event kernel = homes_stay kernel (happened event kernel) (procs_happened event kernel)
 
@@ -146,29 +210,13 @@ record HandedFrom (old new : Kernel) : Type 0 where
   pub call : (q : ℕ) → call_of new.dispatcher.procs q ≡ call_of old.dispatcher.procs q
   pub seg : (q : ℕ) → (process_in new.dispatcher.procs q).seg ≡ (process_in old.dispatcher.procs q).seg
   pub due : (q : ℕ) → (process_in new.dispatcher.procs q).abort_due ≡ (process_in old.dispatcher.procs q).abort_due
+  pub answers : (q : ℕ) → (process_in new.dispatcher.procs q).error_mode ≡ (process_in old.dispatcher.procs q).error_mode
+  pub units : new.units ≡ old.units
   pub queues : new.queues ≡ old.queues
   pub completed : new.dispatcher.completed ≡ old.dispatcher.completed
 
 handed_same : (kernel : Kernel) → HandedFrom kernel kernel
-handed_same kernel = record { lives = λ q. refl; call = λ q. refl; seg = λ q. refl; due = λ q. refl; queues = refl; completed = refl }
-
-nothing_changed : (procs : Table) (p : ℕ) (process : Process) → length procs.processes ≤ p → with_process procs p process ≡ procs
-unfolding with_process
-nothing_changed procs p process past =
-    ap (λ (processes : List Process). record procs { processes = processes }) (set_past procs.processes p process past)
-
-field_kept : {X : Type 0} (field : Process → X) (procs : Table) (p q : ℕ) (process : Process) → field process ≡ field (process_in procs p)
-    → field (process_in (with_process procs p process) q) ≡ field (process_in procs q)
-field_kept field procs p q process same = elim (cases_eq q p) [
-  | inl equal ↦ elim (cases_lt p (length procs.processes)) [
-    | inl below ↦
-        let at : process_in (with_process procs p process) q ≡ process =
-        ap (process_in (with_process procs p process)) equal ∙ process_changed procs p process below in
-        ap field at ∙ same ∙ ap (λ n. field (process_in procs n)) (sym equal)
-    | inr past ↦ ap (λ (table : Table). field (process_in table q)) (nothing_changed procs p process past)
-  ]
-  | inr other ↦ ap field (process_kept procs p q process other)
-]
+handed_same kernel = record { lives = λ q. refl; call = λ q. refl; seg = λ q. refl; due = λ q. refl; answers = λ q. refl; units = refl; queues = refl; completed = refl }
 
 -- a process is another one, whose end by an abort is put off as before
 pub aborted_changed : (kernel : Kernel) (p q : ℕ) (process : Process) → process.abort_due ≡ (process_in kernel.dispatcher.procs p).abort_due
@@ -187,6 +235,8 @@ handed_inside (Some k) p message kernel =
       call = λ q. call_after kernel.dispatcher.procs p q process;
       seg = λ q. field_kept (λ (x : Process). x.seg) kernel.dispatcher.procs p q process refl;
       due = λ q. field_kept (λ (x : Process). x.abort_due) kernel.dispatcher.procs p q process refl;
+      answers = λ q. field_kept (λ (x : Process). x.error_mode) kernel.dispatcher.procs p q process refl;
+      units = refl;
       queues = refl;
       completed = refl;
     }
@@ -213,6 +263,14 @@ seg_handed_out kernel q = (handed_from kernel).seg q
 
 pub aborted_handed_out : (kernel : Kernel) (q : ℕ) → is_aborted (handed_out kernel).dispatcher.procs q ≡ is_aborted kernel.dispatcher.procs q
 aborted_handed_out kernel q = aborted_same kernel.dispatcher.procs (handed_out kernel).dispatcher.procs q (lives_handed_out kernel q) ((handed_from kernel).due q)
+
+pub beside_handed_out : (q : ℕ) (kernel : Kernel) → StaysBeside q kernel.dispatcher.procs (handed_out kernel).dispatcher.procs
+beside_handed_out q kernel =
+    let from = handed_from kernel in
+    record { living = from.lives q; seg = from.seg q; due = from.due q; function = ap (λ (x : Taken). x.function) (from.call q); answers = λ _. from.answers q }
+
+pub units_handed_out : (kernel : Kernel) → (handed_out kernel).units ≡ kernel.units
+units_handed_out kernel = (handed_from kernel).units
 
 pub queues_handed_out : (kernel : Kernel) → (handed_out kernel).queues ≡ kernel.queues
 queues_handed_out kernel = (handed_from kernel).queues

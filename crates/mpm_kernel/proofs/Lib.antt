@@ -1,3 +1,4 @@
+pub mod Beside
 pub mod ColumnLaws
 pub mod PlaceLaws
 pub mod UnitWaits
@@ -31,3 +32,5 @@ pub mod EndingLaws
 pub mod HoldingLaws
 pub mod OutcomeLaws
 pub mod EnsuredLaws
+pub mod DiskStays
+pub mod DiskLaws

@@ -31,6 +31,8 @@ use Rattle.mpm_consoles.specs.Consoles.{Consoles, HasUnit, gate_waits, no_owners
 use Rattle.mpm_consoles.specs.Handling.{spoke as spoke_units}
 use Rattle.mpm_consoles.specs.declared.unit.Unit.{Unit}
 use Rattle.mpm_consoles.specs.declared.unit.Unit.TheVariants.{Console as ConsoleUnit, Printer as PrinterUnit}
+use Rattle.mpm_service.specs.Places.{at_disk}
+use Rattle.mpm_service.proofs.PlaceLaws.{at_none}
 use Rattle.mpm_consoles.proofs.SoundLaws.{sound_none as sound_units_new, sound_kept}
 use Rattle.mpm_kernel.proofs.UnitWaits.{is_at_gate, gates_kept, waits_console, owner_kept, has_before, proper_spoken}
 use Rattle.mpm_dispatcher.specs.Dispatch.{ready, new_dispatcher, IsReady, with_completed, stays, admitted, in_slot, at_rest, runs_still, runner, picked, is_ready, behind_equals, rotated_in, lists_behind, moved, all_ready, ready_in, runner_behind, with_procs, descheduled}
@@ -108,8 +110,8 @@ sound_new consoles printers now some few more = record {
   queues = sound_none;
   system = λ q below. absurd (omega (arith, below));
   inside = λ p q living is. absurd (dead_and_alive _ (nobody_lives p) living);
-  once = λ p. omega (arith, nowhere p, nowhere_new consoles printers p);
-  live = λ p some. absurd (omega (arith, nowhere p, nowhere_new consoles printers p));
+  once = λ p. omega (arith, nowhere p, nowhere_new consoles printers p, at_none 0 p);
+  live = λ p some. absurd (omega (arith, nowhere p, nowhere_new consoles printers p, at_none 0 p));
   runs = λ p e. absurd (none_and_some None p refl e);
 }
 
@@ -300,7 +302,7 @@ first_is_ready kernel p s e = list_of_known kernel.dispatcher.lists p ready s.ta
 pub listed : (kernel : Kernel) (p list : ℕ) → IsSound kernel → list_of kernel.dispatcher.lists p ≡ Some list → Lives kernel.dispatcher.procs p
 listed kernel p list s e = s.live p (omega (arith, in_some _ list e))
 
--- who is in a list waits neither for a flag nor for the clock nor at a queue
+-- who is in a list waits for nothing else
 pub listed_once : (kernel : Kernel) (p list : ℕ) → IsSound kernel → list_of kernel.dispatcher.lists p ≡ Some list
     → waits_of kernel p ≡ 0
 listed_once kernel p list s e = omega (arith, in_some _ list e, s.once p)
@@ -486,7 +488,7 @@ own_queues kernel s = record { sound = s.queues; system = s.system; inside = s.i
 -- a process that runs no more leaves its list, and waits for a flag, for the clock or at a queue
 pub sound_unlisted : (kernel : Kernel) (p : ℕ) (flags : List Flag) (clock : Clock) (queues : Queues) → IsSound kernel → Lives kernel.dispatcher.procs p
     → length flags ≡ 32 → AreQueues kernel queues
-    → waits_in flags clock queues p + waits_at_units kernel.units p ≤ 1
+    → waits_in flags clock queues p + waits_at_units kernel.units p + at_disk kernel.disk p ≤ 1
     → ((q : ℕ) → q ≢ p → waits_in flags clock queues q ≡ waits_in kernel.flags kernel.clock kernel.queues q)
     → IsSound (record kernel { dispatcher = descheduled p kernel.dispatcher; flags = flags; clock = clock; queues = queues })
 sound_unlisted kernel p flags clock queues s h size are own others = record {
@@ -502,7 +504,7 @@ sound_unlisted kernel p flags clock queues s h size are own others = record {
   once = λ q. elim (cases_eq q p) [
     | inl same ↦
         let none = in_none _ (ap (list_of (removed kernel.dispatcher.lists p)) same ∙ list_of_removed kernel.dispatcher.lists p) in
-        let here = ap (λ x. waits_in flags clock queues x + waits_at_units kernel.units x) same in
+        let here = ap (λ x. waits_in flags clock queues x + waits_at_units kernel.units x + at_disk kernel.disk x) same in
         omega (arith, none, here, own)
     | inr other ↦
         let there = list_of_removed_other kernel.dispatcher.lists p q s.table (not_equal p q (λ e. other (sym e))) in

@@ -8,13 +8,15 @@ use Rattle.mpm_queues.specs.Queues.{holds}
 use Rattle.mpm_queues.specs.Handling.{queues_without_waiter}
 use Rattle.mpm_consoles.specs.Handling.{units_without_waiter}
 use Rattle.mpm_consoles.specs.declared.unit.Unit.TheVariants.{Console as ConsoleUnit, Printer as PrinterUnit}
+use Rattle.mpm_service.specs.Places.{without_call}
 use Rattle.mpm_procs.specs.Table.{Lives, without}
 use Rattle.mpm_kernel.specs.Kernel.{Kernel, IsSound, places, dispatched}
 use Rattle.mpm_dispatcher.specs.Dispatch.{with_procs, descheduled}
 use Rattle.mpm_kernel.specs.Consoling.{unit_left}
 use Rattle.mpm_kernel.specs.Procedures.{given_back_to, given_back}
 
--- a process stands in no list, and waits neither for a flag nor for the clock nor at a queue nor for a console or a printer
+-- a process stands in no list, waits neither for a flag nor for the clock nor at a queue nor for a console or a printer, and
+-- has no call at the disk
 unfoldable pub dropped_out : ℕ → Kernel → Kernel
 dropped_out p kernel = record kernel {
   dispatcher = descheduled p kernel.dispatcher;
@@ -22,6 +24,7 @@ dropped_out p kernel = record kernel {
   clock = clock_without_delay kernel.clock p;
   queues = queues_without_waiter kernel.queues p;
   units = units_without_waiter kernel.units p;
+  disk = without_call kernel.disk p;
 }
 
 -- the message of a mutual exclusion queue that it holds goes back

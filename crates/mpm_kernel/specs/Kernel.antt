@@ -14,12 +14,14 @@ use Rattle.mpm_consoles.specs.Consoles.{Consoles, no_owners, HasUnit, owns, wait
 use Rattle.mpm_consoles.specs.declared.unit.Unit.{Unit}
 use Rattle.mpm_procs.specs.Table.{Table, HasSlots, lives, Lives, process_in, with_process}
 use Rattle.mpm_procs.specs.declared.process.Process.{Process}
+use Rattle.mpm_service.specs.Disk.{DiskService, no_service}
+use Rattle.mpm_service.specs.Places.{at_disk}
 use Rattle.mpm_dispatcher.specs.Dispatch.{new_dispatcher, IsReady, with_procs, with_completed}
 use Rattle.mpm_dispatcher.specs.declared.dispatcher.Dispatcher.{Dispatcher}
 
 -- the dispatcher, which has the processes, the flags, the clock, the polled devices, the consoles and printers with those who
--- wait for them, the queues, how many of them are the system's, which have the lowest numbers, and what is left to be handed
--- out: what the last call that echoes or the last event wrote to its console by itself, and the process that the last event
+-- wait for them, the queues, how many of them are the system's, which have the lowest numbers, the file calls at the disk, and
+-- what is left to be handed out: what the last call that echoes or the last event wrote to its console by itself, and the process that the last event
 -- aborts
 pub record Kernel : Type 0 where
   pub dispatcher : Dispatcher
@@ -29,10 +31,11 @@ pub record Kernel : Type 0 where
   pub units : Consoles
   pub queues : Queues
   pub system_queues : ℕ
+  pub disk : DiskService
   pub echo : List ℕ
   pub aborted : Option ℕ
 
--- the kernel of a machine as it begins at a moment: no process lives
+-- the kernel of a machine as it begins at a moment: no process lives, and no call waits for the disk, whose turns have no steps
 unfoldable pub new_kernel : ℕ → ℕ → Moment → Kernel
 new_kernel consoles printers now = record {
   dispatcher = new_dispatcher;
@@ -42,6 +45,7 @@ new_kernel consoles printers now = record {
   units = no_owners consoles printers;
   queues = no_queues;
   system_queues = 0;
+  disk = no_service 0;
   echo = [];
   aborted = None;
 }
@@ -75,7 +79,7 @@ abbrev pub is_aborted : Table → ℕ → Bool
 is_aborted procs p = lives procs p && (process_in procs p).abort_due
 
 -- the places where a process stands: it is in a list, it waits for flags, delays are its, it waits at queues, it waits for a
--- console or a printer, it waits at its gate as the owner of a console
+-- console or a printer, it waits at its gate as the owner of a console, it waits for the disk or is served by it
 
 unfoldable pub in_lists : Option ℕ → ℕ
 in_lists None = 0
@@ -97,7 +101,8 @@ abbrev pub waits_at_units : Consoles → ℕ → ℕ
 waits_at_units units p = waits_for_unit units p + gate_waits units p
 
 abbrev pub waits_of : Kernel → ℕ → ℕ
-waits_of kernel p = waits_in kernel.flags kernel.clock kernel.queues p + waits_at_units kernel.units p
+waits_of kernel p =
+    waits_in kernel.flags kernel.clock kernel.queues p + waits_at_units kernel.units p + at_disk kernel.disk p
 
 abbrev pub places : Kernel → ℕ → ℕ
 places kernel p = in_lists (list_of kernel.dispatcher.lists p) + waits_of kernel p

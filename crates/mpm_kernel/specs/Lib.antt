@@ -6,6 +6,7 @@ pub mod Waiting
 pub mod Consoling
 pub mod ConsoleInput
 pub mod Dates
+pub mod Disk
 pub mod Queueing
 pub mod Procedures
 pub mod Ending

@@ -48,7 +48,7 @@ impl Kernel {
         self.dispatcher.procs.end(p);
     }
 
-    /// A process stands in no list any more and waits for nothing.
+    /// A process stands in no list any more, waits for nothing, and has no call at the disk.
     #[tactic(auto, unfolding(crate::specs::Ending::dropped_out))]
     fn drop_out(&mut self, p: Pid)
         ensures { self.new ≡ dropped_out p self.old }
@@ -58,6 +58,7 @@ impl Kernel {
         self.clock.leave(p);
         self.queues.leave(p);
         self.units.leave(p);
+        self.disk.drop_call(p);
         self.dispatcher.rest(p);
     }
 

@@ -12,6 +12,7 @@ use mpm_flags::Flags;
 use mpm_line_input::Echo;
 use mpm_procs::{NewProcess, NoSlot, Process};
 use mpm_queues::Queues;
+use mpm_service::Service;
 use std::alloc::Global;
 use std::marker::Model;
 use z80_regs::Regs;
@@ -26,6 +27,7 @@ pub struct Kernel {
     pub(crate) units: Consoles,
     pub(crate) queues: Queues,
     pub(crate) system_queues: u8,
+    pub(crate) disk: Service,
     pub(crate) echo: Echo,
     pub(crate) aborted: Option<Pid>,
 }
@@ -35,7 +37,7 @@ impl Model for Kernel {
 
     ghost Value = { Kernel };
 
-    ghost view = { λ k. record { dispatcher = k.dispatcher; flags = k.flags; clock = k.clock; devices = k.devices; units = k.units; queues = k.queues; system_queues = k.system_queues; echo = k.echo; aborted = k.aborted } };
+    ghost view = { λ k. record { dispatcher = k.dispatcher; flags = k.flags; clock = k.clock; devices = k.devices; units = k.units; queues = k.queues; system_queues = k.system_queues; disk = k.disk; echo = k.echo; aborted = k.aborted } };
 }
 
 impl Kernel {
@@ -51,7 +53,8 @@ impl Kernel {
     ghost use Rattle.mpm_clock.specs.Times.{moment_of};
     ghost use Rattle.mpm_kernel.specs.Lending.{LendsProcess, LendsRegs, LendsCall, LendsDevices};
 
-    /// The kernel of a machine with 1 to 8 consoles and at most 4 printers, in which no process lives, at a moment.
+    /// The kernel of a machine with 1 to 8 consoles and at most 4 printers, in which no process lives, at a moment. No call waits
+    /// for its disk.
     ///
     /// # Errors
     /// Where no memory is found. All that it will need is taken here.
@@ -88,6 +91,7 @@ impl Kernel {
             units: Consoles::new(alloc, consoles, printers)?,
             queues: Queues::new(alloc)?,
             system_queues: 0,
+            disk: Service::new(0),
             echo: Echo::new(),
             aborted: None,
         })
@@ -264,10 +268,11 @@ impl Kernel {
         self.clock.now()
     }
 
-    /// Whether held calls were completed by the last call or event that were not handed out yet.
+    /// Whether held calls were completed by the last call or event that were not handed out yet: at most 64.
     #[inline]
     pub fn has_completed(&self) -> bool
-        ensures { (result ≡ false) ↔ (self.now.dispatcher.completed ≡ []) }
+        ensures some { (result ≡ false) ↔ (self.now.dispatcher.completed ≡ []) }
+        ensures few { length self.now.dispatcher.completed ≤ 64 }
     {
         self.dispatcher.completed.has_some()
     }

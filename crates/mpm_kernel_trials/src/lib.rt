@@ -7,6 +7,8 @@ mod calls;
 #[cfg(test)]
 mod consoles;
 #[cfg(test)]
+mod disk;
+#[cfg(test)]
 mod ending;
 #[cfg(test)]
 mod queues;

@@ -127,7 +127,7 @@ struct Seen {
 
 /// A kernel of two consoles and a printer with one process of priority 200, which runs, at 23:59:58 of day 300.
 #[tactic(auto, using(mpm_kernel::proofs::SoundLaws::sound_new))]
-fn kernel_of_one(alloc: Global) -> Result<Kernel, OutOfMemory>
+pub(super) fn kernel_of_one(alloc: Global) -> Result<Kernel, OutOfMemory>
     ensures { IfOk result (λ kernel. IsSound kernel) }
 {
     let now = Moment {
@@ -162,9 +162,10 @@ pub(super) fn kernel_with_system_queue(alloc: Global) -> Result<Kernel, OutOfMem
 
 /// A process begins, where a slot is free.
 #[tactic(auto, using(mpm_kernel::proofs::SoundLaws::sound_in_slot))]
-fn begin(kernel: &mut Kernel, name: &[u8; 8], priority: u8, seg: Option<Seg>) -> bool
+pub(super) fn begin(kernel: &mut Kernel, name: &[u8; 8], priority: u8, seg: Option<Seg>) -> bool
     requires { IsSound kernel.old }
-    ensures { IsSound kernel.new }
+    ensures sound { IsSound kernel.new }
+    ensures disk { kernel.new.disk ≡ kernel.old.disk }
 {
     let p = kernel.admit(NewProcess {
         name: Name8(*name),
@@ -181,7 +182,7 @@ fn begin(kernel: &mut Kernel, name: &[u8; 8], priority: u8, seg: Option<Seg>) ->
 }
 
 /// The slot of a process, if there is one.
-fn slot(p: Option<Pid>) -> Option<u8> {
+pub(super) fn slot(p: Option<Pid>) -> Option<u8> {
     match p {
         Some(p) => Some(p.0),
         None => None,

@@ -25,6 +25,14 @@ enum Line {
     Starts(u8, u32),
     /// Who is served.
     Serves(Option<u8>),
+    /// What the next step will be.
+    Ahead(Turn),
+    /// How many steps will only pass; none where any number will.
+    Quiet(Option<u32>),
+    /// So many steps at once that only pass.
+    Skip(u32),
+    /// The service ends, and so many turns were left to it.
+    Finish(u32),
 }
 
 /// Puts a process into the list; false where it waits or is served.
@@ -80,6 +88,21 @@ fn pass(service: &mut Service, steps: u32) -> bool
     true
 }
 
+/// So many steps pass at once; false, and none does, where one of them would be more.
+fn skip(service: &mut Service, steps: u32) -> bool
+    requires steps { 0 < service.old.turn_steps }
+    requires begun { HasBegun service.old }
+    ensures steps { 0 < service.new.turn_steps }
+    ensures begun { HasBegun service.new }
+{
+    let most = service.quiet().unwrap_or(steps);
+    if steps > most {
+        return false;
+    }
+    service.pass(steps);
+    true
+}
+
 /// The number of the process that is served.
 fn served(service: &Service) -> Option<u8> {
     match service.serving() {
@@ -114,6 +137,10 @@ fn passes(service: &mut Service, line: Line) -> bool
             _ => false,
         },
         Line::Serves(slot) => served(service) == slot,
+        Line::Ahead(turn) => service.ahead() == turn,
+        Line::Quiet(steps) => service.quiet() == steps,
+        Line::Skip(steps) => skip(service, steps),
+        Line::Finish(turns) => service.finish() == turns,
     }
 }
 
@@ -230,6 +257,75 @@ fn only_who_waits_leaves(_rt: HostRuntime) -> Result<(), Fail> {
             Line::Pass(1),
             Line::Last(5),
             Line::Starts(1, 1),
+        ],
+    )
+}
+
+/// The steps of a turn before its last may pass at once, in parts too, and none more: a call of three turns of twenty steps.
+#[test]
+fn steps_pass_at_once_up_to_a_turns_end(_rt: HostRuntime) -> Result<(), Fail> {
+    play(
+        20,
+        &[
+            Line::Ahead(Turn::Idle),
+            Line::Quiet(None),
+            Line::Skip(1_000_000),
+            Line::Enters(6, 200),
+            Line::Ahead(Turn::Starts { p: Pid(6) }),
+            Line::Quiet(Some(0)),
+            Line::Starts(6, 3),
+            Line::Ahead(Turn::Passing),
+            Line::Quiet(Some(19)),
+            Line::Skip(19),
+            Line::Quiet(Some(0)),
+            Line::Ahead(Turn::Work {
+                p: Pid(6),
+                last: false,
+            }),
+            Line::Work(6),
+            Line::Pass(4),
+            Line::Skip(5),
+            Line::Enters(2, 10),
+            Line::Quiet(Some(10)),
+            Line::Skip(10),
+            Line::Work(6),
+            Line::Skip(0),
+            Line::Skip(18),
+            Line::Ahead(Turn::Passing),
+            Line::Pass(1),
+            Line::Ahead(Turn::Work {
+                p: Pid(6),
+                last: true,
+            }),
+            Line::Serves(Some(6)),
+            Line::Last(6),
+            Line::Ahead(Turn::Starts { p: Pid(2) }),
+            Line::Quiet(Some(0)),
+        ],
+    )
+}
+
+/// A service ends in the midst of a turn: that turn is left to it too, and who waits enters after it.
+#[test]
+fn a_service_ends_in_the_midst_of_a_turn(_rt: HostRuntime) -> Result<(), Fail> {
+    play(
+        20,
+        &[
+            Line::Finish(0),
+            Line::Enters(3, 200),
+            Line::Finish(0),
+            Line::Starts(3, 16),
+            Line::Skip(19),
+            Line::Work(3),
+            Line::Enters(5, 200),
+            Line::Skip(7),
+            Line::Finish(15),
+            Line::Serves(None),
+            Line::Finish(0),
+            Line::Starts(5, 1),
+            Line::Skip(19),
+            Line::Last(5),
+            Line::Idle,
         ],
     )
 }

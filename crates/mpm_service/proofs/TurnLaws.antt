@@ -9,7 +9,7 @@ use Rattle.mpm_service.specs.Disk.{after_step, step_answer, with_turns}
 use Rattle.mpm_service.specs.Turns.{after_steps, TakesTurns}
 
 -- a call with so many turns left, of whose turn so many steps have passed
-abbrev with_left : ℕ → ℕ → ℕ → Served
+abbrev pub with_left : ℕ → ℕ → ℕ → Served
 with_left p left passed = record { p = p; left = left; passed = passed }
 
 same_test : (b : Bool) (x y z : Option Served) → b ≡ false → y ≡ z → cond b x y ≡ z
@@ -20,7 +20,7 @@ last_test : (b : Bool) (x y z : Option Served) → b ≡ true → x ≡ z → co
 last_test true x y z e h = h
 last_test false x y z e h = absurd (cc)
 
-passes : (k p left j : ℕ) → j + 1 < k → after_step k (with_left p left j) ≡ Some (with_left p left (j + 1))
+pub passes : (k p left j : ℕ) → j + 1 < k → after_step k (with_left p left j) ≡ Some (with_left p left (j + 1))
 unfolding after_step
 passes k p left j below = same_test (j + 1 == k) _ _ _ (grind (arith, nat_tests)) refl
 

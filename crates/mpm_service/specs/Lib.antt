@@ -1,3 +1,5 @@
 pub mod Waiting
 pub mod Disk
 pub mod Turns
+pub mod Ahead
+pub mod Places

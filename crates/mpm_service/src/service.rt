@@ -1,6 +1,7 @@
-ghost use Rattle.std.specs.Prelude.{◌≡◌, ◌≢◌, ℕ, ◌<◌, true, false, None, IfSome};
+ghost use Rattle.std.specs.Prelude.{◌≡◌, ◌≢◌, ℕ, ◌+◌, ◌<◌, ◌≤◌, true, false, None, IfSome, unwrap_or};
 ghost use Rattle.mpm_ready.specs.Order.{in_list};
 ghost use Rattle.mpm_service.specs.Waiting.{IsWaitList};
+ghost use Rattle.mpm_service.specs.Places.{served_without};
 
 use crate::waiting::Waiting;
 use mpm_base::Pid;
@@ -51,6 +52,8 @@ impl Model for Service {
 impl Service {
     ghost use Rattle.mpm_service.specs.Disk.{no_service, entered, left_by, served_process, turned, turn_answer, begun, HasBegun, HasEntered, IsAfter, IsSound};
     ghost use Rattle.mpm_service.specs.Turns.{TakesTurns};
+    ghost use Rattle.mpm_service.specs.Places.{without_call};
+    ghost use Rattle.mpm_service.specs.Ahead.{turned_by, quiet_steps, passed_by, turns_left, unserved};
 
     /// Nobody waits or is served. A turn has `disk_turn` steps; where that is 0 no call may wait.
     #[tactic(auto, unfolding(crate::specs::Disk::no_service))]
@@ -157,6 +160,80 @@ impl Service {
         self.waiting.remove(p)
     }
 
+    /// Drops the call of a process, whether it waits or is in service.
+    #[tactic(auto, unfolding(crate::specs::Places::without_call))]
+    pub fn drop_call(&mut self, p: Pid)
+        ensures service { self.new ≡ without_call self.old p }
+        ensures steps { self.new.turn_steps ≡ self.old.turn_steps }
+        ensures begun { HasBegun self.old → HasBegun self.new }
+    {
+        let _waited = self.waiting.remove(p);
+        self.served = without(self.served, p);
+    }
+
+    /// What the next step of the disk is, as the service now is.
+    #[tactic(auto, unfolding(crate::specs::Disk::turn_answer))]
+    pub fn ahead(&self) -> Turn
+        ensures { result ≡ turn_answer self.now }
+    {
+        match self.served {
+            Some(call) => call.answer(self.turn_steps),
+            None => match self.waiting.first() {
+                Some(p) => Turn::Starts { p },
+                None => Turn::Idle,
+            },
+        }
+    }
+
+    /// How many steps of the disk only pass before one that is more; None where the disk has no call, so that any number does.
+    #[tactic(auto, unfolding(crate::specs::Ahead::quiet_steps))]
+    pub fn quiet(&self) -> Option<u32>
+        ensures steps { result ≡ quiet_steps self.now }
+        ensures few { (n : ℕ) → n ≤ unwrap_or result n → IfSome self.now.served (λ call. call.passed + n < self.now.turn_steps) }
+    {
+        match self.served {
+            Some(call) => Some(self.turn_steps - 1 - call.passed),
+            None => match self.waiting.first() {
+                Some(_) => Some(0),
+                None => None,
+            },
+        }
+    }
+
+    /// So many steps of the disk at once, that only pass.
+    #[tactic(auto, using(crate::proofs::AheadLaws::many_pass), unfolding(crate::specs::Ahead::passed_by))]
+    pub fn pass(&mut self, steps: u32)
+        requires few { IfSome self.old.served (λ call. call.passed + steps < self.old.turn_steps) }
+        ensures service { self.new ≡ passed_by steps self.old }
+        ensures turned { IfSome self.old.served (λ _. self.new ≡ turned_by steps self.old) }
+        ensures steps { self.new.turn_steps ≡ self.old.turn_steps }
+        ensures begun { HasBegun self.old → HasBegun self.new }
+    {
+        if let Some(call) = self.served {
+            self.served = Some(Served {
+                p: call.p,
+                left: call.left,
+                passed: call.passed + steps,
+            });
+        }
+    }
+
+    /// The service of the call that is served ends without further steps: how many turns were left to it.
+    #[tactic(auto, unfolding(crate::specs::Ahead::unserved, crate::specs::Ahead::turns_left))]
+    pub fn finish(&mut self) -> u32
+        ensures service { self.new ≡ unserved self.old }
+        ensures turns { result ≡ turns_left self.old }
+        ensures steps { self.new.turn_steps ≡ self.old.turn_steps }
+        ensures begun { HasBegun self.new }
+    {
+        let left = match self.served {
+            Some(call) => call.left,
+            None => 0,
+        };
+        self.served = None;
+        left
+    }
+
     /// The process whose call is in service, none exactly where none is.
     #[tactic(auto, unfolding(crate::specs::Disk::served_process))]
     pub fn serving(&self) -> Option<Pid>
@@ -170,6 +247,16 @@ impl Service {
             Some(call) => Some(call.p),
             None => None,
         }
+    }
+}
+
+/// The call in service, unless it is that of a process.
+fn without(served: Option<Served>, p: Pid) -> Option<Served>
+    ensures { result ≡ served_without p served }
+{
+    match served {
+        Some(call) if call.p == p => None,
+        _ => served,
     }
 }
 

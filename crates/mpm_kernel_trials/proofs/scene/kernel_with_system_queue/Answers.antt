@@ -24,4 +24,4 @@ begin-begun-requires c =
     (subst R is (may_make_new 1 0 _ (record { 0 = _ }) 130 15 (omega arith) (omega arith))))
 
 pub returns : goal.returns
-returns c = subst IsSound (sym c.pick.ensures.kernel) (sound_picked c.begin-begun.new.kernel false c.begin-begun.ensures)
+returns c = subst IsSound (sym c.pick.ensures.kernel) (sound_picked c.begin-begun.new.kernel false c.begin-begun.ensures.sound)

@@ -1,0 +1,32 @@
+-- File calls at the disk, which serves one after the other in turns: what becomes of the kernel as one waits, in each step of the
+-- disk, and as one is over. (The service in turns is this project's own; the order in which calls wait is that of the dispatcher:
+-- MP/M II Programmer's Guide, "Dispatcher".)
+use Rattle.std.specs.Prelude.{◌≡◌, ℕ, Some}
+use Rattle.mpm_service.specs.Disk.{DiskService, no_service, entered}
+use Rattle.mpm_procs.specs.Table.{Lives, process_in}
+use Rattle.mpm_dispatcher.specs.Dispatch.{descheduled, made_ready}
+use Rattle.mpm_kernel.specs.Kernel.{Kernel, places, dispatched}
+
+-- the kernel with another service of the disk, by what becomes of it
+abbrev pub with_disk : (DiskService → DiskService) → Kernel → Kernel
+with_disk f kernel = record kernel { disk = f kernel.disk }
+
+-- the disk serves in turns of so many steps, and serves nobody yet
+abbrev pub in_turns : ℕ → Kernel → Kernel
+in_turns turn_steps kernel = with_disk (λ _. no_service turn_steps) kernel
+
+-- a process runs no more, stands in no list of the dispatcher, and its call waits behind all of equal or better priority
+unfoldable pub waiting_for_disk : ℕ → Kernel → Kernel
+waiting_for_disk p kernel = record kernel {
+  dispatcher = descheduled p kernel.dispatcher;
+  disk = entered kernel.disk p (process_in kernel.dispatcher.procs p).priority;
+}
+
+-- the process whose call is over is ready again
+abbrev pub ready_again : ℕ → Kernel → Kernel
+ready_again p kernel = dispatched (made_ready (Some p)) kernel
+
+-- the call of a process is over: it lives, and stands nowhere
+pub record IsOver (p : ℕ) (kernel : Kernel) : Type 0 where
+  pub lives : Lives kernel.dispatcher.procs p
+  pub nowhere : places kernel p ≡ 0
