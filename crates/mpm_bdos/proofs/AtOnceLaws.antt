@@ -1,5 +1,5 @@
 -- A call's turns one after another, and what it comes to with them.
-use Rattle.std.proofs.Common.{◌≡◌, ◌≤◌, ℕ, List, [], true, false, Option, Some, None, Result, Ok, Err, refl, sym, ap, subst, ◌∙◌}
+use Rattle.std.proofs.Common.{◌≡◌, ◌≤◌, ◌+◌, ℕ, suc, List, [], true, false, Option, Some, None, Result, Ok, Err, refl, sym, ap, subst, ◌∙◌, arith}
 use Rattle.std.specs.Prelude.{is_some, is_err, option_map}
 use Rattle.std.proofs.lemmas.Bool.{true≢false}
 use Rattle.mpm_port.specs.Causes.{Rose, HasCause}
@@ -48,6 +48,13 @@ images_again old mid disks later now kept first next = λ number apart there.
     (still_there (directory_at old.mounted number) (directory_at mid.mounted number) (kept.labels number) ∙ there)
     ∙ first number apart there
 
+-- how many have ended, with none more and with one more
+pub no_more : (ended : ℕ) → ended ≡ ended + 0
+no_more ended = omega arith
+
+pub one_more : (ended turn : ℕ) → suc (ended + turn) ≡ ended + (turn + 1)
+one_more ended turn = omega arith
+
 pub no_turns : {D : Type 0} (attached : D → ℕ → Option ℕ) (disks : D → Option Disks) (failed : D → List (List ℕ)) (kept : Kept) (drives : D) → FitsDrives attached disks kept.mounted kept.cached drives
     → TurnsLeave attached disks failed kept kept drives drives
 no_turns attached disks failed kept drives fits = record {
@@ -72,14 +79,12 @@ one_more_turn attached disks failed old mid new drives later now first next = re
 }
 
 -- the drive of a call in service is the one that its turns change
-pub changes_alone : {D : Type 0} (attached : D → ℕ → Option ℕ) (disks : D → Option Disks) (failed : D → List (List ℕ)) (images : ℕ → List ℕ) (old new : Kept) (drives now : D) (s : Situation) (turns : ℕ)
-    → Serves images old s turns → TurnsLeave attached disks failed old new drives now → ChangesAlone (drive_number s) old.mounted new.mounted (disks drives) (disks now)
-changes_alone attached disks failed images old new drives now s turns serves left =
-    let drive : drive_served old.service ≡ Some (drive_number s) = ap drive_served serves.there ∙ ap (λ n. Some n) serves.is.drive in
-    record {
-      places = λ number apart. left.kept.places number (λ same. apart (sym drive ∙ same));
-      images = λ number apart there. left.images number (λ same. apart (sym drive ∙ same)) there;
-    }
+pub changes_alone : {D : Type 0} (attached : D → ℕ → Option ℕ) (disks : D → Option Disks) (failed : D → List (List ℕ)) (old new : Kept) (drives now : D) (drive : ℕ)
+    → drive_served old.service ≡ Some drive → TurnsLeave attached disks failed old new drives now → ChangesAlone drive old.mounted new.mounted (disks drives) (disks now)
+changes_alone attached disks failed old new drives now drive served left = record {
+  places = λ number apart. left.kept.places number (λ same. apart (sym served ∙ same));
+  images = λ number apart there. left.images number (λ same. apart (sym served ∙ same)) there;
+}
 
 pub alone_still : (drive : ℕ) (first one other last : List (Option Directory)) (disks now : Option Disks) → one ≡ first → last ≡ other → ChangesAlone drive one other disks now → ChangesAlone drive first last disks now
 alone_still drive first one other last disks now same still alone =

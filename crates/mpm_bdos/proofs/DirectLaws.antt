@@ -1,13 +1,15 @@
 -- The calls that no disk serves, by the directories of the drives.
-use Rattle.std.proofs.Common.{◌≡◌, ℕ, List, Option, Some, None, IfSome, refl, ap, sym, subst, ◌∙◌}
+use Rattle.std.proofs.Common.{◌≡◌, ℕ, Bool, List, Option, Some, None, IfSome, refl, ap, sym, subst, ◌∙◌}
 use Rattle.std.specs.Prelude.{option_map, slice_index_or}
 use Rattle.std.proofs.Math.Path.{fun_ext}
-use Rattle.mpm_base.specs.Calls.{Taken}
+use Rattle.mpm_base.specs.Calls.{Taken, Answer}
+use Rattle.mpm_base.specs.declared.kind.Kind.{Kind}
 use Rattle.mpm_mount.specs.Drives.{Drive}
 use Rattle.mpm_mount.specs.Directories.{Directory}
 use Rattle.mpm_mount.specs.Images.{drive_of}
 use Rattle.mpm_bdos.specs.declared.functions.DirectFunction.{DirectFunction}
-use Rattle.mpm_bdos.specs.Direct.{Directly, is_protected, direct_by, direct}
+use Rattle.mpm_bdos.specs.declared.refusals.Extended.{Extended}
+use Rattle.mpm_bdos.specs.Direct.{Directly, IsToldDirectly, is_protected, direct_by, direct}
 use Rattle.mpm_bdos.specs.Serving.{Kept, StandsWhere, StandEach, filing_of, kind_at}
 
 -- a directory and the drive that it stands for are of one kind
@@ -35,3 +37,11 @@ part_told part kept now drive call function found value same is told images driv
     subst (λ one. IfSome one (λ f. value ≡ part (direct (filing_of now drives) drive call f))) (sym is)
     (told ∙ ap (λ (one : Kept). part (direct_by (kind_at one.mounted) (is_protected one.protected) drive call function)) same
     ∙ sym (ap part (direct_told images now drives drive call function stand)))
+
+-- whatever is on the drives
+pub told_directly : (drive : ℕ) (call : Taken) (function : DirectFunction) (found : Option DirectFunction) (kinds : ℕ → Option Kind) (protected : ℕ → Bool) (answer : Answer) (extended : Option Extended)
+    → found ≡ Some function → answer ≡ (direct_by kinds protected drive call function).answer → extended ≡ (direct_by kinds protected drive call function).extended
+    → IfSome found (λ one. IsToldDirectly drive one call answer extended)
+told_directly drive call function found kinds protected answer extended is a e =
+    subst (λ one. IfSome one (λ f. IsToldDirectly drive f call answer extended)) (sym is)
+    (record { kinds = kinds; protected = protected; answer_is = a; extended_is = e })

@@ -16,17 +16,15 @@ use Rattle.mpm_files.specs.declared.jobs.Job.{Job}
 use Rattle.mpm_files.specs.declared.work.Work.{Work}
 use Rattle.mpm_files.specs.Serving.{units_done}
 use Rattle.mpm_bdos.specs.declared.caller.Caller.{Caller}
-use Rattle.mpm_bdos.specs.declared.ends.Ended.{Ended}
 use Rattle.mpm_bdos.specs.declared.granting.Granted.{Granted}
 use Rattle.mpm_bdos.specs.declared.refusals.Refusal.{Refusal}
 use Rattle.mpm_bdos.specs.declared.refusals.Extended.{Extended}
 use Rattle.mpm_bdos.specs.Filing.{LastSearch, Filing, Situation, block}
 use Rattle.mpm_bdos.specs.Subjects.{last_search, drive_number, mounted, is_mounted, drive_at, found}
 use Rattle.mpm_bdos.specs.Refusals.{answered, refusal_of}
-use Rattle.mpm_bdos.specs.Records.{end_by, coded}
 use Rattle.mpm_bdos.specs.Jobs.{job_of, call_turns, Turned, turned_by, turned}
 use Rattle.mpm_bdos.specs.Changes.{protected_by, protected_then, marks_by, searches_by, search_of_call, filing_after}
-use Rattle.mpm_bdos.specs.Replies.{end_after, ended_for, granted_of, value_by, block_by, bytes_by, where_changed, answer_after}
+use Rattle.mpm_bdos.specs.Replies.{granted_of, value_by, block_by, bytes_by, where_changed, answer_after}
 use Rattle.mpm_bdos.specs.Outcomes.{Outcome, refused_value, refused_extended, refused_outcome, granted_outcome, outcome_by, file_call}
 use Rattle.mpm_bdos.specs.Asking.{called, StandsFor}
 use Rattle.mpm_bdos.specs.Driving.{freed_by}
@@ -43,18 +41,7 @@ use Rattle.mpm_bdos.proofs.ServingLaws.{stand_at_last}
 no_turns : (s : Situation) → refusal_of s ≡ None → is_on_drives s.function ≡ true → job_of s ≡ None
 no_turns s none on = own_job s none ∙ (stays_on s (turned s (call_turns s)) s.function on).job
 
-idle_turned : (s : Situation) → job_of s ≡ None → turned s (call_turns s) ≡ record { drive = drive_at s; moved = 0; error = None; records = [] }
-unfolding turned
-idle_turned s is = ap (turned_by (drive_at s) (call_turns s)) is
-
-nothing_ends : (s : Situation) → refusal_of s ≡ None → is_on_drives s.function ≡ true → ended_for s (turned s (call_turns s)) s.function ≡ record { moved = 0; end = None }
-unfolding end_after
-nothing_ends s none on =
-    let stays = stays_on s (turned s (call_turns s)) s.function on in
-    let idle = idle_turned s (no_turns s none on) in
-    stays.ended ∙ (λ i. record { moved = (idle i).moved; end = end_by (idle i).error (stays.cut i) })
-
-unchanged : (bytes : List ℕ) → where_changed bytes bytes ≡ None
+pub unchanged : (bytes : List ℕ) → where_changed bytes bytes ≡ None
 unchanged bytes = ap (λ b. cond b None (Some bytes)) ((bytes_eq-Decides bytes bytes).1 refl)
 
 drives_answer : (s : Situation) → refusal_of s ≡ None → is_on_drives s.function ≡ true → length s.call.fcb ≡ 36
@@ -64,7 +51,7 @@ drives_answer s none on size =
     let t : Turned = turned s (call_turns s) in
     let g : Granted = granted_of s t in
     let stays = stays_on s t s.function on in
-    let value : value_by t.drive g s.function ≡ 0 = stays.value t.drive g ∙ ap (λ (e : Ended). coded s.function e.moved e.end) (nothing_ends s none on) in
+    let value : value_by t.drive g s.function ≡ 0 = stays.value t.drive g in
     let same : bytes_of (block_by t.drive g s.function) ≡ s.call.fcb = ap bytes_of (stays.block t.drive g) ∙ bytes_back s.call.fcb (block s) refl size in
     let fcb : where_changed s.call.fcb (bytes_of (block_by t.drive g s.function)) ≡ None = ap (where_changed s.call.fcb) same ∙ unchanged s.call.fcb in
     let bytes : bytes_by t.drive t.records (found s) s.function ≡ [] = stays.bytes t.drive t.records (found s) in

@@ -8,6 +8,7 @@ pub mod Fitting
 pub mod NextTurns
 pub mod Masks
 pub mod DirectLaws
+pub mod ServedLaws
 pub mod Looked
 pub mod Walked
 pub mod Rooms
@@ -52,5 +53,6 @@ pub mod ToldLaws
 pub mod LastLaws
 pub mod UserLaws
 pub mod FinishLaws
+pub mod Answerable
 pub mod SoundLaws
 pub mod AtOnceLaws

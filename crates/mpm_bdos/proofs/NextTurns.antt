@@ -77,7 +77,7 @@ same_service : (one other : InService) → Some one ≡ Some other → one ≡ o
 same_service one other same = cc
 
 -- what a situation's drives are, with so many turns of its job ended
-job_drives : (s : Situation) (job : Job) (j : ℕ) → job_of s ≡ Some job → drives_after s j ≡ slice_set s.filing.drives (drive_number s) (Some (units_done (drive_at s) job j))
+pub job_drives : (s : Situation) (job : Job) (j : ℕ) → job_of s ≡ Some job → drives_after s j ≡ slice_set s.filing.drives (drive_number s) (Some (units_done (drive_at s) job j))
 unfolding drives_after turned
 job_drives s job j is = ap (λ found. drives_by s (turned_by (drive_at s) j found).drive found) is
 

@@ -11,10 +11,9 @@ use Rattle.mpm_bdos.specs.declared.refusals.Refusal.{Refusal}
 use Rattle.mpm_bdos.specs.Filing.{LastSearch, Situation, block}
 use Rattle.mpm_bdos.specs.Subjects.{last_search, drive_by, drive_named, drive_number, mounted, found_by, names}
 use Rattle.mpm_bdos.specs.Refusals.{are_busy, refusal_of}
-use Rattle.mpm_bdos.specs.Records.{coded}
 use Rattle.mpm_bdos.specs.Jobs.{Turned, job_by, turned}
 use Rattle.mpm_bdos.specs.Changes.{deleted_by, opens_by, marks_by, protected_by}
-use Rattle.mpm_bdos.specs.Replies.{is_cut_by, end_after, ended_for, value_by, block_by, bytes_by}
+use Rattle.mpm_bdos.specs.Replies.{value_by, block_by, bytes_by}
 use Rattle.mpm_bdos.specs.Asking.{unnamed_refusal, unmounted_refusal}
 use Rattle.mpm_bdos.specs.Driving.{freed_by}
 use Rattle.mpm_bdos.specs.Replying.{is_on_drives}
@@ -23,9 +22,7 @@ use Rattle.mpm_bdos.proofs.UnmountedLaws.{unmounted_so}
 -- what one comes to
 pub record StaysOn (s : Situation) (t : Turned) (f : FileFunction) : Type 0 where
   pub job : job_by s f ≡ None
-  pub cut : is_cut_by s f ≡ false
-  pub ended : ended_for s t f ≡ record { moved = t.moved; end = end_after s t }
-  pub value : (drive : Drive) (g : Granted) → value_by drive g f ≡ coded f g.ended.moved g.ended.end
+  pub value : (drive : Drive) (g : Granted) → value_by drive g f ≡ 0
   pub block : (drive : Drive) (g : Granted) → block_by drive g f ≡ g.block
   pub bytes : (drive : Drive) (records : List (List ℕ)) (entry : Option (FileName × ℕ)) → bytes_by drive records entry f ≡ []
   pub found : (drive : Drive) (user : ℕ) (b : ControlBlock) (search : Option LastSearch) → found_by drive user b search f ≡ None
@@ -34,7 +31,7 @@ pub record StaysOn (s : Situation) (t : Turned) (f : FileFunction) : Type 0 wher
 
 pub stays_on : (s : Situation) (t : Turned) (f : FileFunction) → is_on_drives f ≡ true → StaysOn s t f
 unfolding job_by value_by block_by bytes_by found_by names opens_by deleted_by
-stays_on s t ResetDisks on = record { job = refl; cut = refl; ended = refl; value = λ drive g. refl; block = λ drive g. refl; bytes = λ drive records entry. refl; found = λ drive user b search. refl; opens = refl; deleted = refl }
+stays_on s t ResetDisks on = record { job = refl; value = λ drive g. refl; block = λ drive g. refl; bytes = λ drive records entry. refl; found = λ drive user b search. refl; opens = refl; deleted = refl }
 stays_on s t OpenFile on = absurd (false≢true on)
 stays_on s t CloseFile on = absurd (false≢true on)
 stays_on s t SearchFirst on = absurd (false≢true on)
@@ -44,19 +41,19 @@ stays_on s t ReadSequential on = absurd (false≢true on)
 stays_on s t WriteSequential on = absurd (false≢true on)
 stays_on s t MakeFile on = absurd (false≢true on)
 stays_on s t RenameFile on = absurd (false≢true on)
-stays_on s t ProtectDisk on = record { job = refl; cut = refl; ended = refl; value = λ drive g. refl; block = λ drive g. refl; bytes = λ drive records entry. refl; found = λ drive user b search. refl; opens = refl; deleted = refl }
+stays_on s t ProtectDisk on = record { job = refl; value = λ drive g. refl; block = λ drive g. refl; bytes = λ drive records entry. refl; found = λ drive user b search. refl; opens = refl; deleted = refl }
 stays_on s t SetAttributes on = absurd (false≢true on)
 stays_on s t ReadRandom on = absurd (false≢true on)
 stays_on s t WriteRandom on = absurd (false≢true on)
 stays_on s t FileSize on = absurd (false≢true on)
-stays_on s t ResetDrives on = record { job = refl; cut = refl; ended = refl; value = λ drive g. refl; block = λ drive g. refl; bytes = λ drive records entry. refl; found = λ drive user b search. refl; opens = refl; deleted = refl }
-stays_on s t AccessDrives on = record { job = refl; cut = refl; ended = refl; value = λ drive g. refl; block = λ drive g. refl; bytes = λ drive records entry. refl; found = λ drive user b search. refl; opens = refl; deleted = refl }
-stays_on s t FreeDrives on = record { job = refl; cut = refl; ended = refl; value = λ drive g. refl; block = λ drive g. refl; bytes = λ drive records entry. refl; found = λ drive user b search. refl; opens = refl; deleted = refl }
+stays_on s t ResetDrives on = record { job = refl; value = λ drive g. refl; block = λ drive g. refl; bytes = λ drive records entry. refl; found = λ drive user b search. refl; opens = refl; deleted = refl }
+stays_on s t AccessDrives on = record { job = refl; value = λ drive g. refl; block = λ drive g. refl; bytes = λ drive records entry. refl; found = λ drive user b search. refl; opens = refl; deleted = refl }
+stays_on s t FreeDrives on = record { job = refl; value = λ drive g. refl; block = λ drive g. refl; bytes = λ drive records entry. refl; found = λ drive user b search. refl; opens = refl; deleted = refl }
 stays_on s t TestAndWrite on = absurd (false≢true on)
 stays_on s t LockRecord on = absurd (false≢true on)
 stays_on s t UnlockRecord on = absurd (false≢true on)
 stays_on s t FreeSpace on = absurd (false≢true on)
-stays_on s t FlushBuffers on = record { job = refl; cut = refl; ended = refl; value = λ drive g. refl; block = λ drive g. refl; bytes = λ drive records entry. refl; found = λ drive user b search. refl; opens = refl; deleted = refl }
+stays_on s t FlushBuffers on = record { job = refl; value = λ drive g. refl; block = λ drive g. refl; bytes = λ drive records entry. refl; found = λ drive user b search. refl; opens = refl; deleted = refl }
 stays_on s t SetLabel on = absurd (false≢true on)
 stays_on s t LabelData on = absurd (false≢true on)
 stays_on s t ReadXfcb on = absurd (false≢true on)

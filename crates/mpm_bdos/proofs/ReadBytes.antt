@@ -17,5 +17,5 @@ records_taken records bytes before moved size size_before count few e =
     let exact : 128 * moved ≡ length read = omega (arith, whole, rest, size, few, count) in
     ap (take (128 * moved)) e ∙ ap (λ m. take m (read ++ drop n before)) exact ∙ take-append_seam read (drop n before)
 
-pub sixteen_at_most : (count moved : ℕ) → count ≡ min moved 16 → moved ≤ 16 → count ≡ moved
-sixteen_at_most count moved is few = is ∙ omega (arith, few)
+pub so_many_at_most : (count moved most : ℕ) → count ≡ min moved most → moved ≤ most → count ≡ moved
+so_many_at_most count moved most is few = is ∙ omega (arith, few)

@@ -1,5 +1,5 @@
 -- A call that enters service.
-use Rattle.std.proofs.Common.{◌≡◌, ◌∙◌, ℕ, ◌≤◌, true, false, List, Option, Some, None, IfSome, sym, refl, ap, subst, arith}
+use Rattle.std.proofs.Common.{◌≡◌, ◌∙◌, ℕ, ◌≤◌, ◌<◌, true, false, List, Option, Some, None, IfSome, sym, refl, ap, subst, arith}
 use Rattle.std.specs.Prelude.{is_some, max, min, length, unwrap_or, slice_index_or, slice_set}
 use Rattle.std.proofs.lemmas.List.{set-get_or}
 use Rattle.std.proofs.lemmas.Option.{same_Some}
@@ -154,6 +154,11 @@ begun_turns image directory drive None (Some work) works = absurd works
 begun_turns image directory drive (Some job) None works = absurd works
 begun_turns image None drive (Some job) (Some work) works = absurd works
 begun_turns image (Some d) drive (Some job) (Some work) works = as_many work.units (length (plan_of drive job).units) works.serving.units
+
+-- at least one
+pub some_turns : (work : Option Work) (turns : ℕ) → turns ≡ turns_where work → 0 < turns
+some_turns None turns is = omega (arith, is)
+some_turns (Some work) turns is = omega (arith, is)
 
 -- before the first turn the drives are as they were
 put_back : (drives : List (Option Drive)) (number : ℕ) (drive : Drive) → slice_index_or drives number None ≡ Some drive → slice_set drives number (Some drive) ≡ drives

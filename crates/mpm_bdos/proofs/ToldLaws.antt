@@ -286,7 +286,7 @@ count_read drive job is =
     ∙ sym (all_moved drive job)
 
 reads_by : (drive : Drive) (image : List ℕ) (directory : Option Directory) (job : Job) (work : Option Work) → job.kind ≡ kinds.Read → Suits drive job
-    → WorksOn image directory drive (Some job) (turns_of drive job) work → HasRead work (records_after drive job (turns_of drive job))
+    → WorksOn image directory drive (Some job) (turns_of drive job) work → HasRead job.count work (records_after drive job (turns_of drive job))
 reads_by drive image directory job None is suits works = absurd works
 reads_by drive image None job (Some work) is suits works = absurd works
 reads_by drive image (Some d) job (Some work) is suits works =
@@ -296,20 +296,20 @@ reads_by drive image (Some d) job (Some work) is suits works =
       job_is = serving.job_is;
       size = suits.size;
       count = count_read drive job is ∙ sym serving.moved;
-      few = omega (arith, serving.moved, most_moved drive job (ap is_on_records is), suits.count);
+      few = omega (arith, serving.moved, most_moved drive job (ap is_on_records is));
     }
 
 reads_job : (s : Situation) (image : List ℕ) (directory : Option Directory) (work : Option Work) (job : Job) → job_of s ≡ Some job → job.kind ≡ kinds.Read → IsServed s image directory work
-    → HasRead work (turned s (call_turns s)).records
+    → HasRead job.count work (turned s (call_turns s)).records
 unfolding turned call_turns
 reads_job s image directory work job is kind served =
     let D : Drive = drive_at s in
     let suits : Suits D job = subst (λ j. IfSome j (Suits D)) is served.suits in
     let works : WorksOn image directory D (Some job) (turns_of D job) work = subst (λ j. WorksOn image directory D j (turns_by D j) work) is served.works in
-    subst (λ j. HasRead work (turned_by D (turns_by D j) j).records) (sym is) (reads_by D image directory job work kind suits works)
+    subst (λ j. HasRead job.count work (turned_by D (turns_by D j) j).records) (sym is) (reads_by D image directory job work kind suits works)
 
 reads_function : (s : Situation) (image : List ℕ) (directory : Option Directory) (work : Option Work) (f : FileFunction) → IsServed s image directory work → s.function ≡ f → is_reading f ≡ true
-    → HasRead work (turned s (call_turns s)).records
+    → HasRead s.caller.multi work (turned s (call_turns s)).records
 unfolding job_by
 reads_function s image directory work ResetDisks served is reads = absurd (false≢true reads)
 reads_function s image directory work OpenFile served is reads = absurd (false≢true reads)
@@ -340,5 +340,5 @@ reads_function s image directory work ReadXfcb served is reads = absurd (false�
 reads_function s image directory work WriteXfcb served is reads = absurd (false≢true reads)
 
 pub has_read : (s : Situation) (image : List ℕ) (directory : Option Directory) (work : Option Work) → IsServed s image directory work → is_reading s.function ≡ true
-    → HasRead work (turned s (call_turns s)).records
+    → HasRead s.caller.multi work (turned s (call_turns s)).records
 has_read s image directory work served reads = reads_function s image directory work s.function served refl reads

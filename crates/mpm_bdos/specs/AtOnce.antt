@@ -1,5 +1,5 @@
 -- A file call that is done at once, its turns one after another.
-use Rattle.std.specs.Prelude.{◌≡◌, ◌≢◌, ℕ, ◌<◌, List, Option, Some}
+use Rattle.std.specs.Prelude.{◌≡◌, ◌≢◌, ℕ, ◌<◌, ◌≤◌, List, Option, Some}
 use Rattle.mpm_port.specs.Disks.{Disks, Told}
 use Rattle.mpm_mount.specs.Directories.{Directory}
 use Rattle.mpm_bdos.specs.Filing.{Situation}
@@ -16,11 +16,16 @@ pub record TurnsLeave {D : Type 0} (attached : D → ℕ → Option ℕ) (disks 
   pub names : failed now ≡ failed drives
   pub attached_are : (number : ℕ) → attached now number ≡ attached drives number
 
--- where a device failed in one of its turns, the image of the job's drive stands within that turn
-pub record FailsIn (disks : Option Disks) (s : Situation) : Type 0 where
+-- where a device failed in a turn of a call of which so many had ended before, the image of the job's drive stands within that turn
+pub record FailsSince (disks : Option Disks) (s : Situation) (ended : ℕ) : Type 0 where
   pub turn : ℕ
+  pub since : ended ≤ turn
   pub its : turn < call_turns s
   pub stops : StopsWithin disks s turn
+
+-- likewise in one of all its turns
+abbrev pub FailsIn : Option Disks → Situation → Type 0
+FailsIn disks s = FailsSince disks s 0
 
 -- of the drives that are mounted a call changes the directory and the image of one alone
 pub record ChangesAlone (drive : ℕ) (old new : List (Option Directory)) (disks now : Option Disks) : Type 0 where

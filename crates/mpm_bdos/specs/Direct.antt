@@ -1,6 +1,6 @@
 -- The calls on drives and positions that no disk serves: they are done in their gate step. (MP/M II Programmer's Guide, functions
 -- 14, 24, 29, 31 and 36.)
-use Rattle.std.specs.Prelude.{ℕ, ◌%◌, ◌^◌, ◌==◌, ◌&&◌, Bool, false, List, [], ◌∷◌, Option, Some, None, is_some, option_map, map, find, sum, slice_index_or, if◌then◌else◌}
+use Rattle.std.specs.Prelude.{◌≡◌, ℕ, ◌%◌, ◌^◌, ◌==◌, ◌&&◌, Bool, false, List, [], ◌∷◌, Option, Some, None, is_some, option_map, map, find, sum, slice_index_or, if◌then◌else◌}
 use Rattle.std.specs.List.{range_with_len}
 use Rattle.mpm_base.specs.Calls.{Taken, Answer, answering}
 use Rattle.mpm_base.specs.declared.functions.TheConstants.{SELECT_DISK, RETURN_LOGIN_VECTOR, GET_READ_ONLY_VECTOR, GET_DISK_PARAMETERS, SET_RANDOM_RECORD}
@@ -81,3 +81,10 @@ is_protected protected number = slice_index_or protected number false
 
 unfoldable pub direct : Filing → ℕ → Taken → DirectFunction → Directly
 direct filing drive call function = direct_by (kind_of filing) (is_protected filing.protected) drive call function
+
+-- what such a call answers whatever is on the drives: some drives are mounted, of some kinds, and some are protected
+pub record IsToldDirectly (drive : ℕ) (function : DirectFunction) (call : Taken) (answer : Answer) (extended : Option Extended) : Type 0 where
+  pub kinds : ℕ → Option Kind
+  pub protected : ℕ → Bool
+  pub answer_is : answer ≡ (direct_by kinds protected drive call function).answer
+  pub extended_is : extended ≡ (direct_by kinds protected drive call function).extended

@@ -50,16 +50,16 @@ is_reading ReadSequential = true
 is_reading ReadRandom = true
 is_reading function = false
 
-pub record IsRead (work : Work) (records : List (List ℕ)) : Type 0 where
+pub record IsRead (multi : ℕ) (work : Work) (records : List (List ℕ)) : Type 0 where
   pub before : Job
   pub job_is : work.job ≡ with_records before records
   pub size : length before.bytes ≡ 4096
   pub count : length records ≡ work.moved
-  pub few : work.moved ≤ 16
+  pub few : work.moved ≤ multi
 
-abbrev pub HasRead : Option Work → List (List ℕ) → Type 0
-HasRead None records = records ≡ []
-HasRead (Some work) records = IsRead work records
+abbrev pub HasRead : ℕ → Option Work → List (List ℕ) → Type 0
+HasRead multi None records = records ≡ []
+HasRead multi (Some work) records = IsRead multi work records
 
 -- where its block doesn't stay, the position behind a call is one that a block can have
 abbrev pub IsPlaced : Granted → Type 0

@@ -113,4 +113,4 @@ pub record IsGranted (drive : Drive) (opens : OpenFiles) (a : Asked) (work : Opt
   pub in_file : IsInFile a
   pub few : IfSome (granted_by drive (left_first opens a work deleted) a work).ended.end (λ end. (granted_by drive (left_first opens a work deleted) a work).ended.moved ≤ 15)
   pub placed : is_moving a.function ≡ true → IsPlaced (granted_by drive (left_first opens a work deleted) a work)
-  pub read : is_reading a.function ≡ true → HasRead work records
+  pub read : is_reading a.function ≡ true → HasRead a.caller.multi work records

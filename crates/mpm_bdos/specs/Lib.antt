@@ -12,6 +12,7 @@ pub mod Replies
 pub mod Outcomes
 pub mod Direct
 pub mod Serving
+pub mod Answering
 pub mod Turns
 pub mod Looking
 pub mod Sizes

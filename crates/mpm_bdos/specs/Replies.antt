@@ -71,10 +71,16 @@ granted_of s t = record {
 abbrev pub file_in : Granted → FileName
 file_in g = record { user = g.owner; name = plain g.block.name }
 
--- the value
+-- the value: of a call on records how many are done, and the code of what ended them; a label's data byte; of another call nothing
 unfoldable pub value_by : Drive → Granted → FileFunction → ℕ
+value_by drive g ReadSequential = coded ReadSequential g.ended.moved g.ended.end
+value_by drive g WriteSequential = coded WriteSequential g.ended.moved g.ended.end
+value_by drive g ReadRandom = coded ReadRandom g.ended.moved g.ended.end
+value_by drive g WriteRandom = coded WriteRandom g.ended.moved g.ended.end
+value_by drive g TestAndWrite = coded TestAndWrite g.ended.moved g.ended.end
+value_by drive g LockRecord = coded LockRecord g.ended.moved g.ended.end
 value_by drive g LabelData = data_byte drive
-value_by drive g function = coded function g.ended.moved g.ended.end
+value_by drive g function = 0
 
 -- how many records an extent of a file has; none where it isn't there
 abbrev pub record_count : Drive → FileName → ℕ → ℕ

@@ -105,6 +105,10 @@ abbrev pub has_work : Option InService → Bool
 has_work None = false
 has_work (Some service) = is_some service.work
 
+-- where no drive is mounted, no call in service has work
+abbrev pub WorksOnDrives : Kept → Type 0
+WorksOnDrives kept = ((number : ℕ) → directory_at kept.mounted number ≡ None) → has_work kept.service ≡ false
+
 -- a turn changes nothing that is kept but the directory of the drive, what is cached, and how far the work is; and each directory
 -- is of the drive and the kind that it was of
 abbrev pub without_work : InService → InService

@@ -1,9 +1,11 @@
 ghost use Rattle.std.specs.Prelude.{◌≡◌, ◌≤◌, ℕ, true, List, None, Option, IfSome, length};
 ghost use Rattle.std.specs.List.{flat_map};
-ghost use Rattle.mpm_mount.specs.Drives.{FileName, Drive};
+ghost use Rattle.mpm_mount.specs.Drives.{FileName, Drive, free_records};
 ghost use Rattle.mpm_mount.specs.Directories.{Stands};
-ghost use Rattle.mpm_fcb.specs.Blocks.{bytes_of};
+ghost use Rattle.mpm_fcb.specs.Blocks.{block_of, bytes_of};
+ghost use Rattle.mpm_fcb.specs.Positions.{three_bytes};
 ghost use Rattle.mpm_files.specs.Units.{where_there};
+ghost use Rattle.mpm_bdos.specs.Answering.{AreParts, MayPlace, MayGrant};
 ghost use Rattle.mpm_bdos.specs.Ending as ending;
 ghost use Rattle.mpm_bdos.specs.Replies as spec;
 
@@ -16,23 +18,60 @@ use mpm_fcb::ControlBlock;
 use mpm_files::Work;
 use mpm_mount::Mounted;
 
-/// The bytes of the records that a call has read; none where it has no job.
-fn record_bytes(work: &Option<Work>) -> &[u8]
-    ensures bytes { (records : List (List ℕ)) → ending.HasRead work.now records → result.now ≡ flat_map (λ bytes. bytes) records }
+/// The bytes of the records that a call has read, at most as many as it is to read; none where it has no job.
+#[tactic(auto, using(crate::proofs::Answerable::no_part))]
+fn record_bytes(work: &Option<Work>, multi: u8) -> &[u8]
+    requires { multi ≤ 16 }
+    ensures bytes { (records : List (List ℕ)) → ending.HasRead multi work.now records → result.now ≡ flat_map (λ bytes. bytes) records }
     ensures few { length result.now ≤ 4096 }
+    ensures parts { AreParts 128 multi result.now }
 {
     match work {
-        Some(work) => read_bytes(work),
+        Some(work) => read_bytes(work, multi),
         None => &[],
     }
 }
 
+/// Answers a value, and the records that a call has read, at most as many as it is to read.
+fn answer_records(reply: &mut Reply, value: u16, at: u16, multi: u8, work: &Option<Work>)
+    requires { multi ≤ 16 }
+    ensures all { (records : List (List ℕ)) → ending.HasRead multi work.now records
+        → reply.new ≡ record { hl = value; fcb = None; at = at; bytes = flat_map (λ bytes. bytes) records } }
+    ensures value { reply.new.hl ≡ value }
+    ensures none { reply.new.fcb ≡ None }
+    ensures at { reply.new.at ≡ at }
+    ensures parts { AreParts 128 multi reply.new.bytes }
+{
+    reply.answer_with(value, at, record_bytes(work, multi));
+}
+
+/// Answers a value, and how many records there is room for on a drive.
+fn answer_free(reply: &mut Reply, value: u16, at: u16, mounted: &Mounted)
+    ensures all { (image : List ℕ) (drive : Drive) → Stands image mounted.now drive
+        → reply.new ≡ record { hl = value; fcb = None; at = at; bytes = three_bytes (free_records drive) } }
+    ensures value { reply.new.hl ≡ value }
+    ensures none { reply.new.fcb ≡ None }
+    ensures at { reply.new.at ≡ at }
+    ensures parts { AreParts 3 1 reply.new.bytes }
+{
+    reply.answer_with(value, at, &free_bytes(mounted));
+}
+
+/// Answers a value, and the 128 bytes of an entry.
+fn answer_entry(reply: &mut Reply, value: u16, at: u16, bytes: &[u8; 128])
+    ensures all { reply.new ≡ record { hl = value; fcb = None; at = at; bytes = bytes.now } }
+    ensures size { length bytes.now ≡ 128 }
+{
+    reply.answer_with(value, at, bytes);
+}
+
 /// Answers a value, and the bytes of the entry that a search found, if it found one.
 fn answer_found(reply: &mut Reply, value: u16, at: u16, told: &Option<[u8; 128]>)
-    ensures { reply.new ≡ record { hl = value; fcb = None; at = at; bytes = where_there told.now (λ bytes. bytes) } }
+    ensures all { reply.new ≡ record { hl = value; fcb = None; at = at; bytes = where_there told.now (λ bytes. bytes) } }
+    ensures parts { AreParts 128 1 reply.new.bytes }
 {
     match told {
-        Some(bytes) => reply.answer_with(value, at, bytes),
+        Some(bytes) => answer_entry(reply, value, at, bytes),
         None => reply.answer_with(value, at, &[]),
     }
 }
@@ -44,23 +83,28 @@ fn answer_bytes(
     value: u16,
     at: u16,
     function: FileFunction,
+    multi: u8,
     mounted: &Mounted,
     work: &Option<Work>,
     told: &Option<[u8; 128]>,
 )
+    requires { multi ≤ 16 }
     ensures all { (image : List ℕ) (drive : Drive) (records : List (List ℕ)) (found : Option (FileName × ℕ)) → Stands image mounted.now drive
-        → (ending.is_reading function ≡ true → ending.HasRead work.now records) → where_there told.now (λ bytes. bytes) ≡ spec.found_bytes drive found
+        → (ending.is_reading function ≡ true → ending.HasRead multi work.now records) → where_there told.now (λ bytes. bytes) ≡ spec.found_bytes drive found
         → reply.new ≡ record { hl = value; fcb = None; at = at; bytes = spec.bytes_by drive records found function } }
+    ensures value { reply.new.hl ≡ value }
     ensures none { reply.new.fcb ≡ None }
+    ensures at { reply.new.at ≡ at }
+    ensures bytes { MayPlace function multi reply.new.bytes }
 {
     match function {
         FileFunction::ReadSequential | FileFunction::ReadRandom => {
-            reply.answer_with(value, at, record_bytes(work));
+            answer_records(reply, value, at, multi, work);
         }
         FileFunction::SearchFirst | FileFunction::SearchNext => {
             answer_found(reply, value, at, told);
         }
-        FileFunction::FreeSpace => reply.answer_with(value, at, &free_bytes(mounted)),
+        FileFunction::FreeSpace => answer_free(reply, value, at, mounted),
         _ => reply.answer_with(value, at, &[]),
     }
 }
@@ -68,7 +112,9 @@ fn answer_bytes(
 /// Places a file control block where it changes.
 fn place_block(reply: &mut Reply, old: &[u8; 36], block: &ControlBlock)
     requires { reply.old.fcb ≡ None }
-    ensures { reply.new ≡ record reply.old { fcb = spec.where_changed old.now (bytes_of block.now) } }
+    ensures all { reply.new ≡ record reply.old { fcb = spec.where_changed old.now (bytes_of block.now) } }
+    ensures size { length (bytes_of block.now) ≡ 36 }
+    ensures given { length old.now ≡ 36 }
 {
     let bytes = block.write();
     if bytes != *old {
@@ -77,11 +123,12 @@ fn place_block(reply: &mut Reply, old: &[u8; 36], block: &ControlBlock)
     }
 }
 
-/// Answers a call that isn't refused, by what it goes by: with the file control block that it gave, the entry that it found, and
-/// its DMA address.
+/// Answers a call that isn't refused, by what it goes by: with its caller's multi-sector count, the file control block that it gave,
+/// the entry that it found, and its DMA address.
 pub(crate) fn answer(
     reply: &mut Reply,
     granted: &Granted,
+    multi: u8,
     mounted: &Mounted,
     work: &Option<Work>,
     told: &Option<[u8; 128]>,
@@ -89,12 +136,24 @@ pub(crate) fn answer(
     dma: u16,
 )
     requires number { IfSome granted.now.opened (λ made. made.number ≤ 63) }
-    ensures { (image : List ℕ) (drive : Drive) (records : List (List ℕ)) (found : Option (FileName × ℕ)) → Stands image mounted.now drive
+    requires few { multi ≤ 16 }
+    requires block { granted.now.block ≡ block_of fcb.now }
+    ensures all { (image : List ℕ) (drive : Drive) (records : List (List ℕ)) (found : Option (FileName × ℕ)) → Stands image mounted.now drive
         → IfSome granted.now.ended.end (λ _. granted.now.ended.moved ≤ 15) → (ending.is_moving granted.now.function ≡ true → ending.IsPlaced granted.now)
-        → (ending.is_reading granted.now.function ≡ true → ending.HasRead work.now records) → where_there told.now (λ bytes. bytes) ≡ spec.found_bytes drive found
+        → (ending.is_reading granted.now.function ≡ true → ending.HasRead multi work.now records) → where_there told.now (λ bytes. bytes) ≡ spec.found_bytes drive found
         → reply.new ≡ spec.answer_by drive granted.now records found fcb.now dma }
+    ensures may { MayGrant multi granted.now.function dma reply.new }
 {
     let value = value(granted, mounted);
-    answer_bytes(reply, value, dma, granted.function, mounted, work, told);
+    answer_bytes(
+        reply,
+        value,
+        dma,
+        granted.function,
+        multi,
+        mounted,
+        work,
+        told,
+    );
     place_block(reply, fcb, &block(granted, mounted));
 }

@@ -33,20 +33,25 @@ impl Bdos {
     ghost use Rattle.mpm_bdos.specs.Turns.{FitsDrives, StaysBeside, has_work, labelled, told_images};
     ghost use Rattle.mpm_bdos.specs.Starting.{caller_of, entering};
     ghost use Rattle.mpm_bdos.specs.Finishing.{ComesTo};
-    ghost use Rattle.mpm_bdos.specs.AtOnce.{TurnsLeave, FailsIn, ChangesAlone, IsUntouched};
+    ghost use Rattle.mpm_bdos.specs.Answering.{MayAnswer};
+    ghost use Rattle.mpm_bdos.specs.AtOnce.{TurnsLeave, FailsSince, FailsIn, ChangesAlone, IsUntouched};
 
-    /// Does so many turns of the call in service, one after another, up to the first in which its drive fails.
-    fn do_turns<D: Drives, L: Ledger>(
+    /// Does so many turns of the call in service, one after another, up to the first in which its drive fails. Each takes 20 calls of
+    /// the drives at most.
+    ///
+    /// # Errors
+    /// Where the drive of the call failed: each other drive is as it was.
+    pub fn do_turns<D: Drives, L: Ledger>(
         &mut self,
         turns: u32,
         drives: &mut D,
         steps: &mut Steps<L>,
     ) -> Result<(), Failed>
         requires fits { FitsDrives D.attached D.disks self.old.mounted self.old.cached drives.old }
-        ensures ok { (s : Situation) → Serves (told_images (D.disks drives.old)) self.old s 0 → turns ≤ call_turns s
-            → OnOk result (Serves (told_images (D.disks drives.new)) self.new s turns) }
-        ensures err { (s : Situation) → Serves (told_images (D.disks drives.old)) self.old s 0 → turns ≤ call_turns s
-            → OnErr result (FailsIn (D.disks drives.new) s) }
+        ensures ok { (s : Situation) (ended : ℕ) → Serves (told_images (D.disks drives.old)) self.old s ended → ended + turns ≤ call_turns s
+            → OnOk result (Serves (told_images (D.disks drives.new)) self.new s (ended + turns)) }
+        ensures err { (s : Situation) (ended : ℕ) → Serves (told_images (D.disks drives.old)) self.old s ended → ended + turns ≤ call_turns s
+            → OnErr result (FailsSince (D.disks drives.new) s ended) }
         ensures left { TurnsLeave D.attached D.disks D.failed_names self.old self.new drives.old drives.new }
         ensures calls { steps.new ≤ steps.old + 20 * turns }
         ensures idle { has_work self.old.service ≡ false → drives.new ≡ drives.old }
@@ -93,12 +98,13 @@ impl Bdos {
         ensures err { (before : List (Option Drive)) (function : functions.FileFunction) → function_of call.now.function ≡ Some function
             → StandEach (told_images (D.disks drives.old)) self.old.mounted before
             → OnErr result (FailsIn (D.disks drives.new) (entering self.old before (caller_of p process.now) function call.now (stamp_of now))) }
-        ensures alone { (images : ℕ → List ℕ) (before : List (Option Drive)) (function : functions.FileFunction) → function_of call.now.function ≡ Some function
-            → StandEach images self.old.mounted before
+        ensures alone { (before : List (Option Drive)) (function : functions.FileFunction) → function_of call.now.function ≡ Some function
             → ChangesAlone (drive_number (entering self.old before (caller_of p process.now) function call.now (stamp_of now))) self.old.mounted self.new.mounted (D.disks drives.old) (D.disks drives.new) }
         ensures calls { (images : ℕ → List ℕ) (before : List (Option Drive)) (function : functions.FileFunction) → function_of call.now.function ≡ Some function
             → StandEach images self.old.mounted before
             → steps.new ≤ steps.old + 20 * call_turns (entering self.old before (caller_of p process.now) function call.now (stamp_of now)) }
+        ensures may { (function : functions.FileFunction) → function_of call.now.function ≡ Some function
+            → IfOk result (MayAnswer process.now.multi function call.now.dma reply.new) }
         ensures none { ((number : ℕ) → directory_at self.old.mounted number ≡ None) → drives.new ≡ drives.old }
         ensures unfailing { ((number : ℕ) → directory_at self.old.mounted number ≡ None) → IsOk result }
         ensures service { (function : functions.FileFunction) → function_of call.now.function ≡ Some function → self.new.service ≡ None }

@@ -4,7 +4,7 @@ ghost use Rattle.mpm_port.specs.Disks.{Disks, Told};
 ghost use Rattle.mpm_cache.specs.Coherent.{IsCoherent, HasNoAlias};
 ghost use Rattle.mpm_files.specs.declared.turning.Progress.TheVariants as progress;
 ghost use Rattle.mpm_mount.specs.Drives.{Drive};
-ghost use Rattle.mpm_bdos.specs.Direct.{direct_of, direct};
+ghost use Rattle.mpm_bdos.specs.Direct.{IsToldDirectly, direct_of, direct};
 ghost use Rattle.mpm_bdos.specs.Filing.{Situation};
 ghost use Rattle.mpm_bdos.specs.Outcomes.{left_by, without_search};
 ghost use Rattle.mpm_bdos.specs.Jobs.{call_turns};
@@ -63,7 +63,8 @@ impl Model for Bdos {
 
 impl Bdos {
     ghost use Rattle.mpm_opens.specs.Opens.{AreOpen};
-    ghost use Rattle.mpm_bdos.specs.Serving.{AreInPlace, StandEach, Serves, filing_of, nothing_kept};
+    ghost use Rattle.mpm_bdos.specs.Serving.{AreInPlace, StandEach, Serves, directory_at, filing_of, nothing_kept};
+    ghost use Rattle.std.specs.Option.{option_copied};
 
     /// Nothing is open, marked, sought or protected, nothing is cached, and no call is in service. Of the sixteen drives those
     /// are mounted whose directories there are, each in the place of its drive's number.
@@ -89,13 +90,25 @@ impl Bdos {
         })
     }
 
-    /// Does a call that no disk serves, as 14, 24, 29, 31 and 36 are, of a process; nothing where it is another one. What
-    /// becomes of the process's drive is not done here.
+    /// The directory in memory of a drive, 0 for A, where it is mounted.
+    pub fn directory(&self, drive: u8) -> Option<&Mounted>
+        ensures { option_copied result ≡ directory_at self.now.mounted drive }
+    {
+        self.mounted.get(drive)
+    }
+
+    /// Does a call that no disk serves, as 14, 24, 29, 31 and 36 are, of a process; nothing where it is another one. While a call
+    /// is in service it answers as before that. What becomes of the process's drive is not done here.
     pub fn direct(&self, call: &Call, process: &Process, reply: &mut Reply) -> Option<Extended>
         ensures answer { (images : ℕ → List ℕ) (drives : List (Option Drive)) → StandEach images self.now.mounted drives
             → IfSome (direct_of call.now.function) (λ function. reply.new ≡ (direct (filing_of self.now drives) process.now.drive call.now function).answer) }
         ensures extended { (images : ℕ → List ℕ) (drives : List (Option Drive)) → StandEach images self.now.mounted drives
             → IfSome (direct_of call.now.function) (λ function. result ≡ (direct (filing_of self.now drives) process.now.drive call.now function).extended) }
+        ensures served { (images : ℕ → List ℕ) (s : Situation) (j : ℕ) → Serves images self.now s j
+            → IfSome (direct_of call.now.function) (λ function. reply.new ≡ (direct s.filing process.now.drive call.now function).answer) }
+        ensures served_extended { (images : ℕ → List ℕ) (s : Situation) (j : ℕ) → Serves images self.now s j
+            → IfSome (direct_of call.now.function) (λ function. result ≡ (direct s.filing process.now.drive call.now function).extended) }
+        ensures told { IfSome (direct_of call.now.function) (λ function. IsToldDirectly process.now.drive function call.now reply.new result) }
         ensures other { direct_of call.now.function ≡ None → reply.new ≡ reply.old }
         ensures unanswered { direct_of call.now.function ≡ None → result ≡ None }
     {
@@ -150,6 +163,7 @@ impl Bdos {
             → IfOk result (λ told. told ≡ progress_after (suc j) (call_turns s)) }
         ensures idle { has_work self.old.service ≡ false → IsIdle self.old.service self.new.service self.old.mounted self.new.mounted self.old.cached self.new.cached drives.old drives.new steps.old steps.new }
         ensures done { has_work self.old.service ≡ false → result ≡ Ok progress.Done }
+        ensures still { has_work self.new.service ≡ has_work self.old.service }
         ensures kept { TurnKeeps self.old self.new }
         ensures fits { FitsDrives D.attached D.disks self.new.mounted self.new.cached drives.new }
         ensures images { KeepsImages (drive_served self.old.service) self.old.mounted (D.disks drives.old) (D.disks drives.new) }

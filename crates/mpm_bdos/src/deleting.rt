@@ -1,7 +1,9 @@
-ghost use Rattle.std.specs.Prelude.{◌≡◌, ℕ, List};
+ghost use Rattle.std.specs.Prelude.{◌≡◌, ℕ, List, IfSome};
 ghost use Rattle.mpm_mount.specs.Faults.{plain};
 ghost use Rattle.mpm_mount.specs.Drives.{Drive};
 ghost use Rattle.mpm_mount.specs.Directories.{Stands};
+ghost use Rattle.mpm_bdos.specs.declared.functions.FileFunction.TheVariants as functions;
+ghost use Rattle.mpm_bdos.specs.Answering.{IsOneOf};
 ghost use Rattle.mpm_bdos.specs.Refusals as spec;
 
 use crate::files::is_read_only;
@@ -24,9 +26,10 @@ pub(crate) struct Deleter {
 }
 
 /// Why a file of the user isn't deleted, if it isn't.
-#[tactic(auto, unfolding(crate::specs::Refusals::file_refusal, crate::specs::Refusals::refusals_of_each))]
+#[tactic(auto, unfolding(crate::specs::Refusals::file_refusal, crate::specs::Refusals::refusals_of_each, crate::specs::Answering::IsOneOf))]
 fn file_refusal(mounted: &Mounted, opens: &Opens, by: &Deleter, name: &[u8; 11]) -> Option<Refusal>
-    ensures { (image : List ℕ) (drive : Drive) → Stands image mounted.now drive
+    ensures row { IfSome result (λ refusal. IsOneOf refusal (spec.refusals_of_each functions.DeleteFile)) }
+    ensures all { (image : List ℕ) (drive : Drive) → Stands image mounted.now drive
         → result ≡ spec.file_refusal drive opens.now by.now (record { user = by.now.user; name = plain name.now }) }
 {
     let key = FileKey {
@@ -62,7 +65,8 @@ pub(crate) fn deletion_refusal(
     by: &Deleter,
     pattern: &[u8; 11],
 ) -> Option<Refusal>
-    ensures { (image : List ℕ) (drive : Drive) → Stands image mounted.now drive
+    ensures row { IfSome result (λ refusal. IsOneOf refusal (spec.refusals_of_each functions.DeleteFile)) }
+    ensures all { (image : List ℕ) (drive : Drive) → Stands image mounted.now drive
         → result ≡ spec.deletion_refusal drive opens.now by.now pattern.now }
 {
     let mut last = None;

@@ -1,4 +1,4 @@
-ghost use Rattle.std.specs.Prelude.{◌≡◌, ◌≤◌, ◌<◌, ℕ, true, false, List, [], Option, Some, None, length};
+ghost use Rattle.std.specs.Prelude.{◌≡◌, ◌≤◌, ◌<◌, ℕ, true, false, List, [], Option, Some, None, IfSome, length};
 ghost use Rattle.std.specs.Option.{option_copied};
 ghost use Rattle.mpm_base.specs.Calls.{answering};
 ghost use Rattle.mpm_mount.specs.Directories.{Directory};
@@ -6,6 +6,7 @@ ghost use Rattle.mpm_mount.specs.Drives.{Drive};
 ghost use Rattle.mpm_fcb.specs.Blocks.{block_of};
 ghost use Rattle.mpm_fcb.specs.Positions.{sequential_record};
 ghost use Rattle.mpm_bdos.specs.declared.refusals.Refusal.{Refusal as Refused};
+ghost use Rattle.mpm_bdos.specs.Answering.{IsOfRow, MayGrant, MayAnswer};
 ghost use Rattle.mpm_bdos.specs.Asking.{called};
 ghost use Rattle.mpm_bdos.specs.Changes.{marks_by, protected_by};
 ghost use Rattle.mpm_bdos.specs.Driving.{freed_by};
@@ -101,7 +102,7 @@ fn reply_on_drives(
     mark_drives(marks, caller.process, word, function);
 }
 
-/// Answers a call on the drive that it names, where that is mounted.
+/// Answers a call on the drive that it names, with nothing but that it is done where that isn't mounted.
 fn reply_on(
     reply: &mut Reply,
     mounted: Option<&Mounted>,
@@ -115,6 +116,7 @@ fn reply_on(
     deleted: &[Option<FileKey>; 64],
 )
     requires { caller.now.multi ≤ 16 }
+    ensures may { MayGrant caller.now.multi function call.now.dma reply.new }
     ensures users { HaveUsers opens.old → caller.now.user < 16 → HaveUsers opens.new }
     ensures replied { (image : List ℕ) (d : Directory) (drives : List (Option Drive)) (marks moment : List ℕ) → option_copied mounted.entry ≡ Some d
         → replying.IsAnswering (called drives protected.now opens.old marks searches.old caller.now function call.now moment) image d work.now deleted.now
@@ -124,7 +126,7 @@ fn reply_on(
         Some(mounted) => reply_mounted(
             reply, mounted, protected, opens, searches, caller, function, call, work, deleted,
         ),
-        None => {}
+        None => reply.answer_with(0, call.dma, &[]),
     }
 }
 
@@ -145,6 +147,7 @@ fn reply_granted(
 )
     requires caller { IsCaller caller.now }
     requires users { HaveUsers opens.old }
+    ensures may { MayGrant caller.now.multi function call.now.dma reply.new }
     ensures users { HaveUsers opens.new }
     ensures finished { (images : ℕ → List ℕ) (s : Situation) (moment : List ℕ) (refusal : Option Refused)
         → Serves images (spec.serving mounted.now protected.old opens.old marks.old searches.old (record { caller = caller.now; function = function; drive = drive; call = call.now; moment = moment; refusal = refusal; work = work.now; deleted = deleted.now })) s (call_turns s)
@@ -191,6 +194,8 @@ fn reply_service(
     searches: &mut Searches,
 ) -> Option<Extended>
     requires users { HaveUsers opens.old }
+    ensures may { IfSome service.now.refusal (IsOfRow service.now.function)
+        → MayAnswer service.now.caller.multi service.now.function service.now.call.dma reply.new result }
     ensures users { HaveUsers opens.new }
     ensures comes { (images : ℕ → List ℕ) (s : Situation)
         → Serves images (spec.serving mounted.now protected.old opens.old marks.old searches.old service.now) s (call_turns s)
@@ -220,6 +225,10 @@ fn reply_service(
 
 impl Bdos {
     ghost use Rattle.std.specs.Prelude.{◌≡◌, ℕ, List, None};
+    ghost use Rattle.mpm_base.specs.Calls.{Taken};
+    ghost use Rattle.mpm_bdos.specs.declared.caller.Caller as callers;
+    ghost use Rattle.mpm_bdos.specs.declared.functions.FileFunction as functions;
+    ghost use Rattle.mpm_bdos.specs.Answering.{HasEntered, MayAnswer};
     ghost use Rattle.mpm_bdos.specs.Filing.{Situation};
     ghost use Rattle.mpm_bdos.specs.Finishing.{ComesTo};
     ghost use Rattle.mpm_bdos.specs.Jobs.{call_turns};
@@ -229,6 +238,8 @@ impl Bdos {
     /// answered where none was. (MP/M II Programmer's Guide, "BDOS Function Calls", "BDOS Error Handling".)
     pub fn reply(&mut self, reply: &mut Reply) -> Option<Extended>
         ensures comes { (images : ℕ → List ℕ) (s : Situation) → Serves images self.old s (call_turns s) → ComesTo images s self.new reply.new result }
+        ensures may { (caller : callers.Caller) (function : functions.FileFunction) (call : Taken) → HasEntered caller function call self.old.service
+            → MayAnswer caller.multi function call.dma reply.new result }
         ensures kept { self.new ≡ record self.old { protected = self.new.protected; opens = self.new.opens; marks = self.new.marks; searches = self.new.searches; service = None } }
         ensures idle { self.old.service ≡ None → self.new ≡ self.old }
         ensures no_reply { self.old.service ≡ None → reply.new ≡ reply.old }

@@ -1,9 +1,10 @@
-ghost use Rattle.std.specs.Prelude.{◌≡◌, ◌≤◌, ◌<◌, ℕ, true, List, IfSome, unwrap_or};
+ghost use Rattle.std.specs.Prelude.{◌≡◌, ◌≤◌, ◌<◌, ℕ, true, false, List, IfSome, unwrap_or};
 ghost use Rattle.std.specs.FinMap.{get};
 ghost use Rattle.mpm_mount.specs.Drives.{Drive, extents_of};
 ghost use Rattle.mpm_mount.specs.Directories.{Stands};
 ghost use Rattle.mpm_fcb.specs.Positions.{with_random};
 ghost use Rattle.mpm_bdos.specs.Jobs.{no_protection};
+ghost use Rattle.mpm_bdos.specs.Answering.{tells_block, IsCoded, MayAmount};
 ghost use Rattle.mpm_bdos.specs.Ending as ending;
 ghost use Rattle.mpm_bdos.specs.Records as records;
 ghost use Rattle.mpm_bdos.specs.Replies as spec;
@@ -102,7 +103,8 @@ pub(crate) fn ended(function: FileFunction, multi: u8, work: &Option<Work>) -> E
 /// How many records are done, at most 15, and the code of what ended them.
 #[tactic(auto, using(crate::proofs::EndingLaws::told_in_four_bits))]
 fn told_code(function: FileFunction, ended: &Ended) -> u16
-    ensures { IfSome ended.now.end (λ _. ended.now.moved ≤ 15) → result ≡ records.coded function ended.now.moved ended.now.end }
+    ensures all { IfSome ended.now.end (λ _. ended.now.moved ≤ 15) → result ≡ records.coded function ended.now.moved ended.now.end }
+    ensures coded { IsCoded function result }
 {
     coded(function, ended.moved.min(15), ended.end)
 }
@@ -110,12 +112,19 @@ fn told_code(function: FileFunction, ended: &Ended) -> u16
 /// The value.
 #[tactic(auto, unfolding(crate::specs::Replies::value_by))]
 pub(crate) fn value(granted: &Granted, mounted: &Mounted) -> u16
-    ensures { (image : List ℕ) (drive : Drive) → Stands image mounted.now drive
+    ensures all { (image : List ℕ) (drive : Drive) → Stands image mounted.now drive
         → IfSome granted.now.ended.end (λ _. granted.now.ended.moved ≤ 15) → result ≡ spec.value_by drive granted.now granted.now.function }
+    ensures amount { MayAmount granted.now.function result }
 {
     match granted.function {
+        FileFunction::ReadSequential
+        | FileFunction::WriteSequential
+        | FileFunction::ReadRandom
+        | FileFunction::WriteRandom
+        | FileFunction::TestAndWrite
+        | FileFunction::LockRecord => told_code(granted.function, &granted.ended),
         FileFunction::LabelData => u16::from(label_byte(mounted)),
-        function => told_code(function, &granted.ended),
+        _ => 0,
     }
 }
 
@@ -174,8 +183,9 @@ fn position_of(granted: &Granted) -> u32
 #[tactic(auto, unfolding(crate::specs::Replies::block_by))]
 pub(crate) fn block(granted: &Granted, mounted: &Mounted) -> ControlBlock
     requires number { IfSome granted.now.opened (λ made. made.number ≤ 63) }
-    ensures { (image : List ℕ) (drive : Drive) → Stands image mounted.now drive
+    ensures all { (image : List ℕ) (drive : Drive) → Stands image mounted.now drive
         → (ending.is_moving granted.now.function ≡ true → ending.IsPlaced granted.now) → result ≡ spec.block_by drive granted.now granted.now.function }
+    ensures untold { tells_block granted.now.function ≡ false → result ≡ granted.now.block }
 {
     match granted.function {
         FileFunction::OpenFile | FileFunction::MakeFile => opened_block(granted, mounted),

@@ -1,4 +1,4 @@
-ghost use Rattle.std.specs.Prelude.{◌≡◌, ℕ, List, Option, Some, None, false, slice_index_or, if◌then◌else◌};
+ghost use Rattle.std.specs.Prelude.{◌≡◌, ℕ, List, Option, Some, None, IfSome, false, slice_index_or, if◌then◌else◌};
 ghost use Rattle.std.specs.Option.{option_copied};
 ghost use Rattle.mpm_fcb.specs.Blocks.{block_of};
 ghost use Rattle.mpm_mount.specs.Drives.{Drive};
@@ -6,6 +6,7 @@ ghost use Rattle.mpm_mount.specs.Directories.{Stands};
 ghost use Rattle.mpm_bdos.specs.declared.refusals.Refusal.TheVariants.{Busy};
 ghost use Rattle.mpm_bdos.specs.Subjects.{drive_named as named, drive_at, drive_by};
 ghost use Rattle.mpm_bdos.specs.Refusals as spec;
+ghost use Rattle.mpm_bdos.specs.Answering.{IsOfRow};
 ghost use Rattle.mpm_bdos.specs.Asking as asking;
 ghost use Rattle.mpm_bdos.specs.Asking.{called, StandsFor};
 
@@ -25,7 +26,8 @@ use mpm_opens::Opens;
 
 /// Why a call is refused by what it names on a drive that is mounted, if it is.
 fn refusal_asked(mounted: &Mounted, opens: &Opens, marks: &Marks, asked: &Asked) -> Option<Refusal>
-    ensures { (image : List ℕ) (drive : Drive) → Stands image mounted.now drive → result ≡ asking.refused_asked drive opens.now marks.now asked.now }
+    ensures row { IfSome result (IsOfRow asked.now.function) }
+    ensures all { (image : List ℕ) (drive : Drive) → Stands image mounted.now drive → result ≡ asking.refused_asked drive opens.now marks.now asked.now }
 {
     match first_refusal(mounted, opens, marks, asked, refusals_of(asked.function)) {
         Some(refusal) => Some(refusal),
@@ -44,7 +46,8 @@ fn mounted_refusal(
     function: FileFunction,
     call: &Call,
 ) -> Option<Refusal>
-    ensures { (image : List ℕ) (drives : List (Option Drive)) (moment : List ℕ)
+    ensures row { IfSome result (IsOfRow function) }
+    ensures all { (image : List ℕ) (drives : List (Option Drive)) (moment : List ℕ)
         → Stands image mounted.now (drive_at (called drives protected.now opens.now marks.now searches.now caller.now function call.now moment))
         → spec.is_unmounted (called drives protected.now opens.now marks.now searches.now caller.now function call.now moment) (named (called drives protected.now opens.now marks.now searches.now caller.now function call.now moment)) ≡ false
         → result ≡ spec.refusal_of (called drives protected.now opens.now marks.now searches.now caller.now function call.now moment) }
@@ -113,7 +116,8 @@ pub(crate) fn refusal_of(
     function: FileFunction,
     call: &Call,
 ) -> Option<Refusal>
-    ensures { (image : List ℕ) (drives : List (Option Drive)) (moment : List ℕ)
+    ensures row { IfSome result (IsOfRow function) }
+    ensures all { (image : List ℕ) (drives : List (Option Drive)) (moment : List ℕ)
         → StandsFor image (option_copied mounted.entry) (called drives protected.now opens.now marks.now searches.now caller.now function call.now moment)
         → result ≡ spec.refusal_of (called drives protected.now opens.now marks.now searches.now caller.now function call.now moment) }
 {

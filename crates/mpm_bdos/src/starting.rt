@@ -11,6 +11,7 @@ ghost use Rattle.mpm_files.specs.Turning.{Suits};
 ghost use Rattle.mpm_bdos.specs.Filing.{Situation, block as block_in};
 ghost use Rattle.mpm_bdos.specs.Subjects as subjects;
 ghost use Rattle.mpm_bdos.specs.Refusals as refusals;
+ghost use Rattle.mpm_bdos.specs.Answering.{IsEntered};
 ghost use Rattle.mpm_bdos.specs.Asking.{called, StandsFor};
 ghost use Rattle.mpm_bdos.specs.Changes as changes;
 ghost use Rattle.mpm_bdos.specs.Functions.{function_of};
@@ -292,7 +293,9 @@ fn entered(
 ) -> Service
     requires caller { IsCaller caller.now }
     requires users { HaveUsers opens.now }
-    ensures { (image : List ℕ) (drives : List (Option Drive))
+    ensures entered { IsEntered caller.now function call.now result }
+    ensures drive { result.drive ≡ drive }
+    ensures all { (image : List ℕ) (drives : List (Option Drive))
         → StandsFor image (option_copied mounted.entry) (called drives protected.now opens.now marks.now searches.now caller.now function call.now moment)
         → drive ≡ subjects.drive_number (called drives protected.now opens.now marks.now searches.now caller.now function call.now moment)
         → spec.Enters image (option_copied mounted.entry) (called drives protected.now opens.now marks.now searches.now caller.now function call.now moment) result }
@@ -331,7 +334,10 @@ fn entered_among(
 ) -> Service
     requires caller { IsCaller caller.now }
     requires users { HaveUsers opens.now }
-    ensures { (images : ℕ → List ℕ) (drives : List (Option Drive)) → StandEach images mounted.now drives
+    ensures entered { IsEntered caller.now function call.now result }
+    ensures drive { (drives : List (Option Drive))
+        → result.drive ≡ subjects.drive_number (called drives protected.now opens.now marks.now searches.now caller.now function call.now moment) }
+    ensures all { (images : ℕ → List ℕ) (drives : List (Option Drive)) → StandEach images mounted.now drives
         → spec.EntersAmong images mounted.now (called drives protected.now opens.now marks.now searches.now caller.now function call.now moment) result }
 {
     let search = searches.get(caller.process);
@@ -373,14 +379,17 @@ fn function_of_call(call: &Call) -> Option<FileFunction>
 }
 
 impl Bdos {
-    ghost use Rattle.std.specs.Prelude.{◌≡◌, ℕ, List, Option, Some, None};
+    ghost use Rattle.std.specs.Prelude.{◌≡◌, ◌<◌, ℕ, true, false, List, Option, Some, None, is_some};
     ghost use Rattle.mpm_clock.specs.Times.{IsTime};
     ghost use Rattle.mpm_clock.specs.PackedDecimal.{stamp as stamp_of};
     ghost use Rattle.mpm_mount.specs.Drives.{Drive};
     ghost use Rattle.mpm_bdos.specs.declared.functions.FileFunction as functions;
     ghost use Rattle.mpm_bdos.specs.Functions.{function_of};
     ghost use Rattle.mpm_bdos.specs.Jobs.{call_turns};
-    ghost use Rattle.mpm_bdos.specs.Serving.{IsCaller, StandEach, Serves};
+    ghost use Rattle.mpm_bdos.specs.Serving.{IsCaller, StandEach, Serves, directory_at};
+    ghost use Rattle.mpm_bdos.specs.Subjects.{drive_number};
+    ghost use Rattle.mpm_bdos.specs.Turns.{drive_served, has_work};
+    ghost use Rattle.mpm_bdos.specs.Answering.{HasEntered};
     ghost use Rattle.mpm_bdos.specs.Starting.{caller_of, entering};
 
     /// A process's call on files and drives enters service: how many turns it takes. A call of another function doesn't, and takes
@@ -392,6 +401,12 @@ impl Bdos {
             → StandEach images self.old.mounted drives → result ≡ call_turns (entering self.old drives (caller_of p process.now) function call.now (stamp_of now)) }
         ensures serves { (images : ℕ → List ℕ) (drives : List (Option Drive)) (function : functions.FileFunction) → function_of call.now.function ≡ Some function
             → StandEach images self.old.mounted drives → Serves images self.new (entering self.old drives (caller_of p process.now) function call.now (stamp_of now)) 0 }
+        ensures entered { (function : functions.FileFunction) → function_of call.now.function ≡ Some function
+            → HasEntered (caller_of p process.now) function call.now self.new.service }
+        ensures drive { (drives : List (Option Drive)) (function : functions.FileFunction) → function_of call.now.function ≡ Some function
+            → drive_served self.new.service ≡ Some (drive_number (entering self.old drives (caller_of p process.now) function call.now (stamp_of now))) }
+        ensures some { is_some (function_of call.now.function) ≡ true → 0 < result }
+        ensures workless { is_some (function_of call.now.function) ≡ true → ((number : ℕ) → directory_at self.old.mounted number ≡ None) → has_work self.new.service ≡ false }
         ensures kept { self.new ≡ record self.old { service = self.new.service } }
         ensures other { function_of call.now.function ≡ None → self.new ≡ self.old }
         ensures no_turns { function_of call.now.function ≡ None → result ≡ 0 }

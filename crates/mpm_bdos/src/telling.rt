@@ -1,4 +1,4 @@
-ghost use Rattle.std.specs.Prelude.{◌≡◌, ◌<◌, ◌≤◌, ℕ, List, Some, option_map, unwrap_or};
+ghost use Rattle.std.specs.Prelude.{◌≡◌, ◌<◌, ◌≤◌, ℕ, List, Some, length, option_map, unwrap_or};
 ghost use Rattle.mpm_mount.specs.Faults.{plain, extent_of};
 ghost use Rattle.mpm_mount.specs.Drives.{Drive, extents_of, entry_number};
 ghost use Rattle.mpm_mount.specs.Directories.{Stands};
@@ -160,7 +160,8 @@ pub(crate) fn xfcb_block(block: &mut ControlBlock, mounted: &Mounted, user: u8)
 /// Space".)
 #[tactic(auto, using(mpm_mount::proofs::FreeRecords::free_records_same))]
 pub(crate) fn free_bytes(mounted: &Mounted) -> [u8; 3]
-    ensures { (image : List ℕ) (drive : Drive) → Stands image mounted.now drive → result ≡ three_bytes (free_records drive) }
+    ensures all { (image : List ℕ) (drive : Drive) → Stands image mounted.now drive → result ≡ three_bytes (free_records drive) }
+    ensures size { length result ≡ 3 }
 {
     three_bytes(mounted.free_records())
 }

@@ -110,6 +110,7 @@ impl Service {
             → IfOk result (λ told. told ≡ progress_after (suc j) (turns_of before job)) }
         ensures idle { is_some self.old.work ≡ false → IsIdle self.old self.new mounted.old mounted.new cache.old cache.new drives.old drives.new steps.old steps.new }
         ensures done { is_some self.old.work ≡ false → result ≡ Ok progress.Done }
+        ensures still { is_some self.new.work ≡ is_some self.old.work }
         ensures kept { without_work self.new ≡ without_work self.old }
         ensures places { (other : ℕ) → Some self.old.drive ≢ Some other → directory_at mounted.new other ≡ directory_at mounted.old other }
         ensures labels { (other : ℕ) → option_map labelled (directory_at mounted.new other) ≡ option_map labelled (directory_at mounted.old other) }
@@ -149,6 +150,7 @@ pub(crate) fn turn_service<D: Drives, L: Ledger>(
         → IfOk result (λ told. told ≡ progress_after (suc j) (turns_of before job)) }
     ensures idle { has_work service.old ≡ false → IsIdle service.old service.new mounted.old mounted.new cache.old cache.new drives.old drives.new steps.old steps.new }
     ensures done { has_work service.old ≡ false → result ≡ Ok progress.Done }
+    ensures still { has_work service.new ≡ has_work service.old }
     ensures kept { option_map without_work service.new ≡ option_map without_work service.old }
     ensures places { (other : ℕ) → drive_served service.old ≢ Some other → directory_at mounted.new other ≡ directory_at mounted.old other }
     ensures labels { (other : ℕ) → option_map labelled (directory_at mounted.new other) ≡ option_map labelled (directory_at mounted.old other) }

@@ -148,14 +148,6 @@ act_at _ cli = Ask
 unfoldable pub next_act : Interpreter → Act
 next_act cli = act_at cli.row cli
 
--- whether that is a call
-abbrev pub is_call : Act → Bool
-is_call Ask = true
-is_call (PlaceBytes seg address length) = false
-is_call (MoveCode seg address length page) = false
-is_call (BeginProcess seg new) = false
-is_call (GiveConsole console) = false
-
 -- the process that begins has a console, a user and a drive that there can be, and a console that is given back is there
 pub record IsNew (consoles : ℕ) (new : NewProcess) : Type 0 where
   pub console : new.console < consoles
@@ -166,6 +158,13 @@ abbrev pub IsAct : ℕ → Act → Type 0
 IsAct consoles (BeginProcess seg new) = IsNew consoles new
 IsAct consoles (GiveConsole console) = console < consoles
 IsAct consoles _ = Unit {0}
+
+-- what it does goes by the bytes that it filled in: as many are placed as there are, and there is code to move, with a mark for
+-- each byte
+abbrev pub Counts : List ℕ → Act → Type 0
+Counts bytes (PlaceBytes seg address count) = count ≡ length bytes
+Counts bytes (MoveCode seg address count page) = (0 < count) × (count ≤ 8 * length bytes)
+Counts bytes _ = Unit {0}
 
 -- a file that isn't found
 abbrev pub not_found : ℕ
@@ -291,11 +290,19 @@ took_at Begin cli reply = record cli { row = if reply.hl == 0 then ReadCommand e
 unfoldable pub took : Interpreter → Answer → Interpreter
 took cli reply = took_at cli.row cli reply
 
--- what is so in a row: at least two pages are asked for, and where it reads on something is left
+-- what is so in a row: the pages that the file takes are asked for, two at least; where it places code the piece has some, where it
+-- moves code it has marks, and where it reads on something is left
 abbrev pub IsRow : Row → Loading → Type 0
-IsRow (Reserve relocatable pages) load = 2 ≤ pages
+IsRow (Reserve relocatable pages) load = (2 ≤ pages) × (pages ≡ pages_of load.plan)
+IsRow Place load = 0 < length (code_in load)
+IsRow Patch load = 0 < length (marks_in load)
 IsRow ReadOn load = has_all load ≡ false
 IsRow _ load = Unit {0}
+
+-- the base page that is placed has 256 bytes
+abbrev pub IsFilled : Row → List ℕ → Type 0
+IsFilled PlaceBasePage bytes = length bytes ≡ 256
+IsFilled _ bytes = Unit {0}
 
 -- a segment that programs can have: it ends below common memory
 pub record IsSegment (spec : SegmentSpec) : Type 0 where

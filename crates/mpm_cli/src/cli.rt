@@ -64,11 +64,12 @@ impl Model for Cli {
 }
 
 impl Cli {
-    ghost use Rattle.std.specs.Prelude.{◌≡◌, ◌≤◌, ◌<◌, ◌++◌, length, false, if◌then◌else◌};
+    ghost use Rattle.std.specs.Prelude.{◌≡◌, ◌≤◌, ◌<◌, ◌*◌, ◌++◌, length, false, if◌then◌else◌};
     ghost use Rattle.mpm_base.specs.declared.functions.TheConstants.{CONDITIONAL_WRITE_QUEUE, OPEN_FILE};
     ghost use Rattle.mpm_command.specs.Commands.{IsCommand, tail_in};
-    ghost use Rattle.mpm_loader.specs.Pieces.{has_all};
-    ghost use Rattle.mpm_cli.specs.Interpreters.{opening, asking, asking_file, queue_block as block_of_queue, file_block as block_of_file, descriptor as descriptor_of, last_page as page_of_gates, next_call, next_act, act_at, process_of, took as behind, took_at, message_in as message_of_bytes, commanded, with_block, reserved, IsAct, IsNew, is_call};
+    ghost use Rattle.mpm_loader.specs.Pieces.{has_all, marks_in, marked_length};
+    ghost use Rattle.mpm_cli.specs.Interpreters.{opening, asking, asking_file, queue_block as block_of_queue, file_block as block_of_file, descriptor as descriptor_of, last_page as page_of_gates, next_call, next_act, act_at, process_of, took as behind, took_at, message_in as message_of_bytes, commanded, with_block, reserved, IsAct, IsNew, Counts, IsRow, IsFilled};
+    ghost use Rattle.mpm_cli.specs.Standing.{Stands, HandsIn};
     ghost use Rattle.mpm_cli.specs.declared.table.Row.TheVariants.{Place, Patch, SetUser, OpenQueue, OpenRelocatable, OpenAbsolute, ReadHeader, ComputeSize, ReadOn};
 
     /// The interpreter of a system with so many consoles, one at least, at its first row.
@@ -92,43 +93,17 @@ impl Cli {
     }
 
     /// What it does next. It fills in the call that it makes, or the bytes that it hands over. It stays the same until the
-    /// answer is taken.
-    #[tactic(auto, unfolding(crate::specs::Interpreters::next_act))]
+    /// answer is taken. What it hands over comes into its segment alone.
+    #[tactic(auto, using(crate::proofs::StandingLaws::hands_by))]
     pub fn next(&mut self, call: &mut Call) -> Act
         ensures cli { self.new ≡ self.old }
         ensures call { call.new ≡ next_call self.old }
         ensures act { result ≡ next_act self.old }
         ensures bounds { IsAct self.old.consoles result }
+        ensures counts { Counts call.new.bytes result }
+        ensures hands { Stands self.old → HandsIn self.old.seg self.old.spec result }
     {
-        self.fill(call);
-        match self.row {
-            Row::Place => self.place_code(),
-            Row::Patch => self.move_code(),
-            Row::PlaceBasePage => Act::Place {
-                seg: self.seg,
-                address: u16::from_le_bytes([0, self.spec.base]),
-                length: 256,
-            },
-            Row::Begin => Act::Begin {
-                seg: self.seg,
-                new: self.process(),
-            },
-            Row::Give => Act::Give {
-                console: self.console,
-            },
-            _ => Act::Ask,
-        }
-    }
-
-    /// Whether it makes a call next, and hands nothing over.
-    #[tactic(auto, unfolding(crate::specs::Interpreters::next_act))]
-    pub fn asks(&self) -> bool
-        ensures { result ≡ is_call (next_act self.now) }
-    {
-        match self.row {
-            Row::Place | Row::Patch | Row::PlaceBasePage | Row::Begin | Row::Give => false,
-            _ => true,
-        }
+        self.act(call)
     }
 
     /// The number of the function that it calls next, 0 where it hands something over.
@@ -153,8 +128,44 @@ impl Cli {
     }
 
     /// It takes the answer: of the call, or to what it handed over, which is 0, or FFh where no process could begin.
-    #[tactic(auto, unfolding(crate::specs::Interpreters::took))]
     pub fn took(&mut self, reply: &Reply)
+        ensures took { self.new ≡ behind self.old reply.now }
+        ensures stands { Stands self.old → Stands self.new }
+    {
+        self.take(reply);
+    }
+
+    /// The call of its row is filled in, or the bytes that it hands over. Answers what it does.
+    #[tactic(auto, unfolding(crate::specs::Interpreters::next_act, crate::specs::Interpreters::next_call))]
+    fn act(&self, call: &mut Call) -> Act
+        ensures call { call.new ≡ next_call self.now }
+        ensures act { result ≡ next_act self.now }
+        ensures bounds { IsAct self.now.consoles result }
+        ensures counts { Counts call.new.bytes result }
+    {
+        self.fill(call);
+        match self.row {
+            Row::Place => self.place_code(),
+            Row::Patch => self.move_code(),
+            Row::PlaceBasePage => Act::Place {
+                seg: self.seg,
+                address: u16::from_le_bytes([0, self.spec.base]),
+                length: 256,
+            },
+            Row::Begin => Act::Begin {
+                seg: self.seg,
+                new: self.process(),
+            },
+            Row::Give => Act::Give {
+                console: self.console,
+            },
+            _ => Act::Ask,
+        }
+    }
+
+    /// The row to which the answer leads.
+    #[tactic(auto, unfolding(crate::specs::Interpreters::took))]
+    fn take(&mut self, reply: &Reply)
         ensures { self.new ≡ behind self.old reply.now }
     {
         match self.row {
@@ -184,7 +195,8 @@ impl Cli {
     /// The call of its row, or the bytes that it hands over.
     #[tactic(auto, unfolding(crate::specs::Interpreters::next_call))]
     fn fill(&self, call: &mut Call)
-        ensures { call.new ≡ next_call self.now }
+        ensures call { call.new ≡ next_call self.now }
+        ensures filled { IsFilled self.now.row call.new.bytes }
     {
         match self.row {
             Row::ReadCommand => ask(call, functions::READ_QUEUE, 0, &COMMAND_QUEUE),
@@ -309,7 +321,9 @@ impl Cli {
 
     /// The code that is marked by what it read last is moved to the segment's first page.
     fn move_code(&self) -> Act
-        ensures { result ≡ act_at Patch self.now }
+        requires { IsRow Patch self.now.load }
+        ensures act { result ≡ act_at Patch self.now }
+        ensures bounds { (0 < marked_length self.now.load) × (marked_length self.now.load ≤ 8 * length (marks_in self.now.load)) }
     {
         Act::Patch {
             seg: self.seg,

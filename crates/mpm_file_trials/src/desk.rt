@@ -65,6 +65,8 @@ pub(crate) enum Line<'a> {
 pub(crate) struct Desk {
     pub(crate) pid: u8,
     pub(crate) process: Process,
+    /// Whether its calls are done turn by turn, and not at once.
+    pub(crate) in_turns: bool,
     blocks: [[u8; 36]; 4],
     block: u8,
     word: u16,
@@ -100,11 +102,12 @@ fn filled(first: u8, byte: u8, other: u8) -> [u8; 4096] {
 }
 
 impl Desk {
-    /// A desk at which process 1 calls, which is as this one is.
-    pub(crate) fn new(process: &Process) -> Desk {
+    /// A desk at which process 1 calls, which is as this one is, at once or turn by turn.
+    pub(crate) fn new(process: &Process, in_turns: bool) -> Desk {
         Desk {
             pid: 1,
             process: *process,
+            in_turns,
             blocks: [[0; 36]; 4],
             block: 0,
             word: 0,

@@ -1,17 +1,18 @@
-//! Scenes of file calls on two floppy disks.
+//! Scenes of file calls on two floppy disks. Each is played twice: with its calls done at once, and turn by turn.
 ghost use Rattle.std.specs.Prelude.{◌≡◌, ◌<◌, ℕ, true};
+ghost use Rattle.mpm_clock.specs.Times.{IsTime};
 ghost use Rattle.mpm_bdos.specs.Serving.{IsCaller};
 ghost use Rattle.mpm_bdos.specs.Starting.{caller_of};
 ghost use Rattle.mpm_bdos.specs.Turns.{FitsDrives};
 
 use crate::desk::{Desk, Line};
 use crate::floppies::{Floppies, mounted_places, two_disks};
-use mpm_base::{Pid, Steps, functions};
+use mpm_base::{Call, Pid, Reply, Steps, functions};
 use mpm_bdos::{Bdos, DirectFunction, Extended};
-use mpm_clock::Clock;
+use mpm_clock::{Clock, Moment};
 use mpm_files::Progress;
 use mpm_images::Entry;
-use mpm_port::Drives;
+use mpm_port::{Drives, Failed};
 use mpm_procs::{NewProcess, Process, Procs};
 use std::alloc::Global;
 use std::marker::Brand;
@@ -30,6 +31,63 @@ fn may_call(process: &Process) -> bool
     ensures { (p : ℕ) → result ≡ true → IsCaller (caller_of p process.now) }
 {
     process.user < 16 && process.multi >= 1 && process.multi <= 16
+}
+
+/// The moment of all calls.
+fn moment() -> Moment
+    ensures { IsTime result }
+{
+    Clock::new(1, 0, 0, 0).now()
+}
+
+/// The extended error of a call that is done at once, if it has one.
+fn serves_at_once<D: Drives, L: Ledger>(
+    bdos: &mut Bdos,
+    drives: &mut D,
+    steps: &mut Steps<L>,
+    desk: &mut Desk,
+    call: &Call,
+    process: &Process,
+) -> Result<Option<Extended>, Failed>
+    requires fits { FitsDrives D.attached D.disks bdos.old.mounted bdos.old.cached drives.old }
+    requires caller { (p : ℕ) → IsCaller (caller_of p process.now) }
+    ensures { FitsDrives D.attached D.disks bdos.new.mounted bdos.new.cached drives.new }
+{
+    let pid = Pid(desk.pid % 32);
+    bdos.call_at_once(pid, call, process, moment(), drives, steps, &mut desk.reply)
+}
+
+/// What the call tells that asks which drives are mounted: its value and its extended error.
+fn login_vector(bdos: &Bdos, process: &Process) -> (u16, Option<Extended>) {
+    let mut call = Call::new();
+    call.begin(functions::RETURN_LOGIN_VECTOR, 0, 0x80);
+    let mut reply = Reply::new();
+    let extended = bdos.direct(&call, process, &mut reply);
+    (reply.hl, extended)
+}
+
+/// The same of one that is done turn by turn, where the drives that are mounted are told the same before each turn.
+fn serves_in_turns<D: Drives, L: Ledger>(
+    bdos: &mut Bdos,
+    drives: &mut D,
+    steps: &mut Steps<L>,
+    desk: &mut Desk,
+    call: &Call,
+    process: &Process,
+) -> Result<Option<Extended>, Failed>
+    requires fits { FitsDrives D.attached D.disks bdos.old.mounted bdos.old.cached drives.old }
+    requires caller { (p : ℕ) → IsCaller (caller_of p process.now) }
+    ensures { FitsDrives D.attached D.disks bdos.new.mounted bdos.new.cached drives.new }
+{
+    let mounted = login_vector(bdos, process);
+    let turns = bdos.start(Pid(desk.pid % 32), call, process, moment());
+    for _turn in 0..turns {
+        if login_vector(bdos, process) != mounted {
+            return Err(Failed);
+        }
+        bdos.turn(drives, steps)?;
+    }
+    Ok(bdos.reply(&mut desk.reply))
 }
 
 /// What a call of the desk is answered, where no drive fails and its caller is one that may call.
@@ -54,9 +112,12 @@ fn asks<D: Drives, L: Ledger>(
         let hl = desk.reply.hl;
         return Some(Answer { hl, extended });
     }
-    let pid = Pid(desk.pid % 32);
-    let now = Clock::new(1, 0, 0, 0).now();
-    match bdos.call_at_once(pid, &call, &process, now, drives, steps, &mut desk.reply) {
+    let answered = if desk.in_turns {
+        serves_in_turns(bdos, drives, steps, desk, &call, &process)
+    } else {
+        serves_at_once(bdos, drives, steps, desk, &call, &process)
+    };
+    match answered {
         Ok(extended) => {
             desk.take_block();
             let hl = desk.reply.hl;
@@ -112,8 +173,7 @@ fn serves<D: Drives, L: Ledger>(
         return false;
     }
     let call = desk.call(function);
-    let now = Clock::new(1, 0, 0, 0).now();
-    if bdos.start(Pid(desk.pid % 32), &call, &process, now) != turns {
+    if bdos.start(Pid(desk.pid % 32), &call, &process, moment()) != turns {
         return false;
     }
     if !takes_turns(bdos, drives, steps, turns) {
@@ -259,6 +319,7 @@ fn wrong_on<L: Ledger>(
     blank: Blank,
     drives: &mut Floppies,
     process: &Process,
+    in_turns: bool,
     lines: &[Line<'_>],
 ) -> Result<Option<usize>, Fail>
     requires name { blank.name ≡ L.name }
@@ -268,7 +329,7 @@ fn wrong_on<L: Ledger>(
     let mut steps = Steps::<L>::new(blank);
     let places = mounted_places(alloc, drives)?;
     let mut bdos = Bdos::new(alloc, places)?;
-    let mut desk = Desk::new(process);
+    let mut desk = Desk::new(process, in_turns);
     Ok(first_wrong(&mut bdos, drives, &mut steps, &mut desk, lines))
 }
 
@@ -277,9 +338,10 @@ fn wrong_by(
     alloc: Global,
     drives: &mut Floppies,
     process: &Process,
+    in_turns: bool,
     lines: &[Line<'_>],
 ) -> Result<Option<usize>, Fail> {
-    wrong_on::<Brand>(alloc, Blank::new(1), drives, process, lines)
+    wrong_on::<Brand>(alloc, Blank::new(1), drives, process, in_turns, lines)
 }
 
 /// The first line that isn't so on two floppy disks with these entries.
@@ -292,12 +354,28 @@ pub(crate) fn first_wrong_line(
     first_wrong_failing(alloc, a, b, None, lines)
 }
 
-/// The same, where a drive fails in each call that writes to it.
+/// The same, where a drive fails in each call that writes to it: with each call done at once, or else turn by turn.
 pub(crate) fn first_wrong_failing(
     alloc: Global,
     a: &[Entry],
     b: &[Entry],
     failing: Option<u8>,
+    lines: &[Line<'_>],
+) -> Result<Option<usize>, Fail> {
+    let wrong = wrong_in(alloc, a, b, failing, false, lines)?;
+    if wrong.is_some() {
+        return Ok(wrong);
+    }
+    wrong_in(alloc, a, b, failing, true, lines)
+}
+
+/// The first line that isn't so on two new disks, where calls are done turn by turn or not.
+fn wrong_in(
+    alloc: Global,
+    a: &[Entry],
+    b: &[Entry],
+    failing: Option<u8>,
+    in_turns: bool,
     lines: &[Line<'_>],
 ) -> Result<Option<usize>, Fail> {
     let mut drives = two_disks(alloc, a, b, failing)?;
@@ -307,5 +385,5 @@ pub(crate) fn first_wrong_failing(
         return Err(Fail::from("no process lives"));
     }
     let process = procs.get(Pid(0));
-    wrong_by(alloc, &mut drives, process, lines)
+    wrong_by(alloc, &mut drives, process, in_turns, lines)
 }

@@ -1,6 +1,6 @@
 -- Where in a program's file its code is, and how much memory it takes. (MP/M II System Guide, "Page Relocatable Programs";
 -- Programmer's Guide, "Transient Programs".)
-use Rattle.std.specs.Prelude.{ℕ, ◌+◌, ◌*◌, ◌/◌, ◌≤◌, ◌==◌, ◌||◌, nat_lt, if◌then◌else◌, List, length, Option, Some, None}
+use Rattle.std.specs.Prelude.{ℕ, ◌+◌, ◌*◌, ◌/◌, ◌≤◌, ◌<◌, ◌==◌, ◌||◌, nat_lt, if◌then◌else◌, List, length, Option, Some, None}
 use Rattle.mpm_prl.specs.Relocation.{word_at}
 use Rattle.mpm_loader.specs.declared.plan.Plan.{Plan}
 
@@ -30,13 +30,13 @@ code_end plan = plan.start + plan.length
 abbrev pub all_bytes : Plan → ℕ
 all_bytes plan = plan.start + plan.length + plan.bits
 
--- what a header or a file's size can ask for
+-- what a header or a file's size can ask for, and no more bytes of bits than the code has use for
 pub record IsPlan (plan : Plan) : Type 0 where
   pub start : plan.start ≤ 256
   pub within : plan.length ≤ plan.room
   pub room : plan.room ≤ 2147483520
   pub few : plan.bits ≤ 8192
-  pub enough : plan.bits ≤ plan.length
+  pub marks : 8 * plan.bits < plan.length + 8
 
 -- behind the base page it fits into so many pages, with 128 bytes for its stack, before the last page
 pub record FitsIn (plan : Plan) (pages : ℕ) : Type 0 where

@@ -162,10 +162,12 @@ impl Load {
     }
 
     /// How many bytes of code these mark.
+    #[tactic(auto, using(crate::proofs::Parts::some_marked))]
     pub fn marked_length(&self) -> u32
         ensures length { result ≡ length_of_marked self.now }
         ensures within { IsWithin self.now.plan (place_of_marked self.now) result }
         ensures few { result ≤ 16384 }
+        ensures some { 0 < length (marks_in self.now) → 0 < result }
     {
         let most = 8 * self.marks().len() as u32;
         most.min(self.plan.length.saturating_sub(self.marked_place()))

@@ -115,7 +115,7 @@ whole_handing act call p system w h = whole_residents _ _ (whole_handed act call
 whole_native_step : (act : Act) (call : Taken) (p : ℕ) (system : System) → call_of system.kernel.dispatcher.procs p ≡ call → IsWhole system
     → Lives system.kernel.dispatcher.procs p → IsReady system.kernel.dispatcher p → IsWhole (native_step act call p system).system
 whole_native_step Ask call p system keeps w h ready =
-    either (λ (change : Change). IsWhole change.system) (tells p call) _ _ (λ _. whole_telling call p system w h)
+    either (λ (change : Change). IsWhole change.system) (tells (native_in system.residents p) call) _ _ (λ _. whole_telling call p system w h)
     (λ _. whole_native_call call p system keeps w h ready)
 whole_native_step (Place seg address count) call p system keeps w h ready = whole_handing (Place seg address count) call p system w h
 whole_native_step (Patch seg address count page) call p system keeps w h ready = whole_handing (Patch seg address count page) call p system w h

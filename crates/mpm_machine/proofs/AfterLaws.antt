@@ -1,12 +1,12 @@
 -- A machine as it begins: it is whole, and nobody is left to be handed out.
-use Rattle.std.proofs.Common.{◌≡◌, ◌∙◌, ℕ, zero, suc, ◌+◌, ◌<◌, ◌≤◌, false, List, [], All, length, refl, sym, subst, arith, add-one}
+use Rattle.std.proofs.Common.{◌∙◌, ℕ, zero, suc, ◌+◌, ◌≤◌, false, List, All, length, refl, sym, subst, arith, add-one}
 use Rattle.mpm_dispatcher.specs.Dispatch.{picked}
 use Rattle.mpm_script.specs.declared.event.Timed.{Timed}
 use Rattle.mpm_script.specs.Events.{IsTimed}
 use Rattle.mpm_machine_file.specs.declared.machine_file.MachineFile.{MachineFile}
 use Rattle.mpm_machine_file.specs.MachineFiles.{IsMachine}
 use Rattle.mpm_machine.specs.declared.system.System.{System}
-use Rattle.mpm_machine.specs.State.{IsWhole}
+use Rattle.mpm_machine.specs.State.{IsWhole, NoCompletions}
 use Rattle.mpm_machine.specs.Opening.{with_terminals, begun_by_interpreter, with_interpreting, with_residents, booted, opened, opening_system}
 use Rattle.mpm_machine.proofs.PlacedLaws.{booted_is_bare, opening_is_bare}
 use Rattle.mpm_machine.proofs.OpeningLaws.{Begun, BegunSo, interpreting_begun, no_terminals, more_terminals, begun_none, begun_more, boots, whole_picked, no_completions_picked}
@@ -18,7 +18,7 @@ use Rattle.mpm_kernel.specs.Kernel.{dispatched}
 pub opening_whole : (program : List ℕ) → length program ≤ 48512 → IsWhole (opening_system program)
 opening_whole program few = (opening_is_bare program few).whole
 
-pub opening_handed : (program : List ℕ) → length program ≤ 48512 → (opening_system program).kernel.dispatcher.completed ≡ []
+pub opening_handed : (program : List ℕ) → length program ≤ 48512 → NoCompletions (opening_system program)
 opening_handed program few = (opening_is_bare program few).no_completions
 
 -- a machine as it is run
@@ -41,6 +41,7 @@ residents_begun file events is script =
       completed = all.completed ∙ first.completed;
       consoles = all.consoles ∙ first.consoles;
       steps = all.steps ∙ first.steps;
+      records = all.records ∙ first.records;
     }
 
 pub opened_whole : (file : MachineFile) (events : List Timed) → IsMachine file → All IsTimed events → IsWhole (opened file events)
@@ -49,9 +50,11 @@ opened_whole file events is script =
     let afterwards = with_terminals file.consoles (with_interpreting file.consoles (begun_by_interpreter (booted file events))) in
     whole_picked afterwards (dispatched (picked false) afterwards.kernel) (residents_begun file events is script).whole refl
 
-pub opened_handed : (file : MachineFile) (events : List Timed) → IsMachine file → All IsTimed events → (opened file events).kernel.dispatcher.completed ≡ []
+pub opened_handed : (file : MachineFile) (events : List Timed) → IsMachine file → All IsTimed events → NoCompletions (opened file events)
 unfolding opened with_residents
 opened_handed file events is script =
     let afterwards = with_terminals file.consoles (with_interpreting file.consoles (begun_by_interpreter (booted file events))) in
     let bare = booted_is_bare file events is.some_console is.consoles is.printers (omega (arith, is.segments)) script in
-    no_completions_picked afterwards.kernel (dispatched (picked false) afterwards.kernel) refl ((residents_begun file events is script).completed ∙ bare.no_completions)
+    let begun = residents_begun file events is script in
+    no_completions_picked afterwards (dispatched (picked false) afterwards.kernel) refl
+    (record { answered = begun.completed ∙ bare.no_completions.answered; written = begun.records ∙ bare.no_completions.written })

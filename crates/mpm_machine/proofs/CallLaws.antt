@@ -1,5 +1,5 @@
 -- A call that is done: its text, its reply and its record, one after another.
-use Rattle.std.proofs.Common.{◌≡◌, ◌∙◌, ℕ, ◌++◌, Result, refl, sym, ap, subst}
+use Rattle.std.proofs.Common.{◌≡◌, ◌∙◌, ℕ, length, arith, refl, sym, ap, subst}
 use Rattle.mpm_base.specs.Calls.{Taken, Answer}
 use Rattle.mpm_base.specs.declared.call.Outcome.{Outcome}
 use Rattle.mpm_base.specs.declared.call.Outcome.TheVariants.{Done, Held, Retry, Ended}
@@ -8,14 +8,14 @@ use Rattle.mpm_procs.specs.Table.{Lives, process_in, call_of}
 use Rattle.mpm_dispatcher.specs.Dispatch.{IsReady}
 use Rattle.mpm_kernel.specs.ConsoleInput.{writes}
 use Rattle.mpm_machine.specs.declared.system.System.{System}
-use Rattle.mpm_machine.specs.State.{Change, IsWhole}
+use Rattle.mpm_machine.specs.State.{IsWhole, HasRoom, speaking}
 use Rattle.mpm_machine.specs.Calling.{Served}
-use Rattle.mpm_machine.specs.Serving.{asked, keeping, IsTaken, served, call_text, string_of, said_by, after_echo, popped, replied, completion, with_entry, reply_at_entry, answering_call, fulfilling, completing, outcome_of, gate_step}
+use Rattle.mpm_machine.specs.Serving.{asked, keeping, IsTaken, served, call_text, string_of, said_by, after_echo, popped, replied, completion, recorded, with_entry, reply_at_entry, answering_call, fulfilling, completing, outcome_of, gate_step}
 use Rattle.mpm_output.specs.Outside.{Outside, Device}
-use Rattle.mpm_output.specs.Writing.{Wrote, Fails, Emits}
-use Rattle.mpm_output.proofs.WritingLaws.{fails_before, emits_after, emits_same}
+use Rattle.mpm_output.specs.Writing.{Wrote, Fails}
 use Rattle.mpm_machine.proofs.WholeLaws.{StaysServed, Keeps, keeps_call, whole_said, whole_popped}
 use Rattle.mpm_machine.proofs.ActedLaws.{whole_served}
+use Rattle.mpm_machine.proofs.TallyLaws.{Tally, keeping_tally, served_tally}
 use Rattle.mpm_machine.proofs.TakenLaws.{call_is_taken}
 
 -- the system after the text and the return address, as it is reached
@@ -30,6 +30,13 @@ pub lives_said : (p seg : ℕ) (old said : System) → IsWhole old → Lives old
 lives_said p seg old said w h is =
     let P : System → Type 0 = λ system. Lives system.kernel.dispatcher.procs p in
     subst P (sym is) (whole_said (call_of old.kernel.dispatcher.procs p) (string_of (call_of old.kernel.dispatcher.procs p) seg old.memory) p old w h).lives
+
+pub room_popped : (p seg : ℕ) (old said afterwards : System) → HasRoom old
+    → said ≡ (said_by (call_of old.kernel.dispatcher.procs p) (string_of (call_of old.kernel.dispatcher.procs p) seg old.memory) p old).system → afterwards ≡ popped p seg said
+    → HasRoom afterwards
+unfolding said_by speaking popped
+room_popped p seg old said afterwards room is was =
+    omega (arith, room, ap (λ (s : System). length s.records) is, ap (λ (s : System). length s.records) was)
 
 pub popped_after : (p seg : ℕ) (old said afterwards : System) → IsWhole old → Lives old.kernel.dispatcher.procs p
     → said ≡ (said_by (call_of old.kernel.dispatcher.procs p) (string_of (call_of old.kernel.dispatcher.procs p) seg old.memory) p old).system → afterwards ≡ popped p seg said → Popped p seg old afterwards
@@ -54,31 +61,23 @@ answers_call reply p seg old afterwards so =
     ap (λ call. fulfilling reply call p seg afterwards) so.call ∙ ap (fulfilling reply (call_of old.kernel.dispatcher.procs p) p seg) so.is
 
 pub completed_system : (reply : Answer) (p seg : ℕ) (old afterwards new : System) → Popped p seg old afterwards
-    → new ≡ (fulfilling reply (call_of afterwards.kernel.dispatcher.procs p) p seg afterwards).system
+    → new ≡ fulfilling reply (call_of afterwards.kernel.dispatcher.procs p) p seg afterwards
     → new ≡ (completing reply (call_of old.kernel.dispatcher.procs p) p seg old).system
 unfolding completing
-completed_system reply p seg old afterwards new so is = is ∙ ap (λ (change : Change). change.system) (answers_call reply p seg old afterwards so)
+completed_system reply p seg old afterwards new so is = is ∙ answers_call reply p seg old afterwards so
 
-completed_emitted : (reply : Answer) (p seg : ℕ) (old afterwards : System) → Popped p seg old afterwards
-    → (fulfilling reply (call_of afterwards.kernel.dispatcher.procs p) p seg afterwards).emitted ++ (said_by (call_of old.kernel.dispatcher.procs p) (string_of (call_of old.kernel.dispatcher.procs p) seg old.memory) p old).emitted
-    ≡ (completing reply (call_of old.kernel.dispatcher.procs p) p seg old).emitted
+pub wrote_text : (o n : Outside) (reply : Answer) (p seg : ℕ) (old : System)
+    → Wrote o n (said_by (call_of old.kernel.dispatcher.procs p) (string_of (call_of old.kernel.dispatcher.procs p) seg old.memory) p old).emitted
+    → Wrote o n (completing reply (call_of old.kernel.dispatcher.procs p) p seg old).emitted
 unfolding completing
-completed_emitted reply p seg old afterwards so =
-    ap (λ (change : Change). change.emitted ++ (said_by (call_of old.kernel.dispatcher.procs p) (string_of (call_of old.kernel.dispatcher.procs p) seg old.memory) p old).emitted) (answers_call reply p seg old afterwards so)
-
-pub emits_call : {A E : Type 0} (device : E → Device) (r : Result A E) (o m n : Outside) (reply : Answer) (p seg : ℕ) (old afterwards : System) → Popped p seg old afterwards
-    → Wrote o m (said_by (call_of old.kernel.dispatcher.procs p) (string_of (call_of old.kernel.dispatcher.procs p) seg old.memory) p old).emitted
-    → Emits device m n (fulfilling reply (call_of afterwards.kernel.dispatcher.procs p) p seg afterwards).emitted r
-    → Emits device o n (completing reply (call_of old.kernel.dispatcher.procs p) p seg old).emitted r
-emits_call device r o m n reply p seg old afterwards so text last =
-    emits_same device o n _ _ r (completed_emitted reply p seg old afterwards so) (emits_after device o m n _ _ r text last)
+wrote_text o n reply p seg old wrote = wrote
 
 -- a failure in the text
 pub text_fails : (device : Device) (o n : Outside) (reply : Answer) (p seg : ℕ) (old : System)
     → Fails device o n (said_by (call_of old.kernel.dispatcher.procs p) (string_of (call_of old.kernel.dispatcher.procs p) seg old.memory) p old).emitted
     → Fails device o n (completing reply (call_of old.kernel.dispatcher.procs p) p seg old).emitted
 unfolding completing
-text_fails device o n reply p seg old failed = fails_before device o n _ _ failed
+text_fails device o n reply p seg old failed = failed
 
 -- the gate step of a call: it is taken, done, and what its outcome brings about follows
 
@@ -100,7 +99,7 @@ kept_is_taken p seg old kept w h kept_call =
 
 brings_about : (outcome : Outcome) (reply : Answer) (one other : Taken) (p seg : ℕ) (system : System)
     → outcome_of outcome reply other p seg system ≡ outcome_of outcome reply (record one { function = other.function; word = other.word }) p seg system
-unfolding completing said_by call_text writes fulfilling answering_call replied completion with_entry reply_at_entry
+unfolding completing said_by call_text writes fulfilling answering_call recorded replied completion with_entry reply_at_entry
 brings_about Done reply one other p seg system = refl
 brings_about Ended reply one other p seg system = refl
 brings_about Held reply one other p seg system = refl
@@ -114,6 +113,7 @@ same_outcome outcome reply one other p seg system function word =
     ∙ ap (λ (w : ℕ). after_echo one p system (outcome_of outcome reply (record one { word = w }) p seg system)) word
 
 pub record Concludes (p seg : ℕ) (old done : System) (outcome : Outcome) (reply : Answer) : Type 0 where
+  pub room : HasRoom old → HasRoom done
   pub whole : IsWhole done
   pub lives : Lives done.kernel.dispatcher.procs p
   pub change : after_echo (call_of done.kernel.dispatcher.procs p) p done (outcome_of outcome reply (call_of done.kernel.dispatcher.procs p) p seg done) ≡ gate_step p seg old
@@ -134,6 +134,7 @@ done_after p seg old kept done outcome reply ready is k system how what =
     record {
       whole = here.whole;
       lives = here.lives;
+      room = λ room. omega (arith, room, ap (λ (s : System). length s.records) (system ∙ ap (λ (r : Served). r.system) same), ap (λ (t : Tally). length t.records) (served_tally call p (keeping p call old)), ap (λ (t : Tally). length t.records) (keeping_tally p call old));
       change = same_outcome outcome reply call (call_of done.kernel.dispatcher.procs p) p seg done
           (here.function ∙ ap (λ (c : Taken). c.function) k.call) (here.word ∙ ap (λ (c : Taken). c.word) k.call)
           ∙ ap (λ o. after_echo call p done (outcome_of o reply call p seg done)) (how ∙ ap (λ (r : Served). r.outcome) same)

@@ -34,7 +34,7 @@ use Rattle.mpm_machine.specs.Ending.{ended}
 use Rattle.mpm_machine.specs.Calling.{Served, asking}
 use Rattle.mpm_machine.specs.Sending.{chains}
 use Rattle.mpm_machine.specs.Loading.{is_console, ChangesOnly}
-use Rattle.mpm_machine.specs.Serving.{asked, keeping, served_to_all, served, reserving, releasing, creating, aborted, aborting_this, aborting, parsing, said_by, popped, replied, with_entry, reply_at_entry, fulfilling, answering_call, completing, returning, outcome_of, gate_step}
+use Rattle.mpm_machine.specs.Serving.{asked, keeping, served_to_all, served, reserving, releasing, creating, aborted, aborting_this, aborting, parsing, said_by, popped, replied, with_entry, reply_at_entry, fulfilling, recorded, answering_call, completing, returning, outcome_of, gate_step}
 use Rattle.mpm_cli.specs.declared.act.Act.{Act}
 use Rattle.mpm_cli.specs.declared.act.Act.TheVariants.{Ask, Place, Patch, Begin, Give}
 use Rattle.mpm_kernel.specs.Called.{low_parameter}
@@ -127,7 +127,7 @@ text_alike call p system =
 
 asked_alike : (call : Taken) (p : ℕ) (system : System) → SameBytes system.memory (native_step Ask call p system).system.memory
 asked_alike call p system =
-    either (λ (change : Change). SameBytes system.memory change.system.memory) (tells p call) _ _
+    either (λ (change : Change). SameBytes system.memory change.system.memory) (tells (native_in system.residents p) call) _ _
     (λ _. text_alike call p system) (λ _. call_alike call p system)
 
 -- what it hands over changes the bytes that it writes
@@ -198,7 +198,7 @@ event_alike event system =
 outcome_leaves : (outcome : CallOutcome) (reply : Answer) (call : Taken) (p seg : ℕ) (system : System) (other at : ℕ)
     → (outcome ≡ Done → byte_at (placed (placed_reply reply call p seg system) call.word seg system.memory) other at ≡ byte_at system.memory other at)
     → byte_at (outcome_of outcome reply call p seg system).system.memory other at ≡ byte_at system.memory other at
-unfolding completing popped with_entry fulfilling answering_call replied said_by speaking
+unfolding completing popped with_entry fulfilling answering_call recorded replied said_by speaking
 outcome_leaves Done reply call p seg system other at leaves = leaves refl
 outcome_leaves Ended reply call p seg system other at leaves = reads_alike system.memory _ (ended_alike p system) other at
 outcome_leaves Held reply call p seg system other at leaves = refl
@@ -320,9 +320,9 @@ common_begun (Some event) system seg at w comes above none nobody = reads_alike 
 
 -- the reply to a held call that is completed leaves a byte where it isn't placed
 
-finished_memory : (seg p : ℕ) (system : System) → (finished (Some seg) p system).system.memory
+finished_memory : (seg p : ℕ) (system : System) → (finished (Some seg) p system).memory
     ≡ placed (reply_at_entry (completion_reply system.kernel p) (call_of system.kernel.dispatcher.procs p) p system) (call_of system.kernel.dispatcher.procs p).word seg system.memory
-unfolding with_entry fulfilling answering_call replied
+unfolding with_entry fulfilling answering_call recorded replied
 finished_memory seg p system = refl
 
 unanswered : (p home : ℕ) (system : System) (at : ℕ) → Lives system.kernel.dispatcher.procs p → (process_in system.kernel.dispatcher.procs p).seg ≡ Some home
@@ -331,7 +331,7 @@ unanswered : (p home : ℕ) (system : System) (at : ℕ) → Lives system.kernel
 unanswered p home system at living there none places = none (record { lives = living; home = there; places = places })
 
 finished_segments : (home : Option ℕ) (p : ℕ) (system : System) (seg at : ℕ) → Lives system.kernel.dispatcher.procs p → (process_in system.kernel.dispatcher.procs p).seg ≡ home
-    → at < 49152 → (Answers p system seg at → ⊥) → byte_at (finished home p system).system.memory seg at ≡ byte_at system.memory seg at
+    → at < 49152 → (Answers p system seg at → ⊥) → byte_at (finished home p system).memory seg at ≡ byte_at system.memory seg at
 finished_segments None p system seg at living there below none = refl
 finished_segments (Some home) p system seg at living there below none =
     ap (λ memory. byte_at memory seg at) (finished_memory home p system)
@@ -345,7 +345,7 @@ finished_segments (Some home) p system seg at living there below none =
     ]
 
 finished_common : (home : Option ℕ) (p : ℕ) (system : System) (seg at : ℕ) → Lives system.kernel.dispatcher.procs p → (process_in system.kernel.dispatcher.procs p).seg ≡ home
-    → 49152 ≤ at → ((s : ℕ) → Answers p system s at → ⊥) → byte_at (finished home p system).system.memory seg at ≡ byte_at system.memory seg at
+    → 49152 ≤ at → ((s : ℕ) → Answers p system s at → ⊥) → byte_at (finished home p system).memory seg at ≡ byte_at system.memory seg at
 finished_common None p system seg at living there above none = refl
 finished_common (Some home) p system seg at living there above none =
     ap (λ memory. byte_at memory seg at) (finished_memory home p system)
@@ -354,7 +354,7 @@ finished_common (Some home) p system seg at living there above none =
 -- so do the replies to several, one after another
 
 among_segments : (ps : List ℕ) (system : System) (seg at : ℕ) → IsWhole system → system.kernel.dispatcher.completed ≡ ps → at < 49152
-    → (AnswersAmong ps system seg at → ⊥) → byte_at (finishing ps system).system.memory seg at ≡ byte_at system.memory seg at
+    → (AnswersAmong ps system seg at → ⊥) → byte_at (finishing ps system).memory seg at ≡ byte_at system.memory seg at
 unfolding finishing AnswersAmong
 among_segments [] system seg at w e below none = refl
 among_segments (p ∷ ps) system seg at w e below none =
@@ -363,7 +363,7 @@ among_segments (p ∷ ps) system seg at w e below none =
     ∙ finished_segments (process_in system.kernel.dispatcher.procs p).seg p (completion_dequeued system) seg at (lives_dequeued p system w first) (home_dequeued system p) below (λ here. none (inl here))
 
 among_common : (ps : List ℕ) (system : System) (seg at : ℕ) → IsWhole system → system.kernel.dispatcher.completed ≡ ps → 49152 ≤ at
-    → ((home : ℕ) → AnswersAmong ps system home at → ⊥) → byte_at (finishing ps system).system.memory seg at ≡ byte_at system.memory seg at
+    → ((home : ℕ) → AnswersAmong ps system home at → ⊥) → byte_at (finishing ps system).memory seg at ≡ byte_at system.memory seg at
 unfolding finishing AnswersAmong
 among_common [] system seg at w e above none = refl
 among_common (p ∷ ps) system seg at w e above none =
@@ -372,45 +372,45 @@ among_common (p ∷ ps) system seg at w e above none =
     ∙ finished_common (process_in system.kernel.dispatcher.procs p).seg p (completion_dequeued system) seg at (lives_dequeued p system w first) (home_dequeued system p) above (λ home here. none home (inl here))
 
 answers_segments : (system : System) (seg at : ℕ) → IsWhole system → at < 49152 → (AnswersOne system seg at → ⊥)
-    → byte_at (all_finished system).system.memory seg at ≡ byte_at system.memory seg at
+    → byte_at (all_finished system).memory seg at ≡ byte_at system.memory seg at
 answers_segments system seg at w below none = among_segments system.kernel.dispatcher.completed system seg at w refl below none
 
 answers_common : (system : System) (seg at : ℕ) → IsWhole system → 49152 ≤ at → ((home : ℕ) → AnswersOne system home at → ⊥)
-    → byte_at (all_finished system).system.memory seg at ≡ byte_at system.memory seg at
+    → byte_at (all_finished system).memory seg at ≡ byte_at system.memory seg at
 answers_common system seg at w above none = among_common system.kernel.dispatcher.completed system seg at w refl above none
 
 -- so does the first that a step completed, and those behind it
 
 first_segments : (p : ℕ) (system : System) (seg at : ℕ) → Lives system.kernel.dispatcher.procs p → at < 49152
-    → ((chains p system.kernel ≡ false) × Answers p system seg at → ⊥) → byte_at (finished_or_ended p system).system.memory seg at ≡ byte_at system.memory seg at
+    → ((chains p system.kernel ≡ false) × Answers p system seg at → ⊥) → byte_at (finished_or_ended p system).memory seg at ≡ byte_at system.memory seg at
 first_segments p system seg at living below none =
-    either (λ (c : Change). byte_at c.system.memory seg at ≡ byte_at system.memory seg at) (chains p system.kernel) _ _
+    either (λ (s : System). byte_at s.memory seg at ≡ byte_at system.memory seg at) (chains p system.kernel) _ _
     (λ _. reads_alike system.memory _ (ended_alike p system) seg at)
     (λ plain. finished_segments (process_in system.kernel.dispatcher.procs p).seg p system seg at living refl below (λ answers. none (plain, answers)))
 
 first_common : (p : ℕ) (system : System) (seg at : ℕ) → Lives system.kernel.dispatcher.procs p → 49152 ≤ at
-    → ((home : ℕ) → (chains p system.kernel ≡ false) × Answers p system home at → ⊥) → byte_at (finished_or_ended p system).system.memory seg at ≡ byte_at system.memory seg at
+    → ((home : ℕ) → (chains p system.kernel ≡ false) × Answers p system home at → ⊥) → byte_at (finished_or_ended p system).memory seg at ≡ byte_at system.memory seg at
 first_common p system seg at living above none =
-    either (λ (c : Change). byte_at c.system.memory seg at ≡ byte_at system.memory seg at) (chains p system.kernel) _ _
+    either (λ (s : System). byte_at s.memory seg at ≡ byte_at system.memory seg at) (chains p system.kernel) _ _
     (λ _. reads_alike system.memory _ (ended_alike p system) seg at)
     (λ plain. finished_common (process_in system.kernel.dispatcher.procs p).seg p system seg at living refl above (λ home answers. none home (plain, answers)))
 
 from_segments : (first : Option ℕ) (system : System) (seg at : ℕ) → IsWhole system → first_completed system.kernel.dispatcher.completed ≡ first → at < 49152
-    → (AnswersFrom first system seg at → ⊥) → byte_at (answered_from first system).system.memory seg at ≡ byte_at system.memory seg at
+    → (AnswersFrom first system seg at → ⊥) → byte_at (answered_from first system).memory seg at ≡ byte_at system.memory seg at
 unfolding answered_from
 from_segments None system seg at w e below none = refl
 from_segments (Some p) system seg at w e below none =
     let first = command_let_in p (completion_dequeued system) in
-    answers_segments (finished_or_ended p first).system seg at (whole_first_answered p system w e) below (λ later. none (inr later))
+    answers_segments (finished_or_ended p first) seg at (whole_first_answered p system w e) below (λ later. none (inr later))
     ∙ first_segments p first seg at (lives_in_time p system w e) below (λ here. none (inl here))
 
 from_common : (first : Option ℕ) (system : System) (seg at : ℕ) → IsWhole system → first_completed system.kernel.dispatcher.completed ≡ first → 49152 ≤ at
-    → ((home : ℕ) → AnswersFrom first system home at → ⊥) → byte_at (answered_from first system).system.memory seg at ≡ byte_at system.memory seg at
+    → ((home : ℕ) → AnswersFrom first system home at → ⊥) → byte_at (answered_from first system).memory seg at ≡ byte_at system.memory seg at
 unfolding answered_from
 from_common None system seg at w e above none = refl
 from_common (Some p) system seg at w e above none =
     let first = command_let_in p (completion_dequeued system) in
-    answers_common (finished_or_ended p first).system seg at (whole_first_answered p system w e) above (λ home later. none home (inr later))
+    answers_common (finished_or_ended p first) seg at (whole_first_answered p system w e) above (λ home later. none home (inr later))
     ∙ first_common p first seg at (lives_in_time p system w e) above (λ home here. none home (inl here))
 
 -- so do the ends that are due, each with the calls that it completes
@@ -419,55 +419,55 @@ whole_at_end : (p : ℕ) (system : System) → IsWhole system → is_due system.
 whole_at_end p system w due = whole_due_end system (ended p system) p w due refl
 
 end_segments : (p : ℕ) (system : System) (seg at : ℕ) → IsWhole system → at < 49152 → (AnswersAtEnd p system seg at → ⊥)
-    → byte_at (ended_if_due p system).system.memory seg at ≡ byte_at system.memory seg at
+    → byte_at (ended_if_due p system).memory seg at ≡ byte_at system.memory seg at
 unfolding ended_if_due
 end_segments p system seg at w below none =
-    either (λ (c : Change). byte_at c.system.memory seg at ≡ byte_at system.memory seg at) (is_due system.kernel p) _ _
+    either (λ (s : System). byte_at s.memory seg at ≡ byte_at system.memory seg at) (is_due system.kernel p) _ _
     (λ due.
     answers_segments (ended p system) seg at (whole_at_end p system w due) below (λ answers. none (due, answers))
     ∙ reads_alike system.memory _ (ended_alike p system) seg at)
     (λ _. refl)
 
 end_common : (p : ℕ) (system : System) (seg at : ℕ) → IsWhole system → 49152 ≤ at → ((home : ℕ) → AnswersAtEnd p system home at → ⊥)
-    → byte_at (ended_if_due p system).system.memory seg at ≡ byte_at system.memory seg at
+    → byte_at (ended_if_due p system).memory seg at ≡ byte_at system.memory seg at
 unfolding ended_if_due
 end_common p system seg at w above none =
-    either (λ (c : Change). byte_at c.system.memory seg at ≡ byte_at system.memory seg at) (is_due system.kernel p) _ _
+    either (λ (s : System). byte_at s.memory seg at ≡ byte_at system.memory seg at) (is_due system.kernel p) _ _
     (λ due.
     answers_common (ended p system) seg at (whole_at_end p system w due) above (λ home answers. none home (due, answers))
     ∙ reads_alike system.memory _ (ended_alike p system) seg at)
     (λ _. refl)
 
 ends_segments : (ps : List ℕ) (system : System) (seg at : ℕ) → IsWhole system → at < 49152 → (AnswersAtEnds ps system seg at → ⊥)
-    → byte_at (due_terminated ps system).system.memory seg at ≡ byte_at system.memory seg at
+    → byte_at (due_terminated ps system).memory seg at ≡ byte_at system.memory seg at
 unfolding due_terminated AnswersAtEnds
 ends_segments [] system seg at w below none = refl
 ends_segments (p ∷ ps) system seg at w below none =
-    ends_segments ps (ended_if_due p system).system seg at (whole_if_due p system w) below (λ later. none (inr later))
+    ends_segments ps (ended_if_due p system) seg at (whole_if_due p system w) below (λ later. none (inr later))
     ∙ end_segments p system seg at w below (λ here. none (inl here))
 
 ends_common : (ps : List ℕ) (system : System) (seg at : ℕ) → IsWhole system → 49152 ≤ at → ((home : ℕ) → AnswersAtEnds ps system home at → ⊥)
-    → byte_at (due_terminated ps system).system.memory seg at ≡ byte_at system.memory seg at
+    → byte_at (due_terminated ps system).memory seg at ≡ byte_at system.memory seg at
 unfolding due_terminated AnswersAtEnds
 ends_common [] system seg at w above none = refl
 ends_common (p ∷ ps) system seg at w above none =
-    ends_common ps (ended_if_due p system).system seg at (whole_if_due p system w) above (λ home later. none home (inr later))
+    ends_common ps (ended_if_due p system) seg at (whole_if_due p system w) above (λ home later. none home (inr later))
     ∙ end_common p system seg at w above (λ home here. none home (inl here))
 
 -- so each byte that changes is written by the process that runs, or is of the reply to a held call
 
 pub settled_segments : (begun : System) (seg at : ℕ) → IsWhole begun → at < 49152 → (IsAnsweredAfter begun seg at → ⊥)
-    → byte_at (settled begun).system.memory seg at ≡ byte_at begun.memory seg at
+    → byte_at (settled begun).memory seg at ≡ byte_at begun.memory seg at
 unfolding settled with_ends IsAnsweredAfter
 settled_segments begun seg at w below none =
-    ends_segments (range_with_len 0 32) (all_answered begun).system seg at (whole_all_answered begun _ w refl) below (λ later. none (inr later))
+    ends_segments (range_with_len 0 32) (all_answered begun) seg at (whole_all_answered begun _ w refl) below (λ later. none (inr later))
     ∙ from_segments (first_completed begun.kernel.dispatcher.completed) begun seg at w refl below (λ here. none (inl here))
 
 pub settled_common : (begun : System) (seg at : ℕ) → IsWhole begun → 49152 ≤ at → ((home : ℕ) → IsAnsweredAfter begun home at → ⊥)
-    → byte_at (settled begun).system.memory seg at ≡ byte_at begun.memory seg at
+    → byte_at (settled begun).memory seg at ≡ byte_at begun.memory seg at
 unfolding settled with_ends IsAnsweredAfter
 settled_common begun seg at w above none =
-    ends_common (range_with_len 0 32) (all_answered begun).system seg at (whole_all_answered begun _ w refl) above (λ home later. none home (inr later))
+    ends_common (range_with_len 0 32) (all_answered begun) seg at (whole_all_answered begun _ w refl) above (λ home later. none home (inr later))
     ∙ from_common (first_completed begun.kernel.dispatcher.completed) begun seg at w refl above (λ home here. none home (inl here))
 
 pub step_is_contained : (system : System) → IsWhole system → IsContained system (step_of system).system

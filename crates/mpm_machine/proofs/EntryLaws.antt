@@ -1,5 +1,5 @@
 -- A process that enters a resident procedure lives on, and keeps its call.
-use Rattle.std.proofs.Common.{◌≡◌, ◌∙◌, ℕ, refl, ap}
+use Rattle.std.proofs.Common.{◌≡◌, ◌∙◌, ℕ, length, arith, refl, ap}
 use Rattle.mpm_base.proofs.Choices.{either}
 use Rattle.mpm_base.specs.Calls.{Taken, Answer}
 use Rattle.mpm_procs.specs.Table.{lives, Lives, call_of}
@@ -7,6 +7,7 @@ use Rattle.mpm_procs.proofs.MapLaws.{lives_changed, call_after}
 use Rattle.mpm_kernel.specs.Kernel.{Kernel}
 use Rattle.mpm_xdos.specs.Procedures.{entered}
 use Rattle.mpm_machine.specs.declared.system.System.{System}
+use Rattle.mpm_machine.specs.State.{HasRoom}
 use Rattle.mpm_machine.specs.Serving.{is_entry, with_entry, reply_at_entry, fulfilling, answering_call}
 
 pub lives_entered : (p q : ℕ) (kernel : Kernel) → lives (entered p kernel).dispatcher.procs q ≡ lives kernel.dispatcher.procs q
@@ -30,6 +31,10 @@ pub call_entry : (reply : Answer) (call : Taken) (p q : ℕ) (system : System) �
 unfolding with_entry
 call_entry reply call p q system =
     either (λ (k : Kernel). call_of k.dispatcher.procs q ≡ call_of system.kernel.dispatcher.procs q) (is_entry call reply) _ _ (λ _. call_entered p q system.kernel) (λ _. refl)
+
+pub room_inside : (reply : Answer) (p : ℕ) (old afterwards : System) → HasRoom old → afterwards ≡ with_entry reply (call_of old.kernel.dispatcher.procs p) p old → HasRoom afterwards
+unfolding with_entry
+room_inside reply p old afterwards room is = omega (arith, room, ap (λ (s : System). length s.records) is)
 
 -- after that its call is answered, and so fulfilled
 

@@ -1,5 +1,5 @@
 -- What the images stand for where a step stopped.
-use Rattle.std.proofs.Common.{◌≡◌, ◌≢◌, ◌≤◌, ◌+◌, ◌*◌, ◌∙◌, ℕ, zero, suc, true, false, List, [], ◌∷◌, Option, Some, None, Result, Ok, Err, inl, inr, refl, sym, ap, subst, arith, get_or-set_other}
+use Rattle.std.proofs.Common.{◌≡◌, ◌≢◌, ◌≤◌, ◌+◌, ◌*◌, ◌∙◌, ℕ, zero, suc, true, List, [], ◌∷◌, Option, Some, None, Result, Ok, Err, inl, inr, refl, sym, ap, subst, arith, get_or-set_other}
 use Rattle.std.specs.Prelude.{◌⊎◌, OnErr, IfErr, is_some, option_map, unwrap_or, slice_index_or, slice_set}
 use Rattle.std.proofs.lemmas.Bool.{false≢true, cases_eq}
 use Rattle.mpm_base.specs.Calls.{Taken, Answer}
@@ -21,19 +21,17 @@ use Rattle.mpm_files.proofs.Tied.{kind_of}
 use Rattle.mpm_files.proofs.Contained.{turn_contained}
 use Rattle.mpm_files.proofs.StandingLaws.{among_all}
 use Rattle.mpm_bdos.specs.declared.functions.FileFunction.{FileFunction}
-use Rattle.mpm_bdos.specs.declared.refusals.Refusal.{Refusal}
 use Rattle.mpm_bdos.specs.declared.refusals.Extended.{Extended}
 use Rattle.mpm_bdos.specs.Functions.{function_of}
 use Rattle.mpm_bdos.specs.Filing.{Filing, Situation}
 use Rattle.mpm_bdos.specs.Subjects.{drive_number, blank_drive, drive_at}
-use Rattle.mpm_bdos.specs.Refusals.{refusal_of}
-use Rattle.mpm_bdos.specs.Jobs.{job_by, unless_refused, job_of, call_turns}
+use Rattle.mpm_bdos.specs.Jobs.{call_turns}
 use Rattle.mpm_bdos.specs.Outcomes.{Outcome}
-use Rattle.mpm_bdos.specs.Serving.{Kept, StandsWhere, StandEach, WorksOn, directory_at}
+use Rattle.mpm_bdos.specs.Serving.{Kept, StandsWhere, StandEach, directory_at}
 use Rattle.mpm_bdos.specs.Starting.{caller_of, entering as entering_here}
 use Rattle.mpm_bdos.specs.Turns.{labelled, told_images, has_directory}
 use Rattle.mpm_bdos.specs.AtOnce.{FailsIn, ChangesAlone}
-use Rattle.mpm_bdos.proofs.Started.{unmounted_begins}
+use Rattle.mpm_bdos.proofs.ServedLaws.{job_mounted}
 use Rattle.mpm_bdos.proofs.Fitting.{there_label}
 use Rattle.mpm_output.specs.Outside.{Outside}
 use Rattle.mpm_output.specs.Writing.{Stopped}
@@ -49,19 +47,6 @@ use Rattle.mpm_machine.specs.Failing.{call_found, call_by, call_in, turns_of, Ha
 use Rattle.mpm_machine.proofs.FilingLaws.{named_by, situation_is}
 use Rattle.mpm_machine.proofs.FilesStepLaws.{filed_alone, filed_is, if_err_by}
 use Rattle.mpm_machine.proofs.StandingLaws.{stepped_drives}
-
--- a call that has a job names a drive that is mounted
-
-none_some : {X : Type 0} {x : X} → None ≡ Some x → ⊥
-none_some e = absurd (cc)
-
-job_mounted : (s : Situation) (job : Job) (m : Option Drive) (r : Option Refusal) → job_of s ≡ Some job → slice_index_or s.filing.drives (drive_number s) None ≡ m → refusal_of s ≡ r
-    → is_some m ≡ true
-unfolding job_of
-job_mounted s job (Some drive) r its at refused = refl
-job_mounted s job None (Some refusal) its at refused = absurd (none_some (sym (ap (λ x. unless_refused x (job_by s s.function)) refused) ∙ its))
-job_mounted s job None None its at refused =
-    absurd (subst (λ found. WorksOn [] None (drive_at s) found 0 None) its (unmounted_begins [] s refused at).works)
 
 -- the call's drive within a turn: what the call doesn't name is as before it
 
@@ -166,7 +151,7 @@ fails_stand disks now old new call fails alone labels stand =
     let number = drive_number call in
     let d = found.directory in
     let within : IsWithin call found.files = record { job = stops.job; its = stops.its; turn = stops.contained.turn; among = found.among } in
-    let there = job_mounted call stops.job (slice_index_or call.filing.drives number None) (refusal_of call) stops.its refl refl in
+    let there = job_mounted call stops.job stops.its in
     let kind : (drive_at call).kind ≡ d.kind = sym (within_contained call found.files within).keeps.kind ∙ kind_of found.stands.image d found.files found.stands.stands in
     let told : told_image now number ≡ Some found.stands.image = ap (told_image now) (sym found.here) ∙ found.stands.told in
     let changes : Changes disks now old new call.filing.drives number d found.files = record {
@@ -200,7 +185,7 @@ pub disk_fails : {A E : Type 0} (disks now : Option Disks) (filing : Filing) (p 
     → is_some (function_of (call_of system.kernel.dispatcher.procs p).function) ≡ true → StandsForFiles kept disks filing
     → ((before : List (Option Drive)) (function : FileFunction) → function_of call.function ≡ Some function → StandEach (told_images disks) kept.mounted before
     → OnErr result (FailsIn now (entering_here kept before (caller_of p caller) function call (stamp moment))))
-    → ((images : ℕ → List ℕ) (before : List (Option Drive)) (function : FileFunction) → function_of call.function ≡ Some function → StandEach images kept.mounted before
+    → ((before : List (Option Drive)) (function : FileFunction) → function_of call.function ≡ Some function
     → ChangesAlone (drive_number (entering_here kept before (caller_of p caller) function call (stamp moment))) kept.mounted new.mounted disks now)
     → ((number : ℕ) → option_map labelled (directory_at new.mounted number) ≡ option_map labelled (directory_at kept.mounted number))
     → OnErr result (HaveImagesOf (FailsWithin (call_found filing p system)) now new.mounted)
@@ -212,7 +197,7 @@ disk_fails disks now filing p system kept new caller process call moment result 
     let is : s ≡ situation_of filing function p system = situation_is filing p system kept function caller process call moment stands.filing_is looks lives calls at in
     let found : call_found filing p system ≡ Some s = found_is filing function p system named.1 ∙ ap (λ c. Some c) (sym is) in
     err_by result (λ (failed : FailsIn now s). subst (λ c. HaveImagesOf (FailsWithin c) now new.mounted) (sym found)
-    (fails_stand disks now kept.mounted new.mounted s failed (alone (told_images disks) filing.drives function its stands.stand) labels stands.stand))
+    (fails_stand disks now kept.mounted new.mounted s failed (alone filing.drives function its) labels stands.stand))
     (fails filing.drives function its stands.stand)
 
 -- how often it calls its drive

@@ -1,5 +1,5 @@
 -- File calls: a system stays whole through the parts of the step in which one is made, and what is said in them.
-use Rattle.std.proofs.Common.{◌≡◌, ◌∙◌, ℕ, Bool, true, false, not, ◌==◌, [], Option, Some, None, Result, refl, sym, ap, subst}
+use Rattle.std.proofs.Common.{◌≡◌, ◌∙◌, ℕ, Bool, true, false, not, ◌==◌, Option, Some, None, Result, length, arith, refl, sym, ap, subst}
 use Rattle.std.specs.Prelude.{is_some, is_none}
 use Rattle.std.proofs.lemmas.Bool.{false≢true}
 use Rattle.mpm_base.proofs.Choices.{either}
@@ -15,20 +15,20 @@ use Rattle.mpm_residents.specs.Natives.{native_call, native_in}
 use Rattle.mpm_output.specs.Outside.{Outside, Device}
 use Rattle.mpm_output.specs.Writing.{Wrote, Fails, Emits}
 use Rattle.mpm_output.specs.Texts.{error_text}
-use Rattle.mpm_output.proofs.WritingLaws.{fails_before, emits_after}
 use Rattle.mpm_bdos.specs.declared.refusals.Extended.{Extended}
 use Rattle.mpm_bdos.specs.Outcomes.{CallerChange, Stays, Selects, Resets}
 use Rattle.mpm_bdos.specs.Direct.{Directly}
 use Rattle.mpm_machine.specs.declared.system.System.{System}
-use Rattle.mpm_machine.specs.State.{Change, IsWhole}
+use Rattle.mpm_machine.specs.State.{Change, IsWhole, HasRoom, NoCompletions, speaking}
 use Rattle.mpm_machine.specs.Serving.{asked, popped, answering_call}
 use Rattle.mpm_machine.specs.Residing.{asked_by}
 use Rattle.mpm_machine.specs.Due.{settled, NobodyDue}
-use Rattle.mpm_machine.specs.Step.{with_settled, counted}
-use Rattle.mpm_machine.specs.FileCalls.{made_by, call_made, first_dma, with_caller, reply_by, file_replied, error_told, told_then, error_met, answered_by, concluded, step_concluded}
+use Rattle.mpm_machine.specs.Step.{records_out, with_settled, counted}
+use Rattle.mpm_machine.specs.FileCalls.{made_by, call_made, first_dma, with_caller, reply_by, file_replied, error_told, answered_or_ended, told_then, error_met, answered_by, concluded, step_concluded}
 use Rattle.mpm_machine.proofs.WholeLaws.{StaysWhole, whole_kernel, whole_speaking, whole_ended, whole_popped, whole_replied, whole_residents, keeps_call, keeps_asked}
 use Rattle.mpm_machine.proofs.WholeStepLaws.{whole_counted, whole_settled, whole_dispatched, no_completions_step}
 use Rattle.mpm_machine.proofs.NobodyDueLaws.{nobody_due_dispatched}
+use Rattle.mpm_machine.proofs.StepLaws.{settled_fails, emits_settled}
 
 -- the call is made
 pub record Made (p : ℕ) (old new : System) : Type 0 where
@@ -83,6 +83,12 @@ pub caller_stays : (change : CallerChange) (p : ℕ) (old new : System) → IsWh
     → StaysWhole p old new
 caller_stays change p old new w h is = subst (StaysWhole p old) (sym is) (whole_caller change p old w h)
 
+pub room_changed : (change : CallerChange) (p : ℕ) (old new : System) → HasRoom old → new ≡ with_caller change p old → HasRoom new
+unfolding with_caller
+room_changed Stays p old new room is = omega (arith, room, ap (λ (s : System). length s.records) is)
+room_changed (Selects drive) p old new room is = omega (arith, room, ap (λ (s : System). length s.records) is)
+room_changed Resets p old new room is = omega (arith, room, ap (λ (s : System). length s.records) is)
+
 -- it is answered
 
 -- behind its return address its process lives, and keeps its call
@@ -90,6 +96,10 @@ pub lives_popped : (p seg : ℕ) (old behind : System) → Lives old.kernel.disp
 unfolding popped
 lives_popped p seg old behind h is =
     ap (λ (s : System). lives s.kernel.dispatcher.procs p) is ∙ lives_changed old.kernel.dispatcher.procs p p _ ∙ h
+
+pub room_behind : (p seg : ℕ) (old behind : System) → HasRoom old → behind ≡ popped p seg old → HasRoom behind
+unfolding popped
+room_behind p seg old behind room is = omega (arith, room, ap (λ (s : System). length s.records) is)
 
 call_popped : (p seg : ℕ) (system : System) → call_of (popped p seg system).kernel.dispatcher.procs p ≡ call_of system.kernel.dispatcher.procs p
 unfolding popped
@@ -102,14 +112,14 @@ answers_behind reply p seg old behind is =
     ∙ ap (λ call. answering_call reply call p seg (popped p seg old)) (call_popped p seg old)
 
 whole_reply_by : (seg : Option ℕ) (reply : Answer) (p : ℕ) (system : System) → IsWhole system → Lives system.kernel.dispatcher.procs p
-    → IsWhole (reply_by seg reply p system).system
+    → IsWhole (reply_by seg reply p system)
 whole_reply_by (Some seg) reply p system w h =
     let behind = whole_popped p seg system w h in
     (whole_replied reply (call_of system.kernel.dispatcher.procs p) p seg (popped p seg system) behind.whole behind.lives).whole
 whole_reply_by None reply p system w h = whole_residents system _ w
 
 whole_file_replied : (reply : Answer) (p : ℕ) (system : System) → IsWhole system → Lives system.kernel.dispatcher.procs p
-    → IsWhole (file_replied reply p system).system
+    → IsWhole (file_replied reply p system)
 unfolding file_replied
 whole_file_replied reply p system w h = whole_reply_by (process_in system.kernel.dispatcher.procs p).seg reply p system w h
 
@@ -125,13 +135,17 @@ pub told_stays : (error : Extended) (p : ℕ) (old told : System) → IsWhole ol
     → StaysWhole p old told
 told_stays error p old told w h is = subst (StaysWhole p old) (sym is) (whole_told error p old w h)
 
+pub room_told : (error : Extended) (p : ℕ) (old told : System) → HasRoom old → told ≡ (error_told error p old).system → HasRoom told
+unfolding error_told speaking
+room_told error p old told room is = omega (arith, room, ap (λ (s : System). length s.records) is)
+
 whole_told_then : (answers : Bool) (error : Extended) (reply : Answer) (p : ℕ) (system : System) → IsWhole system → Lives system.kernel.dispatcher.procs p
     → IsWhole (told_then answers error reply p system).system
 unfolding told_then
-whole_told_then true error reply p system w h =
-    let told = whole_told error p system w h in whole_file_replied reply p (error_told error p system).system told.whole told.lives
-whole_told_then false error reply p system w h =
-    let told = whole_told error p system w h in whole_ended p (error_told error p system).system told.whole told.lives
+whole_told_then answers error reply p system w h =
+    let told = whole_told error p system w h in
+    either IsWhole answers _ _ (λ _. whole_file_replied reply p (error_told error p system).system told.whole told.lives)
+    (λ _. whole_ended p (error_told error p system).system told.whole told.lives)
 
 whole_met : (error : Extended) (reply : Answer) (p : ℕ) (system : System) → IsWhole system → Lives system.kernel.dispatcher.procs p
     → IsWhole (error_met error reply p system).system
@@ -159,7 +173,7 @@ whole_concluded_here told p system afterwards w h is = subst IsWhole (sym is) (w
 
 -- and the step ends
 
-pub sound_settled_here : (begun afterwards : System) → IsWhole begun → afterwards ≡ (settled begun).system → IsSound afterwards.kernel
+pub sound_settled_here : (begun afterwards : System) → IsWhole begun → afterwards ≡ (records_out (settled begun)).system → IsSound afterwards.kernel
 sound_settled_here begun afterwards w is =
     let P : System → Type 0 = λ s. IsSound s.kernel in subst P (sym is) (whole_settled begun w).sound
 
@@ -168,11 +182,11 @@ pub whole_step_concluded : (told : Directly) (p : ℕ) (system : System) → IsW
 unfolding step_concluded
 whole_step_concluded told p system w h = whole_dispatched false (concluded told p system) (whole_concluded told p system w h)
 
-pub no_completions_concluded : (told : Directly) (p : ℕ) (system : System) → (step_concluded told p system).system.kernel.dispatcher.completed ≡ []
+pub no_completions_concluded : (told : Directly) (p : ℕ) (system : System) → NoCompletions (step_concluded told p system).system
 unfolding step_concluded with_settled
 no_completions_concluded told p system =
     let begun = (concluded told p system).system in
-    let afterwards = (settled begun).system in
+    let afterwards = (records_out (settled begun)).system in
     no_completions_step begun afterwards (with_dispatcher (picked false) afterwards.kernel) false refl refl
 
 pub nobody_due_concluded : (told : Directly) (p : ℕ) (system : System) → IsWhole system → Lives system.kernel.dispatcher.procs p
@@ -185,26 +199,25 @@ nobody_due_concluded told p system w h = nobody_due_dispatched false (concluded 
 pub told_fails : (device : Device) (answers : Bool) (error : Extended) (reply : Answer) (p : ℕ) (system : System) (o n : Outside)
     → Fails device o n (error_told error p system).emitted → Fails device o n (told_then answers error reply p system).emitted
 unfolding told_then
-told_fails device answers error reply p system o n failed = fails_before device o n _ _ failed
+told_fails device answers error reply p system o n failed = failed
 
-pub told_answers : {A E : Type 0} (device : E → Device) (r : Result A E) (answers : Bool) (error : Extended) (reply : Answer) (p : ℕ) (system told : System)
-    (o m n : Outside) → answers ≡ true → told ≡ (error_told error p system).system → Wrote o m (error_told error p system).emitted
-    → Emits device m n (file_replied reply p told).emitted r → Emits device o n (told_then answers error reply p system).emitted r
+pub wrote_told : (answers : Bool) (error : Extended) (reply : Answer) (p : ℕ) (system : System) (o n : Outside)
+    → Wrote o n (error_told error p system).emitted → Wrote o n (told_then answers error reply p system).emitted
 unfolding told_then
-told_answers device r true error reply p system told o m n answers is wrote emits =
-    let P : System → Type 0 = λ s. Emits device m n (file_replied reply p s).emitted r in
-    emits_after device o m n _ _ r wrote (subst P is emits)
-told_answers device r false error reply p system told o m n answers is wrote emits = absurd (false≢true answers)
+wrote_told answers error reply p system o n wrote = wrote
+
+pub told_system : (answers : Bool) (error : Extended) (reply : Answer) (p : ℕ) (system told new : System) → told ≡ (error_told error p system).system
+    → new ≡ answered_or_ended answers reply p told → new ≡ (told_then answers error reply p system).system
+unfolding told_then
+told_system answers error reply p system told new is was = was ∙ ap (answered_or_ended answers reply p) is
 
 pub concluded_fails : (device : Device) (told : Directly) (p : ℕ) (system : System) (o n : Outside) → Fails device o n (concluded told p system).emitted
     → Fails device o n (step_concluded told p system).emitted
-unfolding step_concluded with_settled
-concluded_fails device told p system o n failed = fails_before device o n _ _ failed
+unfolding step_concluded
+concluded_fails device told p system o n failed = settled_fails device (concluded told p system) o n failed
 
 pub concluded_settles : {A E : Type 0} (device : E → Device) (r : Result A E) (told : Directly) (p : ℕ) (system begun : System) (o m n : Outside)
-    → begun ≡ (concluded told p system).system → Wrote o m (concluded told p system).emitted → Emits device m n (settled begun).emitted r
+    → begun ≡ (concluded told p system).system → Wrote o m (concluded told p system).emitted → Emits device m n (records_out (settled begun)).emitted r
     → Emits device o n (step_concluded told p system).emitted r
-unfolding step_concluded with_settled
-concluded_settles device r told p system begun o m n is wrote emits =
-    let P : System → Type 0 = λ s. Emits device m n (settled s).emitted r in
-    emits_after device o m n _ _ r wrote (subst P is emits)
+unfolding step_concluded
+concluded_settles device r told p system begun o m n is wrote emits = emits_settled device r (concluded told p system) begun o m n is wrote emits

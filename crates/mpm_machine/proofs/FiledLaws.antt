@@ -23,7 +23,7 @@ use Rattle.mpm_bdos.specs.Direct.{Directly}
 use Rattle.mpm_machine.specs.declared.system.System.{System}
 use Rattle.mpm_machine.specs.State.{Change, IsWhole, speaking}
 use Rattle.mpm_machine.specs.Ending.{ended}
-use Rattle.mpm_machine.specs.Serving.{keeping, popped, answering_call, replied}
+use Rattle.mpm_machine.specs.Serving.{keeping, popped, answering_call, recorded, replied}
 use Rattle.mpm_machine.specs.Residing.{asked_by}
 use Rattle.mpm_machine.specs.Step.{coming, counted, with_settled}
 use Rattle.mpm_machine.specs.FileCalls.{made_by, call_made, calls_files, file_caller_by, file_caller, first_dma, with_caller, reply_by, file_replied, error_told, told_then, error_met, answered_by, concluded, step_concluded, step_by, step_with}
@@ -84,8 +84,8 @@ IsLeft reply home word memory seg at =
 
 reply_leaves : (home : Option ℕ) (reply : Answer) (p : ℕ) (system : System) (seg at : ℕ)
     → IsLeft reply home (call_of system.kernel.dispatcher.procs p).word system.memory seg at
-    → byte_at (reply_by home reply p system).system.memory seg at ≡ byte_at system.memory seg at
-unfolding popped answering_call replied
+    → byte_at (reply_by home reply p system).memory seg at ≡ byte_at system.memory seg at
+unfolding popped answering_call recorded replied
 reply_leaves (Some own) reply p system seg at left = left own refl
 reply_leaves None reply p system seg at left = refl
 
@@ -93,12 +93,12 @@ abbrev IsLeftBy : Answer → ℕ → Table → Memory → ℕ → ℕ → Type 0
 IsLeftBy reply p procs memory seg at = IsLeft reply (process_in procs p).seg (call_of procs p).word memory seg at
 
 replied_leaves : (reply : Answer) (p : ℕ) (system : System) (seg at : ℕ) → IsLeftBy reply p system.kernel.dispatcher.procs system.memory seg at
-    → byte_at (file_replied reply p system).system.memory seg at ≡ byte_at system.memory seg at
+    → byte_at (file_replied reply p system).memory seg at ≡ byte_at system.memory seg at
 unfolding file_replied
 replied_leaves reply p system seg at left = reply_leaves (process_in system.kernel.dispatcher.procs p).seg reply p system seg at left
 
 told_leaves : (error : Extended) (reply : Answer) (p : ℕ) (system : System) (seg at : ℕ) → IsLeftBy reply p system.kernel.dispatcher.procs system.memory seg at
-    → byte_at (file_replied reply p (error_told error p system).system).system.memory seg at ≡ byte_at system.memory seg at
+    → byte_at (file_replied reply p (error_told error p system).system).memory seg at ≡ byte_at system.memory seg at
 unfolding error_told speaking
 told_leaves error reply p system seg at left =
     let same = procs_spoke system.kernel (process_in system.kernel.dispatcher.procs p).console (error_text error.code error.drive) in

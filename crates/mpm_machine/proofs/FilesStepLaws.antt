@@ -1,5 +1,5 @@
 -- A step, and what was written in it, by what a file call comes to, if one is made in it.
-use Rattle.std.proofs.Common.{◌≡◌, ◌∙◌, ℕ, ◌+◌, [], Option, Some, None, IsSome, Result, Ok, Err, OnOk, refl, sym, ap, subst}
+use Rattle.std.proofs.Common.{◌≡◌, ◌∙◌, ℕ, ◌+◌, Option, Some, None, IsSome, Result, Ok, Err, OnOk, refl, sym, ap, subst}
 use Rattle.std.specs.Prelude.{IfErr}
 use Rattle.mpm_base.specs.Calls.{Answer}
 use Rattle.mpm_port.specs.Disks.{Disks}
@@ -14,16 +14,17 @@ use Rattle.mpm_bdos.specs.Serving.{Kept}
 use Rattle.mpm_machine.specs.declared.system.System.{System}
 use Rattle.mpm_machine.specs.declared.machine.StepFault.{StepFault}
 use Rattle.mpm_machine.specs.declared.machine.StepFault.TheVariants.{DiskFault, WriteFault}
-use Rattle.mpm_machine.specs.State.{Change, StandsForFiles, IsWhole}
+use Rattle.mpm_machine.specs.State.{Change, StandsForFiles, IsWhole, NoCompletions}
 use Rattle.mpm_machine.specs.Due.{NobodyDue}
 use Rattle.mpm_machine.specs.Step.{step_of}
 use Rattle.mpm_machine.specs.Filed.{IsOutcome}
-use Rattle.mpm_machine.specs.FileCalls.{file_caller, call_made, change_of, told_by, told_of, step_concluded, step_with, filed_by, filed, stepped, outcome_in}
-use Rattle.mpm_machine.specs.After.{IsOfCall, HasStepped, HasStopped, HasFiled, HasConcluded, StopsBy}
+use Rattle.mpm_machine.specs.FileCalls.{file_caller, call_made, IsToldOf, change_of, told_by, told_of, step_concluded, step_with, filed_by, filed, stepped, outcome_in}
+use Rattle.mpm_machine.specs.After.{IsOfCall, IsToldIn, HasStepped, HasStopped, HasFiled, HasConcluded, StopsBy}
 use Rattle.mpm_machine.proofs.FileLaws.{Made, makes}
 use Rattle.mpm_machine.proofs.FilingLaws.{told_is}
 use Rattle.mpm_machine.proofs.StepWithLaws.{with_none, whole_with, no_completions_with, nobody_due_with}
-use Rattle.mpm_machine.proofs.FileStepLaws.{filing_is, steps_with, is_step, is_step_alone, nothing_told}
+use Rattle.mpm_machine.proofs.FileStepLaws.{filing_is, steps_with, is_made, is_made_alone}
+use Rattle.mpm_machine.proofs.ToldLaws.{something_told}
 
 stepped_is : (system : System) (filing : Filing) → (stepped system filing).change ≡ step_with (told_by (filed filing system)) system
 unfolding stepped
@@ -51,11 +52,11 @@ alone_has_filed filing o n old new kept disks none is wrote stands =
       files = subst (StandsForFiles kept disks) (sym (filed_alone old filing none)) stands;
     }
 
-pub alone_has_stepped : (o n : Outside) (old new : System) → IsWhole old → old.kernel.dispatcher.completed ≡ [] → file_caller old ≡ None → new ≡ (step_of old).system
+pub alone_has_stepped : (o n : Outside) (old new : System) → IsWhole old → NoCompletions old → file_caller old ≡ None → new ≡ (step_of old).system
     → Wrote o n (step_of old).emitted → HasStepped o n old new
 alone_has_stepped o n old new w handed none is wrote = record {
   emitted = (step_of old).emitted;
-  is = is_step_alone old (record { system = new; emitted = (step_of old).emitted }) w handed none (change_of_both new (step_of old).system (step_of old) is refl);
+  is = is_made_alone old (record { system = new; emitted = (step_of old).emitted }) w handed none (change_of_both new (step_of old).system (step_of old) is refl);
   wrote = wrote;
 }
 
@@ -63,11 +64,11 @@ pub alone_stops : (filing : Filing) (o n : Outside) (old : System) → file_call
     → Stopped o n (stepped old filing).change.emitted
 alone_stops filing o n old none stopped = subst (λ (c : Change). Stopped o n c.emitted) (sym (stepped_alone old filing none)) stopped
 
-pub alone_has_stopped : (o n : Outside) (old : System) → IsWhole old → old.kernel.dispatcher.completed ≡ [] → file_caller old ≡ None → Stopped o n (step_of old).emitted
+pub alone_has_stopped : (o n : Outside) (old : System) → IsWhole old → NoCompletions old → file_caller old ≡ None → Stopped o n (step_of old).emitted
     → HasStopped WriteFault o n old
 alone_has_stopped o n old w handed none stopped = record {
   change = step_of old;
-  is = is_step_alone old (step_of old) w handed none refl;
+  is = is_made_alone old (step_of old) w handed none refl;
   stops = stopped;
   calls = tt;
 }
@@ -129,69 +130,68 @@ of_call : (told : Directly) (p : ℕ) (old made : System) → file_caller old �
 of_call told p old made some is changes =
     subst (λ caller. IsOfCall caller told old) (sym some) (subst (λ (m : System). told.caller ≡ change_of (call_of m.kernel.dispatcher.procs p) told.extended) is changes)
 
-pub files_have_stepped : {A E : Type 0} (r : Result A E) (told : Directly) (p : ℕ) (o n : Outside) (old made new : System) → IsWhole old → old.kernel.dispatcher.completed ≡ []
+told_in : (told : Directly) (p : ℕ) (old made : System) → file_caller old ≡ Some p → made ≡ call_made p old → IsToldOf p made told.answer told.extended → IsToldIn (file_caller old) told old
+told_in told p old made some is tells =
+    subst (λ caller. IsToldIn caller told old) (sym some) (subst (λ (m : System). IsToldOf p m told.answer told.extended) is tells)
+
+pub files_have_stepped : {A E : Type 0} (r : Result A E) (told : Directly) (p : ℕ) (o n : Outside) (old made new : System) → IsWhole old → NoCompletions old
     → file_caller old ≡ Some p → made ≡ call_made p old → told.caller ≡ change_of (call_of made.kernel.dispatcher.procs p) told.extended
-    → OnOk r (HasConcluded told p o n made new) → OnOk r (HasStepped o n old new)
-files_have_stepped r told p o n old made new w handed some is changes concluded =
+    → IsToldOf p made told.answer told.extended → OnOk r (HasConcluded told p o n made new) → OnOk r (HasStepped o n old new)
+files_have_stepped r told p o n old made new w handed some is changes tells concluded =
     let all : step_concluded told p made ≡ step_with told old = ap (step_concluded told p) is ∙ sym (filing_is told p old some) in
     on_ok_by r (λ (c : HasConcluded told p o n made new).
     let has : HasStepped o n old new = record {
       emitted = (step_concluded told p made).emitted;
-      is = is_step told old (record { system = new; emitted = (step_concluded told p made).emitted }) w handed (of_call told p old made some is changes)
+      is = is_made told old (record { system = new; emitted = (step_concluded told p made).emitted }) w handed (of_call told p old made some is changes) (told_in told p old made some is tells)
           (change_of_both new (step_concluded told p made).system (step_concluded told p made) c.system refl ∙ all);
       wrote = c.wrote;
     } in has) concluded
 
-pub files_have_stopped : {A : Type 0} (r : Result A StepFault) (told : Directly) (p : ℕ) (o n : Outside) (old made : System) → IsWhole old → old.kernel.dispatcher.completed ≡ []
+pub files_have_stopped : {A : Type 0} (r : Result A StepFault) (told : Directly) (p : ℕ) (o n : Outside) (old made : System) → IsWhole old → NoCompletions old
     → file_caller old ≡ Some p → made ≡ call_made p old → told.caller ≡ change_of (call_of made.kernel.dispatcher.procs p) told.extended
-    → IfErr r (λ fault. (fault ≡ WriteFault) × Stopped o n (step_concluded told p made).emitted) → IfErr r (λ fault. HasStopped fault o n old)
-files_have_stopped r told p o n old made w handed some is changes stopped =
+    → IsToldOf p made told.answer told.extended → IfErr r (λ fault. (fault ≡ WriteFault) × Stopped o n (step_concluded told p made).emitted) → IfErr r (λ fault. HasStopped fault o n old)
+files_have_stopped r told p o n old made w handed some is changes tells stopped =
     let all : step_concluded told p made ≡ step_with told old = ap (step_concluded told p) is ∙ sym (filing_is told p old some) in
     if_err_by (λ fault. (fault ≡ WriteFault) × Stopped o n (step_concluded told p made).emitted) (λ fault. HasStopped fault o n old) r
     (λ fault so.
     let has : HasStopped WriteFault o n old = record {
       change = step_concluded told p made;
-      is = is_step told old (step_concluded told p made) w handed (of_call told p old made some is changes) all;
+      is = is_made told old (step_concluded told p made) w handed (of_call told p old made some is changes) (told_in told p old made some is tells) all;
       stops = so.1;
       calls = tt;
     } in subst (λ f. HasStopped f o n old) (sym so.0) has) stopped
 
 -- where its drive failed nothing was written
-told_for : Option ℕ → System → Directly
-told_for None old = nothing_told
-told_for (Some p) old = told_of (call_of (call_made p old).kernel.dispatcher.procs p) nothing_told.answer None
-
-is_told_for : (caller : Option ℕ) (old : System) → IsOfCall caller (told_for caller old) old
-unfolding change_of told_for
-is_told_for None old = tt
-is_told_for (Some p) old = refl
-
 there : (p : ℕ) (caller : Option ℕ) → caller ≡ Some p → IsSome caller
 there p None is = absurd (cc)
 there p (Some q) is = refl
 
-pub unwritten_has_stopped : (p : ℕ) (o : Outside) (old : System) → IsWhole old → old.kernel.dispatcher.completed ≡ [] → file_caller old ≡ Some p
+pub unwritten_has_stopped : (p : ℕ) (o : Outside) (old : System) → IsWhole old → NoCompletions old → file_caller old ≡ Some p
     → HasStopped DiskFault o o old
-unwritten_has_stopped p o old w handed some = record {
-  change = step_with (told_for (file_caller old) old) old;
-  is = is_step (told_for (file_caller old) old) old (step_with (told_for (file_caller old) old) old) w handed (is_told_for (file_caller old) old) refl;
-  stops = refl;
-  calls = there p (file_caller old) some;
-}
+unwritten_has_stopped p o old w handed some =
+    let made = call_made p old in
+    let some_told = something_told p made in
+    let told : Directly = told_of (call_of made.kernel.dispatcher.procs p) some_told.0 some_told.1 in
+    record {
+      change = step_with told old;
+      is = is_made told old (step_with told old) w handed (of_call told p old made some refl refl) (told_in told p old made some refl some_told.2) refl;
+      stops = refl;
+      calls = there p (file_caller old) some;
+    }
 
 -- what is so behind it
 
-behind : (o n : Outside) (old new : System) (P : System → Type 0) (step : HasStepped o n old new) → P (step_with step.is.told old).system → P new
-behind o n old new P step so = subst P (sym (ap (λ (c : Change). c.system) step.is.is)) so
+behind : (o n : Outside) (old new : System) (P : System → Type 0) (step : HasStepped o n old new) → P (step_with step.is.step.told old).system → P new
+behind o n old new P step so = subst P (sym (ap (λ (c : Change). c.system) step.is.step.is)) so
 
 pub step_whole : (o n : Outside) (old new : System) → IsWhole old → HasStepped o n old new → IsWhole new
-step_whole o n old new w step = behind o n old new IsWhole step (whole_with step.is.told old w)
+step_whole o n old new w step = behind o n old new IsWhole step (whole_with step.is.step.told old w)
 
-pub step_handed : (o n : Outside) (old new : System) → HasStepped o n old new → new.kernel.dispatcher.completed ≡ []
-step_handed o n old new step = behind o n old new (λ system. system.kernel.dispatcher.completed ≡ []) step (no_completions_with step.is.told old)
+pub step_handed : (o n : Outside) (old new : System) → HasStepped o n old new → NoCompletions new
+step_handed o n old new step = behind o n old new NoCompletions step (no_completions_with step.is.step.told old)
 
 pub step_settled : (o n : Outside) (old new : System) → IsWhole old → HasStepped o n old new → NobodyDue new.kernel
-step_settled o n old new w step = behind o n old new (λ system. NobodyDue system.kernel) step (nobody_due_with step.is.told old w)
+step_settled o n old new w step = behind o n old new (λ system. NobodyDue system.kernel) step (nobody_due_with step.is.step.told old w)
 
 pub step_counted : (o n : Outside) (old new : System) → HasStepped o n old new → new.steps ≡ old.steps + 1
-step_counted o n old new step = behind o n old new (λ system. system.steps ≡ old.steps + 1) step (steps_with step.is.told old)
+step_counted o n old new step = behind o n old new (λ system. system.steps ≡ old.steps + 1) step (steps_with step.is.step.told old)

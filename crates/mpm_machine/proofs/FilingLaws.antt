@@ -1,9 +1,7 @@
 -- A file call in a step: what becomes of its caller, what it comes to, and what those leave who end in the step.
-use Rattle.std.proofs.Common.{◌≡◌, ◌∙◌, ℕ, suc, ◌+◌, ◌-◌, ◌<◌, ◌==◌, ◌&&◌, ◌||◌, not, Bool, true, false, List, [], ◌∷◌, Option, Some, None, IsSome, IfSome, Result, Ok, Err, IfOk, length, inl, inr, if◌then◌else◌, refl, ap, sym, subst, arith, eqb-true, get_or-set_same}
-use Rattle.std.specs.Prelude.{is_some, is_none, find, option_map, slice_index_or, slice_set}
+use Rattle.std.proofs.Common.{◌≡◌, ◌∙◌, ℕ, suc, ◌+◌, ◌-◌, ◌<◌, ◌==◌, ◌&&◌, not, Bool, true, false, List, [], ◌∷◌, Option, Some, None, IsSome, IfSome, Result, Ok, Err, IfOk, length, if◌then◌else◌, refl, ap, sym, subst, arith, eqb-true}
+use Rattle.std.specs.Prelude.{is_none, find, option_map, slice_index_or}
 use Rattle.std.specs.List.{AllByRecursion, range_with_len}
-use Rattle.std.proofs.lemmas.Bool.{false≢true, cases_eq}
-use Rattle.std.proofs.lemmas.List.{length-set, get_or-set_other}
 use Rattle.mpm_base.specs.Calls.{Taken, Answer, answering}
 use Rattle.mpm_port.specs.Disks.{Disks}
 use Rattle.mpm_procs.specs.Table.{Table, lives, process_in, call_of}
@@ -23,8 +21,8 @@ use Rattle.mpm_bdos.specs.Functions.{numbers, function_of}
 use Rattle.mpm_bdos.specs.Filing.{Filing, Situation}
 use Rattle.mpm_bdos.specs.Finishing.{ComesTo}
 use Rattle.mpm_bdos.specs.Jobs.{turned, call_turns}
-use Rattle.mpm_bdos.specs.Outcomes.{CallerChange, Stays, Selects, Resets, Outcome, caller_by, file_call, left_by, without_search, outcome_by as served_by}
-use Rattle.mpm_bdos.specs.Refusals.{answered, refusal_of}
+use Rattle.mpm_bdos.specs.Outcomes.{CallerChange, Stays, Selects, Resets, caller_by, file_call, outcome_by as served_by}
+use Rattle.mpm_bdos.specs.Refusals.{refusal_of}
 use Rattle.mpm_bdos.specs.Direct.{Directly, parameters_told, direct_numbers, direct_of, direct, direct_by, kind_of, is_protected, where_mounted, selected}
 use Rattle.mpm_bdos.specs.Serving.{Kept, StandEach, directory_at, filing_of}
 use Rattle.mpm_bdos.specs.Starting.{caller_of, entering as entering_here}
@@ -35,7 +33,7 @@ use Rattle.mpm_mount.specs.Directories.{Directory}
 use Rattle.mpm_machine.specs.State.{StandsForFiles}
 use Rattle.mpm_machine.specs.Mounting.{HasNoDrive}
 use Rattle.mpm_machine.specs.Filed.{IsOutcome, AreLiving, left_if}
-use Rattle.mpm_machine.specs.FileCalls.{file_caller, call_made, looked_at, entering, situation_of, directly, outcome_by, outcome_in, filed_by, filed, change_of, told_by, told_of, is_gone, left_each, left_behind}
+use Rattle.mpm_machine.specs.FileCalls.{file_caller, call_made, looked_at, entering, situation_of, outcome_by, outcome_in, filed_by, filed, change_of, told_by, told_of, is_gone, left_each, left_behind}
 use Rattle.mpm_machine.specs.After.{IsOfCall}
 
 -- a row of a table of numbers

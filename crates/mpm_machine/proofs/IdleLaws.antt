@@ -1,13 +1,13 @@
 -- Steps in which nothing is done, as no process runs and none is ready.
-use Rattle.std.proofs.Common.{◌≡◌, ◌∙◌, ℕ, zero, suc, ◌+◌, ◌<◌, false, List, [], Option, None, refl, sym, ap, subst, arith, add-one}
+use Rattle.std.proofs.Common.{◌≡◌, ◌∙◌, ℕ, zero, suc, ◌+◌, ◌<◌, false, None, refl, sym, ap, subst, arith, add-one}
 use Rattle.mpm_kernel.specs.Kernel.{Kernel}
 use Rattle.mpm_machine.specs.declared.system.System.{System}
-use Rattle.mpm_machine.specs.State.{State, Change, IsWhole, NobodyAborted, silent}
+use Rattle.mpm_machine.specs.State.{State, IsWhole, NoCompletions, NobodyAborted, silent}
 use Rattle.mpm_machine.specs.Step.{acted_by, acted, running_segment, at_instruction, counted, step_of}
 use Rattle.mpm_machine.specs.After.{next, after, AreSteps}
 use Rattle.mpm_machine.specs.Moving.{IsIdle, later, Quiet}
 use Rattle.mpm_machine.proofs.WholeLaws.{whole_steps}
-use Rattle.mpm_machine.proofs.FileStepLaws.{nobody_calls, is_step_alone}
+use Rattle.mpm_machine.proofs.FileStepLaws.{nobody_calls, is_made_alone}
 use Rattle.mpm_machine.proofs.PlainLaws.{plain_next}
 use Rattle.mpm_machine.proofs.QuietLaws.{none_comes, step_still, picked_same}
 
@@ -20,7 +20,7 @@ nothing_acted system idle = ap (λ o. acted_by o (running_segment o system) syst
 -- what is so of a system that is idle for n steps
 pub record Idles (system : System) (n : ℕ) : Type 0 where
   pub idle : 0 < n → IsIdle system
-  pub no_completions : system.kernel.dispatcher.completed ≡ []
+  pub no_completions : NoCompletions system
   pub settled : NobodyAborted system.kernel
   pub none_deferred : system.abort_deferred ≡ false
   pub quiet : Quiet n system
@@ -29,7 +29,7 @@ idle_step : (system : System) (n : ℕ) → Idles system (n + 1) → step_of (la
 idle_step system n on =
     let begun = counted (later system n) in
     let idle = on.idle (omega arith) in
-    step_still (later system n) begun (none_comes begun (on.quiet n (omega arith))) (nothing_acted begun idle.running) on.no_completions on.settled on.none_deferred
+    step_still (later system n) begun (none_comes begun (on.quiet n (omega arith))) (nothing_acted begun idle.running) (record { answered = on.no_completions.answered; written = on.no_completions.written }) on.settled on.none_deferred
     ∙ ap (λ (kernel : Kernel). silent (record begun { kernel = kernel })) (picked_same (at_instruction begun) system.kernel (idle.nobody ∙ sym idle.running))
     ∙ ap (λ (steps : ℕ). silent (record system { steps = steps })) (omega arith)
 
@@ -67,7 +67,8 @@ steps_idle zero system w on = ap (λ (steps : ℕ). silent (record system { step
 steps_idle (suc n) system w on =
     let on_more : Idles system (n + 1) = subst (Idles system) (sym (add-one n)) on in
     let here = later system n in
-    let is = is_step_alone here (silent (later system (n + 1))) (whole_steps system (system.steps + n) w) on.no_completions
+    let is = is_made_alone here (silent (later system (n + 1))) (whole_steps system (system.steps + n) w)
+    (record { answered = on.no_completions.answered; written = on.no_completions.written })
     (nobody_calls here (on_more.idle (omega arith)).running) (sym (idle_step system n on_more)) in
     (silent here, silent (later system (n + 1)), steps_idle n system w (fewer system n on_more), is, ap (λ k. silent (later system k)) (sym (add-one n)))
 

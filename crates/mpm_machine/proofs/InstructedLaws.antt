@@ -13,7 +13,7 @@ use Rattle.mpm_processor.specs.declared.gate.Gate.{Gate}
 use Rattle.mpm_machine.specs.State.{Change, silent}
 use Rattle.mpm_machine.specs.Due.{with_ends}
 use Rattle.mpm_machine.specs.Serving.{with_regs}
-use Rattle.mpm_machine.specs.Step.{instructed, executed, instruction_at, acted_at, acted_by, acted, running_segment, is_no_gate, instruction_by, at_instruction, counted, dispatched, step_of}
+use Rattle.mpm_machine.specs.Step.{instructed, executed, instruction_at, acted_at, acted_by, acted, running_segment, is_no_gate, instruction_by, at_instruction, counted, records_out, dispatched, step_of}
 use Rattle.mpm_machine.specs.Contained.{Instructs, OnlyInstructed}
 use Rattle.mpm_machine.proofs.QuietLaws.{step_quiet}
 
@@ -83,11 +83,11 @@ step_instructs system p seg i no_completions =
       clears = λ device h. clears_all actions system.kernel.devices device h;
       bytes = same_segments_after actions seg system.memory;
       is = ap (λ (change : Change). change.system) (step_quiet system afterwards i.quiet (acts system p seg i) no_completions)
-          ∙ ap (λ b. (dispatched b (with_ends afterwards)).system) (by_instruction system p seg i)
-          ∙ ap (λ (d : Devices). (dispatched true (with_ends (record begun {
+          ∙ ap (λ b. (dispatched b (records_out (with_ends afterwards))).system) (by_instruction system p seg i)
+          ∙ ap (λ (d : Devices). (dispatched true (records_out (with_ends (record begun {
             kernel = with_regs (record system.kernel { devices = d }) p regs;
             memory = memory_after actions seg system.memory;
-          }))).system) (only_ready actions system.kernel.devices);
+          })))).system) (only_ready actions system.kernel.devices);
     }
 
 pub instructs_only : (old new : System) (p seg : ℕ) → Instructs old p seg → old.kernel.dispatcher.completed ≡ [] → new ≡ (step_of old).system

@@ -3,8 +3,10 @@ pub mod ChangeLaws
 pub mod SayingLaws
 pub mod HomeLaws
 pub mod EntryLaws
+pub mod RecordsLaws
 pub mod FinishLaws
 pub mod DueLaws
+pub mod TallyLaws
 pub mod WholeLaws
 pub mod NobodyDueLaws
 pub mod FileLaws
@@ -33,6 +35,7 @@ pub mod PlainLaws
 pub mod StandingLaws
 pub mod FilingLaws
 mod LeavingLaws
+pub mod ToldLaws
 pub mod FilesStepLaws
 pub mod MountedLaws
 pub mod DriveLaws
@@ -40,3 +43,8 @@ pub mod FailingLaws
 pub mod AfterLaws
 pub mod LockLaws
 pub mod FiledValue
+pub mod GoingOn
+pub mod GoingSteps
+pub mod InterpretingLaws
+pub mod OwnLaws
+pub mod ValueLaws

@@ -8,7 +8,7 @@ use Rattle.std.proofs.lemmas.Slice.Eq.{bytes_eq-Decides}
 use Rattle.mpm_port.specs.Disks.{Disks}
 use Rattle.mpm_blocks.specs.Geometries.{geometry_of}
 use Rattle.mpm_cache.specs.Cached.{cached_at}
-use Rattle.mpm_cache.specs.Coherent.{IsCoherent, HaveOwnImages, HasNoAlias, AreApart}
+use Rattle.mpm_cache.specs.Coherent.{IsCoherent, HaveOwnImages, HasNoAlias}
 use Rattle.mpm_machine_file.specs.declared.lists.DriveSpec.{DriveSpec}
 use Rattle.mpm_machine_file.specs.Drives.{all_differ}
 use Rattle.mpm_machine_file.proofs.OrderLaws.{IsApart, AreApart as SpecsApart, apart_from_differ}

@@ -1,5 +1,5 @@
 -- Steps that are instructions of one process.
-use Rattle.std.proofs.Common.{◌≡◌, ◌∙◌, ℕ, zero, suc, ◌+◌, ◌<◌, ◌≤◌, false, ◌&&◌, List, [], ◌++◌, Option, Some, None, IsSome, is_some, inl, inr, length, refl, sym, ap, subst, arith, add-one, set-set, get_or-set_same}
+use Rattle.std.proofs.Common.{◌≡◌, ◌∙◌, ℕ, zero, suc, ◌+◌, ◌<◌, ◌≤◌, false, ◌&&◌, Option, Some, None, IsSome, is_some, inl, inr, length, refl, sym, ap, subst, arith, add-one, set-set, get_or-set_same}
 use Rattle.std.proofs.lemmas.Bool.{cases_eq}
 use Rattle.z80_regs.specs.declared.regs.Regs.{Regs}
 use Rattle.z80_regs.specs.Outcome.{Outcome}
@@ -22,7 +22,7 @@ use Rattle.mpm_processor.specs.Gates.{gate_of}
 use Rattle.mpm_processor.specs.Moving.{View, instruction_in, moved, moves, CanMove}
 use Rattle.mpm_machine.specs.declared.system.System.{System}
 use Rattle.mpm_machine.specs.Gates.{is_inside}
-use Rattle.mpm_machine.specs.State.{State, Change, IsWhole, NobodyAborted, silent}
+use Rattle.mpm_machine.specs.State.{State, IsWhole, NobodyAborted, silent, NoCompletions}
 use Rattle.mpm_machine.specs.Serving.{with_regs}
 use Rattle.mpm_machine.specs.Step.{instructed, executed, instruction_at, acted_at, gate_before, acted_by, acted, running_segment, at_instruction, coming, counted, step_of}
 use Rattle.mpm_machine.specs.FileCalls.{file_caller}
@@ -31,7 +31,7 @@ use Rattle.mpm_interrupts.specs.Interrupts.{due}
 use Rattle.mpm_machine.specs.Moving.{Moved, view_of, with_view, RunsOn, Quiet}
 use Rattle.mpm_machine.proofs.HomeLaws.{KeepsHomes, keeps_itself, keeps_both, keeps_acted}
 use Rattle.mpm_machine.proofs.WholeLaws.{same_regs, whole_kernel, whole_memory, whole_regs, whole_steps}
-use Rattle.mpm_machine.proofs.FileStepLaws.{gateless, is_step_alone}
+use Rattle.mpm_machine.proofs.FileStepLaws.{gateless, is_made_alone}
 use Rattle.mpm_machine.proofs.PlainLaws.{plain_next}
 use Rattle.mpm_machine.proofs.QuietLaws.{none_comes, step_still, picked_same}
 
@@ -159,7 +159,8 @@ unfolding with_view
 step_view system p seg n view below on can quiet =
     let begun = counted (with_view system p view n) in
     let later = with_view system p (moved seg view) (n + 1) in
-    step_still (with_view system p view n) later (quiet_view system p n view quiet) (acted_view system p seg n view below on can) on.no_completions
+    step_still (with_view system p view n) later (quiet_view system p n view quiet) (acted_view system p seg n view below on can)
+    (record { answered = on.no_completions.answered; written = on.no_completions.written })
     (nobody_view system.kernel (moved seg view).devices p (moved seg view).regs below on.settled) on.none_deferred
     ∙ ap (λ (kernel : Kernel). silent (record later { kernel = kernel })) (picked_same (at_instruction begun) later.kernel (on.first ∙ sym on.running))
 
@@ -215,9 +216,9 @@ after_moves (suc n) s p seg below on each quiet =
     ∙ next_view s p seg n view below on (each n (omega arith)) (quiet n (omega arith))
     ∙ ap (λ count. record s { system = with_view s.system p (moved seg view) count }) (add-one n)
 
-handed_view : (system : System) (p n : ℕ) (view : View) → (with_view system p view n).kernel.dispatcher.completed ≡ system.kernel.dispatcher.completed
+handed_view : (system : System) (p n : ℕ) (view : View) → NoCompletions system → NoCompletions (with_view system p view n)
 unfolding with_view
-handed_view system p n view = refl
+handed_view system p n view none = record { answered = none.answered; written = none.written }
 
 steps_moves : (n : ℕ) (system : System) (p seg : ℕ) → IsWhole system → Lives system.kernel.dispatcher.procs p → p < length system.kernel.dispatcher.procs.processes
     → RunsOn system p seg → ((k : ℕ) → k < n → CanMove (is_inside system.kernel.dispatcher.procs p) seg (moves k seg (view_of system p))) → Quiet n system
@@ -230,12 +231,12 @@ steps_moves (suc n) system p seg w h below on each quiet =
     let one = with_view system p (moved seg view) (n + 1) in
     let can = each n (omega arith) in
     let first = steps_moves n system p seg w h below on (λ k less. each k (omega (arith, less))) (λ k less. quiet k (omega (arith, less))) in
-    let is = is_step_alone here (silent one) (whole_view system p n view w h (keeps_moved n seg (view_of system p)))
-    (handed_view system p n view ∙ on.no_completions) (alone_view system p seg n view below on can) (sym (step_view system p seg n view below on can (quiet n (omega arith)))) in
+    let is = is_made_alone here (silent one) (whole_view system p n view w h (keeps_moved n seg (view_of system p)))
+    (handed_view system p n view on.no_completions) (alone_view system p seg n view below on can) (sym (step_view system p seg n view below on can (quiet n (omega arith)))) in
     (silent here, silent one, first, is, ap (λ count. silent (with_view system p (moved seg view) count)) (sym (add-one n)))
 
 pub runs_on : (system : System) (p seg : ℕ) → IsWhole system → system.kernel.dispatcher.running ≡ Some p → first_of (list_at system.kernel.dispatcher.lists ready) ≡ Some p
-    → (process_in system.kernel.dispatcher.procs p).seg ≡ Some seg → system.kernel.dispatcher.completed ≡ [] → system.abort_deferred ≡ false → RunsOn system p seg
+    → (process_in system.kernel.dispatcher.procs p).seg ≡ Some seg → NoCompletions system → system.abort_deferred ≡ false → RunsOn system p seg
 runs_on system p seg w running first home no_completions off =
     record { running = running; first = first; home = home; no_completions = no_completions; none_deferred = off; settled = w.settled off }
 
@@ -282,6 +283,5 @@ pub steps_moved : (n p seg : ℕ) (old new : System) → Moved n p seg old new �
 unfolding with_view
 steps_moved n p seg old new moved = ap (λ (system : System). system.steps) moved.is
 
-pub no_completions_moved : (n p seg : ℕ) (old new : System) → Moved n p seg old new → old.kernel.dispatcher.completed ≡ [] → new.kernel.dispatcher.completed ≡ []
-unfolding with_view
-no_completions_moved n p seg old new moved no_completions = ap (λ (system : System). system.kernel.dispatcher.completed) moved.is ∙ no_completions
+pub no_completions_moved : (n p seg : ℕ) (old new : System) → Moved n p seg old new → NoCompletions old → NoCompletions new
+no_completions_moved n p seg old new moved none = subst NoCompletions (sym moved.is) (handed_view old p n moved.view none)

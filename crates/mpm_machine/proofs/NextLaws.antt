@@ -1,16 +1,15 @@
 -- Laws of n steps of a state, and of n steps of a system whatever is on the drives.
 use Rattle.std.proofs.Common.{◌≡◌, ◌∙◌, ℕ, zero, suc, ◌+◌, ◌-◌, ◌<◌, ◌≤◌, Bool, List, [], ◌++◌, Option, refl, ap, sym, subst, append_assoc, arith, add-one}
 use Rattle.std.proofs.lemmas.List.{append-nil}
-use Rattle.mpm_render.specs.Outputs.{Output, rendered}
+use Rattle.mpm_render.specs.Outputs.{rendered}
 use Rattle.mpm_output.specs.Outside.{Outside}
-use Rattle.mpm_output.specs.Writing.{Wrote}
 use Rattle.mpm_output.proofs.WritingLaws.{wrote_nothing, wrote_after}
 use Rattle.mpm_machine.specs.declared.system.System.{System}
 use Rattle.mpm_machine.specs.declared.machine.StepFault.{StepFault}
-use Rattle.mpm_machine.specs.State.{State, Change, IsWhole, silent}
+use Rattle.mpm_machine.specs.State.{State, Change, IsWhole, NoCompletions, silent}
 use Rattle.mpm_machine.specs.Faults.{EndsBy}
-use Rattle.mpm_machine.specs.FileCalls.{told_by, step_with, filed, Stepped, stepped}
-use Rattle.mpm_machine.specs.After.{next, after, IsStep, IsNextOf, followed, AreSteps, HasRun, HasStepped, HasStopped, HasStoppedIn, ShowsBefore, EndsInStep}
+use Rattle.mpm_machine.specs.FileCalls.{told_by, step_with, filed, stepped}
+use Rattle.mpm_machine.specs.After.{next, after, IsStep, IsMade, IsNextOf, followed, AreSteps, HasRun, HasStepped, HasStopped, HasStoppedIn, EndsInStep}
 use Rattle.mpm_machine.proofs.StepWithLaws.{whole_with, no_completions_with}
 use Rattle.mpm_machine.proofs.FileStepLaws.{steps_with, is_step}
 use Rattle.mpm_machine.proofs.FilingLaws.{filed_of_call}
@@ -62,14 +61,14 @@ whole_after zero s w = w
 whole_after (suc n) s w =
     subst IsWhole (sym (next_is (after n s))) (whole_with (told_by (filed (after n s).filing (after n s).system)) (after n s).system (whole_after n s w))
 
-pub handed_after : (n : ℕ) (s : State) → s.system.kernel.dispatcher.completed ≡ [] → (after n s).system.kernel.dispatcher.completed ≡ []
+pub handed_after : (n : ℕ) (s : State) → NoCompletions s.system → NoCompletions (after n s).system
 unfolding after
 handed_after zero s no_completions = no_completions
 handed_after (suc n) s no_completions =
-    ap (λ (system : System). system.kernel.dispatcher.completed) (next_is (after n s)) ∙ no_completions_with (told_by (filed (after n s).filing (after n s).system)) (after n s).system
+    subst NoCompletions (sym (next_is (after n s))) (no_completions_with (told_by (filed (after n s).filing (after n s).system)) (after n s).system)
 
 -- each is a step of the system
-next_of : (s : State) → IsWhole s.system → s.system.kernel.dispatcher.completed ≡ [] → IsNextOf s (next s)
+next_of : (s : State) → IsWhole s.system → NoCompletions s.system → IsNextOf s (next s)
 next_of s w handed =
     let change = (stepped s.system s.filing).change in
     let P : System → Type 0 = λ system. IsStep s.system (record { system = system; emitted = change.emitted }) in
@@ -79,11 +78,11 @@ next_of s w handed =
       outputs = next_outputs s;
     }
 
-pub next_in_run : (k : ℕ) (s : State) (old : System) → s.system ≡ old → IsWhole old → old.kernel.dispatcher.completed ≡ []
+pub next_in_run : (k : ℕ) (s : State) (old : System) → s.system ≡ old → IsWhole old → NoCompletions old
     → IsNextOf (after k s) (after (k + 1) s)
 next_in_run k s old is w handed =
     let whole : IsWhole s.system = subst IsWhole (sym is) w in
-    let none : s.system.kernel.dispatcher.completed ≡ [] = ap (λ (system : System). system.kernel.dispatcher.completed) is ∙ handed in
+    let none : NoCompletions s.system = subst NoCompletions (sym is) handed in
     subst (IsNextOf (after k s)) (sym (after_more k s)) (next_of (after k s) (whole_after k s whole) (handed_after k s none))
 
 -- a stop in the step after the first done ones
@@ -153,7 +152,7 @@ are_steps_both m (suc n) old one two first more =
     subst (λ k. AreSteps k old (followed one two)) (sym count)
     (followed one before, last, are_steps_both m n old one before first more.2, more.3, ap (followed one) more.4 ∙ followed_again one before last)
 
-are_steps_one : (old : System) (change : Change) → IsStep old change → AreSteps 1 old change
+are_steps_one : (old : System) (change : Change) → IsMade old change → AreSteps 1 old change
 unfolding AreSteps
 are_steps_one old change is =
     (silent old, change, refl, is, ap (λ emitted. let c : Change = record { system = change.system; emitted = emitted } in c) (sym (append-nil change.emitted)))

@@ -1,6 +1,6 @@
 -- After each step nobody's end by an abort is due: the ends that are due come by rising slot, and none makes that of a lower
 -- slot due, since it takes nobody's message of a mutual exclusion queue.
-use Rattle.std.proofs.Common.{◌≡◌, ◌≢◌, ◌∙◌, ℕ, zero, suc, ◌+◌, ◌<◌, Bool, true, false, not, ◌&&◌, List, [], ◌∷◌, Option, Some, None, inl, inr, refl, sym, ap, subst, arith}
+use Rattle.std.proofs.Common.{◌≡◌, ◌≢◌, ◌∙◌, ℕ, zero, suc, ◌+◌, ◌<◌, Bool, true, false, not, ◌&&◌, List, [], ◌∷◌, Option, Some, None, inl, inr, refl, sym, ap, arith}
 use Rattle.std.proofs.lemmas.Bool.{false≢true, cases_eq, cases_lt}
 use Rattle.std.specs.List.{range_with_len}
 use Rattle.std.specs.Prelude.{is_some}
@@ -23,7 +23,7 @@ use Rattle.mpm_xdos.specs.Procedures.{entering, entered}
 use Rattle.mpm_machine.specs.declared.system.System.{System}
 use Rattle.mpm_machine.specs.State.{Change, IsWhole, NobodyAborted}
 use Rattle.mpm_machine.specs.Ending.{ended}
-use Rattle.mpm_machine.specs.Serving.{is_entry, with_entry, reply_at_entry, fulfilling, answering_call, replied}
+use Rattle.mpm_machine.specs.Serving.{is_entry, with_entry, reply_at_entry, fulfilling, answering_call, recorded, replied}
 use Rattle.mpm_machine.specs.Finishing.{finished, completion_dequeued, finishing, all_finished, all_answered}
 use Rattle.mpm_machine.specs.Due.{is_due, NobodyDue, ended_if_due, due_terminated, all_due_terminated, with_ends, settled}
 use Rattle.mpm_machine.specs.Step.{coming, begun_by, instruction_unless, with_settled, counted, dispatched as step_dispatched, step_of}
@@ -62,17 +62,17 @@ unfolding with_entry
 same_entry reply call p system =
     either (SameEnds system.kernel) (is_entry call reply) _ system.kernel (λ _. same_entered p system.kernel) (λ _. same_itself system.kernel)
 
-same_replied : (reply : Answer) (call : Taken) (p seg : ℕ) (system : System) → SameEnds system.kernel (answering_call reply call p seg system).system.kernel
-unfolding answering_call replied
+same_replied : (reply : Answer) (call : Taken) (p seg : ℕ) (system : System) → SameEnds system.kernel (answering_call reply call p seg system).kernel
+unfolding answering_call recorded replied
 same_replied reply call p seg system = same_changed system.kernel p _ refl
 
-same_fulfilled : (reply : Answer) (call : Taken) (p seg : ℕ) (system : System) → SameEnds system.kernel (fulfilling reply call p seg system).system.kernel
+same_fulfilled : (reply : Answer) (call : Taken) (p seg : ℕ) (system : System) → SameEnds system.kernel (fulfilling reply call p seg system).kernel
 unfolding fulfilling
 same_fulfilled reply call p seg system =
     same_both system.kernel (with_entry reply call p system).kernel _ (same_entry reply call p system)
     (same_replied (reply_at_entry reply call p system) call p seg (with_entry reply call p system))
 
-same_finished : (seg : Option ℕ) (p : ℕ) (system : System) → SameEnds system.kernel (finished seg p system).system.kernel
+same_finished : (seg : Option ℕ) (p : ℕ) (system : System) → SameEnds system.kernel (finished seg p system).kernel
 same_finished None p system = same_itself system.kernel
 same_finished (Some seg) p system = same_fulfilled (completion_reply system.kernel p) (call_of system.kernel.dispatcher.procs p) p seg system
 
@@ -82,7 +82,7 @@ same_first p system =
     same_both system.kernel dequeued.kernel _ (record { aborted = aborted_handed_out system.kernel; queues = queues_handed_out system.kernel })
     (same_finished (process_in system.kernel.dispatcher.procs p).seg p dequeued)
 
-same_finishing : (ps : List ℕ) (system : System) → SameEnds system.kernel (finishing ps system).system.kernel
+same_finishing : (ps : List ℕ) (system : System) → SameEnds system.kernel (finishing ps system).kernel
 unfolding finishing
 same_finishing [] system = same_itself system.kernel
 same_finishing (p ∷ ps) system =
@@ -130,12 +130,12 @@ own_is_over p system w h =
 -- and nobody of a slot up to its own is
 
 after_one : (slot p : ℕ) (system : System) → IsWhole system → (p ≢ slot → is_due system.kernel p ≡ false)
-    → is_due (ended_if_due slot system).system.kernel p ≡ false
+    → is_due (ended_if_due slot system).kernel p ≡ false
 unfolding ended_if_due
 after_one slot p system w others =
     let gone = ended slot system in
-    either (λ (c : Change). is_due c.system.kernel p ≡ false) (is_due system.kernel slot) _ _
-    (λ due. due_same gone.kernel (all_finished gone).system.kernel p (same_finishing gone.kernel.dispatcher.completed gone) ∙ elim (cases_eq p slot) [
+    either (λ (s : System). is_due s.kernel p ≡ false) (is_due system.kernel slot) _ _
+    (λ due. due_same gone.kernel (all_finished gone).kernel p (same_finishing gone.kernel.dispatcher.completed gone) ∙ elim (cases_eq p slot) [
       | inl same ↦ ap (is_due gone.kernel) same ∙ own_is_over slot system w (due_lives system.kernel slot due)
       | inr apart ↦ others_stay slot p system w (due_lives system.kernel slot due) apart (others apart)
     ])
@@ -148,11 +148,11 @@ abbrev NobodyBelow : ℕ → Kernel → Type 0
 NobodyBelow slot kernel = (p : ℕ) → p < slot → is_due kernel p ≡ false
 
 nobody_below : (n slot : ℕ) (system : System) → IsWhole system → NobodyBelow slot system.kernel
-    → NobodyBelow (slot + n) (due_terminated (range_with_len slot n) system).system.kernel
+    → NobodyBelow (slot + n) (due_terminated (range_with_len slot n) system).kernel
 unfolding due_terminated
 nobody_below zero slot system w none = λ p below. none p (omega (arith, below))
 nobody_below (suc n) slot system w none = λ p below.
-    nobody_below n (slot + 1) (ended_if_due slot system).system (whole_if_due slot system w)
+    nobody_below n (slot + 1) (ended_if_due slot system) (whole_if_due slot system w)
     (λ q less. after_one slot q system w (λ apart. none q (omega (arith, less, apart)))) p (omega (arith, below))
 
 -- there are no more slots
@@ -168,15 +168,15 @@ nobody_at_all kernel s none = λ p. elim (cases_lt p 32) [
   | inr past ↦ unless_true (is_due kernel p) (λ due. omega (arith, past, lives_below kernel.dispatcher.procs p s.slots (due_lives kernel p due)))
 ]
 
-due_with_ends : (system : System) → IsWhole system → NobodyDue (with_ends system).system.kernel
+due_with_ends : (system : System) → IsWhole system → NobodyDue (with_ends system).kernel
 unfolding with_ends
 due_with_ends system w =
-    nobody_at_all (all_due_terminated system).system.kernel (whole_due_terminated (range_with_len 0 32) system w).sound
+    nobody_at_all (all_due_terminated system).kernel (whole_due_terminated (range_with_len 0 32) system w).sound
     (nobody_below 32 0 system w (λ p below. absurd (omega (arith, below))))
 
-due_settled : (system : System) → IsWhole system → NobodyDue (settled system).system.kernel
+due_settled : (system : System) → IsWhole system → NobodyDue (settled system).kernel
 unfolding settled
-due_settled system w = due_with_ends (all_answered system).system (whole_all_answered system (all_answered system).system w refl)
+due_settled system w = due_with_ends (all_answered system) (whole_all_answered system (all_answered system) w refl)
 
 -- a step
 
@@ -187,7 +187,7 @@ due_picked instruction kernel none = λ p. none p
 pub nobody_due_dispatched : (instruction : Bool) (change : Change) → IsWhole change.system
     → NobodyDue (step_dispatched instruction (with_settled change)).system.kernel
 unfolding with_settled
-nobody_due_dispatched instruction change w = due_picked instruction (settled change.system).system.kernel (due_settled change.system w)
+nobody_due_dispatched instruction change w = due_picked instruction (settled change.system).kernel (due_settled change.system w)
 
 pub none_aborted_due : (kernel : Kernel) → NobodyAborted kernel → NobodyDue kernel
 unfolding NobodyDue

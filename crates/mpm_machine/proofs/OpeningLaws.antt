@@ -1,5 +1,5 @@
 -- A machine as it is run: the command queue, the command line interpreter, the terminal message processors.
-use Rattle.std.proofs.Common.{◌≡◌, ◌∙◌, ℕ, ◌+◌, ◌<◌, ◌≤◌, false, List, [], ◌∷◌, ◌++◌, Option, Some, None, codes, refl, sym, ap, subst, arith, add-one, length}
+use Rattle.std.proofs.Common.{◌≡◌, ◌∙◌, ℕ, ◌+◌, ◌<◌, ◌≤◌, false, List, [], ◌∷◌, ◌++◌, Option, Some, None, codes, refl, sym, ap, subst, arith, add-one, length, length-append}
 use Rattle.mpm_procs.specs.Table.{Lives, process_in, lowest_free}
 use Rattle.mpm_procs.specs.declared.process.Process.{Process}
 use Rattle.mpm_procs.specs.declared.process.NewProcess.{NewProcess}
@@ -17,11 +17,12 @@ use Rattle.mpm_kernel.proofs.EnsuredLaws.{many_new}
 use Rattle.mpm_base.specs.declared.number.Name8.{Name8}
 use Rattle.mpm_residents.specs.Terminals.{opening}
 use Rattle.mpm_residents.specs.declared.native.Native.{Native}
-use Rattle.mpm_residents.specs.declared.native.Native.TheVariants.{Tmp}
+use Rattle.mpm_residents.specs.declared.native.Native.TheVariants.{Tmp, Cli}
+use Rattle.mpm_cli.specs.Interpreters.{opening as opening_interpreter}
 use Rattle.mpm_script.specs.declared.event.Timed.{Timed}
 use Rattle.mpm_machine_file.specs.declared.machine_file.MachineFile.{MachineFile}
 use Rattle.mpm_machine.specs.declared.system.System.{System}
-use Rattle.mpm_machine.specs.State.{IsWhole}
+use Rattle.mpm_machine.specs.State.{IsWhole, NoCompletions}
 use Rattle.mpm_machine.specs.Opening.{resident_process, with_interpreter, terminal_name, with_terminal, with_terminals, command_queue, with_command_queue, begun_by_interpreter, with_interpreting, with_residents, moment_of, booted, opened}
 use Rattle.mpm_machine.proofs.WholeLaws.{whole_kernel, whole_residents}
 
@@ -116,6 +117,7 @@ pub record Begun (old new : System) : Type 0 where
   pub completed : new.kernel.dispatcher.completed ≡ old.kernel.dispatcher.completed
   pub consoles : length new.kernel.units.consoles ≡ length old.kernel.units.consoles
   pub steps : new.steps ≡ old.steps
+  pub records : new.records ≡ old.records
 
 begun_kernel : (system : System) (kernel : Kernel) → IsWhole system → Begins system.kernel kernel → Begun system (record system { kernel = kernel })
 begun_kernel system kernel w b = record {
@@ -123,6 +125,7 @@ begun_kernel system kernel w b = record {
   completed = b.completed;
   consoles = b.consoles;
   steps = refl;
+  records = refl;
 }
 
 first_begun : (system : System) → IsWhole system → OnlySystems system.kernel → make_error system.kernel.queues command_queue 130 15 ≡ None
@@ -134,14 +137,14 @@ pub interpreting_begun : (consoles : ℕ) (system : System) → IsWhole system �
     → Begun system (with_interpreting consoles (begun_by_interpreter system))
 interpreting_begun consoles system w only none =
     let first = first_begun system w only none in
-    record { whole = whole_residents _ _ first.whole; completed = first.completed; consoles = first.consoles; steps = first.steps }
+    record { whole = whole_residents _ _ first.whole; completed = first.completed; consoles = first.consoles; steps = first.steps; records = first.records }
 
 -- a terminal message processor
 
 terminal_by : (slot : Option ℕ) (console : ℕ) (system : System) → IsWhole system → lowest_free system.kernel.dispatcher.procs ≡ slot → console < length system.kernel.units.consoles
     → Begun system (with_terminal slot console system)
 unfolding with_terminal resident_process
-terminal_by None console system w free below = record { whole = w; completed = refl; consoles = refl; steps = refl }
+terminal_by None console system w free below = record { whole = w; completed = refl; consoles = refl; steps = refl; records = refl }
 terminal_by (Some p) console system w free below =
     let new = resident_process (terminal_name console) 198 console in
     let s = w.sound in
@@ -151,7 +154,7 @@ terminal_by (Some p) console system w free below =
     let b = begins_changed system.kernel begun p (record (process_in begun.dispatcher.procs p) { error_mode = 255 })
     (begins_admitted system.kernel p new s free below refl) lives_now refl refl fit.some fit.few refl refl refl in
     let changed = begun_kernel system _ w b in
-    record { whole = whole_residents _ _ changed.whole; completed = changed.completed; consoles = changed.consoles; steps = changed.steps }
+    record { whole = whole_residents _ _ changed.whole; completed = changed.completed; consoles = changed.consoles; steps = changed.steps; records = changed.records }
 
 pub terminal_begun : (console : ℕ) (system : System) → IsWhole system → console < length system.kernel.units.consoles
     → Begun system (with_terminal (lowest_free system.kernel.dispatcher.procs) console system)
@@ -168,6 +171,25 @@ pub more_terminals : (n : ℕ) (system : System)
 unfolding with_terminals
 more_terminals n system = ap (λ k. with_terminals k system) (add-one n)
 
+-- each is one resident more at most
+
+residents_begun : (system : System) → (begun_by_interpreter system).residents ≡ system.residents
+unfolding begun_by_interpreter
+residents_begun system = refl
+
+pub none_begun : (old now : System) → old.residents ≡ [] → now ≡ begun_by_interpreter old → now.residents ≡ []
+none_begun old now none is = ap (λ (s : System). s.residents) is ∙ residents_begun old ∙ none
+
+pub one_begun : (old now : System) (consoles : ℕ) → old.residents ≡ [] → now ≡ with_interpreting consoles (begun_by_interpreter old) → length now.residents ≡ 1
+one_begun old now consoles none is =
+    ap (λ (s : System). length s.residents) is
+    ∙ ap (λ (residents : List Native). length (residents ++ Cli (opening_interpreter consoles) ∷ [])) (residents_begun old ∙ none)
+
+few_terminal : (slot : Option ℕ) (console : ℕ) (system : System) → length (with_terminal slot console system).residents ≤ length system.residents + 1
+unfolding with_terminal
+few_terminal None console system = omega arith
+few_terminal (Some p) console system = omega (arith, length-append system.residents (Tmp (opening console) ∷ []))
+
 -- some have begun
 pub record BegunSo (start now : System) (n : ℕ) : Type 0 where
   pub is : now ≡ with_terminals n start
@@ -175,9 +197,11 @@ pub record BegunSo (start now : System) (n : ℕ) : Type 0 where
   pub completed : now.kernel.dispatcher.completed ≡ start.kernel.dispatcher.completed
   pub consoles : length now.kernel.units.consoles ≡ length start.kernel.units.consoles
   pub steps : now.steps ≡ start.steps
+  pub records : now.records ≡ start.records
+  pub few : length now.residents ≤ length start.residents + n
 
 pub begun_none : (start : System) → IsWhole start → BegunSo start start 0
-begun_none start w = record { is = sym (no_terminals start); whole = w; completed = refl; consoles = refl; steps = refl }
+begun_none start w = record { is = sym (no_terminals start); whole = w; completed = refl; consoles = refl; steps = refl; records = refl; few = omega arith }
 
 pub begun_more : (start now next : System) (n : ℕ) → BegunSo start now n → n < length start.kernel.units.consoles
     → next ≡ with_terminal (lowest_free now.kernel.dispatcher.procs) n now → BegunSo start next (n + 1)
@@ -190,6 +214,8 @@ begun_more start now next n so below is =
       completed = b.completed ∙ so.completed;
       consoles = b.consoles ∙ so.consoles;
       steps = b.steps ∙ so.steps;
+      records = b.records ∙ so.records;
+      few = omega (arith, so.few, few_terminal (lowest_free now.kernel.dispatcher.procs) n now, ap (λ (s : System). length s.residents) is);
     }
 
 -- and it is picked who runs
@@ -199,8 +225,9 @@ whole_picked afterwards kernel w is =
     subst P (sym is)
     (whole_kernel afterwards _ w (sound_picked afterwards.kernel false w.sound) w.live (homes_stay _ _ refl))
 
-pub no_completions_picked : (afterwards : Kernel) (kernel : Kernel) → kernel ≡ dispatched (picked false) afterwards → afterwards.dispatcher.completed ≡ [] → kernel.dispatcher.completed ≡ []
-no_completions_picked afterwards kernel is none = ap (λ (k : Kernel). k.dispatcher.completed) is ∙ none
+pub no_completions_picked : (afterwards : System) (kernel : Kernel) → kernel ≡ dispatched (picked false) afterwards.kernel → NoCompletions afterwards
+    → NoCompletions (record afterwards { kernel = kernel })
+no_completions_picked afterwards kernel is none = record { answered = ap (λ (k : Kernel). k.dispatcher.completed) is ∙ none.answered; written = none.written }
 
 -- a process that begins gets its console
 
@@ -319,6 +346,7 @@ pub record Boots (file : MachineFile) (system : System) : Type 0 where
   pub consoles : file.consoles ≡ length system.kernel.units.consoles
   pub queues : OnlySystems system.kernel
   pub room : make_error system.kernel.queues command_queue 130 15 ≡ None
+  pub nobody : system.residents ≡ []
 
 booted_so : (file : MachineFile) (events : List Timed) → Boots file (booted file events)
 unfolding booted new_kernel new_dispatcher
@@ -326,6 +354,7 @@ booted_so file events = record {
   consoles = sym (many_new file.consoles file.printers (moment_of file));
   queues = only_systems_new file.consoles file.printers (moment_of file);
   room = may_make_new file.consoles file.printers (moment_of file) command_queue 130 15 (omega arith) (omega arith);
+  nobody = refl;
 }
 
 pub boots : (file : MachineFile) (events : List Timed) (system : System) → system ≡ booted file events → Boots file system

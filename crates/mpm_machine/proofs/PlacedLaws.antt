@@ -34,6 +34,7 @@ use Rattle.mpm_machine_file.specs.MachineFiles.{IsSegment}
 use Rattle.mpm_machine_file.specs.declared.machine_file.MachineFile.{MachineFile}
 use Rattle.mpm_banks.specs.Gates.{last_page}
 use Rattle.mpm_processor.specs.Gates.{IsHome}
+use Rattle.mpm_render.specs.Completions.{Completion}
 use Rattle.mpm_machine.specs.declared.system.System.{System}
 use Rattle.mpm_interrupts.specs.declared.interrupts.Interrupts.{Interrupts}
 use Rattle.mpm_machine.specs.State.{IsOccupied, IsWhole}
@@ -103,7 +104,7 @@ whole_placed system p seg name priority console program may free =
     record {
       sound = sound_picked kernel false (sound_gave console None (Some p) begun (sound_admitted system.kernel p new w.sound free may.has_console) may.has_console
           (lives_added system.kernel.dispatcher.procs p new (free_below system.kernel.dispatcher.procs p free)));
-      live = nobody_completed (dispatched (picked false) kernel) (completed_gave console None (Some p) begun ∙ may.bare.no_completions);
+      live = nobody_completed (dispatched (picked false) kernel) (completed_gave console None (Some p) begun ∙ may.bare.no_completions.answered);
       script = w.script;
       settled = λ off. nobody_more system.kernel (dispatched (picked false) kernel)
           (λ q due. aborts_admitted system.kernel p new w.sound.slots free q (ap (λ procs. is_aborted procs q) (sym same) ∙ due)) (w.settled off);
@@ -122,7 +123,7 @@ whole_booted file events some few printers script = record {
   lived = λ p seg living there. absurd (false≢true (sym (nobody_lives p) ∙ living));
 }
 
-home_bare : (segments : List SegmentSpec) (seg : ℕ) → All IsSegment segments → seg < length segments → IsHome (new_memory segments) seg
+pub home_bare : (segments : List SegmentSpec) (seg : ℕ) → All IsSegment segments → seg < length segments → IsHome (new_memory segments) seg
 unfolding new_memory
 home_bare segments seg fit h =
     let none : SegmentSpec = record { base = 0; pages = 0 } in
@@ -199,7 +200,7 @@ bare_placed system p seg name priority console program may free =
     let more = living_added system.kernel.dispatcher.procs p new (free_below system.kernel.dispatcher.procs p free) (free_is_dead system.kernel.dispatcher.procs p free) in
     record {
       whole = whole_placed system p seg name priority console program may free;
-      no_completions = completed_gave console None (Some p) begun ∙ may.bare.no_completions;
+      no_completions = record { answered = completed_gave console None (Some p) begun ∙ may.bare.no_completions.answered; written = may.bare.no_completions.written };
       start = may.bare.start;
       few = omega (arith, count_allocated memory seg Occupied, same.count, may.bare.few);
       counted = omega (arith, ap living (procs_gave console None (Some p) begun), more, count, before, may.bare.counted);
@@ -223,7 +224,7 @@ pub booted_is_bare : (file : MachineFile) (events : List Timed) → 1 ≤ file.c
 unfolding booted new_kernel new_dispatcher new_memory living no_processes
 booted_is_bare file events some few printers count script = record {
   whole = whole_booted file events some few printers script;
-  no_completions = refl;
+  no_completions = record { answered = refl; written = refl };
   start = refl;
   few = omega (arith, length-map file.segments new_segment, count);
   counted = omega (arith, nobody_counts file.segments);
@@ -282,24 +283,19 @@ pub may_place_program : (size : ℕ) → size ≤ 48512 → MayPlace (booted pro
 may_place_program size h = may_place_first [] size (All-nil IsTimed) h
 
 pub booted_parts : (file : MachineFile) (events : List Timed) (interrupts : Interrupts) (kernel : Kernel) (memory : Memory) (residents : List Native)
-    → 1 ≤ file.consoles → file.consoles ≤ 8 → file.printers ≤ 4 → length file.segments ≤ 16 → All IsTimed events
+    (records : List Completion) → 1 ≤ file.consoles → file.consoles ≤ 8 → file.printers ≤ 4 → length file.segments ≤ 16 → All IsTimed events
     → interrupts ≡ record { tick_every = file.tick_every; ticks = 0; script = events }
-    → kernel ≡ new_kernel file.consoles file.printers (moment_of file) → memory ≡ new_memory file.segments → residents ≡ []
-    → IsBare (record { steps = 0; interrupts = interrupts; kernel = kernel; memory = memory; abort_deferred = false; residents = residents })
+    → kernel ≡ new_kernel file.consoles file.printers (moment_of file) → memory ≡ new_memory file.segments → residents ≡ [] → records ≡ []
+    → IsBare (record { steps = 0; interrupts = interrupts; kernel = kernel; memory = memory; abort_deferred = false; residents = residents; records = records })
 unfolding booted
-booted_parts file events interrupts kernel memory residents some few printers count script is was there none =
-    let whole : record { steps = 0; interrupts = interrupts; kernel = kernel; memory = memory; abort_deferred = false; residents = residents } ≡ booted file events =
-    ap (λ (r : List Native). record { steps = 0; interrupts = interrupts; kernel = kernel; memory = memory; abort_deferred = false; residents = r }) none
-    ∙ ap (λ (i : Interrupts). record { steps = 0; interrupts = i; kernel = kernel; memory = memory; abort_deferred = false; residents = [] }) is
-    ∙ ap (λ (k : Kernel). record { steps = 0; interrupts = record { tick_every = file.tick_every; ticks = 0; script = events }; kernel = k; memory = memory; abort_deferred = false; residents = [] }) was
-    ∙ ap (λ (m : Memory). record {
-      steps = 0;
-      interrupts = record { tick_every = file.tick_every; ticks = 0; script = events };
-      kernel = new_kernel file.consoles file.printers (moment_of file);
-      memory = m;
-      abort_deferred = false;
-      residents = [];
-    }) there in
+booted_parts file events interrupts kernel memory residents records some few printers count script is was there none no_records =
+    let booting = booted file events in
+    let whole : record { steps = 0; interrupts = interrupts; kernel = kernel; memory = memory; abort_deferred = false; residents = residents; records = records } ≡ booting =
+    ap (λ (r : List Native). record booting { interrupts = interrupts; kernel = kernel; memory = memory; residents = r; records = records }) none
+    ∙ ap (λ (r : List Completion). record booting { interrupts = interrupts; kernel = kernel; memory = memory; records = r }) no_records
+    ∙ ap (λ (i : Interrupts). record booting { interrupts = i; kernel = kernel; memory = memory }) is
+    ∙ ap (λ (k : Kernel). record booting { kernel = k; memory = memory }) was
+    ∙ ap (λ (m : Memory). record booting { memory = m }) there in
     subst IsBare (sym whole) (booted_is_bare file events some few printers count script)
 
 pub booted_program : (file : MachineFile) (events : List Timed) (machine : System) → machine ≡ booted file events → file ≡ program_file → events ≡ []

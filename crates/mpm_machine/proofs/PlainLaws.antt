@@ -1,5 +1,5 @@
 -- A step in which no file call is made and nobody ends leaves files and drives as they are.
-use Rattle.std.proofs.Common.{◌≡◌, ◌∙◌, ℕ, Bool, true, false, not, ◌&&◌, List, [], ◌∷◌, ◌++◌, Option, Some, None, slice_index_or, if◌then◌else◌, refl, ap}
+use Rattle.std.proofs.Common.{◌≡◌, ◌∙◌, ℕ, Bool, true, false, not, ◌&&◌, List, [], ◌∷◌, ◌++◌, Option, None, slice_index_or, if◌then◌else◌, refl, ap}
 use Rattle.std.specs.List.{range_with_len}
 use Rattle.mpm_procs.specs.Table.{Table, lives}
 use Rattle.mpm_bdos.specs.Filing.{Filing}

@@ -1,6 +1,5 @@
 -- A step in which no event comes, and in which nobody's held call is completed.
-use Rattle.std.proofs.Common.{◌≡◌, ◌∙◌, ℕ, Bool, true, false, [], ◌++◌, Option, None, if◌then◌else◌, refl, ap}
-use Rattle.std.proofs.lemmas.List.{append-nil}
+use Rattle.std.proofs.Common.{◌≡◌, ◌∙◌, ℕ, Bool, true, false, [], Option, None, if◌then◌else◌, refl, ap}
 use Rattle.mpm_ready.specs.Order.{first_of}
 use Rattle.mpm_ready.specs.Tables.{list_at}
 use Rattle.mpm_dispatcher.proofs.ReadyLaws.{same_runner}
@@ -9,12 +8,11 @@ use Rattle.mpm_dispatcher.specs.Dispatch.{ready, picked, first_completed}
 use Rattle.mpm_kernel.specs.Kernel.{Kernel, dispatched as with_dispatcher}
 use Rattle.mpm_interrupts.specs.Interrupts.{due}
 use Rattle.mpm_machine.specs.declared.system.System.{System}
-use Rattle.mpm_machine.specs.State.{Change, silent, NobodyAborted}
-use Rattle.mpm_machine.specs.Finishing.{all_answered}
+use Rattle.mpm_machine.specs.State.{silent, NoCompletions, NobodyAborted}
 use Rattle.mpm_machine.specs.Due.{with_ends, settled}
-use Rattle.mpm_machine.specs.Step.{acted, at_instruction, lets_in, coming, begun_by, instruction_unless, with_settled, counted, dispatched, step_of}
+use Rattle.mpm_machine.specs.Step.{acted, at_instruction, lets_in, coming, begun_by, instruction_unless, records_out, with_settled, counted, dispatched, step_of}
 use Rattle.mpm_machine.proofs.FinishLaws.{answered_nobody}
-use Rattle.mpm_machine.proofs.DueLaws.{no_ends}
+use Rattle.mpm_machine.proofs.DueLaws.{no_ends_out}
 
 -- no interrupt comes where none is due
 
@@ -27,23 +25,14 @@ unfolding coming
 none_comes system none = comes_not (lets_in system.kernel.dispatcher.running system.kernel) (due system.steps system.interrupts) none
 
 -- nothing is to be finished where nobody was completed
-answered_silent : (system : System) → system.kernel.dispatcher.completed ≡ [] → all_answered system ≡ silent system
-answered_silent system e = answered_nobody system (ap first_completed e)
-
-settled_silent : (system : System) → system.kernel.dispatcher.completed ≡ [] → with_settled (silent system) ≡ with_ends system
+settled_silent : (system : System) → system.kernel.dispatcher.completed ≡ [] → with_settled (silent system) ≡ records_out (with_ends system)
 unfolding with_settled settled
-settled_silent system e =
-    ap (λ (answered : Change). record {
-      system = (with_ends answered.system).system;
-      emitted = ((with_ends answered.system).emitted ++ answered.emitted) ++ [];
-    }) (answered_silent system e)
-    ∙ ap (λ emitted. record { system = (with_ends system).system; emitted = emitted ++ [] }) (append-nil (with_ends system).emitted)
-    ∙ ap (λ emitted. record { system = (with_ends system).system; emitted = emitted }) (append-nil (with_ends system).emitted)
+settled_silent system e = ap (λ (answered : System). records_out (with_ends answered)) (answered_nobody system (ap first_completed e))
 
 -- where no event comes, and what the running process does says nothing and completes nobody, the step is that, and the ends
 -- that are due
 pub step_quiet : (system afterwards : System) → coming (counted system) ≡ None → acted (counted system) ≡ silent afterwards → afterwards.kernel.dispatcher.completed ≡ []
-    → step_of system ≡ dispatched (at_instruction (counted system)) (with_ends afterwards)
+    → step_of system ≡ dispatched (at_instruction (counted system)) (records_out (with_ends afterwards))
 unfolding step_of
 step_quiet system afterwards quiet acts no_completions =
     let begun = counted system in
@@ -51,11 +40,12 @@ step_quiet system afterwards quiet acts no_completions =
     ∙ ap (λ change. dispatched (at_instruction begun) (with_settled change)) acts
     ∙ ap (dispatched (at_instruction begun)) (settled_silent afterwards no_completions)
 
--- where besides nobody is aborted, the step is that alone
-pub step_still : (system afterwards : System) → coming (counted system) ≡ None → acted (counted system) ≡ silent afterwards → afterwards.kernel.dispatcher.completed ≡ []
+-- where besides nobody is aborted, and no record is left, the step is that alone
+pub step_still : (system afterwards : System) → coming (counted system) ≡ None → acted (counted system) ≡ silent afterwards → NoCompletions afterwards
     → NobodyAborted afterwards.kernel → afterwards.abort_deferred ≡ false → step_of system ≡ dispatched (at_instruction (counted system)) (silent afterwards)
 step_still system afterwards quiet acts no_completions none off =
-    step_quiet system afterwards quiet acts no_completions ∙ ap (dispatched (at_instruction (counted system))) (no_ends afterwards none off)
+    step_quiet system afterwards quiet acts no_completions.answered
+    ∙ ap (dispatched (at_instruction (counted system))) (no_ends_out afterwards none off no_completions.written)
 
 -- who runs and is the first of the ready list is picked again, or nobody where there is none
 pub picked_same : (instruction : Bool) (kernel : Kernel) → first_of (list_at kernel.dispatcher.lists ready) ≡ kernel.dispatcher.running → with_dispatcher (picked instruction) kernel ≡ kernel

@@ -1,6 +1,5 @@
 -- A call is served by what it took and by who has which segment, and never by the bytes of memory.
 use Rattle.std.proofs.Common.{◌≡◌, ◌∙◌, ℕ, zero, suc, cond, not, ◌+◌, Bool, true, false, List, [], ◌∷◌, ◌++◌, Option, Some, None, ◌&&◌, ◌==◌, nat_le, nat_lt, length, get_or, if◌then◌else◌, inl, inr, refl, sym, ap, subst, arith, ◌||◌}
-use Rattle.std.specs.Prelude.{is_some}
 use Rattle.std.specs.List.{position_or_len}
 use Rattle.std.proofs.lemmas.Bool.{cases_eq, cases_lt}
 use Rattle.std.proofs.Math.ListN.{get_or-eq_default, get_or-map as map_at}
@@ -26,7 +25,7 @@ use Rattle.mpm_machine.specs.declared.system.System.{System}
 use Rattle.mpm_machine.specs.Calling.{Served, served_by, calling}
 use Rattle.mpm_machine.specs.Sending.{has_interpreter, sending, chaining}
 use Rattle.mpm_machine.specs.Serving.{asked, keeping, reserve_reply, base_asked, reserving, releasing, creating, aborted, aborting_this, aborting, parsing, served_to_all, served, gate_step, telling_system, telling_descriptor}
-use Rattle.mpm_residents.specs.Natives.{native_in}
+use Rattle.mpm_residents.specs.Natives.{native_in, interprets_if_there}
 use Rattle.mpm_residents.specs.declared.native.Native.{Native}
 use Rattle.mpm_processor.specs.declared.gate.Gate.{Gate}
 use Rattle.mpm_machine.specs.State.{Change}
@@ -72,7 +71,7 @@ hands_there one other seg allocation same = elim (cases_lt seg (length one.segme
       ∙ sym (get_or-eq_default (allocated one seg allocation).segments no_segment (omega (arith, beyond, count_allocated one seg allocation))))
 ]
 
-allocated_alike : (one other : Memory) (seg : ℕ) (allocation : Allocation) → SameSegments one other
+pub allocated_alike : (one other : Memory) (seg : ℕ) (allocation : Allocation) → SameSegments one other
     → SameSegments (allocated one seg allocation) (allocated other seg allocation)
 unfolding allocated
 allocated_alike one other seg allocation same = record {
@@ -172,7 +171,7 @@ alike_if false one one' other other' is was = was
 
 -- an end gives the same segments back
 
-segment_freed : (memory : Memory) (owner seg : ℕ) → segment_of (all_released memory owner) seg ≡ freed owner (segment_of memory seg)
+pub segment_freed : (memory : Memory) (owner seg : ℕ) → segment_of (all_released memory owner) seg ≡ freed owner (segment_of memory seg)
 unfolding all_released
 segment_freed memory owner seg = map_at (freed owner) memory.segments seg no_segment
 
@@ -285,7 +284,7 @@ by_kernel_alike : (does : Bool → Kernel → Called) (one other : System) → D
     → ServedAlike (served_by (does (has_interpreter one) one.kernel) one) (served_by (does (has_interpreter other) other.kernel) other)
 by_kernel_alike does one other d =
     let same : does (has_interpreter other) other.kernel ≡ does (has_interpreter one) one.kernel =
-    ap (λ (residents : List Native). does (is_some (native_in residents 0)) other.kernel) d.residents ∙ ap (does (has_interpreter one)) d.kernel in
+    ap (λ (residents : List Native). does (interprets_if_there (native_in residents 0)) other.kernel) d.residents ∙ ap (does (has_interpreter one)) d.kernel in
     record {
       kernel = ap (λ (c : Called). c.kernel) same;
       segments = d.segments;
@@ -294,7 +293,7 @@ by_kernel_alike does one other d =
     }
 
 -- whatever bytes stand in memory, a call does the same, and answers the same
-to_all_alike : (call : Taken) (p : ℕ) (one other : System) → DiffersInBytes one other → ServedAlike (served_to_all call p one) (served_to_all call p other)
+pub to_all_alike : (call : Taken) (p : ℕ) (one other : System) → DiffersInBytes one other → ServedAlike (served_to_all call p one) (served_to_all call p other)
 unfolding served_to_all
 to_all_alike call p one other d =
     let f = call.function in

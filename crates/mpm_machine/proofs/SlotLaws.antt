@@ -1,16 +1,18 @@
 -- The residents of a machine as it is run stand in their slots.
-use Rattle.std.proofs.Common.{◌≡◌, ◌≢◌, ◌∙◌, ℕ, zero, suc, ◌+◌, ◌<◌, ◌≤◌, Bool, true, false, not, List, [], ◌∷◌, ◌++◌, length, Option, Some, None, if◌then◌else◌, inl, inr, codes, refl, sym, ap, subst, arith, add-one}
+use Rattle.std.proofs.Common.{◌≡◌, ◌≢◌, ◌∙◌, ℕ, zero, suc, ◌+◌, ◌*◌, ◌<◌, ◌≤◌, Bool, true, false, not, List, [], ◌∷◌, ◌++◌, length, Option, Some, None, if◌then◌else◌, inl, inr, codes, refl, sym, ap, subst, arith, add-one, All, get_or, get_or-set_same}
 use Rattle.std.specs.Prelude.{slice_get, nat_lt}
-use Rattle.std.proofs.lemmas.Bool.{cases_lt}
+use Rattle.std.proofs.lemmas.Bool.{cases_lt, false≢true}
+use Rattle.std.proofs.lemmas.List.{length-map, length-replicate, get_or-map}
 use Rattle.std.proofs.lemmas.Bool.Decides.{nat_tests}
 use Rattle.std.proofs.lemmas.List.Sums.{position_or_len_is}
 use Rattle.mpm_ready.specs.Tables.{no_lists}
 use Rattle.mpm_ready.proofs.TableLaws.{table_none, list_of_none, list_of_inserted, list_of_inserted_other}
-use Rattle.mpm_procs.specs.Table.{Table, HasSlots, lives, Lives, process_in, lowest_free, added, with_process, no_processes}
+use Rattle.mpm_base.specs.Calls.{Taken, no_call}
+use Rattle.mpm_procs.specs.Table.{Table, HasSlots, lives, Lives, process_in, call_of, lowest_free, added, with_process, no_processes}
 use Rattle.mpm_procs.specs.declared.process.Process.{Process}
 use Rattle.mpm_procs.specs.declared.process.NewProcess.{NewProcess}
 use Rattle.mpm_procs.specs.Opening.{opening as opening_process}
-use Rattle.mpm_procs.proofs.MapLaws.{slots_none, nobody_lives, lives_changed, lives_added, lives_added_other, process_changed, process_kept, process_added, process_added_other, slots_added}
+use Rattle.mpm_procs.proofs.MapLaws.{call_after, call_added_other, slots_none, nobody_lives, lives_changed, lives_added, lives_added_other, process_changed, process_kept, process_added, process_added_other, slots_added}
 use Rattle.mpm_dispatcher.specs.Dispatch.{ready, picked, new_dispatcher}
 use Rattle.mpm_kernel.specs.Kernel.{new_kernel, dispatched}
 use Rattle.mpm_kernel.specs.Queueing.{with_queue, with_system_queue}
@@ -24,6 +26,16 @@ use Rattle.mpm_machine_file.specs.declared.machine_file.MachineFile.{MachineFile
 use Rattle.mpm_machine.specs.declared.system.System.{System}
 use Rattle.mpm_machine.specs.State.{IsWhole}
 use Rattle.mpm_machine.specs.Opening.{resident_process, with_interpreter, terminal_name, with_terminal, with_terminals, with_command_queue, begun_by_interpreter, with_interpreting, with_residents, moment_of, booted, opened}
+use Rattle.mpm_banks.specs.Memory.{HasSegment, IsMemory, IsSegment as IsBanked}
+use Rattle.mpm_banks.specs.Allocations.{new_segment, new_memory}
+use Rattle.mpm_base.specs.Lists.{zeros}
+use Rattle.mpm_base.specs.declared.segment.SegmentSpec.{SegmentSpec}
+use Rattle.mpm_machine_file.specs.MachineFiles.{IsMachine, IsSegment as FitsHome}
+use Rattle.mpm_residents.specs.Natives.{native_in, interprets_if_there}
+use Rattle.mpm_cli.proofs.StandingLaws.{stands_opening}
+use Rattle.mpm_processor.specs.Gates.{IsHome}
+use Rattle.mpm_machine.specs.Interpreting.{sets_or_chains, Interprets}
+use Rattle.mpm_machine.proofs.PlacedLaws.{home_bare}
 use Rattle.mpm_machine.specs.Slots.{HasInterpreter, HasTerminal, HasResidents}
 use Rattle.mpm_machine.proofs.OpeningLaws.{Begun, interpreting_begun, terminal_begun, boots}
 
@@ -75,6 +87,21 @@ same_as_before table p q new process apart =
 name_there : (table : Table) (p : ℕ) (new : NewProcess) → HasSlots table → p < 32 → (process_in (added table p new) p).name ≡ new.name
 unfolding opening_process
 name_there table p new slots within = ap (λ (x : Process). x.name) (process_added table p new (omega (arith, within, slots.processes)))
+
+seg_there : (table : Table) (p : ℕ) (new : NewProcess) → HasSlots table → p < 32 → (process_in (added table p new) p).seg ≡ new.seg
+unfolding opening_process
+seg_there table p new slots within = ap (λ (x : Process). x.seg) (process_added table p new (omega (arith, within, slots.processes)))
+
+due_there : (table : Table) (p : ℕ) (new : NewProcess) → HasSlots table → p < 32 → (process_in (added table p new) p).abort_due ≡ false
+unfolding opening_process
+due_there table p new slots within = ap (λ (x : Process). x.abort_due) (process_added table p new (omega (arith, within, slots.processes)))
+
+call_there : (table : Table) (p : ℕ) (new : NewProcess) (process : Process) → HasSlots table → p < 32 → call_of (begun_in table p new process) p ≡ no_call
+unfolding added
+call_there table p new process slots within = call_after (added table p new) p p process ∙ get_or-set_same table.calls p no_call no_call (omega (arith, within, slots.calls))
+
+call_as_before : (table : Table) (p q : ℕ) (new : NewProcess) (process : Process) → q ≢ p → call_of (begun_in table p new process) q ≡ call_of table q
+call_as_before table p q new process apart = call_after (added table p new) p q process ∙ call_added_other table p q new apart
 
 -- some of the terminal message processors have begun
 pub record Lodges (consoles n : ℕ) (system : System) : Type 0 where
@@ -130,6 +157,10 @@ lodges_at consoles n system w few free has =
         name = ap (λ (x : Process). x.name) (same_as_before table p 0 new process (not_zero n)) ∙ has.interpreter.name;
         ready = list_of_inserted_other system.kernel.dispatcher.lists ready (record { slot = p; priority = 198 }) 0 w.sound.table (omega arith)
             (omega (arith, few)) (free_is_unlisted system.kernel p w.sound free) (grind (arith, nat_tests)) ∙ has.interpreter.ready;
+        resides = ap (λ (x : Process). x.seg) (same_as_before table p 0 new process (not_zero n)) ∙ has.interpreter.resides;
+        answers = ap (λ (x : Process). x.error_mode) (same_as_before table p 0 new process (not_zero n)) ∙ has.interpreter.answers;
+        goes_on = ap (λ (x : Process). x.abort_due) (same_as_before table p 0 new process (not_zero n)) ∙ has.interpreter.goes_on;
+        calls = ap (λ (c : Taken). c.function) (call_as_before table p 0 new process (not_zero n)) ∙ has.interpreter.calls;
         resident = front system.residents (Tmp (opening n) ∷ []) 0 (Cli (opening_interpreter consoles)) has.interpreter.resident;
       };
       terminals = λ k less. elim (cases_lt k n) [
@@ -159,7 +190,7 @@ record LodgesWhole (consoles n : ℕ) (start system : System) : Type 0 where
 
 all_lodge : (consoles n : ℕ) (start : System) → IsWhole start → n ≤ length start.kernel.units.consoles → Lodges consoles 0 start → LodgesWhole consoles n start (with_terminals n start)
 unfolding with_terminals
-all_lodge consoles zero start w few has = record { begun = record { whole = w; completed = refl; consoles = refl; steps = refl }; lodges = has }
+all_lodge consoles zero start w few has = record { begun = record { whole = w; completed = refl; consoles = refl; steps = refl; records = refl }; lodges = has }
 all_lodge consoles (suc n) start w few has =
     let others = all_lodge consoles n start w (omega (arith, few)) has in
     let system = with_terminals n start in
@@ -171,6 +202,7 @@ all_lodge consoles (suc n) start w few has =
         completed = more.completed ∙ others.begun.completed;
         consoles = more.consoles ∙ others.begun.consoles;
         steps = more.steps ∙ others.begun.steps;
+        records = more.records ∙ others.begun.records;
       };
       lodges = subst (λ k. Lodges consoles k (with_terminal (lowest_free system.kernel.dispatcher.procs) n system)) (add-one n)
           (lodges_more consoles n system whole (omega (arith, few, whole.sound.units.consoles, others.begun.consoles)) others.lodges);
@@ -192,6 +224,10 @@ placed file events =
         lives = lives_there no_processes 0 new process (omega (arith, slots_none.alive));
         name = ap (λ (x : Process). x.name) (same_there no_processes 0 new process slots_none (omega arith)) ∙ name_there no_processes 0 new slots_none (omega arith);
         ready = list_of_inserted no_lists ready (record { slot = 0; priority = 190 }) table_none (omega arith) (omega arith) (list_of_none 0);
+        resides = ap (λ (x : Process). x.seg) (same_there no_processes 0 new process slots_none (omega arith)) ∙ seg_there no_processes 0 new slots_none (omega arith);
+        answers = ap (λ (x : Process). x.error_mode) (same_there no_processes 0 new process slots_none (omega arith));
+        goes_on = ap (λ (x : Process). x.abort_due) (same_there no_processes 0 new process slots_none (omega arith)) ∙ due_there no_processes 0 new slots_none (omega arith);
+        calls = ap (λ (c : Taken). c.function) (call_there no_processes 0 new process slots_none (omega arith));
         resident = refl;
       };
       terminals = λ k less. absurd (omega (arith, less));
@@ -207,24 +243,129 @@ interpreter_first file events =
     let P : Option ℕ → Type 0 = λ o. Lodges file.consoles 0 (record (booted file events) { kernel = with_interpreter o kernel; residents = Cli (opening_interpreter file.consoles) ∷ [] }) in
     subst P (sym free) (placed file events)
 
+-- no segment changes
+
+terminal_memory : (slot : Option ℕ) (console : ℕ) (system : System) → (with_terminal slot console system).memory ≡ system.memory
+unfolding with_terminal
+terminal_memory None console system = refl
+terminal_memory (Some p) console system = refl
+
+terminals_memory : (n : ℕ) (system : System) → (with_terminals n system).memory ≡ system.memory
+unfolding with_terminals
+terminals_memory zero system = refl
+terminals_memory (suc n) system = terminal_memory (lowest_free (with_terminals n system).kernel.dispatcher.procs) n (with_terminals n system) ∙ terminals_memory n system
+
+first_memory : (file : MachineFile) (events : List Timed) → (with_interpreting file.consoles (begun_by_interpreter (booted file events))).memory ≡ new_memory file.segments
+unfolding begun_by_interpreter booted
+first_memory file events = refl
+
 -- and so after the dispatcher
+
+-- the residents of a machine as it is run, with as many consoles and with the memory of its beginning
+record Opens (file : MachineFile) (system : System) : Type 0 where
+  pub residents : HasResidents file.consoles system
+  pub consoles : file.consoles ≡ length system.kernel.units.consoles
+  pub memory : system.memory ≡ new_memory file.segments
 
 picked_too : (n : ℕ) (system : System) → Lodges n n system → HasResidents n (record system { kernel = dispatched (picked false) system.kernel })
 picked_too n system has = record {
-  interpreter = record { lives = has.interpreter.lives; name = has.interpreter.name; ready = has.interpreter.ready; resident = has.interpreter.resident };
+  interpreter = record {
+    lives = has.interpreter.lives;
+    name = has.interpreter.name;
+    ready = has.interpreter.ready;
+    resides = has.interpreter.resides;
+    answers = has.interpreter.answers;
+    goes_on = has.interpreter.goes_on;
+    calls = has.interpreter.calls;
+    resident = has.interpreter.resident;
+  };
   terminals = λ k less.
       let there = has.terminals k less in record { lives = there.lives; name = there.name; resident = there.resident };
+  only = has.residents;
 }
 
-opened_lodges : (file : MachineFile) (events : List Timed) → IsWhole (booted file events) → HasResidents file.consoles (opened file events)
+opened_lodges : (file : MachineFile) (events : List Timed) → IsWhole (booted file events) → Opens file (opened file events)
 unfolding opened with_residents
 opened_lodges file events w =
     let boots_so = boots file events (booted file events) refl in
     let first = interpreting_begun file.consoles (booted file events) w boots_so.queues boots_so.room in
-    let all = all_lodge file.consoles file.consoles (with_interpreting file.consoles (begun_by_interpreter (booted file events))) first.whole (omega (arith, boots_so.consoles, first.consoles)) (interpreter_first file events) in
-    picked_too file.consoles (with_terminals file.consoles (with_interpreting file.consoles (begun_by_interpreter (booted file events)))) all.lodges
+    let start = with_interpreting file.consoles (begun_by_interpreter (booted file events)) in
+    let all = all_lodge file.consoles file.consoles start first.whole (omega (arith, boots_so.consoles, first.consoles)) (interpreter_first file events) in
+    record {
+      residents = picked_too file.consoles (with_terminals file.consoles start) all.lodges;
+      consoles = boots_so.consoles ∙ sym (all.begun.consoles ∙ first.consoles);
+      memory = terminals_memory file.consoles start ∙ first_memory file events;
+    }
 
 pub has_residents : (file : MachineFile) (events : List Timed) (bare afterwards : System) → bare ≡ booted file events → IsWhole bare
     → afterwards ≡ opened file events → HasResidents file.consoles afterwards
 has_residents file events bare afterwards is w was =
-    subst (HasResidents file.consoles) (sym was) (opened_lodges file events (subst IsWhole is w))
+    subst (HasResidents file.consoles) (sym was) (opened_lodges file events (subst IsWhole is w)).residents
+
+-- the interpreter acts there, with each segment as its machine file has it
+
+in_slot_zero : (consoles : ℕ) (system : System) → HasResidents consoles system → (p : ℕ) → interprets_if_there (native_in system.residents p) ≡ true → p ≡ 0
+in_slot_zero consoles system has zero acts = refl
+in_slot_zero consoles system has (suc k) acts = elim (cases_lt k consoles) [
+  | inl less ↦
+      let tmp : native_in system.residents (suc k) ≡ Some (Tmp (opening k)) = ap (native_in system.residents) (sym (add-one k)) ∙ (has.terminals k less).resident in
+      absurd (false≢true (sym (ap interprets_if_there tmp) ∙ acts))
+  | inr past ↦ absurd (false≢true (sym (ap interprets_if_there (behind system.residents (suc k) (omega (arith, past, has.only)))) ∙ acts))
+]
+  where
+    behind : (xs : List Native) (i : ℕ) → length xs ≤ i → slice_get xs i ≡ None
+    behind [] i less = refl
+    behind (x ∷ xs) zero less = absurd (omega (arith, less))
+    behind (x ∷ xs) (suc i) less = behind xs i (omega (arith, less))
+
+zeros_size : (n : ℕ) → length (zeros n) ≡ n
+unfolding zeros
+zeros_size n = length-replicate n 0
+
+is_memory : (segments : List SegmentSpec) → All FitsHome segments → 1 ≤ length segments → length segments ≤ 16 → IsMemory (new_memory segments)
+unfolding new_memory
+is_memory segments fit some few = record {
+  segments = λ k other less.
+      let none : SegmentSpec = record { base = 0; pages = 0 } in
+      let below : k < length segments = omega (arith, less, length-map segments new_segment) in
+      let spec = get_or segments k none in
+      let fits : FitsHome spec = fit k none below in
+      subst (λ s. IsBanked s) (sym (get_or-map new_segment segments k none other below))
+      (record { some = omega (arith, fits.pages); below = fits.end; size = zeros_size (256 * spec.pages) });
+  some = omega (arith, some, length-map segments new_segment);
+  count = omega (arith, few, length-map segments new_segment);
+  common = zeros_size 16384;
+}
+
+segment_given : (segments : List SegmentSpec) (seg : ℕ) → HasSegment (new_memory segments) seg → seg < length segments
+unfolding new_memory
+segment_given segments seg there = omega (arith, there, length-map segments new_segment)
+
+interprets_at : (file : MachineFile) (system : System) → IsMachine file → Opens file system → Interprets system
+unfolding opening_interpreter
+interprets_at file system machine opens =
+    let slot = opens.residents.interpreter in
+    record {
+      acting = record {
+        cli = opening_interpreter file.consoles;
+        acts = slot.resident;
+        alone = in_slot_zero file.consoles system opens.residents;
+        lives = slot.lives;
+        resides = slot.resides;
+        answers = slot.answers;
+        goes_on = slot.goes_on;
+        calls = ap sets_or_chains slot.calls;
+        stands = stands_opening file.consoles (omega (arith, machine.some_console));
+        consoles = opens.consoles;
+      };
+      memory = subst IsMemory (sym opens.memory) (is_memory file.segments machine.each_segment machine.some_segment machine.segments);
+      homes = λ seg there.
+          let bare = subst (λ m. HasSegment m seg) opens.memory there in
+          subst (λ m. IsHome m seg) (sym opens.memory) (home_bare file.segments seg machine.each_segment (segment_given file.segments seg bare));
+      has = λ loading. absurd (false≢true loading);
+    }
+
+pub interprets_opened : (file : MachineFile) (events : List Timed) (bare afterwards : System) → IsMachine file → bare ≡ booted file events → IsWhole bare
+    → afterwards ≡ opened file events → Interprets afterwards
+interprets_opened file events bare afterwards machine is w was =
+    subst Interprets (sym was) (interprets_at file (opened file events) machine (opened_lodges file events (subst IsWhole is w)))

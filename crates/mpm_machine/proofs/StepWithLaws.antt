@@ -1,15 +1,15 @@
 -- A step by what a file call comes to, if one is made in it: the system stays whole, nobody is left to be answered, and nobody's
 -- end is due; where none is made it is a step as it was.
-use Rattle.std.proofs.Common.{◌≡◌, ◌∙◌, ℕ, Bool, false, not, ◌&&◌, [], Option, Some, None, IfSome, if◌then◌else◌, refl, ap}
+use Rattle.std.proofs.Common.{◌≡◌, ◌∙◌, ℕ, Bool, false, not, ◌&&◌, Option, Some, None, IfSome, if◌then◌else◌, refl, ap}
 use Rattle.std.specs.Prelude.{is_some}
 use Rattle.mpm_procs.specs.Table.{Lives, process_in}
 use Rattle.mpm_dispatcher.specs.Dispatch.{picked}
 use Rattle.mpm_kernel.specs.Kernel.{dispatched}
 use Rattle.mpm_bdos.specs.Direct.{Directly}
 use Rattle.mpm_machine.specs.declared.system.System.{System}
-use Rattle.mpm_machine.specs.State.{Change, IsWhole}
+use Rattle.mpm_machine.specs.State.{Change, IsWhole, NoCompletions}
 use Rattle.mpm_machine.specs.Due.{NobodyDue, settled}
-use Rattle.mpm_machine.specs.Step.{gate_before, coming, counted, begun_by, instruction_unless, with_settled, step_of}
+use Rattle.mpm_machine.specs.Step.{gate_before, coming, counted, begun_by, instruction_unless, records_out, with_settled, step_of}
 use Rattle.mpm_machine.specs.FileCalls.{at_gate, called_next, is_file_number, calls_files, file_caller_by, file_caller, call_made, step_by, step_with}
 use Rattle.mpm_machine.specs.Contained.{Instructs, OnlyInstructed, Calls, ServedByValue}
 use Rattle.mpm_machine.proofs.WholeStepLaws.{whole_step, no_completions_step}
@@ -39,19 +39,19 @@ pub nobody_due_with : (told : Directly) (system : System) → IsWhole system →
 unfolding step_with
 nobody_due_with told system w = nobody_due_by (file_caller system) told system w (caller_lives system w)
 
-no_completions_of : (system : System) → (step_of system).system.kernel.dispatcher.completed ≡ []
+no_completions_of : (system : System) → NoCompletions (step_of system).system
 unfolding step_of with_settled
 no_completions_of system =
     let begun = (begun_by (coming (counted system)) (counted system)).system in
-    let afterwards = (settled begun).system in
+    let afterwards = (records_out (settled begun)).system in
     let instruction = instruction_unless (coming (counted system)) (counted system) in
     no_completions_step begun afterwards (dispatched (picked instruction) afterwards.kernel) instruction refl refl
 
-no_completions_by : (caller : Option ℕ) (told : Directly) (system : System) → (step_by caller told system).system.kernel.dispatcher.completed ≡ []
+no_completions_by : (caller : Option ℕ) (told : Directly) (system : System) → NoCompletions (step_by caller told system).system
 no_completions_by None told system = no_completions_of system
 no_completions_by (Some p) told system = no_completions_concluded told p (call_made p system)
 
-pub no_completions_with : (told : Directly) (system : System) → (step_with told system).system.kernel.dispatcher.completed ≡ []
+pub no_completions_with : (told : Directly) (system : System) → NoCompletions (step_with told system).system
 unfolding step_with
 no_completions_with told system = no_completions_by (file_caller system) told system
 
@@ -80,10 +80,10 @@ unfolding file_caller
 no_caller_at p seg system i =
     no_caller_by (is_some (coming (counted system))) system.kernel.dispatcher.running p system i.runs (no_file_at p seg system i.home i.no_gate)
 
-pub instructed_with : (told : Directly) (p seg : ℕ) (system : System) → system.kernel.dispatcher.completed ≡ [] → Instructs system p seg
+pub instructed_with : (told : Directly) (p seg : ℕ) (system : System) → NoCompletions system → Instructs system p seg
     → OnlyInstructed p system (step_with told system).system
 instructed_with told p seg system none i =
-    instructs_only system (step_with told system).system p seg i none (ap (λ (c : Change). c.system) (with_none told system (no_caller_at p seg system i)))
+    instructs_only system (step_with told system).system p seg i none.answered (ap (λ (c : Change). c.system) (with_none told system (no_caller_at p seg system i)))
 
 -- and at another call
 

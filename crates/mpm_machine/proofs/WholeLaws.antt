@@ -1,5 +1,5 @@
 -- A whole system stays whole through what a process does: its instruction, its call, its end.
-use Rattle.std.proofs.Common.{◌≡◌, ◌≢◌, ◌∙◌, ℕ, ◌&&◌, ◌||◌, Bool, true, false, not, List, [], ◌∷◌, Option, Some, None, ◌==◌, if◌then◌else◌, refl, sym, ap, subst, IsNone, arith}
+use Rattle.std.proofs.Common.{◌≡◌, ◌≢◌, ◌∙◌, ℕ, ◌&&◌, ◌||◌, Bool, true, false, not, List, [], Option, Some, None, ◌==◌, if◌then◌else◌, refl, sym, ap, subst, IsNone, length, arith}
 use Rattle.std.proofs.lemmas.Bool.{false≢true, or_right, eq-eqb}
 use Rattle.std.proofs.lemmas.Bool.Decides.{nat_tests}
 use Rattle.std.proofs.lemmas.List.{set-get_or}
@@ -35,13 +35,14 @@ use Rattle.mpm_xdos.proofs.Homes.{home_here}
 use Rattle.mpm_xdos.proofs.CreatedLaws.{made_created}
 use Rattle.mpm_machine.specs.declared.system.System.{System}
 use Rattle.mpm_processor.specs.Gates.{IsHome}
-use Rattle.mpm_machine.specs.State.{IsWhole, NobodyAborted, speaking}
+use Rattle.mpm_render.specs.Completions.{Completion}
+use Rattle.mpm_machine.specs.State.{HasRoom, IsWhole, NobodyAborted, speaking}
 use Rattle.mpm_machine.specs.Ending.{ended}
 use Rattle.mpm_machine.specs.Calling.{Served, asking, calling}
-use Rattle.mpm_machine.specs.Serving.{with_regs, keeping, creating, aborted, aborting_this, aborting, string_of, said_by, popped, replied, completion, is_entry, with_entry, reply_at_entry, fulfilling, answering_call, completing, returning}
+use Rattle.mpm_machine.specs.Serving.{with_regs, keeping, creating, aborted, aborting_this, aborting, string_of, said_by, popped, replied, recorded, is_entry, with_entry, reply_at_entry, fulfilling, answering_call, completing, returning}
 use Rattle.mpm_residents.specs.declared.native.Native.{Native}
 use Rattle.mpm_output.specs.Texts.{illegal_text}
-use Rattle.mpm_machine.specs.Step.{illegal, executed, instructed}
+use Rattle.mpm_machine.specs.Step.{records_out, illegal, executed, instructed}
 use Rattle.mpm_machine.proofs.HomeLaws.{KeepsHomes, keeps_placed, keeps_acted, leaves_without, free_or_lived, found_is_free}
 
 -- the segment of a process is a home
@@ -96,6 +97,13 @@ whole_memory system memory w keeps = record {
 -- more steps are counted
 pub whole_steps : (system : System) (steps : ℕ) → IsWhole system → IsWhole (record system { steps = steps })
 whole_steps system steps w = record { sound = w.sound; live = w.live; homes = w.homes; lived = w.lived; script = w.script; settled = w.settled }
+
+-- other records are kept
+pub whole_records : (system : System) (records : List Completion) → IsWhole system → IsWhole (record system { records = records })
+whole_records system records w = record { sound = w.sound; live = w.live; homes = w.homes; lived = w.lived; script = w.script; settled = w.settled }
+
+pub whole_written : (answered written : System) → IsWhole answered → written ≡ (records_out answered).system → IsWhole written
+whole_written answered written w is = subst IsWhole (sym is) (whole_records answered [] w)
 
 -- a system is whole after a part of the step of a process, which lives and keeps its call
 pub record StaysWhole (p : ℕ) (old new : System) : Type 0 where
@@ -230,12 +238,12 @@ unfolding popped
 whole_popped p seg system w h = whole_regs p (returned (byte_at system.memory seg) (process_in system.kernel.dispatcher.procs p).regs) system w h
 
 pub whole_replied : (reply : Answer) (call : Taken) (p seg : ℕ) (system : System) → IsWhole system → Lives system.kernel.dispatcher.procs p
-    → StaysWhole p system (answering_call reply call p seg system).system
-unfolding answering_call replied
+    → StaysWhole p system (answering_call reply call p seg system)
+unfolding answering_call recorded replied
 whole_replied reply call p seg system w h =
     let changed = whole_regs p (answered reply.hl (process_in system.kernel.dispatcher.procs p).regs) system w h in
     record {
-      whole = whole_memory _ _ changed.whole (keeps_placed reply call.word seg system.memory);
+      whole = whole_records _ _ (whole_memory _ _ changed.whole (keeps_placed reply call.word seg system.memory));
       lives = changed.lives;
       call = changed.call;
     }
@@ -247,12 +255,16 @@ lives_replied reply call p seg old afterwards h is =
     ap (λ (s : System). lives s.kernel.dispatcher.procs p) is ∙ lives_changed old.kernel.dispatcher.procs p p _ ∙ h
 
 -- the record that follows is that of the call
-pub answered_emitted : (reply : Answer) (p seg : ℕ) (old afterwards : System) → afterwards ≡ replied reply (call_of old.kernel.dispatcher.procs p) p seg old
-    → completion (call_of afterwards.kernel.dispatcher.procs p) p afterwards ∷ [] ≡ (answering_call reply (call_of old.kernel.dispatcher.procs p) p seg old).emitted
+pub answers_recorded : (reply : Answer) (p seg : ℕ) (old afterwards : System) → afterwards ≡ replied reply (call_of old.kernel.dispatcher.procs p) p seg old
+    → recorded (call_of afterwards.kernel.dispatcher.procs p) p afterwards ≡ answering_call reply (call_of old.kernel.dispatcher.procs p) p seg old
 unfolding answering_call replied
-answered_emitted reply p seg old afterwards is =
-    ap (λ (s : System). completion (call_of s.kernel.dispatcher.procs p) p s ∷ []) is
-    ∙ ap (λ call. completion call p (replied reply (call_of old.kernel.dispatcher.procs p) p seg old) ∷ []) (call_after old.kernel.dispatcher.procs p p _)
+answers_recorded reply p seg old afterwards is =
+    ap (λ (s : System). recorded (call_of s.kernel.dispatcher.procs p) p s) is
+    ∙ ap (λ call. recorded call p (replied reply (call_of old.kernel.dispatcher.procs p) p seg old)) (call_after old.kernel.dispatcher.procs p p _)
+
+pub room_replied : (reply : Answer) (call : Taken) (p seg : ℕ) (old afterwards : System) → HasRoom old → afterwards ≡ replied reply call p seg old → HasRoom afterwards
+unfolding replied
+room_replied reply call p seg old afterwards room is = omega (arith, room, ap (λ (s : System). length s.records) is)
 
 -- a process enters a resident procedure
 
@@ -278,7 +290,7 @@ whole_entry reply call p system w h =
     (λ _. whole_entered p system w h) (λ _. record { whole = w; lives = h; call = refl })
 
 pub whole_fulfilling : (reply : Answer) (call : Taken) (p seg : ℕ) (system : System) → IsWhole system → Lives system.kernel.dispatcher.procs p
-    → IsWhole (fulfilling reply call p seg system).system
+    → IsWhole (fulfilling reply call p seg system)
 unfolding fulfilling
 whole_fulfilling reply call p seg system w h =
     let inside = whole_entry reply call p system w h in

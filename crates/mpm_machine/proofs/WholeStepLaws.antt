@@ -18,7 +18,7 @@ use Rattle.mpm_kernel.proofs.SoundLaws.{sound_picked, sound_happened, live_happe
 use Rattle.mpm_kernel.proofs.HomeLaws.{homes_stay, homes_happened, homes_handed_out, lives_handed_out}
 use Rattle.mpm_xdos.specs.Aborting.{waits_to_end}
 use Rattle.mpm_machine.specs.declared.system.System.{System}
-use Rattle.mpm_machine.specs.State.{Change, IsWhole, NobodyAborted}
+use Rattle.mpm_machine.specs.State.{Change, IsWhole, NoCompletions, NobodyAborted}
 use Rattle.mpm_machine.specs.Ending.{ended}
 use Rattle.mpm_kernel.specs.Consoling.{abort_taken}
 use Rattle.mpm_kernel.proofs.AbortLaws.{abort_lives, sound_abort_taken}
@@ -27,12 +27,12 @@ use Rattle.mpm_interrupts.specs.declared.interrupts.Interrupts.{Interrupts}
 use Rattle.mpm_machine.specs.Finishing.{finished, completion_dequeued, finishing, all_finished, command_let_in, finished_or_ended, answered_from, all_answered}
 use Rattle.mpm_machine.specs.Sending.{chains}
 use Rattle.mpm_machine.specs.Due.{is_due, ended_if_due, due_terminated, is_any_aborted, noted, with_ends, settled}
-use Rattle.mpm_machine.specs.Step.{counted, lets_in, coming, unhalted, key_aborted, happened_to, event_come, interrupted, begun_by, instruction_unless, with_settled, dispatched as step_dispatched, step_of}
+use Rattle.mpm_machine.specs.Step.{counted, lets_in, coming, unhalted, key_aborted, happened_to, event_come, interrupted, begun_by, instruction_unless, records_out, with_settled, dispatched as step_dispatched, step_of}
 use Rattle.mpm_machine.proofs.InterruptLaws.{due_may}
 use Rattle.mpm_interrupts.proofs.InterruptLaws.{script_after_due}
 use Rattle.mpm_machine.proofs.FinishLaws.{first_finished, left_completed}
 use Rattle.mpm_machine.proofs.DueLaws.{no_completions_settled}
-use Rattle.mpm_machine.proofs.WholeLaws.{whole_kernel, whole_steps, whole_regs, whole_ended, aborted_by, aborted_is, ends_at_once, abort_deferred_is, whole_abort_deferred, whole_resident, whole_residents, whole_fulfilling}
+use Rattle.mpm_machine.proofs.WholeLaws.{whole_kernel, whole_steps, whole_records, whole_regs, whole_ended, aborted_by, aborted_is, ends_at_once, abort_deferred_is, whole_abort_deferred, whole_resident, whole_residents, whole_fulfilling}
 use Rattle.mpm_machine.proofs.SendingLaws.{LetsIn, lets_in as lets_command_in, lives_let_in}
 use Rattle.mpm_machine.proofs.ActedLaws.{whole_acted}
 
@@ -116,13 +116,13 @@ whole_interrupted event system may w =
     whole_event_come event (record system { interrupts = due_taken system.steps system.interrupts }) may
     (whole_interrupts system (due_taken system.steps system.interrupts) w (script_after_due system.steps system.interrupts w.script))
 
-whole_begun : (event : Option Event) (system : System) → IfSome event MayCome → IsWhole system → IsWhole (begun_by event system).system
+pub whole_begun : (event : Option Event) (system : System) → IfSome event MayCome → IsWhole system → IsWhole (begun_by event system).system
 whole_begun None system may w = whole_acted system w
 whole_begun (Some event) system may w = whole_interrupted event system may w
 
 -- the held calls that were completed are answered
 
-whole_finished : (seg : Option ℕ) (p : ℕ) (system : System) → IsWhole system → Lives system.kernel.dispatcher.procs p → IsWhole (finished seg p system).system
+whole_finished : (seg : Option ℕ) (p : ℕ) (system : System) → IsWhole system → Lives system.kernel.dispatcher.procs p → IsWhole (finished seg p system)
 whole_finished None p system w h = whole_residents system _ w
 whole_finished (Some seg) p system w h = whole_fulfilling _ _ p seg system w h
 
@@ -140,21 +140,21 @@ whole_first p system w first =
 pub whole_left : (now new : System) (p : ℕ) → IsWhole now → first_completed now.kernel.dispatcher.completed ≡ Some p → new ≡ first_finished p now → IsWhole new
 whole_left now new p w first is = subst IsWhole (sym is) (whole_first p now w first)
 
-whole_finishing : (ps : List ℕ) (system : System) → IsWhole system → system.kernel.dispatcher.completed ≡ ps → IsWhole (finishing ps system).system
+whole_finishing : (ps : List ℕ) (system : System) → IsWhole system → system.kernel.dispatcher.completed ≡ ps → IsWhole (finishing ps system)
 unfolding finishing
 whole_finishing [] system w e = w
 whole_finishing (p ∷ ps) system w e =
     whole_finishing ps (first_finished p system) (whole_first p system w (ap first_completed e)) (left_completed p ps system e)
 
 -- where they all were
-pub whole_answered : (system afterwards : System) → IsWhole system → afterwards ≡ (all_finished system).system → IsWhole afterwards
+pub whole_answered : (system afterwards : System) → IsWhole system → afterwards ≡ all_finished system → IsWhole afterwards
 whole_answered system afterwards w is = subst IsWhole (sym is) (whole_finishing system.kernel.dispatcher.completed system w refl)
 
 -- the first of those that a step completed, and then the others
 
-whole_finished_or_ended : (p : ℕ) (system : System) → IsWhole system → Lives system.kernel.dispatcher.procs p → IsWhole (finished_or_ended p system).system
+whole_finished_or_ended : (p : ℕ) (system : System) → IsWhole system → Lives system.kernel.dispatcher.procs p → IsWhole (finished_or_ended p system)
 whole_finished_or_ended p system w h =
-    either (λ (c : Change). IsWhole c.system) (chains p system.kernel) _ _ (λ _. whole_ended p system w h)
+    either IsWhole (chains p system.kernel) _ _ (λ _. whole_ended p system w h)
     (λ _. whole_finished (process_in system.kernel.dispatcher.procs p).seg p system w h)
 
 pub lives_dequeued : (p : ℕ) (system : System) → IsWhole system → first_completed system.kernel.dispatcher.completed ≡ Some p
@@ -171,40 +171,40 @@ lives_in_time p system w first =
     lives_let_in p (completion_dequeued system) (command_let_in p (completion_dequeued system)) (command_in p system w) (lives_dequeued p system w first)
 
 pub whole_first_answered : (p : ℕ) (system : System) → IsWhole system → first_completed system.kernel.dispatcher.completed ≡ Some p
-    → IsWhole (finished_or_ended p (command_let_in p (completion_dequeued system))).system
+    → IsWhole (finished_or_ended p (command_let_in p (completion_dequeued system)))
 whole_first_answered p system w first =
     whole_finished_or_ended p (command_let_in p (completion_dequeued system)) (command_in p system w).whole (lives_in_time p system w first)
 
 pub whole_first_so : (p : ℕ) (old handed first : System) → IsWhole old → first_completed old.kernel.dispatcher.completed ≡ Some p → handed ≡ completion_dequeued old
-    → first ≡ (finished_or_ended p (command_let_in p handed)).system → IsWhole first
+    → first ≡ finished_or_ended p (command_let_in p handed) → IsWhole first
 whole_first_so p old handed first w is out done =
-    subst IsWhole (sym (done ∙ ap (λ (s : System). (finished_or_ended p (command_let_in p s)).system) out)) (whole_first_answered p old w is)
+    subst IsWhole (sym (done ∙ ap (λ (s : System). finished_or_ended p (command_let_in p s)) out)) (whole_first_answered p old w is)
 
 whole_from : (first : Option ℕ) (system : System) → IsWhole system → first_completed system.kernel.dispatcher.completed ≡ first
-    → IsWhole (answered_from first system).system
+    → IsWhole (answered_from first system)
 unfolding answered_from
 whole_from None system w first = w
-whole_from (Some p) system w first = whole_answered (finished_or_ended p (command_let_in p (completion_dequeued system))).system _ (whole_first_answered p system w first) refl
+whole_from (Some p) system w first = whole_answered (finished_or_ended p (command_let_in p (completion_dequeued system))) _ (whole_first_answered p system w first) refl
 
-pub whole_all_answered : (system afterwards : System) → IsWhole system → afterwards ≡ (all_answered system).system → IsWhole afterwards
+pub whole_all_answered : (system afterwards : System) → IsWhole system → afterwards ≡ all_answered system → IsWhole afterwards
 whole_all_answered system afterwards w is =
     subst IsWhole (sym is) (whole_from (first_completed system.kernel.dispatcher.completed) system w refl)
 
 -- the ends that are due come
 
-pub whole_if_due : (p : ℕ) (system : System) → IsWhole system → IsWhole (ended_if_due p system).system
+pub whole_if_due : (p : ℕ) (system : System) → IsWhole system → IsWhole (ended_if_due p system)
 unfolding ended_if_due
 whole_if_due p system w =
-    either (λ (c : Change). IsWhole c.system) (is_due system.kernel p) _ _
+    either IsWhole (is_due system.kernel p) _ _
     (λ due.
     let aborted = (and_parts (is_aborted system.kernel.dispatcher.procs p) _ due).0 in
     whole_finishing _ (ended p system) (whole_ended p system w (and_parts (lives system.kernel.dispatcher.procs p) _ aborted).0) refl)
     (λ _. w)
 
-pub whole_due_terminated : (ps : List ℕ) (system : System) → IsWhole system → IsWhole (due_terminated ps system).system
+pub whole_due_terminated : (ps : List ℕ) (system : System) → IsWhole system → IsWhole (due_terminated ps system)
 unfolding due_terminated
 whole_due_terminated [] system w = w
-whole_due_terminated (p ∷ ps) system w = whole_due_terminated ps (ended_if_due p system).system (whole_if_due p system w)
+whole_due_terminated (p ∷ ps) system w = whole_due_terminated ps (ended_if_due p system) (whole_if_due p system w)
 
 -- a process whose end is due lives, and all is whole after its end
 pub due_lives : (kernel : Kernel) (p : ℕ) → is_due kernel p ≡ true → Lives kernel.dispatcher.procs p
@@ -250,19 +250,19 @@ whole_noted system w = record {
   ];
 }
 
-whole_with_ends : (system : System) → IsWhole system → IsWhole (with_ends system).system
+whole_with_ends : (system : System) → IsWhole system → IsWhole (with_ends system)
 unfolding with_ends
 whole_with_ends system w = whole_noted _ (whole_due_terminated (range_with_len 0 32) system w)
 
-pub whole_settled : (system : System) → IsWhole system → IsWhole (settled system).system
+pub whole_settled : (system : System) → IsWhole system → IsWhole (settled system)
 unfolding settled
-whole_settled system w = whole_with_ends _ (whole_all_answered system (all_answered system).system w refl)
+whole_settled system w = whole_with_ends _ (whole_all_answered system (all_answered system) w refl)
 
 -- so a step ends
 pub whole_dispatched : (instruction : Bool) (change : Change) → IsWhole change.system → IsWhole (step_dispatched instruction (with_settled change)).system
 unfolding with_settled
 whole_dispatched instruction change w =
-    let afterwards = whole_settled change.system w in
+    let afterwards = whole_records _ [] (whole_settled change.system w) in
     whole_kernel _ _ afterwards (sound_picked _ instruction afterwards.sound) afterwards.live (homes_stay _ _ refl)
 
 -- a step
@@ -271,7 +271,7 @@ whole_counted system w = whole_steps system (system.steps + 1) w
 
 -- the event that comes may come
 
-coming_may : (system : System) → IsWhole system → IfSome (coming system) MayCome
+pub coming_may : (system : System) → IsWhole system → IfSome (coming system) MayCome
 unfolding coming
 coming_may system w =
     either (λ (event : Option Event). IfSome event MayCome) (lets_in system.kernel.dispatcher.running system.kernel) _ _ (λ _. due_may system.steps system.interrupts w.script) (λ _. tt)
@@ -282,17 +282,18 @@ pub whole_after_begun : (system afterwards : System) → IsWhole system → afte
 whole_after_begun system afterwards w is = subst IsWhole (sym is) (whole_begun (coming system) system (coming_may system w) w)
 
 pub sound_settled : (system begun afterwards : System) → IsWhole system → begun ≡ (begun_by (coming system) system).system
-    → afterwards ≡ (settled begun).system → IsSound afterwards.kernel
+    → afterwards ≡ (records_out (settled begun)).system → IsSound afterwards.kernel
 sound_settled system begun afterwards w is was =
     let P : System → Type 0 = λ s. IsSound s.kernel in
     subst P (sym was) (whole_settled begun (whole_after_begun system begun w is)).sound
 
--- nobody is left to be handed out after a step
-pub no_completions_step : (begun afterwards : System) (kernel : Kernel) (instruction : Bool) → afterwards ≡ (settled begun).system
-    → kernel ≡ dispatched (picked instruction) afterwards.kernel → kernel.dispatcher.completed ≡ []
-no_completions_step begun afterwards kernel instruction is was =
-    ap (λ (k : Kernel). k.dispatcher.completed) was ∙ ap (λ (s : System). s.kernel.dispatcher.completed) is
-    ∙ no_completions_settled begun
+-- no completion is left after a step
+pub no_completions_step : (begun afterwards : System) (kernel : Kernel) (instruction : Bool) → afterwards ≡ (records_out (settled begun)).system
+    → kernel ≡ dispatched (picked instruction) afterwards.kernel → NoCompletions (record afterwards { kernel = kernel })
+no_completions_step begun afterwards kernel instruction is was = record {
+  answered = ap (λ (k : Kernel). k.dispatcher.completed) was ∙ ap (λ (s : System). s.kernel.dispatcher.completed) is ∙ no_completions_settled begun;
+  written = ap (λ (s : System). s.records) is;
+}
 
 pub whole_step : (system : System) → IsWhole system → IsWhole (step_of system).system
 unfolding step_of

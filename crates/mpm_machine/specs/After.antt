@@ -14,8 +14,8 @@ use Rattle.mpm_machine.specs.declared.machine.StepFault.{StepFault}
 use Rattle.mpm_machine.specs.declared.machine.StepFault.TheVariants.{DiskFault, WriteFault}
 use Rattle.mpm_machine.specs.State.{State, Change, StandsForFiles, silent}
 use Rattle.mpm_machine.specs.Faults.{EndsBy, OnDiskFault}
-use Rattle.mpm_machine.specs.FileCalls.{file_caller, call_made, change_of, step_with, step_concluded, filed, Stepped, stepped}
-use Rattle.mpm_machine.specs.Contained.{IsContainedBy, Instructs, OnlyInstructed, Calls, ServedByValue}
+use Rattle.mpm_machine.specs.FileCalls.{file_caller, call_made, IsToldOf, change_of, step_with, step_concluded, outcome_in, filed, Stepped, stepped}
+use Rattle.mpm_machine.specs.Contained.{IsContainedBy, Instructs, OnlyInstructed, DiffersInBytes, Calls, ServedByValue}
 
 -- what a step that was made of a state leaves
 abbrev pub having : Stepped → List Output → State
@@ -50,6 +50,25 @@ pub record IsStep (old : System) (change : Change) : Type 0 where
 abbrev pub followed : Change → Change → Change
 followed first last = record { system = last.system; emitted = last.emitted ++ first.emitted }
 
+-- a machine's step is one by what its file call, if one is made in it, may tell, whatever is on the drives
+abbrev pub IsToldIn : Option ℕ → Directly → System → Type 0
+IsToldIn None told old = ⊤
+IsToldIn (Some p) told old = IsToldOf p (call_made p old) told.answer told.extended
+
+-- that call is served by what it took: whatever bytes had stood in memory then, it would come to the same, and might be answered so
+pub record FiledByValue (told : Directly) (p : ℕ) (made : System) : Type 0 where
+  pub outcome : (filing : Filing) (other : System) → DiffersInBytes made other → outcome_in filing p other ≡ outcome_in filing p made
+  pub tells : (other : System) → DiffersInBytes made other → IsToldOf p other told.answer told.extended
+
+abbrev pub IsFiledByValue : Option ℕ → Directly → System → Type 0
+IsFiledByValue None told old = ⊤
+IsFiledByValue (Some p) told old = FiledByValue told p (call_made p old)
+
+pub record IsMade (old : System) (change : Change) : Type 0 where
+  pub step : IsStep old change
+  pub tells : IsToldIn (file_caller old) step.told old
+  pub files : IsFiledByValue (file_caller old) step.told old
+
 -- one state's is the other's
 pub record IsNextOf (s t : State) : Type 0 where
   pub emitted : List Output
@@ -59,7 +78,7 @@ pub record IsNextOf (s t : State) : Type 0 where
 -- n of them in a row
 unfoldable pub AreSteps : ℕ → System → Change → Type 0
 AreSteps zero old change = change ≡ silent old
-AreSteps (suc n) old change = (before : Change) × (last : Change) × AreSteps n old before × IsStep before.system last × (change ≡ followed before last)
+AreSteps (suc n) old change = (before : Change) × (last : Change) × AreSteps n old before × IsMade before.system last × (change ≡ followed before last)
 
 -- so many steps were made of a system, and what they say was written
 pub record HasRun (n : ℕ) (before behind : Outside) (old new : System) : Type 0 where
@@ -70,7 +89,7 @@ pub record HasRun (n : ℕ) (before behind : Outside) (old new : System) : Type 
 -- one was
 pub record HasStepped (before behind : Outside) (old new : System) : Type 0 where
   pub emitted : List Output
-  pub is : IsStep old (record { system = new; emitted = emitted })
+  pub is : IsMade old (record { system = new; emitted = emitted })
   pub wrote : Wrote before behind emitted
 
 -- one was, by what is on the drives; the open files and marks of those who ended in it are still there
@@ -89,11 +108,11 @@ abbrev pub StopsBy : StepFault → Outside → Outside → List Output → Type 
 StopsBy WriteFault before behind emitted = Stopped before behind emitted
 StopsBy DiskFault before behind emitted = behind ≡ before
 
--- so did one, whatever the images are: it writes what a step of the system writes, by what some file call comes to, if one is made in
--- it; and a drive fails only where one is
+-- so did one, whatever the images are: it writes what a step of the system writes, by what its file call may be answered, if one is
+-- made in it; and a drive fails only where one is
 pub record HasStopped (fault : StepFault) (before behind : Outside) (old : System) : Type 0 where
   pub change : Change
-  pub is : IsStep old change
+  pub is : IsMade old change
   pub stops : StopsBy fault before behind change.emitted
   pub calls : OnDiskFault fault (IsSome (file_caller old))
 

@@ -26,7 +26,7 @@ use Rattle.mpm_cli.specs.declared.act.Act.TheVariants.{Ask, Place, Patch, Begin,
 use Rattle.mpm_residents.specs.Natives.{native_act, native_call, native_in}
 use Rattle.mpm_residents.specs.declared.native.Native.{Native}
 use Rattle.mpm_machine.specs.Due.{is_due, ended_if_due, with_ends}
-use Rattle.mpm_machine.specs.Step.{instruction_at, gate_before, coming, begun_by, with_settled, counted, dispatched}
+use Rattle.mpm_machine.specs.Step.{instruction_at, gate_before, coming, begun_by, records_out, with_settled, counted, dispatched}
 use Rattle.mpm_bdos.specs.declared.refusals.Extended.{Extended}
 use Rattle.mpm_bdos.specs.Direct.{Directly}
 use Rattle.mpm_machine.specs.FileCalls.{file_caller, call_made, concluded}
@@ -99,7 +99,7 @@ pub record Answers (p : ℕ) (system : System) (seg at : ℕ) : Type 0 where
 unfoldable pub AnswersAmong : List ℕ → System → ℕ → ℕ → Type 0
 AnswersAmong [] system seg at = ⊥
 AnswersAmong (p ∷ ps) system seg at =
-    Answers p (completion_dequeued system) seg at ⊎ AnswersAmong ps (finished (process_in system.kernel.dispatcher.procs p).seg p (completion_dequeued system)).system seg at
+    Answers p (completion_dequeued system) seg at ⊎ AnswersAmong ps (finished (process_in system.kernel.dispatcher.procs p).seg p (completion_dequeued system)) seg at
 
 -- one of those whose held calls were completed
 abbrev pub AnswersOne : System → ℕ → ℕ → Type 0
@@ -114,17 +114,17 @@ abbrev pub AnswersFrom : Option ℕ → System → ℕ → ℕ → Type 0
 AnswersFrom None system seg at = ⊥
 AnswersFrom (Some p) system seg at =
     let first = command_let_in p (completion_dequeued system) in
-    ((chains p first.kernel ≡ false) × Answers p first seg at) ⊎ AnswersOne (finished_or_ended p first).system seg at
+    ((chains p first.kernel ≡ false) × Answers p first seg at) ⊎ AnswersOne (finished_or_ended p first) seg at
 
 -- so does one of several, as their ends come
 unfoldable pub AnswersAtEnds : List ℕ → System → ℕ → ℕ → Type 0
 AnswersAtEnds [] system seg at = ⊥
-AnswersAtEnds (p ∷ ps) system seg at = AnswersAtEnd p system seg at ⊎ AnswersAtEnds ps (ended_if_due p system).system seg at
+AnswersAtEnds (p ∷ ps) system seg at = AnswersAtEnd p system seg at ⊎ AnswersAtEnds ps (ended_if_due p system) seg at
 
 -- such a call is completed by what a step begins with, which left this system, or by an end that is due
 unfoldable pub IsAnsweredAfter : System → ℕ → ℕ → Type 0
 IsAnsweredAfter begun seg at =
-    AnswersFrom (first_completed begun.kernel.dispatcher.completed) begun seg at ⊎ AnswersAtEnds (range_with_len 0 32) (all_answered begun).system seg at
+    AnswersFrom (first_completed begun.kernel.dispatcher.completed) begun seg at ⊎ AnswersAtEnds (range_with_len 0 32) (all_answered begun) seg at
 
 abbrev pub IsAnswered : System → ℕ → ℕ → Type 0
 IsAnswered system seg at = IsAnsweredAfter (after_begun system) seg at
@@ -180,11 +180,11 @@ pub record OnlyInstructed (p : ℕ) (old new : System) : Type 0 where
   pub memory : Memory
   pub clears : (device : ℕ) → slice_index_or ready device false ≡ true → slice_index_or old.kernel.devices.ready device false ≡ true
   pub bytes : SameSegments old.memory memory
-  pub is : new ≡ (dispatched true (with_ends (record old {
+  pub is : new ≡ (dispatched true (records_out (with_ends (record old {
     steps = old.steps + 1;
     kernel = with_regs (record old.kernel { devices = record old.kernel.devices { ready = ready } }) p regs;
     memory = memory;
-  }))).system
+  })))).system
 
 -- two systems have the same kernel, the same residents, and the same segments in the same hands: their memories differ in bytes
 -- alone

@@ -1,13 +1,12 @@
 -- Ends by an abort that were put off: a process that was aborted while it held the message of a mutual exclusion queue ends in
 -- the first step after which it holds none. (MP/M II Programmer's Guide, "Function 157: Abort Specified Process".)
-use Rattle.std.specs.Prelude.{◌≡◌, ℕ, Bool, false, not, ◌&&◌, if◌then◌else◌, List, [], ◌∷◌, ◌++◌, is_some}
+use Rattle.std.specs.Prelude.{◌≡◌, ℕ, Bool, false, not, ◌&&◌, if◌then◌else◌, List, [], ◌∷◌, is_some}
 use Rattle.std.specs.List.{range_with_len}
 use Rattle.mpm_procs.specs.Table.{Table}
 use Rattle.mpm_queues.specs.Queues.{lowest}
 use Rattle.mpm_kernel.specs.Kernel.{Kernel, is_aborted}
 use Rattle.mpm_xdos.specs.Aborting.{waits_to_end}
 use Rattle.mpm_machine.specs.declared.system.System.{System}
-use Rattle.mpm_machine.specs.State.{Change, silent}
 use Rattle.mpm_machine.specs.Ending.{ended}
 use Rattle.mpm_machine.specs.Finishing.{all_finished, all_answered}
 
@@ -20,19 +19,16 @@ unfoldable pub NobodyDue : Kernel → Type 0
 NobodyDue kernel = (p : ℕ) → is_due kernel p ≡ false
 
 -- a process ends, where that is due, and the held calls that its end completes are answered
-unfoldable pub ended_if_due : ℕ → System → Change
-ended_if_due p system = if is_due system.kernel p then all_finished (ended p system) else silent system
+unfoldable pub ended_if_due : ℕ → System → System
+ended_if_due p system = if is_due system.kernel p then all_finished (ended p system) else system
 
 -- the processes of slots end, where that is due, one after another
-unfoldable pub due_terminated : List ℕ → System → Change
-due_terminated [] system = silent system
-due_terminated (p ∷ ps) system =
-    let first = ended_if_due p system in
-    let others = due_terminated ps first.system in
-    record { system = others.system; emitted = others.emitted ++ first.emitted }
+unfoldable pub due_terminated : List ℕ → System → System
+due_terminated [] system = system
+due_terminated (p ∷ ps) system = due_terminated ps (ended_if_due p system)
 
 -- those of all slots, in rising order
-abbrev pub all_due_terminated : System → Change
+abbrev pub all_due_terminated : System → System
 all_due_terminated system = due_terminated (range_with_len 0 32) system
 
 -- an end by an abort is still put off
@@ -44,12 +40,9 @@ abbrev pub noted : System → System
 noted system = record system { abort_deferred = system.abort_deferred && is_any_aborted system.kernel.dispatcher.procs }
 
 -- the ends that are due come
-unfoldable pub with_ends : System → Change
-with_ends system = let afterwards = all_due_terminated system in record afterwards { system = noted afterwards.system }
+unfoldable pub with_ends : System → System
+with_ends system = noted (all_due_terminated system)
 
 -- the end of a step: the held calls that were completed are answered, and then the ends that are due come
-unfoldable pub settled : System → Change
-settled system =
-    let answered = all_answered system in
-    let afterwards = with_ends answered.system in
-    record { system = afterwards.system; emitted = afterwards.emitted ++ answered.emitted }
+unfoldable pub settled : System → System
+settled system = with_ends (all_answered system)

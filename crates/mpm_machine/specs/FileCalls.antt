@@ -1,6 +1,6 @@
 -- File calls: which process makes one in a step, what it comes to, and how it is answered. (MP/M II Programmer's Guide, "BDOS
 -- Function Calls", "BDOS Error Handling"; functions 13, "Reset Disk System", and 14, "Select Disk".)
-use Rattle.std.specs.Prelude.{ℕ, ◌%◌, Bool, true, false, not, List, [], ◌∷◌, ◌++◌, Option, Some, None, is_some, is_none, option_map, ◌==◌, ◌&&◌, ◌||◌, if◌then◌else◌}
+use Rattle.std.specs.Prelude.{◌≡◌, ℕ, ◌%◌, Bool, false, not, List, [], ◌∷◌, Option, Some, None, is_some, is_none, option_map, ◌==◌, ◌&&◌, ◌||◌, if◌then◌else◌}
 use Rattle.std.specs.List.{range_with_len}
 use Rattle.z80_regs.specs.Words.{word_of}
 use Rattle.mpm_base.specs.Calls.{Taken, Answer, answering}
@@ -8,18 +8,15 @@ use Rattle.mpm_base.specs.declared.functions.TheConstants.{RESET_DISK_SYSTEM, SE
 use Rattle.mpm_banks.specs.Memory.{Memory, segment_of}
 use Rattle.mpm_procs.specs.Table.{Table, lives, process_in, call_of}
 use Rattle.mpm_procs.specs.declared.process.Process.{Process}
-use Rattle.mpm_procs.specs.Settings.{is_count}
 use Rattle.mpm_clock.specs.declared.moment.Moment.{Moment}
 use Rattle.mpm_clock.specs.Times.{moment_of}
 use Rattle.mpm_clock.specs.PackedDecimal.{stamp}
-use Rattle.mpm_script.specs.declared.event.Event.{Event}
 use Rattle.mpm_kernel.specs.Kernel.{with_changed}
 use Rattle.mpm_kernel.specs.Called.{low_parameter}
 use Rattle.mpm_processor.specs.declared.gate.Gate.{Gate}
 use Rattle.mpm_processor.specs.declared.gate.Gate.TheVariants.{End, Call, Return}
 use Rattle.mpm_residents.specs.declared.native.Native.{Native}
 use Rattle.mpm_residents.specs.Natives.{native_call, native_in}
-use Rattle.mpm_render.specs.Outputs.{Output}
 use Rattle.mpm_output.specs.Texts.{error_text}
 use Rattle.mpm_bdos.specs.declared.functions.FileFunction.{FileFunction}
 use Rattle.mpm_bdos.specs.declared.functions.DirectFunction.{DirectFunction}
@@ -28,13 +25,14 @@ use Rattle.mpm_bdos.specs.Functions.{function_of}
 use Rattle.mpm_bdos.specs.Filing.{Filing, Situation}
 use Rattle.mpm_bdos.specs.Starting.{caller_of}
 use Rattle.mpm_bdos.specs.Outcomes.{CallerChange, Stays, Selects, Resets, Outcome, file_call, left_by, without_search}
-use Rattle.mpm_bdos.specs.Direct.{Directly, direct_of, direct}
+use Rattle.mpm_bdos.specs.Direct.{Directly, IsToldDirectly, direct_of, direct}
+use Rattle.mpm_bdos.specs.Answering.{MayAnswer}
 use Rattle.mpm_machine.specs.declared.system.System.{System}
 use Rattle.mpm_machine.specs.State.{Change, silent, speaking}
 use Rattle.mpm_machine.specs.Ending.{ended}
 use Rattle.mpm_machine.specs.Serving.{asked, keeping, popped, answering_call}
 use Rattle.mpm_machine.specs.Residing.{asked_by, taking}
-use Rattle.mpm_machine.specs.Step.{gate_before, coming, with_settled, counted, dispatched, step_of}
+use Rattle.mpm_machine.specs.Step.{gate_before, coming, then_also, with_settled, counted, dispatched, step_of}
 
 -- a number is that of a call on files and drives
 unfoldable pub is_of_files : ℕ → Bool
@@ -75,9 +73,9 @@ made_by None p system = asked_by (native_in system.residents p) p system
 unfoldable pub call_made : ℕ → System → System
 call_made p system = made_by (process_in system.kernel.dispatcher.procs p).seg p (counted system)
 
--- a process as a file call looks at it: its user is one of sixteen, and its multi-sector count 1 to 16
+-- a process as a file call looks at it: its user is one of sixteen
 abbrev pub looked_at : Process → Process
-looked_at process = record process { user = process.user % 16; multi = if is_count process.multi then process.multi else 1 }
+looked_at process = record process { user = process.user % 16 }
 
 -- what a file call finds beside files and drives: the process, and the stamp of the moment
 abbrev pub entering : Filing → FileFunction → ℕ → Process → Taken → Moment → Situation
@@ -132,38 +130,45 @@ change_of call error =
 abbrev pub told_of : Taken → Answer → Option Extended → Directly
 told_of call reply error = record { caller = change_of call error; answer = reply; extended = error }
 
--- the call is answered: its reply is placed behind the return address, and its record follows; a resident takes the answer
-abbrev pub reply_by : Option ℕ → Answer → ℕ → System → Change
-reply_by (Some seg) reply p system = answering_call reply (call_of system.kernel.dispatcher.procs p) p seg (popped p seg system)
-reply_by None reply p system = silent (taking reply p system)
+-- whatever is on the drives: what the call that a process keeps may be answered, by its function
+abbrev pub MayTell : Option FileFunction → Option DirectFunction → ℕ → System → Answer → Option Extended → Type 0
+MayTell (Some function) other p system answer extended =
+    MayAnswer (process_in system.kernel.dispatcher.procs p).multi function (call_of system.kernel.dispatcher.procs p).dma answer extended
+MayTell None (Some function) p system answer extended =
+    IsToldDirectly (process_in system.kernel.dispatcher.procs p).drive function (call_of system.kernel.dispatcher.procs p) answer extended
+MayTell None None p system answer extended = (answer ≡ answering 0) × (extended ≡ None)
 
-unfoldable pub file_replied : Answer → ℕ → System → Change
+unfoldable pub IsToldOf : ℕ → System → Answer → Option Extended → Type 0
+IsToldOf p system answer extended =
+    let number = (call_of system.kernel.dispatcher.procs p).function in
+    MayTell (function_of number) (direct_of number) p system answer extended
+
+-- the call is answered: its reply is placed behind the return address, and its record joins the others; a resident takes the answer
+abbrev pub reply_by : Option ℕ → Answer → ℕ → System → System
+reply_by (Some seg) reply p system = answering_call reply (call_of system.kernel.dispatcher.procs p) p seg (popped p seg system)
+reply_by None reply p system = taking reply p system
+
+unfoldable pub file_replied : Answer → ℕ → System → System
 file_replied reply p system = reply_by (process_in system.kernel.dispatcher.procs p).seg reply p system
 
 -- the text of an extended error comes to its caller's console
 unfoldable pub error_told : Extended → ℕ → System → Change
 error_told error p system = speaking (process_in system.kernel.dispatcher.procs p).console (error_text error.code error.drive) system
 
-abbrev pub then_so : Change → (System → Change) → Change
-then_so first next =
-    let afterwards = next first.system in
-    record { system = afterwards.system; emitted = afterwards.emitted ++ first.emitted }
-
-abbrev pub ending_it : ℕ → System → Change
-ending_it p system = silent (ended p system)
-
 -- by its process's error mode an extended error is answered, or told and answered, or told, and ends the process
+abbrev pub answered_or_ended : Bool → Answer → ℕ → System → System
+answered_or_ended answers reply p system = if answers then file_replied reply p system else ended p system
+
 unfoldable pub told_then : Bool → Extended → Answer → ℕ → System → Change
-told_then answers error reply p system =
-    then_so (error_told error p system) (if answers then file_replied reply p else ending_it p)
+told_then answers error reply p system = then_also (error_told error p system) (answered_or_ended answers reply p)
 
 unfoldable pub error_met : Extended → Answer → ℕ → System → Change
 error_met error reply p system =
     let mode = (process_in system.kernel.dispatcher.procs p).error_mode in
-    if mode == 255 then file_replied reply p system else (told_then (mode == 254) error reply p system)
+    if mode == 255 then silent (file_replied reply p system) else (told_then (mode == 254) error reply p system)
 
 abbrev pub answered_by : Option Extended → Answer → ℕ → System → Change
-answered_by None reply p system = file_replied reply p system
+answered_by None reply p system = silent (file_replied reply p system)
 answered_by (Some error) reply p system = error_met error reply p system
 
 unfoldable pub concluded : Directly → ℕ → System → Change

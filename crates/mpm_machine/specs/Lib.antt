@@ -10,6 +10,7 @@ pub mod Serving
 pub mod Loading
 pub mod Residing
 pub mod Slots
+pub mod Interpreting
 pub mod Finishing
 pub mod Due
 pub mod Step

@@ -1,12 +1,12 @@
 -- Steps that are instructions of the running process, and steps in which nothing is done.
-use Rattle.std.specs.Prelude.{◌≡◌, ℕ, ◌+◌, ◌<◌, false, [], Some, None}
+use Rattle.std.specs.Prelude.{◌≡◌, ℕ, ◌+◌, ◌<◌, false, Some, None}
 use Rattle.mpm_ready.specs.Order.{first_of}
 use Rattle.mpm_ready.specs.Tables.{list_at}
 use Rattle.mpm_procs.specs.Table.{process_in}
 use Rattle.mpm_dispatcher.specs.Dispatch.{ready}
 use Rattle.mpm_processor.specs.Moving.{View, Moves}
 use Rattle.mpm_machine.specs.declared.system.System.{System}
-use Rattle.mpm_machine.specs.State.{NobodyAborted}
+use Rattle.mpm_machine.specs.State.{NoCompletions, NobodyAborted}
 use Rattle.mpm_machine.specs.Gates.{is_inside}
 use Rattle.mpm_interrupts.specs.Interrupts.{due}
 use Rattle.mpm_machine.specs.Serving.{with_regs}
@@ -28,13 +28,13 @@ with_view system p view n = record system {
 abbrev pub Quiet : ℕ → System → Type 0
 Quiet n system = (k : ℕ) → k < n → due (system.steps + k + 1) system.interrupts ≡ None
 
--- the running process, of that segment, is the first of the ready list, so that it runs on after each instruction, nobody's
--- call was completed, and no end by an abort is put off
+-- the running process, of that segment, is the first of the ready list, so that it runs on after each instruction, no completion is
+-- left, and no end by an abort is put off
 pub record RunsOn (system : System) (p seg : ℕ) : Type 0 where
   pub running : system.kernel.dispatcher.running ≡ Some p
   pub first : first_of (list_at system.kernel.dispatcher.lists ready) ≡ Some p
   pub home : (process_in system.kernel.dispatcher.procs p).seg ≡ Some seg
-  pub no_completions : system.kernel.dispatcher.completed ≡ []
+  pub no_completions : NoCompletions system
   pub none_deferred : system.abort_deferred ≡ false
   pub settled : NobodyAborted system.kernel
 

@@ -24,7 +24,7 @@ use Rattle.mpm_script.specs.declared.event.Timed.{Timed}
 use Rattle.mpm_machine_file.specs.declared.machine_file.MachineFile.{MachineFile}
 use Rattle.mpm_processor.specs.Gates.{IsHome}
 use Rattle.mpm_machine.specs.declared.system.System.{System}
-use Rattle.mpm_machine.specs.State.{IsWhole}
+use Rattle.mpm_machine.specs.State.{IsWhole, NoCompletions}
 
 -- a segment with a program: its base page, with an empty command tail, the program behind it, and below the last page the word
 -- on which the stack begins, the address of the base page
@@ -61,6 +61,7 @@ booted file events = record {
   memory = new_memory file.segments;
   abort_deferred = false;
   residents = [];
+  records = [];
 }
 
 -- a process lives in the segment
@@ -75,7 +76,7 @@ is_occupied segment = is_lived_in segment.allocation
 -- a machine into which programs may be placed: no step was done, and no more processes live than segments are lived in
 pub record IsBare (system : System) : Type 0 where
   pub whole : IsWhole system
-  pub no_completions : system.kernel.dispatcher.completed ≡ []
+  pub no_completions : NoCompletions system
   pub start : system.steps ≡ 0
   pub few : length system.memory.segments ≤ 16
   pub counted : living system.kernel.dispatcher.procs ≤ count_by is_occupied system.memory.segments

@@ -8,7 +8,7 @@ use Rattle.mpm_base.specs.declared.call.Outcome.TheVariants.{Done, Held, Retry, 
 use Rattle.mpm_base.specs.declared.functions.TheConstants.{PRINT_STRING}
 use Rattle.mpm_cli.specs.declared.act.Act.{Act}
 use Rattle.mpm_cli.specs.declared.act.Act.TheVariants.{Ask}
-use Rattle.mpm_residents.specs.Natives.{native_call, native_act, native_in, answer_taken}
+use Rattle.mpm_residents.specs.Natives.{native_call, native_act, native_in, interprets_if_there, answer_taken}
 use Rattle.mpm_residents.specs.declared.native.Native.{Native}
 use Rattle.mpm_kernel.specs.Called.{low_parameter}
 use Rattle.mpm_kernel.specs.Columns.{column_of, expanded}
@@ -44,10 +44,10 @@ calling_step call p system =
     let done = served_to_all call p system in
     after_echo call p done.system (native_outcome done.outcome done.reply call p done.system)
 
--- function 9 of the interpreter, in slot 0, is a text of the system: it comes to the console that the parameter names, where that
--- is there, at once, whoever owns the console and whether its output is stopped
-abbrev pub tells : ℕ → Taken → Bool
-tells p call = p == 0 && call.function == PRINT_STRING
+-- function 9 of the interpreter is a text of the system: it comes to the console that the parameter names, where that is there, at
+-- once, whoever owns the console and whether its output is stopped
+abbrev pub tells : Option Native → Taken → Bool
+tells native call = interprets_if_there native && call.function == PRINT_STRING
 
 abbrev pub text_told : Taken → System → Change
 text_told call system =
@@ -65,7 +65,7 @@ handing_step act call p system = taking (handed_answer act system) p (handed_ove
 
 -- what a resident does in its step, whose process keeps what it filled in
 abbrev pub native_step : Act → Taken → ℕ → System → Change
-native_step Ask call p system = if tells p call then telling_step call p system else calling_step call p system
+native_step Ask call p system = if tells (native_in system.residents p) call then telling_step call p system else calling_step call p system
 native_step act call p system = silent (handing_step act call p system)
 
 -- a process without a segment takes its step as the resident of its slot, if one acts there

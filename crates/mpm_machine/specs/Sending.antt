@@ -1,6 +1,6 @@
 -- Commands that processes send to the command line interpreter: function 150, and function 47, whose process ends then. (MP/M II
 -- Programmer's Guide, "Function 150: Send CLI Command", "Function 47: Chain to Program".)
-use Rattle.std.specs.Prelude.{ℕ, ◌+◌, ◌*◌, ◌%◌, ◌==◌, ◌&&◌, ◌||◌, Bool, nat_lt, min, is_some, if◌then◌else◌, List, ◌∷◌, ◌++◌, length, take, drop, Some}
+use Rattle.std.specs.Prelude.{ℕ, ◌+◌, ◌*◌, ◌%◌, ◌==◌, ◌&&◌, ◌||◌, Bool, nat_lt, min, if◌then◌else◌, List, ◌∷◌, ◌++◌, length, take, drop, Some}
 use Rattle.mpm_base.specs.Lists.{zeros}
 use Rattle.mpm_base.specs.Calls.{Taken, Answer, answering, byte_in}
 use Rattle.mpm_base.specs.declared.call.Outcome.{Outcome}
@@ -12,7 +12,7 @@ use Rattle.mpm_kernel.specs.Kernel.{Kernel}
 use Rattle.mpm_kernel.specs.Called.{Called, valued, failure_code}
 use Rattle.mpm_kernel.specs.Calls.{called}
 use Rattle.mpm_kernel.specs.Consoling.{given}
-use Rattle.mpm_residents.specs.Natives.{native_in}
+use Rattle.mpm_residents.specs.Natives.{native_in, interprets_if_there}
 use Rattle.mpm_machine.specs.declared.system.System.{System}
 use Rattle.mpm_machine.specs.Calling.{with_kept}
 
@@ -58,7 +58,7 @@ sent function message p kernel =
 
 -- a command line interpreter acts in the lowest slot
 abbrev pub has_interpreter : System → Bool
-has_interpreter system = is_some (native_in system.residents 0)
+has_interpreter system = interprets_if_there (native_in system.residents 0)
 
 -- function 150: a console that isn't there is refused, and so is every command where no interpreter acts
 abbrev pub may_send : Bool → Taken → Kernel → Bool

@@ -9,7 +9,7 @@ use Rattle.mpm_base.specs.Calls.{Taken, Answer, answering, byte_in, word_at}
 use Rattle.mpm_base.specs.declared.call.Outcome.{Outcome}
 use Rattle.mpm_base.specs.declared.call.Outcome.TheVariants.{Done, Held, Retry, Ended}
 use Rattle.mpm_base.specs.declared.functions.TheConstants.{CONSOLE_OUTPUT, LIST_OUTPUT, PRINT_STRING, ABSOLUTE_MEMORY_REQUEST, RELOCATABLE_MEMORY_REQUEST, MEMORY_FREE, CREATE_PROCESS, CHAIN_TO_PROGRAM, SEND_CLI_COMMAND, CALL_RESIDENT_SYSTEM_PROCEDURE, PARSE_FILENAME, ABORT_SPECIFIED_PROCESS, SYSTEM_DATA_ADDRESS, RETURN_PROCESS_DESCRIPTOR_ADDRESS}
-use Rattle.mpm_banks.specs.Memory.{Memory, segment_of, byte_at}
+use Rattle.mpm_banks.specs.Memory.{Memory, byte_at}
 use Rattle.mpm_banks.specs.Allocations.{lowest_free, reserved, is_reserved, released}
 use Rattle.mpm_gate.specs.Calls.{taken_call}
 use Rattle.mpm_gate.specs.Reads.{reads_of, most_read}
@@ -30,7 +30,8 @@ use Rattle.mpm_xdos.specs.Aborting.{waits_to_end, target, abort_done, memory_aft
 use Rattle.mpm_xdos.specs.Copies.{segment_descriptor, system_answer, descriptor_answer}
 use Rattle.mpm_xdos.specs.Procedures.{entered, entry_reply, returned_from_procedure}
 use Rattle.mpm_render.specs.declared.unit.Unit2.TheVariants.{Printer}
-use Rattle.mpm_render.specs.Outputs.{Output, Completed, said}
+use Rattle.mpm_render.specs.Outputs.{said}
+use Rattle.mpm_render.specs.Completions.{Completion}
 use Rattle.mpm_machine.specs.declared.system.System.{System}
 use Rattle.mpm_output.specs.Writing.{spoken}
 use Rattle.mpm_machine.specs.State.{Change, silent, speaking}
@@ -193,10 +194,10 @@ replied reply call p seg system =
     }
 
 -- the record of a completed call: the registers as its reply left them
-unfoldable pub completion : Taken → ℕ → System → Output
+unfoldable pub completion : Taken → ℕ → System → Completion
 completion call p system =
     let regs = (process_in system.kernel.dispatcher.procs p).regs in
-    Completed (record {
+    record {
       step = system.steps;
       process = p;
       function = call.function;
@@ -204,7 +205,11 @@ completion call p system =
       bc = word_of regs.c regs.b;
       de = word_of regs.e regs.d;
       hl = word_of regs.l regs.h;
-    })
+    }
+
+-- it joins those of its step
+unfoldable pub recorded : Taken → ℕ → System → System
+recorded call p system = record system { records = system.records ++ completion call p system ∷ [] }
 
 -- the text of a call comes to its process's console, and its byte to its printer; a string is the one that is given
 unfoldable pub said_by : Taken → List ℕ → ℕ → System → Change
@@ -223,10 +228,8 @@ after_echo call p system change =
     record change { emitted = change.emitted ++ spoken (process_in system.kernel.dispatcher.procs p).console (echo_of call system.kernel) }
 
 -- a call whose reply is placed, and then its record
-unfoldable pub answering_call : Answer → Taken → ℕ → ℕ → System → Change
-answering_call reply call p seg system =
-    let afterwards = replied reply call p seg system in
-    record { system = afterwards; emitted = completion call p afterwards ∷ [] }
+unfoldable pub answering_call : Answer → Taken → ℕ → ℕ → System → System
+answering_call reply call p seg system = recorded call p (replied reply call p seg system)
 
 -- a call 151 got its message, since it is refused by FFFFh alone: its process enters the resident procedure
 abbrev pub is_entry : Taken → Answer → Bool
@@ -242,7 +245,7 @@ reply_at_entry reply call p system =
     if is_entry call reply then entry_reply system.memory (process_in system.kernel.dispatcher.procs p) else reply
 
 -- a call is fulfilled, whose return address was taken: at once, or later where it was held
-unfoldable pub fulfilling : Answer → Taken → ℕ → ℕ → System → Change
+unfoldable pub fulfilling : Answer → Taken → ℕ → ℕ → System → System
 fulfilling reply call p seg system =
     answering_call (reply_at_entry reply call p system) call p seg (with_entry reply call p system)
 
@@ -250,8 +253,7 @@ fulfilling reply call p seg system =
 unfoldable pub completing : Answer → Taken → ℕ → ℕ → System → Change
 completing reply call p seg system =
     let spoke = said_by call (string_of call seg system.memory) p system in
-    let afterwards = fulfilling reply call p seg (popped p seg spoke.system) in
-    record { system = afterwards.system; emitted = afterwards.emitted ++ spoke.emitted }
+    record spoke { system = fulfilling reply call p seg (popped p seg spoke.system) }
 
 -- a process leaves the resident procedure that it is in
 unfoldable pub returning : ℕ → System → System

@@ -1,5 +1,5 @@
 -- The machine as a kernel model: its state, and when a machine stands for a state.
-use Rattle.std.specs.Prelude.{◌≡◌, ℕ, false, List, [], All, Option, Some, None}
+use Rattle.std.specs.Prelude.{◌≡◌, ◌<◌, ◌≤◌, ◌+◌, ℕ, false, List, [], All, Option, Some, None, length}
 use Rattle.mpm_banks.specs.Memory.{Memory, segment_of}
 use Rattle.mpm_banks.specs.declared.segment.Allocation.TheVariants.{Occupied}
 use Rattle.mpm_procs.specs.Table.{Lives, process_in}
@@ -58,6 +58,23 @@ pub record StandsWithDrives (machine : Machine) (kept : Kept) (written : Option 
 pub record HoldsDrives {D : Type 0} (attached : D → ℕ → Option ℕ) (disks : D → Option Disks) (kept : Filed) (drives : D) : Type 0 where
   pub idle : kept.service ≡ None
   pub fits : FitsDrives attached disks kept.mounted kept.cached drives
+
+-- between steps no completion is left: no held call that was completed is to be answered, and no record to be written
+pub record NoCompletions (system : System) : Type 0 where
+  pub answered : system.kernel.dispatcher.completed ≡ []
+  pub written : system.records ≡ []
+
+-- so many records there may be at once: one of what a step begins with, 65 of those whose held calls it completes, one of the call
+-- whose last turn is over, and 64 of those whose held calls an end completes
+abbrev pub most_records : ℕ
+most_records = 131
+
+-- there is room for one more, and, where there are so many, for those of 64 held calls
+abbrev pub HasRoom : System → Type 0
+HasRoom system = length system.records < most_records
+
+abbrev pub HasRoomForAll : ℕ → Type 0
+HasRoomForAll count = count + 64 ≤ most_records
 
 -- processes live in the segment
 abbrev pub IsOccupied : Memory → ℕ → Type 0

@@ -1,5 +1,5 @@
 -- What a step makes of a system in which no file call is made.
-use Rattle.std.specs.Prelude.{ℕ, ◌+◌, Bool, true, false, not, ◌&&◌, ◌||◌, if◌then◌else◌, List, [], ◌++◌, Option, Some, None, is_none}
+use Rattle.std.specs.Prelude.{ℕ, ◌+◌, Bool, true, false, not, ◌&&◌, ◌||◌, if◌then◌else◌, List, [], ◌∷◌, Option, Some, None, is_none}
 use Rattle.z80_regs.specs.Outcome.{Outcome}
 use Rattle.z80_ext.specs.Instruction.{instruction, registers_after, actions_of}
 use Rattle.mpm_banks.specs.Memory.{byte_at}
@@ -12,7 +12,8 @@ use Rattle.mpm_kernel.specs.Kernel.{Kernel, dispatched as with_dispatcher}
 use Rattle.mpm_dispatcher.specs.Dispatch.{picked}
 use Rattle.mpm_kernel.specs.Events.{happened}
 use Rattle.mpm_kernel.specs.Consoling.{abort_taken}
-use Rattle.mpm_render.specs.Outputs.{Output}
+use Rattle.mpm_render.specs.Completions.{Completion}
+use Rattle.mpm_render.specs.Outputs.{Output, Completed}
 use Rattle.mpm_processor.specs.Gates.{gate_of}
 use Rattle.mpm_processor.specs.declared.gate.Gate.{Gate}
 use Rattle.mpm_processor.specs.declared.gate.Gate.TheVariants.{End, Call, Return}
@@ -153,11 +154,29 @@ abbrev pub instruction_unless : Option Event → System → Bool
 instruction_unless None system = at_instruction system
 instruction_unless (Some event) system = false
 
--- then the held calls that it completed are answered, and the ends that are due come
+-- the system goes on, and nothing is said
+abbrev pub then_also : Change → (System → System) → Change
+then_also change next = record change { system = next change.system }
+
+-- the records of completed calls come out, in order, behind all else that the step says
+unfoldable pub recorded_behind : List Completion → List Output → List Output
+recorded_behind [] outputs = outputs
+recorded_behind (call ∷ calls) outputs = recorded_behind calls (Completed call ∷ outputs)
+
+abbrev pub with_records : Change → Change
+with_records change = record {
+  system = record change.system { records = [] };
+  emitted = recorded_behind change.system.records change.emitted;
+}
+
+-- so they come out where nothing else is said
+abbrev pub records_out : System → Change
+records_out system = with_records (silent system)
+
+-- then the held calls that it completed are answered, and the ends that are due come; and then the records of all calls that the
+-- step completed come out
 unfoldable pub with_settled : Change → Change
-with_settled change =
-    let afterwards = settled change.system in
-    record { system = afterwards.system; emitted = afterwards.emitted ++ change.emitted }
+with_settled change = with_records (then_also change settled)
 
 -- one more step counted
 abbrev pub counted : System → System

@@ -5,6 +5,7 @@ ghost use Rattle.mpm_procs.specs.Table.{Lives, process_in, call_of};
 ghost use Rattle.mpm_dispatcher.specs.Dispatch.{IsReady};
 ghost use Rattle.mpm_output.specs.Writing.{spoken, Writes};
 
+use crate::records::Record;
 use crate::system::System;
 use mpm_base::{FAILURE_CODE, Outcome, Pid, Reply, Seg, functions};
 use mpm_consoles::{AWAIT_KEY, echoes};
@@ -17,8 +18,8 @@ const ALLOCATED: u8 = 0x80;
 
 impl System {
     ghost use Rattle.mpm_banks.specs.Allocations.{released, is_reserved};
-    ghost use Rattle.mpm_machine.specs.State.{IsWhole};
-    ghost use Rattle.mpm_machine.specs.Serving.{asked, keeping, IsTaken, served, served_to_all, reserving, releasing, creating, telling_system, telling_descriptor, base_asked, string_of, said_by, echo_of, popped, replied, answering_call, fulfilling, completing, completion, outcome_of, gate_step};
+    ghost use Rattle.mpm_machine.specs.State.{IsWhole, HasRoom};
+    ghost use Rattle.mpm_machine.specs.Serving.{asked, keeping, IsTaken, served, served_to_all, reserving, releasing, creating, telling_system, telling_descriptor, base_asked, string_of, said_by, echo_of, popped, replied, answering_call, fulfilling, completing, recorded, outcome_of, gate_step};
     ghost use Rattle.mpm_machine.specs.Ending.{ended};
 
     /// The gate step of a kernel call of a process of a segment.
@@ -34,6 +35,7 @@ impl System {
         requires lives { Lives self.old.kernel.dispatcher.procs p }
         requires ready { IsReady self.old.kernel.dispatcher p }
         requires home { (process_in self.old.kernel.dispatcher.procs p).seg ≡ Some seg }
+        requires room { HasRoom self.old }
         ensures system { OnOk result (self.new ≡ (gate_step p seg self.old).system) }
         ensures wrote { Writes S.written S.faults render.old sink.old render.new sink.new (gate_step p seg self.old).emitted result }
     {
@@ -55,6 +57,7 @@ impl System {
     ) -> Result<(), Failed>
         requires whole { IsWhole self.old }
         requires lives { Lives self.old.kernel.dispatcher.procs p }
+        requires room { HasRoom self.old }
         ensures system { OnOk result (self.new ≡ (outcome_of outcome reply.old (call_of self.old.kernel.dispatcher.procs p) p seg self.old).system) }
         ensures wrote { Writes S.written S.faults render.old sink.old render.new sink.new (outcome_of outcome reply.old (call_of self.old.kernel.dispatcher.procs p) p seg self.old).emitted result }
     {
@@ -216,7 +219,7 @@ impl System {
         Outcome::Done
     }
 
-    /// The call that a process keeps is done: its text comes out, its reply is placed, its record is written.
+    /// The call that a process keeps is done: its text comes out, its reply is placed, and its record joins the others.
     #[tactic(auto, unfolding(crate::specs::Serving::completing))]
     fn complete<S: Sink>(
         &mut self,
@@ -228,52 +231,40 @@ impl System {
     ) -> Result<(), Failed>
         requires whole { IsWhole self.old }
         requires lives { Lives self.old.kernel.dispatcher.procs p }
+        requires room { HasRoom self.old }
         ensures system { OnOk result (self.new ≡ (completing reply.old (call_of self.old.kernel.dispatcher.procs p) p seg self.old).system) }
         ensures wrote { Writes S.written S.faults render.old sink.old render.new sink.new (completing reply.old (call_of self.old.kernel.dispatcher.procs p) p seg self.old).emitted result }
     {
         self.speak(p, seg, render, sink)?;
         self.pop(p, seg);
-        self.fulfil(p, seg, reply, render, sink)
+        self.fulfil(p, seg, reply);
+        Ok(())
     }
 
     /// The call that a process keeps, whose return address was taken, is fulfilled: where it is a call 151 that got its
-    /// message, the process enters the resident procedure; the reply is placed, and its record is written.
+    /// message, the process enters the resident procedure; the reply is placed, and its record joins the others.
     #[inline(always)]
     #[tactic(auto, unfolding(crate::specs::Serving::fulfilling))]
-    pub fn fulfil<S: Sink>(
-        &mut self,
-        p: Pid,
-        seg: Seg,
-        reply: &mut Reply,
-        render: &mut Render,
-        sink: &mut S,
-    ) -> Result<(), Failed>
+    pub fn fulfil(&mut self, p: Pid, seg: Seg, reply: &mut Reply)
         requires whole { IsWhole self.old }
         requires lives { Lives self.old.kernel.dispatcher.procs p }
-        ensures system { OnOk result (self.new ≡ (fulfilling reply.old (call_of self.old.kernel.dispatcher.procs p) p seg self.old).system) }
-        ensures wrote { Writes S.written S.faults render.old sink.old render.new sink.new (fulfilling reply.old (call_of self.old.kernel.dispatcher.procs p) p seg self.old).emitted result }
+        requires room { HasRoom self.old }
+        ensures { self.new ≡ fulfilling reply.old (call_of self.old.kernel.dispatcher.procs p) p seg self.old }
     {
         self.enter(p, reply);
-        self.answer(p, seg, reply, render, sink)
+        self.answer(p, seg, reply);
     }
 
-    /// The reply to the call that a process keeps is placed, and its record is written.
+    /// The reply to the call that a process keeps is placed, and its record joins the others.
     #[inline(always)]
     #[tactic(auto, unfolding(crate::specs::Serving::answering_call))]
-    pub fn answer<S: Sink>(
-        &mut self,
-        p: Pid,
-        seg: Seg,
-        reply: &Reply,
-        render: &mut Render,
-        sink: &mut S,
-    ) -> Result<(), Failed>
+    pub fn answer(&mut self, p: Pid, seg: Seg, reply: &Reply)
         requires lives { Lives self.old.kernel.dispatcher.procs p }
-        ensures system { OnOk result (self.new ≡ (answering_call reply.now (call_of self.old.kernel.dispatcher.procs p) p seg self.old).system) }
-        ensures wrote { Writes S.written S.faults render.old sink.old render.new sink.new (answering_call reply.now (call_of self.old.kernel.dispatcher.procs p) p seg self.old).emitted result }
+        requires room { HasRoom self.old }
+        ensures { self.new ≡ answering_call reply.now (call_of self.old.kernel.dispatcher.procs p) p seg self.old }
     {
         self.reply(p, seg, reply);
-        self.record(p, render, sink)
+        self.record(p);
     }
 
     /// What the call of a process of a segment writes comes out; the string of function 9 stands in memory.
@@ -391,25 +382,25 @@ impl System {
         mpm_gate::put_reply(reply, word, &mut self.memory, seg, regs);
     }
 
-    /// The record of the call that a process completed.
+    /// The record of the call that a process completed joins those of its step.
     #[inline(always)]
-    #[tactic(auto, unfolding(crate::specs::Serving::completion))]
-    fn record<S: Sink>(&mut self, p: Pid, render: &mut Render, sink: &mut S) -> Result<(), Failed>
+    #[tactic(auto, unfolding(crate::specs::Serving::recorded, crate::specs::Serving::completion))]
+    fn record(&mut self, p: Pid)
         requires lives { Lives self.old.kernel.dispatcher.procs p }
-        ensures system { self.new ≡ self.old }
-        ensures wrote { Writes S.written S.faults render.old sink.old render.new sink.new (completion (call_of self.old.kernel.dispatcher.procs p) p self.old ∷ []) result }
+        requires room { HasRoom self.old }
+        ensures { self.new ≡ recorded (call_of self.old.kernel.dispatcher.procs p) p self.old }
     {
         let regs = self.kernel.regs(p);
-        render.trace(
-            self.steps,
-            p.0,
-            self.kernel.kept_call(p).function,
-            regs.a,
-            u16::from_le_bytes([regs.c, regs.b]),
-            u16::from_le_bytes([regs.e, regs.d]),
-            u16::from_le_bytes([regs.l, regs.h]),
-            sink,
-        )
+        let record = Record {
+            step: self.steps,
+            process: p.0,
+            function: self.kernel.kept_call(p).function,
+            a: regs.a,
+            bc: u16::from_le_bytes([regs.c, regs.b]),
+            de: u16::from_le_bytes([regs.e, regs.d]),
+            hl: u16::from_le_bytes([regs.l, regs.h]),
+        };
+        self.records.put(record);
     }
 
     /// A process ends, and gives back what it had.

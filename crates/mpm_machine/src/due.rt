@@ -1,4 +1,4 @@
-ghost use Rattle.std.specs.Prelude.{◌≡◌, OnOk};
+ghost use Rattle.std.specs.Prelude.{◌≡◌, ◌+◌, [], OnOk, length};
 ghost use Rattle.mpm_output.specs.Writing.{Writes};
 
 use crate::system::System;
@@ -8,10 +8,12 @@ use mpm_render::Render;
 
 impl System {
     ghost use Rattle.mpm_kernel.specs.Kernel.{is_aborted};
-    ghost use Rattle.mpm_machine.specs.State.{IsWhole};
+    ghost use Rattle.mpm_machine.specs.State.{IsWhole, HasRoomForAll};
+    ghost use Rattle.mpm_machine.specs.Step.{records_out};
     ghost use Rattle.mpm_machine.specs.Due.{is_due, is_any_aborted, noted, ended_if_due, all_due_terminated, with_ends, settled};
 
-    /// The end of a step: the held calls that were completed are answered, and then the ends that are due come.
+    /// The end of a step: the held calls that were completed are answered, and then the ends that are due come; the records of the
+    /// step's calls come out. Nothing else is said from here on, so that those of each part come out as it is over.
     #[tactic(auto, using(crate::proofs::WholeStepLaws::whole_all_answered), unfolding(crate::specs::Due::settled))]
     pub fn settle<S: Sink>(
         &mut self,
@@ -20,10 +22,12 @@ impl System {
         sink: &mut S,
     ) -> Result<(), Failed>
         requires whole { IsWhole self.old }
-        ensures system { OnOk result (self.new ≡ (settled self.old).system) }
-        ensures wrote { Writes S.written S.faults render.old sink.old render.new sink.new (settled self.old).emitted result }
+        requires room { HasRoomForAll (length self.old.records + 1) }
+        ensures system { OnOk result (self.new ≡ (records_out (settled self.old)).system) }
+        ensures wrote { Writes S.written S.faults render.old sink.old render.new sink.new (records_out (settled self.old)).emitted result }
     {
-        self.answer_all(reply, render, sink)?;
+        self.answer_all(reply);
+        self.write_records(render, sink)?;
         self.end_due(reply, render, sink)
     }
 
@@ -36,8 +40,9 @@ impl System {
         sink: &mut S,
     ) -> Result<(), Failed>
         requires whole { IsWhole self.old }
-        ensures system { OnOk result (self.new ≡ (with_ends self.old).system) }
-        ensures wrote { Writes S.written S.faults render.old sink.old render.new sink.new (with_ends self.old).emitted result }
+        requires none { self.old.records ≡ [] }
+        ensures system { OnOk result (self.new ≡ (records_out (with_ends self.old)).system) }
+        ensures wrote { Writes S.written S.faults render.old sink.old render.new sink.new (records_out (with_ends self.old)).emitted result }
     {
         if self.abort_deferred {
             self.end_each_due(reply, render, sink)?;
@@ -54,8 +59,9 @@ impl System {
         sink: &mut S,
     ) -> Result<(), Failed>
         requires whole { IsWhole self.old }
-        ensures system { OnOk result (self.new ≡ (all_due_terminated self.old).system) }
-        ensures wrote { Writes S.written S.faults render.old sink.old render.new sink.new (all_due_terminated self.old).emitted result }
+        requires none { self.old.records ≡ [] }
+        ensures system { OnOk result (self.new ≡ (records_out (all_due_terminated self.old)).system) }
+        ensures wrote { Writes S.written S.faults render.old sink.old render.new sink.new (records_out (all_due_terminated self.old)).emitted result }
     {
         for number in 0..32 {
             if let Err(Failed) = self.end_if_due(Pid(number), reply, render, sink) {
@@ -75,13 +81,46 @@ impl System {
         sink: &mut S,
     ) -> Result<(), Failed>
         requires whole { IsWhole self.old }
-        ensures system { OnOk result (self.new ≡ (ended_if_due p self.old).system) }
-        ensures wrote { Writes S.written S.faults render.old sink.old render.new sink.new (ended_if_due p self.old).emitted result }
+        requires none { self.old.records ≡ [] }
+        ensures system { OnOk result (self.new ≡ (records_out (ended_if_due p self.old)).system) }
+        ensures wrote { Writes S.written S.faults render.old sink.old render.new sink.new (records_out (ended_if_due p self.old)).emitted result }
     {
         if self.is_due(p) {
             self.end(p);
-            return self.finish_all(reply, render, sink);
+            self.finish_all(reply);
+            return self.write_records(render, sink);
         }
+        Ok(())
+    }
+
+    /// The records of completed calls come out, in order: mostly there are none.
+    #[inline(always)]
+    pub fn write_records<S: Sink>(
+        &mut self,
+        render: &mut Render,
+        sink: &mut S,
+    ) -> Result<(), Failed>
+        ensures system { OnOk result (self.new ≡ (records_out self.old).system) }
+        ensures wrote { Writes S.written S.faults render.old sink.old render.new sink.new (records_out self.old).emitted result }
+    {
+        if self.records.has_some() {
+            return self.write_each_record(render, sink);
+        }
+        Ok(())
+    }
+
+    /// The same where there are some.
+    #[inline(never)]
+    fn write_each_record<S: Sink>(
+        &mut self,
+        render: &mut Render,
+        sink: &mut S,
+    ) -> Result<(), Failed>
+        ensures system { OnOk result (self.new ≡ (records_out self.old).system) }
+        ensures wrote { Writes S.written S.faults render.old sink.old render.new sink.new (records_out self.old).emitted result }
+    {
+        self.records.write(render, sink)?;
+        self.records.clear();
         Ok(())
     }
 

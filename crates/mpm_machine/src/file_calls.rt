@@ -1,4 +1,4 @@
-ghost use Rattle.std.specs.Prelude.{◌≡◌, ◌<◌, true, Option, Some, None, is_some, IfSome, OnOk};
+ghost use Rattle.std.specs.Prelude.{◌≡◌, ◌<◌, true, [], Option, Some, None, is_some, IfSome, OnOk};
 ghost use Rattle.mpm_script.specs.declared.line.TheConstants.{GREATEST_STEP};
 ghost use Rattle.mpm_procs.specs.Table.{Lives, process_in, call_of};
 ghost use Rattle.mpm_output.specs.Writing.{Writes};
@@ -22,12 +22,12 @@ const FIRST_DMA: u8 = 0x80;
 
 impl System {
     ghost use Rattle.mpm_processor.specs.Gates.{IsHome};
-    ghost use Rattle.mpm_machine.specs.State.{IsWhole};
+    ghost use Rattle.mpm_machine.specs.State.{IsWhole, HasRoom};
     ghost use Rattle.mpm_machine.specs.Step.{coming, counted, gate_before};
     ghost use Rattle.std.specs.Prelude.{is_none};
     ghost use Rattle.mpm_bdos.specs.declared.refusals.Extended.{Extended};
     ghost use Rattle.mpm_bdos.specs.Outcomes.{Resets};
-    ghost use Rattle.mpm_machine.specs.FileCalls.{at_gate, first_dma, reply_by, called_next, calls_files, file_caller, call_made, told_of, change_of, with_caller, file_replied, error_told, told_then, error_met, concluded, step_concluded};
+    ghost use Rattle.mpm_machine.specs.FileCalls.{at_gate, first_dma, reply_by, called_next, calls_files, file_caller, call_made, told_of, change_of, with_caller, file_replied, error_told, answered_or_ended, told_then, error_met, concluded, step_concluded};
 
     /// The process that makes a file call in the next step, if one does.
     #[tactic(auto, using(mpm_kernel::proofs::SoundLaws::runner_lives), unfolding(crate::specs::FileCalls::file_caller))]
@@ -125,6 +125,7 @@ impl System {
     ) -> Result<(), Failed>
         requires whole { IsWhole self.old }
         requires lives { Lives self.old.kernel.dispatcher.procs p }
+        requires none { self.old.records ≡ [] }
         ensures system { OnOk result (self.new ≡ (step_concluded (told_of (call_of self.old.kernel.dispatcher.procs p) reply.old error) p self.old).system) }
         ensures wrote { Writes S.written S.faults render.old sink.old render.new sink.new (step_concluded (told_of (call_of self.old.kernel.dispatcher.procs p) reply.old error) p self.old).emitted result }
     {
@@ -147,12 +148,16 @@ impl System {
     ) -> Result<(), Failed>
         requires whole { IsWhole self.old }
         requires lives { Lives self.old.kernel.dispatcher.procs p }
+        requires room { HasRoom self.old }
         ensures system { OnOk result (self.new ≡ (concluded (told_of (call_of self.old.kernel.dispatcher.procs p) reply.now error) p self.old).system) }
         ensures wrote { Writes S.written S.faults render.old sink.old render.new sink.new (concluded (told_of (call_of self.old.kernel.dispatcher.procs p) reply.now error) p self.old).emitted result }
     {
         self.change_caller(p, error.is_none());
         match error {
-            None => self.put_file_reply(p, reply, render, sink),
+            None => {
+                self.put_file_reply(p, reply);
+                Ok(())
+            }
             Some(error) => self.meet_error(p, error, reply, render, sink),
         }
     }
@@ -200,44 +205,28 @@ impl System {
         }
     }
 
-    /// A file call that a process keeps is answered: its reply is placed, and its record is written; a resident takes the
+    /// A file call that a process keeps is answered: its reply is placed, and its record joins the others; a resident takes the
     /// answer.
     #[tactic(auto, unfolding(crate::specs::FileCalls::file_replied))]
-    fn put_file_reply<S: Sink>(
-        &mut self,
-        p: Pid,
-        reply: &Reply,
-        render: &mut Render,
-        sink: &mut S,
-    ) -> Result<(), Failed>
+    fn put_file_reply(&mut self, p: Pid, reply: &Reply)
         requires lives { Lives self.old.kernel.dispatcher.procs p }
-        ensures system { OnOk result (self.new ≡ (file_replied reply.now p self.old).system) }
-        ensures wrote { Writes S.written S.faults render.old sink.old render.new sink.new (file_replied reply.now p self.old).emitted result }
+        requires room { HasRoom self.old }
+        ensures { self.new ≡ file_replied reply.now p self.old }
     {
         match self.kernel.segment(p) {
-            Some(seg) => self.put_reply_at(p, seg, reply, render, sink),
-            None => {
-                self.take_answer(p, reply);
-                Ok(())
-            }
+            Some(seg) => self.put_reply_at(p, seg, reply),
+            None => self.take_answer(p, reply),
         }
     }
 
     /// The same of a process of a segment.
-    fn put_reply_at<S: Sink>(
-        &mut self,
-        p: Pid,
-        seg: Seg,
-        reply: &Reply,
-        render: &mut Render,
-        sink: &mut S,
-    ) -> Result<(), Failed>
+    fn put_reply_at(&mut self, p: Pid, seg: Seg, reply: &Reply)
         requires lives { Lives self.old.kernel.dispatcher.procs p }
-        ensures system { OnOk result (self.new ≡ (reply_by (Some seg) reply.now p self.old).system) }
-        ensures wrote { Writes S.written S.faults render.old sink.old render.new sink.new (reply_by (Some seg) reply.now p self.old).emitted result }
+        requires room { HasRoom self.old }
+        ensures { self.new ≡ reply_by (Some seg) reply.now p self.old }
     {
         self.pop(p, seg);
-        self.answer(p, seg, reply, render, sink)
+        self.answer(p, seg, reply);
     }
 
     /// An extended error is met by the error mode of its process.
@@ -252,12 +241,14 @@ impl System {
     ) -> Result<(), Failed>
         requires whole { IsWhole self.old }
         requires lives { Lives self.old.kernel.dispatcher.procs p }
+        requires room { HasRoom self.old }
         ensures system { OnOk result (self.new ≡ (error_met error reply.now p self.old).system) }
         ensures wrote { Writes S.written S.faults render.old sink.old render.new sink.new (error_met error reply.now p self.old).emitted result }
     {
         let mode = self.kernel.living(p).error_mode;
         if mode == ANSWERS {
-            return self.put_file_reply(p, reply, render, sink);
+            self.put_file_reply(p, reply);
+            return Ok(());
         }
         self.tell_and_meet(p, error, mode == TELLS_AND_ANSWERS, reply, render, sink)
     }
@@ -275,15 +266,27 @@ impl System {
     ) -> Result<(), Failed>
         requires whole { IsWhole self.old }
         requires lives { Lives self.old.kernel.dispatcher.procs p }
+        requires room { HasRoom self.old }
         ensures system { OnOk result (self.new ≡ (told_then answers error reply.now p self.old).system) }
         ensures wrote { Writes S.written S.faults render.old sink.old render.new sink.new (told_then answers error reply.now p self.old).emitted result }
     {
         self.tell_error(p, error, render, sink)?;
-        if answers {
-            return self.put_file_reply(p, reply, render, sink);
-        }
-        self.end(p);
+        self.answer_or_end(p, answers, reply);
         Ok(())
+    }
+
+    /// A file call whose extended error was told is answered, or ends its process.
+    fn answer_or_end(&mut self, p: Pid, answers: bool, reply: &Reply)
+        requires whole { IsWhole self.old }
+        requires lives { Lives self.old.kernel.dispatcher.procs p }
+        requires room { HasRoom self.old }
+        ensures { self.new ≡ answered_or_ended answers reply.now p self.old }
+    {
+        if answers {
+            self.put_file_reply(p, reply);
+        } else {
+            self.end(p);
+        }
     }
 
     /// The text of an extended error comes out at its caller's console.

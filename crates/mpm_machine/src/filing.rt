@@ -1,15 +1,14 @@
-ghost use Rattle.std.specs.Prelude.{◌≡◌, ◌<◌, ◌≤◌, ◌+◌, ◌*◌, ◌&&◌, not, false, ℕ, List, Option, None, IsSome, IfOk, OnErr, slice_index_or, if◌then◌else◌};
+ghost use Rattle.std.specs.Prelude.{◌≡◌, ◌<◌, ◌≤◌, ◌+◌, ◌*◌, ◌&&◌, not, false, ℕ, List, Option, None, IsSome, IfOk, OnErr, slice_index_or};
 ghost use Rattle.mpm_port.specs.Causes.{HasCause};
 ghost use Rattle.mpm_procs.specs.Table.{Table, Lives, lives, call_of};
-ghost use Rattle.mpm_procs.specs.Settings.{is_count};
 ghost use Rattle.mpm_port.specs.Disks.{Disks};
 ghost use Rattle.mpm_mount.specs.Drives.{Drive};
 ghost use Rattle.mpm_bdos.specs.Functions.{function_of};
 ghost use Rattle.mpm_bdos.specs.Filing.{Filing};
 ghost use Rattle.mpm_bdos.specs.Serving.{IsCaller, filing_of};
 ghost use Rattle.mpm_bdos.specs.Starting.{caller_of};
-ghost use Rattle.mpm_machine.specs.State.{StandsForFiles, HoldsDrives};
-ghost use Rattle.mpm_machine.specs.FileCalls.{outcome_in, left_behind, looked_at as as_looked_at};
+ghost use Rattle.mpm_machine.specs.State.{StandsForFiles, HoldsDrives, IsWhole};
+ghost use Rattle.mpm_machine.specs.FileCalls.{IsToldOf, outcome_in, left_behind, looked_at as as_looked_at};
 ghost use Rattle.mpm_machine.specs.Mounting.{HasNoDrive, KeepsMounted};
 ghost use Rattle.mpm_machine.specs.Failing.{call_found, turns_of, HaveImagesOf, FailsWithin};
 ghost use Rattle.mpm_machine.specs.Filed.{IsOutcome, AreLiving, HasStayed, left_if};
@@ -86,21 +85,15 @@ fn leave_if(bdos: &mut Bdos, p: Pid, gone: bool)
     }
 }
 
-/// A multi-sector count, 1 to 16.
-fn count_of(multi: u8) -> u8
-    ensures { result ≡ (if is_count multi then multi else 1) }
-{
-    if multi >= 1 && multi <= 16 { multi } else { 1 }
-}
-
 /// A process as a file call looks at it.
 fn looked_at(process: &Process) -> Process
+    requires some { 1 ≤ process.now.multi }
+    requires few { process.now.multi ≤ 16 }
     ensures process { result ≡ as_looked_at process.now }
     ensures caller { (p : ℕ) → IsCaller (caller_of p result) }
 {
     Process {
         user: process.user % 16,
-        multi: count_of(process.multi),
         ..*process
     }
 }
@@ -114,10 +107,12 @@ pub(crate) fn call_files<D: Drives, L: Ledger>(
     drives: &mut D,
     steps: &mut Steps<L>,
 ) -> Result<Option<Extended>, Failed>
+    requires whole { IsWhole system.now }
     requires lives { Lives system.now.kernel.dispatcher.procs p }
     requires holds { HoldsDrives D.attached D.disks bdos.old drives.old }
     ensures ok { (filing : Filing) → StandsForFiles bdos.old (D.disks drives.old) filing
         → IfOk result (IsOutcome (D.disks drives.new) (outcome_in filing p system.now) bdos.new reply.new) }
+    ensures told { IfOk result (IsToldOf p system.now reply.new) }
     ensures err { (filing : Filing) → StandsForFiles bdos.old (D.disks drives.old) filing
         → OnErr result (HaveImagesOf (FailsWithin (call_found filing p system.now)) (D.disks drives.new) bdos.new.mounted) }
     ensures calls { (filing : Filing) → StandsForFiles bdos.old (D.disks drives.old) filing → steps.new ≤ steps.old + 20 * turns_of (call_found filing p system.now) }
@@ -146,9 +141,11 @@ fn call_disk<D: Drives, L: Ledger>(
     drives: &mut D,
     steps: &mut Steps<L>,
 ) -> Result<Option<Extended>, Failed>
+    requires whole { IsWhole system.now }
     requires lives { Lives system.now.kernel.dispatcher.procs p }
     requires holds { HoldsDrives D.attached D.disks bdos.old drives.old }
     requires function { IsSome (function_of (call_of system.now.kernel.dispatcher.procs p).function) }
+    ensures told { IfOk result (IsToldOf p system.now reply.new) }
     ensures ok { (filing : Filing) → StandsForFiles bdos.old (D.disks drives.old) filing
         → IfOk result (IsOutcome (D.disks drives.new) (outcome_in filing p system.now) bdos.new reply.new) }
     ensures err { (filing : Filing) → StandsForFiles bdos.old (D.disks drives.old) filing
@@ -180,7 +177,8 @@ fn call_disk<D: Drives, L: Ledger>(
 fn call_directly(system: &System, bdos: &Bdos, p: Pid, reply: &mut Reply) -> Option<Extended>
     requires lives { Lives system.now.kernel.dispatcher.procs p }
     requires function { function_of (call_of system.now.kernel.dispatcher.procs p).function ≡ None }
-    ensures { (disks : Option Disks) (filing : Filing) → StandsForFiles bdos.now disks filing
+    ensures told { IsToldOf p system.now reply.new result }
+    ensures outcome { (disks : Option Disks) (filing : Filing) → StandsForFiles bdos.now disks filing
         → IsOutcome disks (outcome_in filing p system.now) bdos.now reply.new result }
 {
     reply.answer(0);

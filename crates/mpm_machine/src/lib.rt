@@ -13,6 +13,7 @@ mod machine;
 mod opening;
 mod parsing;
 mod procedures;
+mod records;
 mod residing;
 mod sending;
 mod system;

@@ -4,6 +4,7 @@ ghost use Rattle.mpm_port.specs.Texts.{appended};
 
 use crate::filing::{call_files, leave_files, living};
 use crate::opening::{bdos_of, moment_of, program_file};
+use crate::records::Records;
 use crate::system::System;
 use mpm_banks::Banks;
 use mpm_base::{Name8, Pid, Reply, Seg, Steps};
@@ -47,6 +48,7 @@ pub struct Machine {
 }
 
 impl Machine {
+    ghost use Rattle.std.specs.Option.{option_copied};
     ghost use Rattle.mpm_banks.specs.Memory.{byte_at};
     ghost use Rattle.mpm_procs.specs.Table.{Lives, process_at, lowest_free, call_of};
     ghost use Rattle.mpm_kernel.specs.Kernel.{HasConsole};
@@ -60,14 +62,15 @@ impl Machine {
     ghost use Rattle.mpm_drives.specs.Stopping.{Stops};
     ghost use Rattle.mpm_opens.specs.Opens.{AreOpen};
     ghost use Rattle.mpm_bdos.specs.Filing.{Filing};
-    ghost use Rattle.mpm_bdos.specs.Serving.{nothing_kept, in_places};
+    ghost use Rattle.mpm_bdos.specs.Serving.{directory_at, nothing_kept, in_places};
     ghost use Rattle.mpm_bdos.specs.Syncing.{mounted_count};
     ghost use Rattle.mpm_output.specs.Outside.{seen};
     ghost use Rattle.mpm_output.specs.Writing.{Stopped};
-    ghost use Rattle.mpm_machine.specs.State.{State, silent, StandsForFiles, StandsWithDrives, HoldsDrives, IsWhole};
+    ghost use Rattle.mpm_machine.specs.State.{State, silent, StandsForFiles, StandsWithDrives, HoldsDrives, IsWhole, NoCompletions};
     ghost use Rattle.mpm_machine.specs.Faults.{counts, HaveCause, itself, of_run, EndsBy, OnDiskFault, OnWriteFault};
     ghost use Rattle.mpm_machine.specs.Due.{NobodyDue};
     ghost use Rattle.mpm_machine.specs.Slots.{HasResidents};
+    ghost use Rattle.mpm_machine.specs.Interpreting.{IsActing, Interprets};
     ghost use Rattle.mpm_machine.specs.Opening.{booted, opened, IsBare, MayPlace, with_placed, opening_system, command_queue, with_residents};
     ghost use Rattle.mpm_kernel.specs.Queueing.{OnlySystems};
     ghost use Rattle.mpm_queues.specs.Queues.{make_error};
@@ -92,9 +95,10 @@ impl Machine {
         requires { IsMachine file.now }
         ensures opening { IfOk result (λ machine. machine.system ≡ opened file.now script) }
         ensures residents { IfOk result (λ machine. HasResidents file.now.consoles machine.system) }
+        ensures interprets { IfOk result (λ machine. Interprets machine.system) }
         ensures start { IfOk result (λ machine. machine.system.steps ≡ 0) }
         ensures whole { IfOk result (λ machine. IsWhole machine.system) }
-        ensures no_completions { IfOk result (λ machine. machine.system.kernel.dispatcher.completed ≡ []) }
+        ensures no_completions { IfOk result (λ machine. NoCompletions machine.system) }
         ensures mounted { IfOk result (λ machine. HasMounted (D.attached drives.new) (D.disks drives.new) (image_named (D.disks drives.old)) file.now.drives machine.bdos) }
         ensures drives { IfOk result (λ machine. HasDrives (D.disks drives.new) file.now.drives machine.bdos.mounted) }
         ensures holds { IfOk result (λ machine. HoldsDrives D.attached D.disks machine.bdos drives.new) }
@@ -111,29 +115,25 @@ impl Machine {
             Ok(machine) => machine,
             Err(error) => return Err(error),
         };
-        match machine.begin_residents(file.consoles) {
-            Ok(()) => Ok(machine),
-            Err(AllocError) => Err(BootError::OutOfMemory),
-        }
+        machine.begin_residents(file.consoles);
+        Ok(machine)
     }
 
     /// What a machine has as it is run, beside what its file says.
-    ///
-    /// # Errors
-    /// Where no memory is found.
-    fn begin_residents(&mut self, consoles: u8) -> Result<(), AllocError>
+    fn begin_residents(&mut self, consoles: u8)
         requires whole { IsWhole self.old.system }
-        requires no_completions { self.old.system.kernel.dispatcher.completed ≡ [] }
+        requires no_completions { NoCompletions self.old.system }
         requires consoles { consoles ≡ length self.old.system.kernel.units.consoles }
         requires queues { OnlySystems self.old.system.kernel }
         requires room { make_error self.old.system.kernel.queues command_queue 130 15 ≡ None }
-        ensures system { OnOk result (self.new.system ≡ with_residents consoles self.old.system) }
-        ensures whole { OnOk result (IsWhole self.new.system) }
-        ensures no_completions { OnOk result (self.new.system.kernel.dispatcher.completed ≡ []) }
-        ensures steps { OnOk result (self.new.system.steps ≡ self.old.system.steps) }
+        requires nobody { self.old.system.residents ≡ [] }
+        ensures system { self.new.system ≡ with_residents consoles self.old.system }
+        ensures whole { IsWhole self.new.system }
+        ensures no_completions { NoCompletions self.new.system }
+        ensures steps { self.new.system.steps ≡ self.old.system.steps }
         ensures bdos { self.new.bdos ≡ self.old.bdos }
     {
-        self.system.begin_residents(consoles)
+        self.system.begin_residents(consoles);
     }
 
     /// The machine of a machine file, and of its script's events, without processes: `place` puts programs into it. Its drives
@@ -199,7 +199,8 @@ impl Machine {
                 kernel,
                 memory,
                 abort_deferred: false,
-                residents: Residents::none(alloc),
+                residents: Residents::none(),
+                records: Records::new(),
             },
             bdos,
             reply: Reply::new(),
@@ -217,7 +218,7 @@ impl Machine {
         ensures opening { IfOk result (λ machine. machine.system ≡ opening_system program.now) }
         ensures start { IfOk result (λ machine. machine.system.steps ≡ 0) }
         ensures whole { IfOk result (λ machine. IsWhole machine.system) }
-        ensures no_completions { IfOk result (λ machine. machine.system.kernel.dispatcher.completed ≡ []) }
+        ensures no_completions { IfOk result (λ machine. NoCompletions machine.system) }
         ensures bdos { IfOk result (λ machine. machine.bdos ≡ nothing_kept (in_places [])) }
         ensures memory { IfErr result (λ error. error ≡ BootError.OutOfMemory) }
     {
@@ -252,6 +253,13 @@ impl Machine {
         ensures { result ≡ self.now.system.steps }
     {
         self.system.steps
+    }
+
+    /// The directory in memory of a drive, 0 for A, where it is mounted.
+    pub fn directory(&self, drive: u8) -> Option<&Mounted>
+        ensures { option_copied result ≡ directory_at self.now.bdos.mounted drive }
+    {
+        self.bdos.directory(drive)
     }
 
     /// The registers of the process of that number, None where it doesn't live.
@@ -289,7 +297,7 @@ impl Machine {
     ) -> Result<(), StepFault>
         requires most { self.old.system.steps < GREATEST_STEP }
         requires whole { IsWhole self.old.system }
-        requires no_completions { self.old.system.kernel.dispatcher.completed ≡ [] }
+        requires no_completions { NoCompletions self.old.system }
         requires holds { HoldsDrives D.attached D.disks self.old.bdos drives.old }
         ensures ok { (s : State) (first : Option (List ℕ)) → StandsWithDrives self.old render.old (S.written sink.old) (D.disks drives.old) s first
             → OnOk result (StandsWithDrives self.new render.new (S.written sink.new) (D.disks drives.new) (next s) first) }
@@ -302,9 +310,10 @@ impl Machine {
         ensures step { OnOk result (HasStepped (seen S.written S.faults render.old sink.old) (seen S.written S.faults render.new sink.new) self.old.system self.new.system) }
         ensures stops { IfErr result (λ fault. HasStopped fault (seen S.written S.faults render.old sink.old) (seen S.written S.faults render.new sink.new) self.old.system) }
         ensures due { OnOk result (NobodyDue self.new.system.kernel) }
+        ensures interprets { IsActing self.old.system → OnOk result (IsActing self.new.system) }
         ensures locks { OnOk result (AreOpen self.new.bdos.opens) }
         ensures whole { OnOk result (IsWhole self.new.system) }
-        ensures no_completions { OnOk result (self.new.system.kernel.dispatcher.completed ≡ []) }
+        ensures no_completions { OnOk result (NoCompletions self.new.system) }
         ensures count { OnOk result (self.new.system.steps ≡ self.old.system.steps + 1) }
         ensures trace { render.new.trace ≡ render.old.trace }
         ensures cause { HaveCause itself (counts S.faults D.faults sink.old drives.old) (counts S.faults D.faults sink.new drives.new) result }
@@ -346,7 +355,7 @@ impl Machine {
     ) -> Result<(), StepFault>
         requires most { self.old.system.steps < GREATEST_STEP }
         requires whole { IsWhole self.old.system }
-        requires no_completions { self.old.system.kernel.dispatcher.completed ≡ [] }
+        requires no_completions { NoCompletions self.old.system }
         requires holds { HoldsDrives D.attached D.disks self.old.bdos drives.old }
         ensures ok { (filing : Filing) → StandsForFiles self.old.bdos (D.disks drives.old) filing
             → OnOk result (HasFiled filing (seen S.written S.faults render.old sink.old) (seen S.written S.faults render.new sink.new) self.old.system self.new.system self.new.bdos (D.disks drives.new)) }
@@ -386,7 +395,7 @@ impl Machine {
     ) -> Result<(), StepFault>
         requires most { self.old.system.steps < GREATEST_STEP }
         requires whole { IsWhole self.old.system }
-        requires no_completions { self.old.system.kernel.dispatcher.completed ≡ [] }
+        requires no_completions { NoCompletions self.old.system }
         requires none { file_caller self.old.system ≡ None }
         ensures ok { (filing : Filing) → StandsForFiles self.old.bdos (D.disks drives.now) filing
             → OnOk result (HasFiled filing (seen S.written S.faults render.old sink.old) (seen S.written S.faults render.new sink.new) self.old.system self.new.system self.new.bdos (D.disks drives.now)) }
@@ -419,7 +428,7 @@ impl Machine {
     ) -> Result<(), StepFault>
         requires most { self.old.system.steps < GREATEST_STEP }
         requires whole { IsWhole self.old.system }
-        requires no_completions { self.old.system.kernel.dispatcher.completed ≡ [] }
+        requires no_completions { NoCompletions self.old.system }
         requires holds { HoldsDrives D.attached D.disks self.old.bdos drives.old }
         requires caller { file_caller self.old.system ≡ Some p }
         requires lives { Lives self.old.system.kernel.dispatcher.procs p }
@@ -467,6 +476,7 @@ impl Machine {
     ) -> Result<(), StepFault>
         requires whole { IsWhole self.old.system }
         requires lives { Lives self.old.system.kernel.dispatcher.procs p }
+        requires none { self.old.system.records ≡ [] }
         ensures ok { OnOk result (HasConcluded (told_of (call_of self.old.system.kernel.dispatcher.procs p) self.old.reply extended) p
             (seen S.written S.faults render.old sink.old) (seen S.written S.faults render.new sink.new) self.old.system self.new.system) }
         ensures err { IfErr result (λ fault. (fault ≡ StepFault.WriteFault) × Stopped (seen S.written S.faults render.old sink.old) (seen S.written S.faults render.new sink.new)
@@ -494,7 +504,7 @@ impl Machine {
     ) -> Result<(), RunFault>
         requires most { self.old.system.steps + n ≤ GREATEST_STEP }
         requires whole { IsWhole self.old.system }
-        requires no_completions { self.old.system.kernel.dispatcher.completed ≡ [] }
+        requires no_completions { NoCompletions self.old.system }
         requires holds { HoldsDrives D.attached D.disks self.old.bdos drives.old }
         ensures ok { (s : State) (first : Option (List ℕ)) → StandsWithDrives self.old render.old (S.written sink.old) (D.disks drives.old) s first
             → OnOk result (StandsWithDrives self.new render.new (S.written sink.new) (D.disks drives.new) (after n s) first) }
@@ -508,9 +518,10 @@ impl Machine {
         ensures stops { IfErr result (λ error. HasStoppedIn n error.fault error.step (seen S.written S.faults render.old sink.old) (seen S.written S.faults render.new sink.new) self.old.system) }
         ensures each { (s : State) → s.system ≡ self.old.system → (k : ℕ) → k < n → IsNextOf (after k s) (after (k + 1) s) }
         ensures due { 0 < n → OnOk result (NobodyDue self.new.system.kernel) }
+        ensures interprets { IsActing self.old.system → OnOk result (IsActing self.new.system) }
         ensures locks { OnOk result (AreOpen self.new.bdos.opens) }
         ensures whole { OnOk result (IsWhole self.new.system) }
-        ensures no_completions { OnOk result (self.new.system.kernel.dispatcher.completed ≡ []) }
+        ensures no_completions { OnOk result (NoCompletions self.new.system) }
         ensures count { OnOk result (self.new.system.steps ≡ self.old.system.steps + n) }
         ensures trace { render.new.trace ≡ render.old.trace }
         ensures cause { HaveCause of_run (counts S.faults D.faults sink.old drives.old) (counts S.faults D.faults sink.new drives.new) result }
@@ -546,7 +557,7 @@ impl Machine {
         requires some { 0 < most }
         requires room { self.old.system.steps + most ≤ GREATEST_STEP }
         requires whole { IsWhole self.old.system }
-        requires no_completions { self.old.system.kernel.dispatcher.completed ≡ [] }
+        requires no_completions { NoCompletions self.old.system }
         requires holds { HoldsDrives D.attached D.disks self.old.bdos drives.old }
         ensures ok { (s : State) (first : Option (List ℕ)) → StandsWithDrives self.old render.old (S.written sink.old) (D.disks drives.old) s first
             → IfOk result (λ more. StandsWithDrives self.new render.new (S.written sink.new) (D.disks drives.new) (after more s) first) }
@@ -562,7 +573,7 @@ impl Machine {
         ensures some { IfOk result (λ more. 0 < more) }
         ensures few { IfOk result (λ more. more ≤ most) }
         ensures whole { OnOk result (IsWhole self.new.system) }
-        ensures no_completions { OnOk result (self.new.system.kernel.dispatcher.completed ≡ []) }
+        ensures no_completions { OnOk result (NoCompletions self.new.system) }
         ensures count { IfOk result (λ more. self.new.system.steps ≡ self.old.system.steps + more) }
         ensures trace { render.new.trace ≡ render.old.trace }
         ensures cause { HaveCause of_run (counts S.faults D.faults sink.old drives.old) (counts S.faults D.faults sink.new drives.new) result }
@@ -588,14 +599,14 @@ impl Machine {
     /// Instructions of the running process, at most so many, each of which is a step. Answers how many were done.
     fn run_on(&mut self, most: u64) -> u64
         requires whole { IsWhole self.old.system }
-        requires no_completions { self.old.system.kernel.dispatcher.completed ≡ [] }
+        requires no_completions { NoCompletions self.old.system }
         requires room { self.old.system.steps + most ≤ GREATEST_STEP }
         ensures count { result ≤ most }
         ensures states { (s : State) → s.system ≡ self.old.system → after result s ≡ record s { system = self.new.system } }
         ensures steps { AreSteps result self.old.system (silent self.new.system) }
         ensures due { 0 < result → NobodyDue self.new.system.kernel }
         ensures whole { IsWhole self.new.system }
-        ensures no_completions { self.new.system.kernel.dispatcher.completed ≡ [] }
+        ensures no_completions { NoCompletions self.new.system }
         ensures done { self.new.system.steps ≡ self.old.system.steps + result }
         ensures bdos { self.new.bdos ≡ self.old.bdos }
     {

@@ -1,4 +1,4 @@
-ghost use Rattle.std.specs.Prelude.{IfOk, ◌≡◌, ◌+◌, ◌*◌, ◌-◌, ◌≤◌, ◌<◌, false, Some, None, IsSome, OnOk, [], length};
+ghost use Rattle.std.specs.Prelude.{IfOk, ◌≡◌, ◌+◌, ◌*◌, ◌-◌, ◌≤◌, ◌<◌, false, Some, None, IsSome, [], length};
 ghost use Rattle.mpm_banks.specs.Memory.{HasSegment, segment_of};
 ghost use Rattle.mpm_procs.specs.Table.{lowest_free};
 ghost use Rattle.mpm_kernel.specs.Kernel.{IsSound, dispatched};
@@ -7,7 +7,7 @@ ghost use Rattle.mpm_kernel.specs.Consoling.{given};
 ghost use Rattle.mpm_kernel.specs.Queueing.{OnlySystems};
 ghost use Rattle.mpm_queues.specs.Queues.{make_error};
 ghost use Rattle.mpm_bdos.specs.Serving.{nothing_kept, in_places as in_their_places};
-ghost use Rattle.mpm_machine.specs.State.{IsWhole};
+ghost use Rattle.mpm_machine.specs.State.{IsWhole, NoCompletions};
 ghost use Rattle.mpm_machine.specs.Opening.{IsBare, MayPlace, with_placed, laid_out, placed_process as process_placed, moment_of as moment_said, program_file as program_said, command_queue, terminal_name as name_of_terminal, resident_process as process_of_resident, begun_by_interpreter, with_interpreting, with_terminal, with_terminals, with_residents};
 
 use crate::system::System;
@@ -41,40 +41,34 @@ impl System {
 
     /// What a machine has as it is run, beside what its file says: the command queue, the process of the command line
     /// interpreter, and a terminal message processor for each console. The first of the ready list runs.
-    ///
-    /// # Errors
-    /// Where no memory is found.
-    pub fn begin_residents(&mut self, consoles: u8) -> Result<(), AllocError>
+    pub fn begin_residents(&mut self, consoles: u8)
         requires whole { IsWhole self.old }
-        requires no_completions { self.old.kernel.dispatcher.completed ≡ [] }
+        requires no_completions { NoCompletions self.old }
         requires consoles { consoles ≡ length self.old.kernel.units.consoles }
         requires queues { OnlySystems self.old.kernel }
         requires room { make_error self.old.kernel.queues command_queue 130 15 ≡ None }
-        ensures system { OnOk result (self.new ≡ with_residents consoles self.old) }
-        ensures whole { OnOk result (IsWhole self.new) }
-        ensures no_completions { OnOk result (self.new.kernel.dispatcher.completed ≡ []) }
-        ensures steps { OnOk result (self.new.steps ≡ self.old.steps) }
+        requires nobody { self.old.residents ≡ [] }
+        ensures system { self.new ≡ with_residents consoles self.old }
+        ensures whole { IsWhole self.new }
+        ensures no_completions { NoCompletions self.new }
+        ensures steps { self.new.steps ≡ self.old.steps }
     {
-        self.begin_interpreting(consoles)?;
-        self.begin_terminals(consoles)?;
+        self.begin_interpreting(consoles);
+        self.begin_terminals(consoles);
         self.kernel.pick(false);
-        Ok(())
     }
 
     /// The command line interpreter begins, for so many consoles: its process, and what acts in it.
-    ///
-    /// # Errors
-    /// Where no memory is found.
-    fn begin_interpreting(&mut self, consoles: u8) -> Result<(), AllocError>
+    fn begin_interpreting(&mut self, consoles: u8)
         requires whole { IsWhole self.old }
         requires queues { OnlySystems self.old.kernel }
         requires room { make_error self.old.kernel.queues command_queue 130 15 ≡ None }
         requires some { 0 < consoles }
-        ensures { OnOk result (self.new ≡ with_interpreting consoles (begun_by_interpreter self.old)) }
+        requires nobody { self.old.residents ≡ [] }
+        ensures { self.new ≡ with_interpreting consoles (begun_by_interpreter self.old) }
     {
         self.begin_interpreter();
-        self.residents.add_interpreter(consoles)?;
-        Ok(())
+        self.residents.add_interpreter(consoles);
     }
 
     /// The command queue is made, and the process of the command line interpreter begins.
@@ -95,38 +89,33 @@ impl System {
     }
 
     /// The terminal message processors of the consoles begin.
-    ///
-    /// # Errors
-    /// Where no memory is found.
-    fn begin_terminals(&mut self, consoles: u8) -> Result<(), AllocError>
+    fn begin_terminals(&mut self, consoles: u8)
         requires whole { IsWhole self.old }
         requires consoles { consoles ≡ length self.old.kernel.units.consoles }
-        ensures system { OnOk result (self.new ≡ with_terminals consoles self.old) }
-        ensures whole { OnOk result (IsWhole self.new) }
-        ensures completed { OnOk result (self.new.kernel.dispatcher.completed ≡ self.old.kernel.dispatcher.completed) }
-        ensures steps { OnOk result (self.new.steps ≡ self.old.steps) }
+        requires first { length self.old.residents ≤ 1 }
+        ensures system { self.new ≡ with_terminals consoles self.old }
+        ensures whole { IsWhole self.new }
+        ensures completed { self.new.kernel.dispatcher.completed ≡ self.old.kernel.dispatcher.completed }
+        ensures records { self.new.records ≡ self.old.records }
+        ensures steps { self.new.steps ≡ self.old.steps }
     {
         for console in 0..consoles {
-            self.begin_terminal(console)?;
+            self.begin_terminal(console);
         }
-        Ok(())
     }
 
     /// The terminal message processor of a console begins.
-    ///
-    /// # Errors
-    /// Where no memory is found.
-    fn begin_terminal(&mut self, console: u8) -> Result<(), AllocError>
+    fn begin_terminal(&mut self, console: u8)
         requires whole { IsWhole self.old }
         requires console { console < length self.old.kernel.units.consoles }
-        ensures { OnOk result (self.new ≡ with_terminal (lowest_free self.old.kernel.dispatcher.procs) console self.old) }
+        requires room { length self.old.residents < 9 }
+        ensures { self.new ≡ with_terminal (lowest_free self.old.kernel.dispatcher.procs) console self.old }
     {
         let new = resident_process(terminal_name(console), TERMINAL_PRIORITY, console);
         if let Ok(p) = self.kernel.admit(new) {
             self.kernel.process_mut(p).error_mode = ANSWERS_ERRORS;
-            self.residents.add_terminal(console)?;
+            self.residents.add_terminal(console);
         }
-        Ok(())
     }
 }
 

@@ -118,12 +118,12 @@ impl System {
         self.conclude_residing(outcome, p, reply, render, sink)
     }
 
-    /// Whether the call that a process keeps is a text of the system: the interpreter, in slot 0, asks for one as function 9.
+    /// Whether the call that a process keeps is a text of the system: the interpreter asks for one as function 9.
     fn tells(&self, p: Pid) -> bool
         requires { Lives self.now.kernel.dispatcher.procs p }
-        ensures { result ≡ is_told p (call_of self.now.kernel.dispatcher.procs p) }
+        ensures { result ≡ is_told (native_in self.now.residents p) (call_of self.now.kernel.dispatcher.procs p) }
     {
-        p.0 == 0 && self.kernel.kept_call(p).function == functions::PRINT_STRING
+        self.residents.interprets(p) && self.kernel.kept_call(p).function == functions::PRINT_STRING
     }
 
     /// The text of the call that a process keeps comes to the console that its parameter names, and its resident goes on.

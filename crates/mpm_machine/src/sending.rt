@@ -34,7 +34,7 @@ impl System {
         let call = self.kernel.kept_call(p);
         let console = call.byte(1);
         let message: [u8; 130] = in_room(call.taken());
-        if self.residents.has(INTERPRETER) && console < self.kernel.consoles() {
+        if self.residents.interprets(INTERPRETER) && console < self.kernel.consoles() {
             self.send(functions::SEND_CLI_COMMAND, &message, p, reply)
         } else {
             reply.answer(FAILURE_CODE);
@@ -52,7 +52,7 @@ impl System {
         ensures outcome { result ≡ (chaining (has_interpreter self.old) p self.old.kernel).outcome }
         ensures reply { reply.new ≡ (chaining (has_interpreter self.old) p self.old.kernel).reply }
     {
-        if self.residents.has(INTERPRETER) {
+        if self.residents.interprets(INTERPRETER) {
             let message = chained(self.kernel.living(p), self.kernel.kept_call(p).taken());
             ended_if_done(self.send(functions::CHAIN_TO_PROGRAM, &message, p, reply))
         } else {

@@ -4,6 +4,7 @@ ghost use Rattle.mpm_procs.specs.Table.{Lives, process_in};
 ghost use Rattle.mpm_dispatcher.specs.Dispatch.{IsReady};
 ghost use Rattle.mpm_output.specs.Writing.{Writes};
 
+use crate::records::Records;
 use mpm_banks::Banks;
 use mpm_base::{Pid, Reply, Seg};
 use mpm_interrupts::Schedule;
@@ -25,12 +26,14 @@ pub(crate) struct System {
     /// Whether an end by an abort may be put off: where this is false, none is.
     pub abort_deferred: bool,
     pub residents: Residents,
+    /// The records of the calls that this step completed.
+    pub records: Records,
 }
 
 impl System {
     ghost use Rattle.mpm_processor.specs.Gates.{IsHome};
     ghost use Rattle.mpm_machine.specs.Gates.{is_inside};
-    ghost use Rattle.mpm_machine.specs.State.{State, silent, IsWhole};
+    ghost use Rattle.mpm_machine.specs.State.{State, silent, IsWhole, NoCompletions, HasRoom};
     ghost use Rattle.mpm_machine.specs.Due.{NobodyDue};
     ghost use Rattle.mpm_machine.specs.After.{after, AreSteps};
     ghost use Rattle.mpm_ready.specs.Order.{first_of};
@@ -46,14 +49,14 @@ impl System {
     /// ready, nothing is done in them.
     pub fn run_on(&mut self, most: u64) -> u64
         requires whole { IsWhole self.old }
-        requires no_completions { self.old.kernel.dispatcher.completed ≡ [] }
+        requires no_completions { NoCompletions self.old }
         requires room { self.old.steps + most ≤ GREATEST_STEP }
         ensures count { result ≤ most }
         ensures states { (s : State) → s.system ≡ self.old → after result s ≡ record s { system = self.new } }
         ensures steps { AreSteps result self.old (silent self.new) }
         ensures due { 0 < result → NobodyDue self.new.kernel }
         ensures whole { IsWhole self.new }
-        ensures no_completions { self.new.kernel.dispatcher.completed ≡ [] }
+        ensures no_completions { NoCompletions self.new }
         ensures done { self.new.steps ≡ self.old.steps + result }
     {
         if self.abort_deferred {
@@ -132,11 +135,11 @@ impl System {
     ) -> Result<(), Failed>
         requires most { self.old.steps < GREATEST_STEP }
         requires whole { IsWhole self.old }
-        requires no_completions { self.old.kernel.dispatcher.completed ≡ [] }
+        requires no_completions { NoCompletions self.old }
         ensures system { OnOk result (self.new ≡ (step_of self.old).system) }
         ensures wrote { Writes S.written S.faults render.old sink.old render.new sink.new (step_of self.old).emitted result }
         ensures whole { OnOk result (IsWhole self.new) }
-        ensures no_completions { OnOk result (self.new.kernel.dispatcher.completed ≡ []) }
+        ensures no_completions { OnOk result (NoCompletions self.new) }
         ensures count { OnOk result (self.new.steps ≡ self.old.steps + 1) }
     {
         self.steps += 1;
@@ -156,6 +159,7 @@ impl System {
     ) -> Result<bool, Failed>
         requires most { self.old.steps ≤ GREATEST_STEP }
         requires whole { IsWhole self.old }
+        requires room { HasRoom self.old }
         ensures system { OnOk result (self.new ≡ (begun_by (coming self.old) self.old).system) }
         ensures instruction { IfOk result (λ instruction. instruction ≡ instruction_unless (coming self.old) self.old) }
         ensures wrote { Writes S.written S.faults render.old sink.old render.new sink.new (begun_by (coming self.old) self.old).emitted result }
@@ -176,6 +180,7 @@ impl System {
         sink: &mut S,
     ) -> Result<bool, Failed>
         requires whole { IsWhole self.old }
+        requires room { HasRoom self.old }
         ensures system { OnOk result (self.new ≡ (acted self.old).system) }
         ensures instruction { IfOk result (λ instruction. instruction ≡ at_instruction self.old) }
         ensures wrote { Writes S.written S.faults render.old sink.old render.new sink.new (acted self.old).emitted result }
@@ -205,6 +210,7 @@ impl System {
         requires lives { Lives self.old.kernel.dispatcher.procs p }
         requires ready { IsReady self.old.kernel.dispatcher p }
         requires home { (process_in self.old.kernel.dispatcher.procs p).seg ≡ Some seg }
+        requires room { HasRoom self.old }
         ensures system { OnOk result (self.new ≡ (acted_at (gate_before p seg self.old) p seg self.old).system) }
         ensures instruction { IfOk result (λ instruction. instruction ≡ is_no_gate (gate_before p seg self.old)) }
         ensures wrote { Writes S.written S.faults render.old sink.old render.new sink.new (acted_at (gate_before p seg self.old) p seg self.old).emitted result }

@@ -1,8 +1,8 @@
 -- The processes of the system, each by its own table, and those that act by slot. (MP/M II System Guide, "Resident System
 -- Processes"; User's Guide, "Command Line Interpreter", "Terminal Message Processor".)
-use Rattle.std.specs.Prelude.{ℕ, Bool, false, List, Option, Some, None, slice_get, slice_set}
+use Rattle.std.specs.Prelude.{ℕ, Bool, true, false, List, Option, Some, None, slice_get, slice_set}
 use Rattle.mpm_base.specs.Calls.{Taken, Answer}
-use Rattle.mpm_cli.specs.Interpreters.{is_call, next_act, next_call as interpreters_call, took as interpreter_took, IsAct}
+use Rattle.mpm_cli.specs.Interpreters.{next_act, next_call as interpreters_call, took as interpreter_took, IsAct}
 use Rattle.mpm_cli.specs.declared.act.Act.{Act}
 use Rattle.mpm_cli.specs.declared.act.Act.TheVariants.{Ask}
 use Rattle.mpm_residents.specs.Terminals.{next_call, took}
@@ -29,18 +29,19 @@ abbrev pub native_took : Native → Answer → Native
 native_took (Tmp tmp) reply = Tmp (took tmp reply)
 native_took (Cli cli) reply = Cli (interpreter_took cli reply)
 
--- whether it makes a call next
-abbrev pub asks : Native → Bool
-asks native = is_call (native_act native)
-
 -- the resident of a slot, if one acts there: they have the lowest slots
 abbrev pub native_in : List Native → ℕ → Option Native
 native_in natives p = slice_get natives p
 
--- whether the resident of a slot makes a call next
-abbrev pub asks_if_there : Option Native → Bool
-asks_if_there None = false
-asks_if_there (Some native) = asks native
+-- whether it is the command line interpreter
+abbrev pub interprets : Native → Bool
+interprets (Tmp tmp) = false
+interprets (Cli cli) = true
+
+-- whether that acts in a slot
+abbrev pub interprets_if_there : Option Native → Bool
+interprets_if_there None = false
+interprets_if_there (Some native) = interprets native
 
 -- the residents once the one of a slot took an answer
 abbrev pub answer_taken : Option Native → Answer → ℕ → List Native → List Native

@@ -1,5 +1,6 @@
 ghost use Rattle.std.specs.Prelude.{◌≡◌};
-ghost use Rattle.mpm_residents.specs.Natives.{native_act, native_call, native_took, asks as native_asks, IsNativeAct};
+ghost use Rattle.mpm_residents.specs.Natives.{native_act, native_call, native_took, interprets as is_interpreter, IsNativeAct};
+ghost use Rattle.mpm_cli.specs.Interpreters.{Counts};
 
 use crate::Tmp;
 use mpm_base::{Call, Reply};
@@ -14,6 +15,18 @@ pub enum Native {
     Cli { cli: Cli },
 }
 
+/// The terminal message processor of console 0, as it begins.
+impl Default for Native {
+    ghost use Rattle.mpm_residents.specs.Terminals.{opening};
+    ghost use Rattle.mpm_residents.specs.declared.native.Native.TheVariants.{Tmp as Terminal};
+
+    ghost is_default = { λ native. native ≡ Terminal (opening 0) };
+
+    fn default() -> Native {
+        Native::Tmp { tmp: Tmp::new(0) }
+    }
+}
+
 impl Native {
     /// What it does next. It fills in the call that it makes, or the bytes that it hands over; a call that is held, or has to be
     /// made again, is filled in again.
@@ -22,6 +35,7 @@ impl Native {
         ensures call { call.new ≡ native_call self.old }
         ensures act { result ≡ native_act self.old }
         ensures bounds { IsNativeAct self.old result }
+        ensures counts { Counts call.new.bytes result }
     {
         match self {
             Native::Tmp { tmp } => {
@@ -32,13 +46,13 @@ impl Native {
         }
     }
 
-    /// Whether it makes a call next, and hands nothing over.
-    pub fn asks(&self) -> bool
-        ensures { result ≡ native_asks self.now }
+    /// Whether it is the command line interpreter.
+    pub fn interprets(&self) -> bool
+        ensures { result ≡ is_interpreter self.now }
     {
         match self {
-            Native::Tmp { .. } => true,
-            Native::Cli { cli } => cli.asks(),
+            Native::Tmp { .. } => false,
+            Native::Cli { .. } => true,
         }
     }
 

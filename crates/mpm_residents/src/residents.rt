@@ -1,15 +1,16 @@
-ghost use Rattle.std.specs.Prelude.{◌≡◌, ◌<◌, ◌++◌, ◌∷◌, [], true, is_some, option_map, OnOk, IfSome};
+ghost use Rattle.std.specs.Prelude.{◌≡◌, ◌<◌, ◌++◌, ◌∷◌, [], length, true, is_some, option_map, IfSome};
 
 use crate::{Native, Tmp};
+use arrayvec::ArrayVec;
 use mpm_base::{Call, Pid, Reply};
 use mpm_cli::{Act, Cli};
-use std::alloc::{AllocError, Global};
 use std::marker::Model;
 
-/// The residents that act, by their slots, of which the first is 0.
+/// The residents that act, by their slots, of which the first is 0: nine at most, an interpreter and a terminal message
+/// processor for each of eight consoles.
 #[derive(Drop)]
 pub struct Residents {
-    natives: Vec<Native>,
+    natives: ArrayVec<Native, 9>,
 }
 
 impl Model for Residents {
@@ -23,44 +24,38 @@ impl Model for Residents {
 
 impl Residents {
     ghost use Rattle.mpm_residents.specs.Terminals.{opening};
-    ghost use Rattle.mpm_residents.specs.Natives.{native_act, native_call, native_in, asks_if_there, answer_taken, IsNativeAct};
+    ghost use Rattle.mpm_residents.specs.Natives.{native_act, native_call, native_in, interprets_if_there, answer_taken, IsNativeAct};
     ghost use Rattle.mpm_residents.specs.declared.native.Native.TheVariants.{Tmp as Terminal, Cli as Interpreter};
-    ghost use Rattle.mpm_cli.specs.Interpreters.{opening as opening_interpreter};
+    ghost use Rattle.mpm_cli.specs.Interpreters.{opening as opening_interpreter, Counts};
 
     /// None.
-    pub fn none(alloc: Global) -> Residents
+    pub fn none() -> Residents
         ensures { result ≡ [] }
     {
         Residents {
-            natives: Vec::new(alloc),
+            natives: ArrayVec::new(),
         }
     }
 
     /// The command line interpreter of a system with so many consoles, one at least, comes into the next slot.
-    ///
-    /// # Errors
-    /// Where no memory is found.
-    pub fn add_interpreter(&mut self, consoles: u8) -> Result<(), AllocError>
-        requires { 0 < consoles }
-        ensures { OnOk result (self.new ≡ self.old ++ Interpreter (opening_interpreter consoles) ∷ []) }
+    pub fn add_interpreter(&mut self, consoles: u8)
+        requires some { 0 < consoles }
+        requires room { length self.old < 9 }
+        ensures { self.new ≡ self.old ++ Interpreter (opening_interpreter consoles) ∷ [] }
     {
         self.natives.push(Native::Cli {
             cli: Cli::new(consoles),
-        })?;
-        Ok(())
+        });
     }
 
     /// The terminal message processor of a console comes into the next slot.
-    ///
-    /// # Errors
-    /// Where no memory is found.
-    pub fn add_terminal(&mut self, console: u8) -> Result<(), AllocError>
-        ensures { OnOk result (self.new ≡ self.old ++ Terminal (opening console) ∷ []) }
+    pub fn add_terminal(&mut self, console: u8)
+        requires { length self.old < 9 }
+        ensures { self.new ≡ self.old ++ Terminal (opening console) ∷ [] }
     {
         self.natives.push(Native::Tmp {
             tmp: Tmp::new(console),
-        })?;
-        Ok(())
+        });
     }
 
     /// Whether a resident acts in a slot.
@@ -81,11 +76,11 @@ impl Residents {
         }
     }
 
-    /// Whether a resident acts in a slot that makes a call next.
-    pub fn asks(&self, p: Pid) -> bool
-        ensures { result ≡ asks_if_there (native_in self.now p) }
+    /// Whether the command line interpreter acts in a slot.
+    pub fn interprets(&self, p: Pid) -> bool
+        ensures { result ≡ interprets_if_there (native_in self.now p) }
     {
-        self.has(p) && self.natives[usize::from(p.0)].asks()
+        self.has(p) && self.natives[usize::from(p.0)].interprets()
     }
 
     /// What the resident of a slot does next. It fills in the call that it makes, or the bytes that it hands over.
@@ -95,6 +90,7 @@ impl Residents {
         ensures call { IfSome (native_in self.old p) (λ native. call.new ≡ native_call native) }
         ensures act { IfSome (native_in self.old p) (λ native. result ≡ native_act native) }
         ensures bounds { IfSome (native_in self.old p) (λ native. IsNativeAct native result) }
+        ensures counts { Counts call.new.bytes result }
     {
         self.natives[usize::from(p.0)].next(call)
     }

@@ -1,7 +1,6 @@
 use super::*;
 use mpm_base::{Call, Pid, Reply, functions};
 use mpm_cli::{Act, Cli};
-use std::test::Fail;
 
 /// A processor, and the call and the reply with which it is driven.
 #[derive(Drop)]
@@ -254,7 +253,7 @@ fn a_line_may_have_127_bytes(rt: HostRuntime) {
 
 /// Whether a process makes a call of this function next, and says so beforehand.
 fn asks(native: &mut Native, call: &mut Call, function: u8) -> bool {
-    let told = native.asks() && native.function() == function;
+    let told = native.function() == function;
     match native.next(call) {
         Act::Ask => told && call.function == function,
         _ => false,
@@ -263,7 +262,7 @@ fn asks(native: &mut Native, call: &mut Call, function: u8) -> bool {
 
 /// Whether a process gives a console back next, and says beforehand that it makes no call.
 fn gives(native: &mut Native, call: &mut Call, given: u8) -> bool {
-    let told = !native.asks() && native.function() == 0;
+    let told = native.function() == 0;
     match native.next(call) {
         Act::Give { console } => told && console == given,
         _ => false,
@@ -303,7 +302,7 @@ fn an_interpreter_tells_of_a_command_without_a_name_and_gives_the_console_back(r
 /// The function that the resident of a slot calls next, 0 where none acts there.
 fn next_function(residents: &mut Residents, p: Pid) -> u8 {
     let mut call = Call::new();
-    if residents.asks(p) {
+    if residents.has(p) {
         let _ = residents.ask(p, &mut call);
     }
     call.function
@@ -317,11 +316,11 @@ fn answer(residents: &mut Residents, p: Pid) {
 }
 
 #[test]
-fn each_resident_goes_on_by_its_own_answers(rt: HostRuntime) -> Result<(), Fail> {
-    let mut residents = Residents::none(rt.alloc());
-    residents.add_interpreter(2)?;
-    residents.add_terminal(0)?;
-    residents.add_terminal(1)?;
+fn each_resident_goes_on_by_its_own_answers(rt: HostRuntime) {
+    let mut residents = Residents::none();
+    residents.add_interpreter(2);
+    residents.add_terminal(0);
+    residents.add_terminal(1);
     answer(&mut residents, Pid(2));
     assert_eq!(rt;
         next_function(&mut residents, Pid(0)),
@@ -336,5 +335,4 @@ fn each_resident_goes_on_by_its_own_answers(rt: HostRuntime) -> Result<(), Fail>
         functions::PRINT_STRING
     );
     assert_eq!(rt; next_function(&mut residents, Pid(3)), 0);
-    Ok(())
 }

@@ -1,5 +1,5 @@
 -- The records that are summed, by the directory in memory and the image that stand for the drive.
-use Rattle.std.proofs.Common.{◌≡◌, ◌≢◌, ◌∙◌, ℕ, ◌+◌, ◌*◌, ◌/◌, ◌%◌, ◌<◌, ◌≤◌, ◌==◌, ◌&&◌, Bool, true, false, not, List, [], Option, Some, None, Result, Ok, length, map, take, get_or, refl, sym, ap, subst, arith}
+use Rattle.std.proofs.Common.{◌≡◌, ◌≢◌, ◌∙◌, ℕ, ◌+◌, ◌*◌, ◌/◌, ◌%◌, ◌<◌, ◌≤◌, ◌==◌, ◌&&◌, Bool, true, false, not, List, [], Option, Some, None, length, map, take, get_or, refl, sym, ap, subst, arith}
 use Rattle.std.specs.Prelude.{IfSome, nat_lt, nat_le, option_map, option_and_then, slice_index_or, sum_by, if◌then◌else◌}
 use Rattle.std.specs.List.{range_with_len}
 use Rattle.std.specs.Option.{option_map_or}
@@ -12,18 +12,16 @@ use Rattle.std.proofs.lemmas.List.FromFn.{length-range_with_len, get_or-range_wi
 use Rattle.mpm_base.specs.declared.kind.Kind.TheVariants.{Hd4}
 use Rattle.mpm_port.specs.Disks.{Disks, SameDisks, Told, sector_of}
 use Rattle.mpm_blocks.specs.Geometries.{geometry_of}
-use Rattle.mpm_blocks.specs.Sectors.{Sectors, sectors_of, told_image}
+use Rattle.mpm_blocks.specs.Sectors.{Sectors, sectors_of}
 use Rattle.mpm_blocks.proofs.ToldImages.{told_image_same}
 use Rattle.mpm_dirent.specs.declared.kinds.Entry.{Entry}
 use Rattle.mpm_dirent.specs.declared.kinds.Entry.TheVariants.{Free, File, Xfcb, Label, Kept}
 use Rattle.mpm_dirent.specs.declared.kinds.FileEntry.{FileEntry}
 use Rattle.mpm_mount.specs.Drives.{FileName, PhysicalExtent, Drive, entry_name, entry_number, with_extent_there, extent_at, count_in, record_in, visible_in, visible_of}
 use Rattle.mpm_mount.specs.Faults.{extent_of, block_at, holds, is_named, first_fault}
-use Rattle.mpm_mount.specs.Images.{contents_of, extent_in, drive_of, files_of}
+use Rattle.mpm_mount.specs.Images.{contents_of, extent_in, drive_of}
 use Rattle.mpm_mount.specs.Directories.{Directory, entry_in, extent_slot, Stands}
-use Rattle.mpm_mount.specs.Mounting.{IsMounted, drive_in}
 use Rattle.mpm_mount.proofs.LookedUp.{extent_found, extent_missing}
-use Rattle.mpm_mount.proofs.Mounts.{mounts}
 use Rattle.mpm_mount.proofs.Ranges.{map_at, zero_plus}
 use Rattle.mpm_mount.proofs.Sound.{block_within}
 use Rattle.mpm_mount.proofs.Still.{has_own}
@@ -35,35 +33,32 @@ use Rattle.mpm_top.proofs.Naming.{none_some, told_there, kind_labelled}
 -- drive A behind steps
 
 drive_by_directory : (x : Option Disks) (drives : List (Option Drive)) (directory : Option Directory) (drive : Option Drive) → option_map labelled directory ≡ Some (0, Hd4)
-    → StandsWhere 0 (told_images x 0) directory drive → slice_index_or drives 0 None ≡ drive → HasDriveA x drives
+    → StandsWhere 0 (told_images x 0) directory drive → slice_index_or drives 0 None ≡ drive → HasDriveA x directory drives
 drive_by_directory x drives None drive label stands here = absurd (none_some label)
 drive_by_directory x drives (Some d) None label stands here = absurd stands
 drive_by_directory x drives (Some d) (Some files) label stands here = record {
   image = told_images x 0;
   files = files;
   told = told_there x 0 d.kind stands.stands.size;
-  are = subst (λ k. files_of (told_images x 0) k ≡ Ok files) (kind_labelled d 0 Hd4 label) (mounts (told_images x 0) d files stands.stands);
+  stands = stands.stands;
   here = here;
 }
 
 -- also where the drives were synced
 pub has_drive_a : (x y : Option Disks) (mounted : List (Option Directory)) (drives : List (Option Drive)) → option_map labelled (directory_at mounted 0) ≡ Some (0, Hd4)
-    → StandEach (told_images x) mounted drives → Told SameDisks x y → HasDriveA y drives
+    → StandEach (told_images x) mounted drives → Told SameDisks x y → HasDriveA y (directory_at mounted 0) drives
 has_drive_a x y mounted drives label stand same =
     let has = drive_by_directory x drives (directory_at mounted 0) (slice_index_or drives 0 None) label (stand.each 0) refl in
-    record { image = has.image; files = has.files; told = told_image_same x y 0 same ∙ has.told; are = has.are; here = has.here }
+    record { image = has.image; files = has.files; told = told_image_same x y 0 same ∙ has.told; stands = has.stands; here = has.here }
 
--- the drive that was mounted anew
+-- the directory of the drive is of its kind
+pub kind_there : (directory : Option Directory) (d : Directory) → Some d ≡ directory → option_map labelled directory ≡ Some (0, Hd4) → d.kind ≡ Hd4
+kind_there directory d is label = kind_labelled d 0 Hd4 (ap (option_map labelled) is ∙ label)
 
-same_files : {E : Type 0} (one other : Drive) (found : Result Drive E) → found ≡ Ok one → found ≡ Ok other → one ≡ other
-same_files one other found is also = cc
+pub none_there : (directory : Option Directory) → None ≡ directory → option_map labelled directory ≡ Some (0, Hd4) → ⊥
+none_there directory is label = none_some (ap (option_map labelled) is ∙ label)
 
-pub stands_mounted : (x : Option Disks) (d : Directory) (image : List ℕ) (files : Drive) → IfSome (told_image x 0) (λ told. IsMounted told Hd4 d) → told_image x 0 ≡ Some image
-    → files_of image Hd4 ≡ Ok files → Stands image d files
-stands_mounted x d image files mounted told are =
-    let is : IsMounted image Hd4 d = subst (λ (found : Option (List ℕ)). IfSome found (λ bytes. IsMounted bytes Hd4 d)) told mounted in
-    subst (Stands image d) (same_files (drive_in image d) files (files_of image Hd4) is.files are) is.stands
-
+-- what its records sum to
 pub summed_on : (on : List (Option Drive)) (files : Drive) → slice_index_or on 0 None ≡ Some files → data_of files ≡ data_on on
 summed_on on files here = ap (λ (drive : Option Drive). option_map_or data_of drive 0) (sym here)
 

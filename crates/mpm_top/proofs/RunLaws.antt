@@ -21,13 +21,14 @@ use Rattle.mpm_machine.specs.State.{State, StandsForFiles, StandsWithDrives}
 use Rattle.mpm_machine.specs.Mounting.{HasNoDrive, untouched}
 use Rattle.mpm_machine.specs.FileCalls.{stepped}
 use Rattle.mpm_machine.specs.Failing.{StopsOn}
-use Rattle.mpm_machine.specs.After.{next, after, AreSteps, ShowsBefore, EndsInStep}
+use Rattle.mpm_machine.specs.After.{next, after, AreSteps, HasStoppedIn, ShowsBefore, EndsInStep}
+use Rattle.mpm_output.specs.Outside.{Outside}
 use Rattle.mpm_machine.proofs.NextLaws.{after_more}
 use Rattle.mpm_top.specs.declared.words.Form.{Form}
 use Rattle.mpm_top.specs.declared.status.Status.{Status}
 use Rattle.mpm_top.specs.declared.status.Status.TheVariants.{DiskFault, WriteFault}
 use Rattle.mpm_top.specs.Words.{Command}
-use Rattle.mpm_top.specs.Runs.{Host, Failed, begun, drives_listed, Begins, Ends, StopsAt, StopsRun, Closes, ClosesAfter, ClosesAt, Causes, ended_by, StandFor, WritesSteps, WritesPart, WritesClosed, IsEarly}
+use Rattle.mpm_top.specs.Runs.{Host, Failed, begun, drives_listed, Begins, Ends, StopsAt, StopsRun, Closes, ClosesAfter, ClosesAt, Causes, ended_by, StandFor, WritesSteps, StopsWriting, ClosesSteps, StopsSteps, WritesPart, WritesClosed, IsEarly}
 
 -- a machine that begins, and a renderer that shows nothing yet, stand for its beginning
 pub stands_begun : (machine : Machine) (on : List NumberedDrive) (kept : Kept) (written : Option (List ℕ)) (disks : Option Disks) → Shows kept written [] written
@@ -148,13 +149,14 @@ pub disk_closed : (host : Host) (left : Images) (command : Command) (s : State) 
     → status ≡ ended_by fault step → status ≡ DiskFault said → (begins : Begins host command.form command.name s) → step ≤ command.steps
     → (AreTold host.images (drives_listed command.form begins.bytes)
     → StopsRun (StandFor left (drives_listed command.form begins.bytes)) fault command.trace s command.steps first written before now step)
-    → WritesClosed host left command first written before now said
-disk_closed host left command s SinkFailed step said status first written before now is disk begins bound stops =
+    → StopsSteps fault command.trace command.steps s.system first written before now step → WritesClosed host left command first written before now said
+disk_closed host left command s SinkFailed step said status first written before now is disk begins bound stops steps =
     let no : WriteFault step ≡ DiskFault said = sym is ∙ disk in absurd (cc)
-disk_closed host left command s SyncFailed step said status first written before now is disk begins bound stops = record {
+disk_closed host left command s SyncFailed step said status first written before now is disk begins bound stops steps = record {
   start = s;
   begins = begins;
   within = subst (λ k. k ≤ command.steps) (same_disk step said (sym is ∙ disk)) bound;
+  steps = subst (λ k. ClosesSteps command.trace command.steps s.system first written before now k) (same_disk step said (sym is ∙ disk)) steps;
   text = λ told.
       subst (λ k. ClosesAt (StandFor left (drives_listed command.form begins.bytes)) command.trace s command.steps first written before now k)
       (same_disk step said (sym is ∙ disk)) (stops told);
@@ -167,15 +169,16 @@ pub writes_part : (host : Host) (left : Images) (command : Command) (s : State) 
     → status ≡ ended_by fault step → status ≡ WriteFault said → (begins : Begins host command.form command.name s) → step ≤ command.steps
     → (AreTold host.images (drives_listed command.form begins.bytes)
     → StopsRun (StandFor left (drives_listed command.form begins.bytes)) fault command.trace s command.steps first written before now step)
-    → WritesPart host left command first written said
-writes_part host left command s SyncFailed step said status first written before now is wrote begins bound stops =
+    → StopsSteps fault command.trace command.steps s.system first written before now step → WritesPart host left command first written said
+writes_part host left command s SyncFailed step said status first written before now is wrote begins bound stops steps =
     let no : DiskFault step ≡ WriteFault said = sym is ∙ wrote in absurd (cc)
-writes_part host left command s SinkFailed step said status first written before now is wrote begins bound stops =
+writes_part host left command s SinkFailed step said status first written before now is wrote begins bound stops steps =
     let its = same_write step said (sym is ∙ wrote) in
     record {
       start = s;
       begins = begins;
       within = subst (λ k. k ≤ command.steps) its bound;
+      steps = subst (λ k. StopsWriting command.trace command.steps s.system first written k) its steps;
       text = λ told. subst (λ k. StopsAt command.trace s command.steps first written k) its (stops told).0;
       images = λ told.
           subst (λ k. StandFor left (drives_listed command.form begins.bytes) (after (k - s.system.steps) s).filing.drives) its (stops told).1;
@@ -219,3 +222,59 @@ writes_steps trace steps old new emitted kept text first written traces are show
   text = subst (λ t. written ≡ appended first (closed t emitted)) traces
       (closes emitted first (subst (λ outputs. Shows kept text outputs first) (append-nil emitted) shows));
 }
+
+-- and where it stopped, in a step
+
+shown_so : (kept : Kept) (written first : Option (List ℕ)) (emitted : List Output) → Shows kept written (emitted ++ []) first → Shows kept written emitted first
+shown_so kept written first emitted shows = subst (λ outputs. Shows kept written outputs first) (append-nil emitted) shows
+
+pub stopped_inside : (fault : StepFault) (steps step : ℕ) (trace : Bool) (o q : Outside) (old : System) (first written : Option (List ℕ)) (before now : ℕ) → HasStoppedIn steps fault step o q old
+    → o.kept.trace ≡ trace → Shows o.kept o.written [] first → (fault ≡ SinkFailed → written ≡ q.written)
+    → ((s : State) → ShowsBefore fault q.kept q.written s first → ClosesAfter fault trace s first written before now)
+    → StopsSteps fault trace steps old first written before now step
+stopped_inside SinkFailed steps step trace o q old first written before now stops traces shows same closes =
+    let ran = stops.ran in
+    let more : List Output = stops.stops.change.emitted in
+    let text = stops.stops.stops.part ran.emitted first (shown_so stops.between.kept stops.between.written first ran.emitted (ran.wrote.shown [] first shows)) in
+    inl (record {
+      done = stops.done;
+      few = stops.few;
+      is = stops.is;
+      before = record { system = stops.middle; emitted = ran.emitted };
+      are = ran.steps;
+      change = stops.stops.change;
+      made = stops.stops.is;
+      text = subst (λ w. EndsBetween w first (rendered trace ran.emitted) (rendered trace (more ++ ran.emitted))) (sym (same refl))
+          (subst (λ t. EndsBetween q.written first (rendered t ran.emitted) (rendered t (more ++ ran.emitted))) (ran.wrote.trace ∙ traces) text);
+    })
+stopped_inside SyncFailed steps step trace o q old first written before now stops traces shows same closes =
+    let ran = stops.ran in
+    let there = shown_so stops.between.kept stops.between.written first ran.emitted (ran.wrote.shown [] first shows) in
+    inl (record {
+      done = stops.done;
+      few = stops.few;
+      is = stops.is;
+      before = record { system = stops.middle; emitted = ran.emitted };
+      are = ran.steps;
+      change = stops.stops.change;
+      made = stops.stops.is;
+      text = closes (record (begun stops.middle []) { outputs = ran.emitted })
+          (subst (λ (seen : Outside). Shows seen.kept seen.written ran.emitted first) (sym stops.stops.stops) there);
+    })
+
+-- or behind all of them
+
+pub stopped_behind : (fault : StepFault) (steps : ℕ) (trace : Bool) (old new : System) (emitted : List Output) (first written written' : Option (List ℕ)) (before now : ℕ)
+    → AreSteps steps old (record { system = new; emitted = emitted }) → (fault ≡ SinkFailed → written' ≡ written)
+    → EndsBy fault written first (rendered trace emitted) (closed trace emitted)
+    → ClosesAfter fault trace (record (begun new []) { outputs = emitted }) first written' before now
+    → StopsSteps fault trace steps old first written' before now steps
+stopped_behind SinkFailed steps trace old new emitted first written written' before now are same ends closes =
+    inr (record {
+      is = refl;
+      change = record { system = new; emitted = emitted };
+      are = are;
+      text = subst (λ w. EndsBetween w first (rendered trace emitted) (closed trace emitted)) (sym (same refl)) ends;
+    })
+stopped_behind SyncFailed steps trace old new emitted first written written' before now are same ends closes =
+    inr (record { is = refl; change = record { system = new; emitted = emitted }; are = are; text = closes })

@@ -1,15 +1,14 @@
 -- What is summed of DATA.DAT, and how a directory in memory leads to its records. (MP/M II Programmer's Guide, "File Control Block
 -- Definition": RC, D0 to Dn.)
-use Rattle.std.specs.Prelude.{◌≡◌, ℕ, ◌+◌, ◌*◌, ◌/◌, ◌%◌, ◌==◌, ◌&&◌, not, List, [], Option, Some, None, Ok, nat_lt, slice_index_or, unwrap_or, sum_by, codes, if◌then◌else◌}
+use Rattle.std.specs.Prelude.{◌≡◌, ℕ, ◌+◌, ◌*◌, ◌/◌, ◌%◌, ◌==◌, ◌&&◌, not, List, [], Option, Some, None, IfSome, nat_lt, slice_index_or, unwrap_or, sum_by, codes, if◌then◌else◌}
 use Rattle.std.specs.List.{range_with_len}
 use Rattle.std.specs.Option.{option_map_or}
-use Rattle.mpm_base.specs.declared.kind.Kind.TheVariants.{Hd4}
 use Rattle.mpm_port.specs.Disks.{Disks}
 use Rattle.mpm_blocks.specs.Sectors.{told_image}
 use Rattle.mpm_dirent.specs.declared.kinds.FileEntry.{FileEntry}
 use Rattle.mpm_mount.specs.Drives.{FileName, Drive, visible_of}
 use Rattle.mpm_mount.specs.Faults.{block_at}
-use Rattle.mpm_mount.specs.Images.{files_of}
+use Rattle.mpm_mount.specs.Directories.{Directory, Stands}
 
 -- the file, of user 0
 abbrev pub data_file : FileName
@@ -36,10 +35,10 @@ abbrev pub sector_in : ℕ → FileEntry → Option ℕ
 sector_in place f =
     if nat_lt place f.rc && not (block_at f (place / 16) == 0) then Some (16 * block_at f (place / 16) + place % 16) else None
 
--- the image of drive A, an hd4 disk, stands for what is there
-pub record HasDriveA (disks : Option Disks) (drives : List (Option Drive)) : Type 0 where
+-- the image of drive A and its directory in memory stand for what is there
+pub record HasDriveA (disks : Option Disks) (directory : Option Directory) (drives : List (Option Drive)) : Type 0 where
   pub image : List ℕ
   pub files : Drive
   pub told : told_image disks 0 ≡ Some image
-  pub are : files_of image Hd4 ≡ Ok files
+  pub stands : IfSome directory (λ there. Stands image there files)
   pub here : slice_index_or drives 0 None ≡ Some files

@@ -5,7 +5,7 @@ use Rattle.std.specs.Option.{option_map_or}
 use Rattle.mpm_port.specs.Causes.{Rose}
 use Rattle.mpm_port.specs.Disks.{Disks}
 use Rattle.mpm_port.specs.Texts.{appended}
-use Rattle.mpm_render.specs.Outputs.{rendered, closed}
+use Rattle.mpm_render.specs.Outputs.{Output, rendered, closed}
 use Rattle.mpm_render.specs.Shown.{EndsBetween}
 use Rattle.mpm_script.specs.declared.event.Timed.{Timed}
 use Rattle.mpm_script.specs.Scripts.{script_of}
@@ -24,7 +24,7 @@ use Rattle.mpm_bdos.specs.Serving.{Kept as Filed}
 use Rattle.mpm_machine.specs.State.{State, Change, StandsForFiles}
 use Rattle.mpm_machine.specs.Mounting.{HasDrives, HasNoDrive, untouched}
 use Rattle.mpm_machine.specs.Opening.{opening_system, opened}
-use Rattle.mpm_machine.specs.After.{after, AreSteps, EndsInStep}
+use Rattle.mpm_machine.specs.After.{after, AreSteps, IsMade, EndsInStep}
 use Rattle.mpm_machine.specs.Failing.{StopsOn}
 use Rattle.mpm_machine.specs.declared.machine.StepFault.{StepFault}
 use Rattle.mpm_machine.specs.declared.machine.StepFault.TheVariants.{WriteFault as SinkFailed, DiskFault as SyncFailed}
@@ -152,12 +152,37 @@ pub record StandFor (images : Images) (specs : List DriveSpec) (drives : List (O
   pub each : AllByRecursion (λ drive. slice_index_or drives drive.number None ≡ Some drive.files) on
   pub others : (number : ℕ) → AllByRecursion (λ drive. drive.number ≢ number) on → slice_index_or drives number None ≡ None
 
--- after the first text stands the closed text of what so many steps of a system say, each by what its call on files comes to, if one
--- is made in it, and nothing else
+-- after the first text stands the closed text of what so many steps of a system say, each by what its call on files may be answered,
+-- if one is made in it, and nothing else
 pub record WritesSteps (trace : Bool) (steps : ℕ) (old : System) (first written : Option (List ℕ)) : Type 0 where
   pub change : Change
   pub are : AreSteps steps old change
   pub text : written ≡ appended first (closed trace change.emitted)
+
+-- some steps of a system were made, each by what its call on files may be answered, and the run stopped in the next one, with this
+-- text, by what they said and what that one says
+pub record StopsInside (Text : List Output → List Output → Type 0) (steps step : ℕ) (old : System) : Type 0 where
+  pub done : ℕ
+  pub few : done < steps
+  pub is : step ≡ old.steps + done + 1
+  pub before : Change
+  pub are : AreSteps done old before
+  pub change : Change
+  pub made : IsMade before.system change
+  pub text : Text before.emitted change.emitted
+
+-- or all of them were made, and it stopped behind them
+pub record StopsBehind (Text : List Output → Type 0) (steps step : ℕ) (old : System) : Type 0 where
+  pub is : step ≡ steps
+  pub change : Change
+  pub are : AreSteps steps old change
+  pub text : Text change.emitted
+
+-- writing stopped in the text of a step, or as the unfinished lines were closed
+abbrev pub StopsWriting : Bool → ℕ → System → Option (List ℕ) → Option (List ℕ) → ℕ → Type 0
+StopsWriting trace steps old first written step =
+    StopsInside (λ said more. EndsBetween written first (rendered trace said) (rendered trace (more ++ said))) steps step old
+    ⊎ StopsBehind (λ said. EndsBetween written first (rendered trace said) (closed trace said)) steps step old
 
 -- what was written is the text of steps of the first system; where the images of its drives are told, it is the closed text of the
 -- outputs of all steps, and the images that are left stand for what is on the drives after these
@@ -175,20 +200,36 @@ StopsAt trace s steps first written step =
     EndsInStep SinkFailed trace written first s steps step
     ⊎ ((step ≡ steps) × EndsBetween written first (rendered trace (after steps s).outputs) (closed trace (after steps s).outputs))
 
--- writing stopped at a step, and the images that are left stand for what is on the drives after it
+-- writing stopped at a step, in the text of steps of the first system; where the images of its drives are told, it is the model's, and
+-- the images that are left stand for what is on the drives after it
 pub record WritesPart (host : Host) (left : Images) (command : Command) (first written : Option (List ℕ)) (step : ℕ) : Type 0 where
   pub start : State
   pub begins : Begins host command.form command.name start
   pub within : step ≤ command.steps
+  pub steps : StopsWriting command.trace command.steps start.system first written step
   pub text : AreTold host.images (drives_listed command.form begins.bytes) → StopsAt command.trace start command.steps first written step
   pub images : AreTold host.images (drives_listed command.form begins.bytes)
       → StandFor left (drives_listed command.form begins.bytes) (after (step - start.system.steps) start).filing.drives
 
 -- all steps are done, and the unfinished lines were closed; or the sink failed besides, and a first part of that was written
+abbrev pub ClosesText : Bool → List Output → Option (List ℕ) → Option (List ℕ) → ℕ → ℕ → Type 0
+ClosesText trace outputs first written before now =
+    (written ≡ appended first (closed trace outputs))
+    ⊎ (Rose before now × EndsBetween written first (rendered trace outputs) (closed trace outputs))
+
 abbrev pub Closes : Bool → State → Option (List ℕ) → Option (List ℕ) → ℕ → ℕ → Type 0
-Closes trace s first written before now =
-    (written ≡ appended first (closed trace s.outputs))
-    ⊎ (Rose before now × EndsBetween written first (rendered trace s.outputs) (closed trace s.outputs))
+Closes trace s first written before now = ClosesText trace s.outputs first written before now
+
+-- a drive failed in a step, and the lines that those before it left unfinished were closed, or as it was synced
+abbrev pub ClosesSteps : Bool → ℕ → System → Option (List ℕ) → Option (List ℕ) → ℕ → ℕ → ℕ → Type 0
+ClosesSteps trace steps old first written before now step =
+    StopsInside (λ said more. ClosesText trace said first written before now) steps step old
+    ⊎ StopsBehind (λ said. ClosesText trace said first written before now) steps step old
+
+-- either, whatever is on the drives
+abbrev pub StopsSteps : StepFault → Bool → ℕ → System → Option (List ℕ) → Option (List ℕ) → ℕ → ℕ → ℕ → Type 0
+StopsSteps SinkFailed trace steps old first written before now step = StopsWriting trace steps old first written step
+StopsSteps SyncFailed trace steps old first written before now step = ClosesSteps trace steps old first written before now step
 
 -- where a drive failed, that is so behind a state
 abbrev pub ClosesAfter : StepFault → Bool → State → Option (List ℕ) → Option (List ℕ) → ℕ → ℕ → Type 0
@@ -214,11 +255,13 @@ ClosesAt Stand trace s steps first written before now step =
     ClosesBefore Stand trace s steps first written before now step
     ⊎ ((step ≡ steps) × Closes trace (after steps s) first written before now × Stand (after steps s).filing.drives)
 
--- a drive failed later; the images that are left stand for what is then on the drives
+-- a drive failed later, behind the text of steps of the first system; where the images of its drives are told, it is the model's, and the
+-- images that are left stand for what is then on the drives
 pub record WritesClosed (host : Host) (left : Images) (command : Command) (first written : Option (List ℕ)) (before now step : ℕ) : Type 0 where
   pub start : State
   pub begins : Begins host command.form command.name start
   pub within : step ≤ command.steps
+  pub steps : ClosesSteps command.trace command.steps start.system first written before now step
   pub text : AreTold host.images (drives_listed command.form begins.bytes)
       → ClosesAt (StandFor left (drives_listed command.form begins.bytes)) command.trace start command.steps first written before now step
 

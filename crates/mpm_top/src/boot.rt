@@ -1,6 +1,6 @@
 ghost use Rattle.std.specs.Prelude.{[], ◌≡◌, ◌≤◌, ◌↔◌, ℕ, List, Some, IsSome, IfSome, IfOk, IfErr, MatchResult, length};
 ghost use Rattle.mpm_drives.specs.Images.{image_named};
-ghost use Rattle.mpm_machine.specs.State.{HoldsDrives, IsWhole};
+ghost use Rattle.mpm_machine.specs.State.{HoldsDrives, IsWhole, NoCompletions};
 ghost use Rattle.mpm_machine.specs.Mounting.{HasNoDrive};
 ghost use Rattle.mpm_top.specs.Runs.{input_of as input_said, room_for, script_name, Host, host, failed, status_of, Holds, HoldsEvents, Starts, StartsOf, Scripted, Unfetched, Unread, Ends, EndsAfter, IsRefusal, IsEarly, UnlessReadFault, UnlessDiskFault, EndsAs};
 
@@ -35,7 +35,7 @@ pub(crate) fn boot<F: Files, D: Drives>(
     ensures starts { IfOk result (λ machine. Starts (host F.contents D.disks files.old drives.old) form name.now machine.system machine.bdos (D.disks drives.new)) }
     ensures holds { IfOk result (λ machine. HoldsDrives D.attached D.disks machine.bdos drives.new) }
     ensures whole { IfOk result (λ machine. IsWhole machine.system) }
-    ensures no_completions { IfOk result (λ machine. machine.system.kernel.dispatcher.completed ≡ []) }
+    ensures no_completions { IfOk result (λ machine. NoCompletions machine.system) }
     ensures start { IfOk result (λ machine. machine.system.steps ≡ 0) }
     ensures early { IfErr result (λ status. IsEarly status) }
     ensures reason { IfErr result (λ status. Ends (host F.contents D.disks files.old drives.old) form name.now
@@ -96,7 +96,7 @@ fn boot_program<D: Drives>(alloc: Global, bytes: &[u8], drives: &D) -> Result<Ma
     ensures holds { IfOk result (λ machine. HoldsDrives D.attached D.disks machine.bdos drives.now) }
     ensures no_drive { IfOk result (λ machine. HasNoDrive machine.bdos.mounted) }
     ensures whole { IfOk result (λ machine. IsWhole machine.system) }
-    ensures no_completions { IfOk result (λ machine. machine.system.kernel.dispatcher.completed ≡ []) }
+    ensures no_completions { IfOk result (λ machine. NoCompletions machine.system) }
     ensures start { IfOk result (λ machine. machine.system.steps ≡ 0) }
     ensures memory { IfErr result (λ status. status ≡ Status.OutOfMemory) }
 {
@@ -118,7 +118,7 @@ fn boot_machine<F: Files, D: Drives>(
         machine.system machine.bdos (D.disks drives.new)) }
     ensures holds { IfOk result (λ machine. HoldsDrives D.attached D.disks machine.bdos drives.new) }
     ensures whole { IfOk result (λ machine. IsWhole machine.system) }
-    ensures no_completions { IfOk result (λ machine. machine.system.kernel.dispatcher.completed ≡ []) }
+    ensures no_completions { IfOk result (λ machine. NoCompletions machine.system) }
     ensures start { IfOk result (λ machine. machine.system.steps ≡ 0) }
     ensures early { IfErr result (λ status. IsEarly status) }
     ensures reason { IfErr result (λ status. EndsAfter (host F.contents D.disks files.old drives.old) Form.Run (λ content. content ≡ bytes.now)

@@ -1,36 +1,33 @@
-ghost use Rattle.std.specs.Prelude.{◌≡◌, ◌<◌, ◌≤◌, ◌+◌, ℕ, List, Option, Some, IfOk, IfSome, option_map, length};
+ghost use Rattle.std.specs.Prelude.{◌≡◌, ◌<◌, ◌≤◌, ◌+◌, ℕ, List, Option, Some, IfSome, option_map};
 ghost use Rattle.mpm_base.specs.declared.kind.Kind.TheVariants.{Hd4};
 ghost use Rattle.mpm_port.specs.Disks.{sector_of as sector_said};
 ghost use Rattle.mpm_port.specs.MemoryDisks.{disks_of, size_of};
 ghost use Rattle.mpm_blocks.specs.Sectors.{told_image};
 ghost use Rattle.mpm_mount.specs.Drives.{Drive, visible_of};
-ghost use Rattle.mpm_mount.specs.Faults.{block_at};
 ghost use Rattle.mpm_mount.specs.Directories.{Stands};
+ghost use Rattle.mpm_bdos.specs.Serving.{directory_at};
+ghost use Rattle.mpm_bdos.specs.Turns.{labelled};
 ghost use Rattle.mpm_top.specs.Data.{HasDriveA, data_file, first_of, weighed as weighed_said, data_of, data_on, sector_in as sector_within};
 
-use mpm_base::Kind;
 use mpm_devices::SteadyDrives;
 use mpm_dirent::{Entry, FileEntry};
-use mpm_mount::{Mounted, mount};
-use mpm_port::{Drives, OutOfMemory};
-use std::alloc::Global;
+use mpm_machine::Machine;
+use mpm_mount::Mounted;
+use mpm_port::Drives;
 
 /// The file whose records are summed.
 const NAME: [u8; 11] = *b"DATA    DAT";
 
 /// The sum over the first 32 records of DATA.DAT of user 0 on drive A, an `hd4` disk, counted from 1: that number times the
-/// record's first byte. A record that isn't there counts as 0.
-///
-/// # Errors
-/// Where no memory is found.
-pub(crate) fn data_sum(alloc: Global, drives: &mut SteadyDrives) -> Result<u64, OutOfMemory>
-    requires { size_of drives.old 0 ≡ Some 4194304 }
-    ensures { (on : List (Option Drive)) → HasDriveA (Some (disks_of drives.old)) on → IfOk result (λ sum. sum ≡ data_on on) }
+/// record's first byte. A record that isn't there counts as 0. The machine has the drive mounted.
+pub(crate) fn data_sum(machine: &Machine, drives: &mut SteadyDrives) -> u64
+    requires size { size_of drives.old 0 ≡ Some 4194304 }
+    requires drive { option_map labelled (directory_at machine.now.bdos.mounted 0) ≡ Some (0, Hd4) }
+    ensures { (on : List (Option Drive)) → HasDriveA (Some (disks_of drives.old)) (directory_at machine.now.bdos.mounted 0) on → result ≡ data_on on }
 {
-    // The drive doesn't fail, and its image has no fault: what is left is want of memory.
-    match mount(alloc, drives, 0, Kind::Hd4) {
-        Ok(mounted) => Ok(sum_of(&mounted, drives)),
-        Err(_) => Err(OutOfMemory),
+    match machine.directory(0) {
+        Some(mounted) => sum_of(mounted, drives),
+        None => unreachable!(),
     }
 }
 

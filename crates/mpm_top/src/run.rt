@@ -7,12 +7,12 @@ ghost use Rattle.mpm_render.specs.Outputs.{closed};
 ghost use Rattle.mpm_machine_file.specs.declared.lists.DriveSpec.{DriveSpec};
 ghost use Rattle.mpm_drives.specs.Images.{image_named};
 ghost use Rattle.mpm_drives.specs.Mounted.{NumberedDrive, placed};
-ghost use Rattle.mpm_machine.specs.State.{State, StandsForFiles, HoldsDrives, IsWhole};
+ghost use Rattle.mpm_machine.specs.State.{State, StandsForFiles, HoldsDrives, IsWhole, NoCompletions};
 ghost use Rattle.mpm_machine.specs.Faults.{counts};
 ghost use Rattle.mpm_machine.specs.Mounting.{HasDrives, HasNoDrive, untouched};
 ghost use Rattle.mpm_machine.specs.After.{after, ShowsBefore};
 ghost use Rattle.mpm_top.specs.Words.{Command, texts, command_of};
-ghost use Rattle.mpm_top.specs.Runs.{command_on, input_of as input_said, room_for, script_name, drives_listed, host, failed, begun, SameImages, StandFor, StopsRun, ClosesAfter, Causes, stopped_by, WritesAll, WritesSteps, WritesPart, WritesClosed, Ends, EndsAs, ending, IsRefusal, IsEarly, UnlessWriteFault, UnlessReadFault, UnlessDiskFault};
+ghost use Rattle.mpm_top.specs.Runs.{command_on, input_of as input_said, room_for, script_name, drives_listed, host, failed, begun, SameImages, StandFor, StopsRun, ClosesAfter, Causes, stopped_by, WritesAll, WritesSteps, StopsSteps, WritesPart, WritesClosed, Ends, EndsAs, ending, IsRefusal, IsEarly, UnlessWriteFault, UnlessReadFault, UnlessDiskFault};
 ghost use Rattle.mpm_top.specs.Seeds.{seeded_of, EndsSeeded};
 
 use crate::boot::boot;
@@ -198,7 +198,7 @@ fn run_to_end<D: Drives, S: Sink, L: Ledger>(
     blank: Blank,
 ) -> Result<(), RunFault>
     requires whole { IsWhole machine.old.system }
-    requires no_completions { machine.old.system.kernel.dispatcher.completed ≡ [] }
+    requires no_completions { NoCompletions machine.old.system }
     requires start { machine.old.system.steps ≡ 0 }
     requires holds { HoldsDrives D.attached D.disks machine.old.bdos drives.old }
     requires limit { asked.steps ≤ GREATEST_STEP }
@@ -208,6 +208,8 @@ fn run_to_end<D: Drives, S: Sink, L: Ledger>(
     ensures ok { (on : List NumberedDrive) → StandsForFiles machine.old.bdos (D.disks drives.old) (untouched (placed on))
         → OnOk result (S.written sink.new ≡ appended (S.written sink.old) (closed asked.trace (after asked.steps (begun machine.old.system on)).outputs)) }
     ensures steps { OnOk result (WritesSteps asked.trace asked.steps machine.old.system (S.written sink.old) (S.written sink.new)) }
+    ensures stops { IfErr result (λ error. StopsSteps error.fault asked.trace asked.steps machine.old.system (S.written sink.old) (S.written sink.new)
+        (S.faults sink.old) (S.faults sink.new) error.step) }
     ensures images { (specs : List DriveSpec) (on : List NumberedDrive) → HasDrives (D.disks drives.old) specs machine.old.bdos.mounted
         → StandsForFiles machine.old.bdos (D.disks drives.old) (untouched (placed on))
         → OnOk result (StandFor (image_named (D.disks drives.new)) specs (after asked.steps (begun machine.old.system on)).filing.drives) }

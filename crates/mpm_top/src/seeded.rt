@@ -8,7 +8,7 @@ ghost use Rattle.mpm_generator.specs.Machines.{machine as machine_said, script a
 ghost use Rattle.mpm_drives.specs.Mounted.{NumberedDrive, placed};
 ghost use Rattle.mpm_bdos.specs.Serving.{directory_at};
 ghost use Rattle.mpm_bdos.specs.Turns.{labelled};
-ghost use Rattle.mpm_machine.specs.State.{StandsForFiles, HoldsDrives, IsWhole};
+ghost use Rattle.mpm_machine.specs.State.{StandsForFiles, HoldsDrives, IsWhole, NoCompletions};
 ghost use Rattle.mpm_machine.specs.Mounting.{untouched};
 ghost use Rattle.mpm_machine.specs.After.{after};
 ghost use Rattle.mpm_top.specs.Words.{texts};
@@ -130,7 +130,7 @@ fn find_of(
     drives: &mut SteadyDrives,
 ) -> Result<Found, OutOfMemory>
     requires whole { IsWhole machine.old.system }
-    requires no_completions { machine.old.system.kernel.dispatcher.completed ≡ [] }
+    requires no_completions { NoCompletions machine.old.system }
     requires start { machine.old.system.steps ≡ 0 }
     requires holds { HoldsDrives size_of (λ d. Some (disks_of d)) machine.old.bdos drives.old }
     requires limit { steps ≤ GREATEST_STEP }
@@ -142,14 +142,11 @@ fn find_of(
     match LineCounts::new(alloc) {
         Ok(mut counts) => {
             run_counted::<Brand>(machine, steps, drives, &mut counts, Blank::new(1));
-            match data_sum(alloc, drives) {
-                Ok(data) => Ok(Found {
-                    lines: counts.of_consoles(),
-                    calls: counts.of_calls(),
-                    data,
-                }),
-                Err(error) => Err(error),
-            }
+            Ok(Found {
+                lines: counts.of_consoles(),
+                calls: counts.of_calls(),
+                data: data_sum(machine, drives),
+            })
         }
         Err(error) => Err(error),
     }
@@ -165,7 +162,7 @@ fn run_counted<L: Ledger>(
     blank: Blank,
 )
     requires whole { IsWhole machine.old.system }
-    requires no_completions { machine.old.system.kernel.dispatcher.completed ≡ [] }
+    requires no_completions { NoCompletions machine.old.system }
     requires start { machine.old.system.steps ≡ 0 }
     requires holds { HoldsDrives size_of (λ d. Some (disks_of d)) machine.old.bdos drives.old }
     requires limit { steps ≤ GREATEST_STEP }
@@ -176,7 +173,8 @@ fn run_counted<L: Ledger>(
     ensures text { (on : List NumberedDrive) → StandsForFiles machine.old.bdos (Some (disks_of drives.old)) (untouched (placed on))
         → counts.new ≡ counts.old ++ closed true (after steps (begun machine.old.system on)).outputs }
     ensures files { (on : List NumberedDrive) → StandsForFiles machine.old.bdos (Some (disks_of drives.old)) (untouched (placed on))
-        → HasDriveA (Some (disks_of drives.new)) (after steps (begun machine.old.system on)).filing.drives }
+        → HasDriveA (Some (disks_of drives.new)) (directory_at machine.new.bdos.mounted 0) (after steps (begun machine.old.system on)).filing.drives }
+    ensures drive { option_map labelled (directory_at machine.new.bdos.mounted 0) ≡ Some (0, Hd4) }
     ensures attached { (number : ℕ) → size_of drives.new number ≡ size_of drives.old number }
 {
     let mut calls = Steps::<L>::new(blank);

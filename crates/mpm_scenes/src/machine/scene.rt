@@ -3,7 +3,7 @@ ghost use Rattle.std.specs.Prelude.{ℕ, ◌≡◌, ◌<◌, ◌≤◌, ◌+◌,
 ghost use Rattle.std.specs.Bool.{OnTrue};
 ghost use Rattle.mpm_machine_file.specs.MachineFiles.{IsMachine};
 ghost use Rattle.mpm_port.specs.MemoryDisks.{size_of, disks_of};
-ghost use Rattle.mpm_machine.specs.State.{IsWhole, HoldsDrives};
+ghost use Rattle.mpm_machine.specs.State.{IsWhole, NoCompletions, HoldsDrives};
 ghost use Rattle.mpm_machine.specs.Opening.{IsBare, MayPlace};
 
 use mpm_base::{Kind, Name8, Pid, Seg, Steps};
@@ -175,7 +175,7 @@ impl Scene<'_> {
         apart: bool,
     ) -> Result<bool, Fail>
         requires whole { IsWhole machine.old.system }
-        requires no_completions { machine.old.system.kernel.dispatcher.completed ≡ [] }
+        requires no_completions { NoCompletions machine.old.system }
         requires start { machine.old.system.steps ≡ 0 }
         requires holds { HoldsDrives size_of (λ d. Some (disks_of d)) machine.old.bdos drives.old }
         requires name { blank.name ≡ L.name }
@@ -257,7 +257,7 @@ fn go<L: Ledger>(
     calls: &mut Steps<L>,
 ) -> Result<(), Fail>
     requires whole { IsWhole machine.old.system }
-    requires no_completions { machine.old.system.kernel.dispatcher.completed ≡ [] }
+    requires no_completions { NoCompletions machine.old.system }
     requires start { machine.old.system.steps ≡ 0 }
     requires holds { HoldsDrives size_of (λ d. Some (disks_of d)) machine.old.bdos drives.old }
     ensures whole { OnOk result (IsWhole machine.new.system) }

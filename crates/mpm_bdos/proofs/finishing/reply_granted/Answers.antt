@@ -5,6 +5,7 @@ use Rattle.mpm_bdos.specs.Driving.{freed_by}
 use Rattle.mpm_bdos.specs.Serving.{InService}
 use Rattle.mpm_bdos.specs.Finishing.{serving}
 use Rattle.mpm_bdos.proofs.UserLaws.{users_driven}
+use Rattle.mpm_bdos.proofs.Answerable.{nothing_granted}
 use Rattle.mpm_bdos.proofs.FinishLaws.{granted_on_drives, granted_named}
 use Rattle.mpm_bdos.proofs.finishing.reply_granted.Goals as goal
 
@@ -32,3 +33,10 @@ returns-else-is_on_drives-clause-finished c = λ images s moment refusal serves 
     granted_named images (serving c.args.mounted.now c.args.protected.now c.args.opens.now c.args.marks.now c.args.searches.now service) service s (option_copied c.get.result) c.reply_on.new.reply c.reply_on.new.opens c.reply_on.new.searches
     refl serves none (sym c.is_on_drives.ensures ∙ c.if-is_on_drives.false) c.requires.caller c.requires.users c.position_of_call.ensures.size c.position_of_call.ensures.low
     c.get.ensures (λ image d there answering. c.reply_on.ensures.replied image d s.filing.drives c.args.marks.now moment there answering)
+
+pub returns-then-is_on_drives-clause-may : goal.returns-then-is_on_drives-clause-may
+returns-then-is_on_drives-clause-may c =
+    nothing_granted c.args.function c.args.caller.now.multi c.args.call.now.dma c.dma_of_call.result c.reply_on_drives.new.reply c.reply_on_drives.ensures.reply c.dma_of_call.ensures
+
+pub returns-else-is_on_drives-clause-may : goal.returns-else-is_on_drives-clause-may
+returns-else-is_on_drives-clause-may c = c.reply_on.ensures.may

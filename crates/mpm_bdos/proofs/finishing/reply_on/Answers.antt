@@ -1,8 +1,10 @@
 use Rattle.std.proofs.Common.{◌∙◌, sym, ap, subst}
+use Rattle.mpm_base.specs.Calls.{Taken}
 use Rattle.std.specs.Option.{option_copied}
 use Rattle.std.proofs.lemmas.Option.{same_Some}
 use Rattle.mpm_bdos.specs.Asking.{called}
 use Rattle.mpm_bdos.specs.Replying.{IsAnswering}
+use Rattle.mpm_bdos.proofs.Answerable.{nothing_granted}
 use Rattle.mpm_bdos.proofs.Started.{nothing_some}
 use Rattle.mpm_bdos.proofs.finishing.reply_on.Goals as goal
 
@@ -15,3 +17,7 @@ returns-in-Some-clause-replied c = λ image d drives marks moment there answerin
 
 pub returns-in-None-clause-replied : goal.returns-in-None-clause-replied
 returns-in-None-clause-replied c = λ image d drives marks moment there answering. absurd (nothing_some d (sym (ap option_copied c.in-None.is) ∙ there))
+
+pub returns-in-None-clause-may : goal.returns-in-None-clause-may
+returns-in-None-clause-may c =
+    nothing_granted c.args.function c.args.caller.now.multi c.args.call.now.dma c.call.inside.dma c.answer_with.new.self c.answer_with.ensures (ap (λ (call : Taken). call.dma) c.call.view_is)

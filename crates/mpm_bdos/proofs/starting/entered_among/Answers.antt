@@ -6,8 +6,8 @@ use Rattle.mpm_bdos.specs.Serving.{directory_at}
 use Rattle.mpm_bdos.specs.Starting.{Enters}
 use Rattle.mpm_bdos.proofs.starting.entered_among.Goals as goal
 
-pub returns : goal.returns
-returns c = λ images drives stand.
+pub returns-clause-all : goal.returns-clause-all
+returns-clause-all c = λ images drives stand.
     let caller = c.args.caller.now in
     let s = called drives c.args.protected.now c.args.opens.now c.args.marks.now c.args.searches.now caller c.args.function c.args.call.now c.args.moment in
     let number : ℕ = drive_number s in
@@ -18,5 +18,11 @@ returns c = λ images drives stand.
     let place = c.get.ensures ∙ ap (directory_at c.args.mounted.now) drive_is in
     record {
       enters = subst (λ m. Enters (images number) m s c.entered.result) place
-          (c.entered.ensures (images number) drives (subst (λ m. StandsFor (images number) m s) (sym place) (stand.each number)) drive_is);
+          (c.entered.ensures.all (images number) drives (subst (λ m. StandsFor (images number) m s) (sym place) (stand.each number)) drive_is);
     }
+
+pub returns-clause-drive : goal.returns-clause-drive
+returns-clause-drive c = λ drives.
+    let caller = c.args.caller.now in
+    c.entered.ensures.drive ∙ c.drive_of_call-drive.ensures
+    ∙ (λ i. unwrap_or (drive_by (c.get-search.ensures i) caller.drive (c.word_of_call-word.ensures i) (c.block_taken-block.ensures.block i) c.args.function) caller.drive)

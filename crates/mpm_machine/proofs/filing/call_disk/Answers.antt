@@ -1,6 +1,17 @@
+use Rattle.std.proofs.Common.{◌≤◌, sym, subst}
+use Rattle.mpm_procs.specs.declared.process.Process.{Process}
 use Rattle.mpm_machine.proofs.FilingLaws.{disk_is, bare_still}
+use Rattle.mpm_machine.proofs.ToldLaws.{disk_told}
 use Rattle.mpm_machine.proofs.FailingLaws.{disk_fails, disk_calls}
 use Rattle.mpm_machine.proofs.filing.call_disk.Goals as goal
+
+pub looked_at-caller-requires-clause-some : goal.looked_at-caller-requires-clause-some
+looked_at-caller-requires-clause-some g c =
+    subst (λ (one : Process). 1 ≤ one.multi) (sym c.living.ensures) (c.requires.whole.sound.fit c.args.p c.requires.lives).some
+
+pub looked_at-caller-requires-clause-few : goal.looked_at-caller-requires-clause-few
+looked_at-caller-requires-clause-few g c =
+    subst (λ (one : Process). one.multi ≤ 16) (sym c.living.ensures) (c.requires.whole.sound.fit c.args.p c.requires.lives).few
 
 pub returns-clause-ok : goal.returns-clause-ok
 returns-clause-ok g c filing stands =
@@ -22,3 +33,8 @@ pub returns-clause-calls : goal.returns-clause-calls
 returns-clause-calls g c filing stands =
     disk_calls (g.D.Drives.disks c.args.drives.now) filing c.args.p c.args.system.now c.args.bdos.now c.looked_at-caller.result c.living.result.now c.kept_call.result.now c.now-now.result _ _
     c.looked_at-caller.ensures.process c.living.ensures c.kept_call.ensures c.now-now.ensures.moment c.requires.function stands c.call_at_once.ensures.calls
+
+pub returns-clause-told : goal.returns-clause-told
+returns-clause-told g c =
+    disk_told c.args.p c.args.system.now c.looked_at-caller.result c.living.result.now c.kept_call.result.now c.call_at_once.new.reply c.call_at_once.result
+    c.looked_at-caller.ensures.process c.living.ensures c.kept_call.ensures c.requires.function c.call_at_once.ensures.may

@@ -1,13 +1,18 @@
-use Rattle.std.proofs.Common.{◌∙◌, Some}
-use Rattle.mpm_port.specs.MemoryDisks.{disks_of}
-use Rattle.mpm_blocks.proofs.ToldImages.{told_image_same}
-use Rattle.mpm_top.proofs.DataLaws.{stands_mounted, summed_on}
+use Rattle.std.proofs.Common.{◌∙◌, sym, ap, subst}
+use Rattle.std.specs.Prelude.{IfSome}
+use Rattle.std.specs.Option.{option_copied}
+use Rattle.mpm_mount.specs.Directories.{Stands}
+use Rattle.mpm_top.proofs.DataLaws.{kind_there, none_there, summed_on}
 use Rattle.mpm_top.proofs.data.data_sum.Goals as goal
 
-pub returns-in-Ok : goal.returns-in-Ok
-returns-in-Ok c on has =
-    let old = Some (disks_of c.args.drives.now) in
-    let new = Some (disks_of c.mount.new.drives) in
-    c.sum_of.ensures has.image has.files (told_image_same old new 0 c.mount.ensures.same.images ∙ has.told)
-    (stands_mounted old c.in-Ok.mounted has.image has.files c.in-Ok.ensures.ok has.told has.are)
+pub sum_of-requires-clause-kind : goal.sum_of-requires-clause-kind
+sum_of-requires-clause-kind c = kind_there _ c.in-Some.mounted.now (sym (ap option_copied c.in-Some.is) ∙ c.directory.ensures) c.requires.drive
+
+pub unreachable-requires : goal.unreachable-requires
+unreachable-requires c = none_there _ (sym (ap option_copied c.in-None.is) ∙ c.directory.ensures) c.requires.drive
+
+pub returns : goal.returns
+returns c on has =
+    let there = sym c.directory.ensures ∙ ap option_copied c.in-Some.is in
+    c.sum_of.ensures has.image has.files has.told (subst (λ directory. IfSome directory (λ d. Stands has.image d has.files)) there has.stands)
     ∙ summed_on on has.files has.here

@@ -52,7 +52,8 @@ returns-in-Ok-clause-disk_text g c step is =
     inr (disk_closed found (image_named (g.D.Drives.disks c.run_to_end.new.drives)) (command_on c.args.name.now c.args.asked) (begun c.in-Ok.machine.system starts.drives) c.in-Err-run_to_end.error.fault c.in-Err-run_to_end.error.step step c.stopped.result
     (g.S.Sink.written c.args.sink.now) (g.S.Sink.written c.run_to_end.new.sink) (g.S.Sink.faults c.args.sink.now) (g.S.Sink.faults c.run_to_end.new.sink)
     c.stopped.ensures is starts.begins c.in-Err-run_to_end.ensures.within
-    (λ told. c.in-Err-run_to_end.ensures.err (drives_listed c.args.asked.form starts.begins.bytes) starts.drives starts.listed (starts.files told)))
+    (λ told. c.in-Err-run_to_end.ensures.err (drives_listed c.args.asked.form starts.begins.bytes) starts.drives starts.listed (starts.files told))
+    c.in-Err-run_to_end.ensures.stops)
 
 pub returns-in-Ok-clause-write_text : goal.returns-in-Ok-clause-write_text
 returns-in-Ok-clause-write_text g c step is =
@@ -62,6 +63,7 @@ returns-in-Ok-clause-write_text g c step is =
     (g.S.Sink.written c.args.sink.now) (g.S.Sink.written c.run_to_end.new.sink) (g.S.Sink.faults c.args.sink.now) (g.S.Sink.faults c.run_to_end.new.sink)
     c.stopped.ensures is starts.begins c.in-Err-run_to_end.ensures.within
     (λ told. c.in-Err-run_to_end.ensures.err (drives_listed c.args.asked.form starts.begins.bytes) starts.drives starts.listed (starts.files told))
+    c.in-Err-run_to_end.ensures.stops
 
 pub returns-in-Ok-clause-images : goal.returns-in-Ok-clause-images
 returns-in-Ok-clause-images g c early image =

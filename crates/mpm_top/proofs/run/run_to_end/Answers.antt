@@ -2,11 +2,14 @@ use Rattle.std.proofs.Common.{◌≡◌, ◌∙◌, ◌-◌, Bool, Option, [], r
 use Rattle.mpm_port.specs.Disks.{Disks}
 use Rattle.mpm_render.specs.Outputs.{rendered, closed}
 use Rattle.mpm_machine.specs.Faults.{Counts, counts, EndsBy}
+use Rattle.mpm_render.specs.Shown.{Shows}
+use Rattle.mpm_machine.specs.State.{State}
 use Rattle.mpm_machine.specs.After.{after}
 use Rattle.mpm_drives.specs.Images.{image_named}
 use Rattle.mpm_drives.proofs.Telling.{images_same}
+use Rattle.std.proofs.lemmas.List.{append-nil}
 use Rattle.mpm_top.specs.Runs.{begun, StandFor}
-use Rattle.mpm_top.proofs.RunLaws.{stands_begun, stops_in_step, stops_at_end, still_shows, on_both, closed_alike, sink_stays, causes_stopped, causes_closed, none_synced, sink_alone, writes_steps}
+use Rattle.mpm_top.proofs.RunLaws.{stands_begun, stops_in_step, stops_at_end, still_shows, on_both, closed_alike, sink_stays, causes_stopped, causes_closed, none_synced, sink_alone, writes_steps, stopped_inside, stopped_behind}
 use Rattle.mpm_top.proofs.Naming.{stand_behind, stand_synced, others_behind, others_synced}
 use Rattle.mpm_top.proofs.run.run_to_end.Goals as goal
 
@@ -32,6 +35,16 @@ returns-in-Err-clause-err g c specs on has stand =
     (closed_alike fault c.run.new.render.trace c.args.asked.trace there first (g.S.Sink.written c.close.new.sink) (g.S.Sink.faults c.run.new.sink) (g.S.Sink.faults c.args.sink.now)
     (g.S.Sink.faults c.close.new.sink) (c.in-Err.ensures.trace ∙ c.new-render.ensures.trace) (sink_stays fault _ _ c.in-Err.ensures.cause.failed) closes)
     left.are (stand_behind x y one other specs left.drives has c.in-Err.ensures.keeps left.images)
+
+pub returns-in-Err-clause-stops : goal.returns-in-Err-clause-stops
+returns-in-Err-clause-stops g c =
+    let first = g.S.Sink.written c.args.sink.now in
+    let fault = c.in-Err.error.fault in
+    stopped_inside fault c.args.asked.steps c.in-Err.error.step c.args.asked.trace _ _ c.args.machine.now.system first (g.S.Sink.written c.close.new.sink)
+    (g.S.Sink.faults c.args.sink.now) (g.S.Sink.faults c.close.new.sink) c.in-Err.ensures.stops c.new-render.ensures.trace (c.new-render.ensures.fresh first)
+    (λ is. ap g.S.Sink.written (c.close.ensures.left is))
+    (λ s shows. closed_alike fault c.run.new.render.trace c.args.asked.trace s first (g.S.Sink.written c.close.new.sink) (g.S.Sink.faults c.run.new.sink) (g.S.Sink.faults c.args.sink.now)
+    (g.S.Sink.faults c.close.new.sink) (c.in-Err.ensures.trace ∙ c.new-render.ensures.trace) (sink_stays fault _ _ c.in-Err.ensures.cause.failed) (c.close.ensures.closes s first shows))
 
 pub returns-in-Err-clause-within : goal.returns-in-Err-clause-within
 returns-in-Err-clause-within g c = omega (arith, c.in-Err.ensures.stops.is, c.in-Err.ensures.stops.few, c.requires.start)
@@ -106,6 +119,26 @@ returns-clause-err g c specs on has stand =
     (λ is. sink_stays fault _ _ c.in-Err-settle.ensures.cause.failed is ∙ ap (λ (k : Counts). k.sink) c.in-Ok.ensures.cause.stays)
     (c.close-in-Err-settle.ensures.closes there first kept))
     (stand_synced x y z one other specs there.filing.drives has c.in-Ok.ensures.keeps (c.in-Ok.ensures.ok s first stands).files.stand c.in-Err-settle.ensures.drives.images)
+
+pub returns-clause-stops : goal.returns-clause-stops
+returns-clause-stops g c =
+    let first = g.S.Sink.written c.args.sink.now in
+    let ran = c.in-Ok.ensures.steps in
+    let fault = c.in-Err-settle.fault in
+    let traces = c.in-Ok.ensures.trace ∙ c.new-render.ensures.trace in
+    let there : State = record (begun c.run.new.self.system []) { outputs = ran.emitted } in
+    let shows : Shows c.run.new.render (g.S.Sink.written c.run.new.sink) ran.emitted first =
+    subst (λ outputs. Shows c.run.new.render (g.S.Sink.written c.run.new.sink) outputs first) (append-nil ran.emitted) (ran.wrote.shown [] first (c.new-render.ensures.fresh first)) in
+    let kept = still_shows fault c.run.new.render c.settle.new.render (g.S.Sink.written c.run.new.sink) (g.S.Sink.written c.settle.new.sink) there first
+    (on_both fault _ _ (λ (same : (c.settle.new.render ≡ c.run.new.render) × (c.settle.new.sink ≡ c.run.new.sink)). (same.0, ap g.S.Sink.written same.1)) c.in-Err-settle.ensures.unwritten) shows in
+    let P : Bool → Type 0 = λ trace. EndsBy fault (g.S.Sink.written c.settle.new.sink) first (rendered trace ran.emitted) (closed trace ran.emitted) in
+    stopped_behind fault c.args.asked.steps c.args.asked.trace c.args.machine.now.system c.run.new.self.system ran.emitted first (g.S.Sink.written c.settle.new.sink)
+    (g.S.Sink.written c.close-in-Err-settle.new.sink) (g.S.Sink.faults c.args.sink.now) (g.S.Sink.faults c.close-in-Err-settle.new.sink) ran.steps
+    (λ is. ap g.S.Sink.written (c.close-in-Err-settle.ensures.left is)) (subst P traces (c.in-Err-settle.ensures.err ran.emitted first shows))
+    (closed_alike fault c.settle.new.render.trace c.args.asked.trace there first (g.S.Sink.written c.close-in-Err-settle.new.sink) (g.S.Sink.faults c.settle.new.sink)
+    (g.S.Sink.faults c.args.sink.now) (g.S.Sink.faults c.close-in-Err-settle.new.sink) (c.in-Err-settle.ensures.trace ∙ traces)
+    (λ is. sink_stays fault _ _ c.in-Err-settle.ensures.cause.failed is ∙ ap (λ (k : Counts). k.sink) c.in-Ok.ensures.cause.stays)
+    (c.close-in-Err-settle.ensures.closes there first kept))
 
 pub returns-clause-early : goal.returns-clause-early
 returns-clause-early g c zero name =

@@ -1,11 +1,12 @@
-use Rattle.std.proofs.Common.{◌≡◌, ap, sym, ◌∙◌, subst, arith}
+use Rattle.std.proofs.Common.{◌≡◌, ◌+◌, ap, sym, ◌∙◌, subst, arith}
 use Rattle.mpm_clock.specs.PackedDecimal.{stamp}
 use Rattle.mpm_bdos.specs.Subjects.{drive_number}
 use Rattle.mpm_bdos.specs.Jobs.{call_turns}
 use Rattle.mpm_bdos.specs.Serving.{Kept, Serves}
 use Rattle.mpm_bdos.specs.Starting.{caller_of, entering}
 use Rattle.mpm_bdos.specs.Turns.{told_images}
-use Rattle.mpm_bdos.proofs.AtOnceLaws.{changes_alone, alone_still, nothing_to_do}
+use Rattle.mpm_bdos.proofs.Answerable.{still_entered}
+use Rattle.mpm_bdos.proofs.AtOnceLaws.{changes_alone, alone_still}
 use Rattle.mpm_bdos.proofs.bdos.Bdos.call_at_once.Goals as goal
 
 pub returns-in-Ok-clause-ok : goal.returns-in-Ok-clause-ok
@@ -14,38 +15,49 @@ returns-in-Ok-clause-ok g c = λ before function is stand.
     let images = told_images (g.D.Drives.disks c.do_turns.new.drives) in
     let s = entering c.args.self.now before (caller_of c.args.p c.args.process.now) function c.args.call.now (stamp c.args.now) in
     let turns : c.start-turns.result ≡ call_turns s = c.start-turns.ensures.turns first before function is stand in
+    let all : 0 + c.start-turns.result ≡ call_turns s = omega (arith, turns) in
     c.reply.ensures.comes images s
-    (subst (Serves images c.do_turns.new.self s) turns (c.in-Ok.ensures.ok s (c.start-turns.ensures.serves first before function is stand) (omega (arith, turns))))
+    (subst (Serves images c.do_turns.new.self s) all (c.in-Ok.ensures.ok s 0 (c.start-turns.ensures.serves first before function is stand) (omega (arith, turns))))
+
+pub returns-in-Err-clause-err : goal.returns-in-Err-clause-err
+returns-in-Err-clause-err g c = λ before function is stand.
+    let first = told_images (g.D.Drives.disks c.args.drives.now) in
+    let s = entering c.args.self.now before (caller_of c.args.p c.args.process.now) function c.args.call.now (stamp c.args.now) in
+    let turns : c.start-turns.result ≡ call_turns s = c.start-turns.ensures.turns first before function is stand in
+    c.in-Err.ensures.err s 0 (c.start-turns.ensures.serves first before function is stand) (omega (arith, turns))
 
 pub returns-in-Ok-clause-alone : goal.returns-in-Ok-clause-alone
-returns-in-Ok-clause-alone g c = λ images before function is stand.
+returns-in-Ok-clause-alone g c = λ before function is.
     let disks = g.D.Drives.disks in
     let s = entering c.args.self.now before (caller_of c.args.p c.args.process.now) function c.args.call.now (stamp c.args.now) in
     alone_still (drive_number s) c.args.self.now.mounted c.start-turns.new.self.mounted c.do_turns.new.self.mounted c.reply.new.self.mounted (disks c.args.drives.now) (disks c.do_turns.new.drives)
     (ap (λ (kept : Kept). kept.mounted) c.start-turns.ensures.kept) (ap (λ (kept : Kept). kept.mounted) c.reply.ensures.kept)
-    (changes_alone g.D.Drives.attached disks g.D.Drives.failed_names images c.start-turns.new.self c.do_turns.new.self c.args.drives.now c.do_turns.new.drives s 0
-    (c.start-turns.ensures.serves images before function is stand) c.do_turns.ensures.left)
+    (changes_alone g.D.Drives.attached disks g.D.Drives.failed_names c.start-turns.new.self c.do_turns.new.self c.args.drives.now c.do_turns.new.drives (drive_number s)
+    (c.start-turns.ensures.drive before function is) c.do_turns.ensures.left)
 
 pub returns-in-Err-clause-alone : goal.returns-in-Err-clause-alone
-returns-in-Err-clause-alone g c = λ images before function is stand.
+returns-in-Err-clause-alone g c = λ before function is.
     let disks = g.D.Drives.disks in
     let s = entering c.args.self.now before (caller_of c.args.p c.args.process.now) function c.args.call.now (stamp c.args.now) in
     alone_still (drive_number s) c.args.self.now.mounted c.start-turns.new.self.mounted c.do_turns.new.self.mounted c.leave_service.new.self.mounted (disks c.args.drives.now) (disks c.do_turns.new.drives)
     (ap (λ (kept : Kept). kept.mounted) c.start-turns.ensures.kept) (ap (λ (kept : Kept). kept.mounted) c.leave_service.ensures)
-    (changes_alone g.D.Drives.attached disks g.D.Drives.failed_names images c.start-turns.new.self c.do_turns.new.self c.args.drives.now c.do_turns.new.drives s 0
-    (c.start-turns.ensures.serves images before function is stand) c.do_turns.ensures.left)
+    (changes_alone g.D.Drives.attached disks g.D.Drives.failed_names c.start-turns.new.self c.do_turns.new.self c.args.drives.now c.do_turns.new.drives (drive_number s)
+    (c.start-turns.ensures.drive before function is) c.do_turns.ensures.left)
 
 pub returns-in-Ok-clause-none : goal.returns-in-Ok-clause-none
 returns-in-Ok-clause-none g c = λ none.
-    c.do_turns.ensures.idle (nothing_to_do c.args.self.now c.start-turns.new.self (caller_of c.args.p c.args.process.now) c.args.call.now (stamp c.args.now)
-    (sym c.is_file_call.ensures ∙ c.if-not-is_file_call.false) c.start-turns.ensures.serves c.start-turns.ensures.kept none)
+    c.do_turns.ensures.idle (c.start-turns.ensures.workless (sym c.is_file_call.ensures ∙ c.if-not-is_file_call.false) none)
 
 pub returns-in-Err-clause-none : goal.returns-in-Err-clause-none
 returns-in-Err-clause-none g c = λ none.
-    c.do_turns.ensures.idle (nothing_to_do c.args.self.now c.start-turns.new.self (caller_of c.args.p c.args.process.now) c.args.call.now (stamp c.args.now)
-    (sym c.is_file_call.ensures ∙ c.if-not-is_file_call.false) c.start-turns.ensures.serves c.start-turns.ensures.kept none)
+    c.do_turns.ensures.idle (c.start-turns.ensures.workless (sym c.is_file_call.ensures ∙ c.if-not-is_file_call.false) none)
 
 pub returns-in-Err-clause-unfailing : goal.returns-in-Err-clause-unfailing
 returns-in-Err-clause-unfailing g c = λ none.
-    c.in-Err.ensures.unfailing (nothing_to_do c.args.self.now c.start-turns.new.self (caller_of c.args.p c.args.process.now) c.args.call.now (stamp c.args.now)
-    (sym c.is_file_call.ensures ∙ c.if-not-is_file_call.false) c.start-turns.ensures.serves c.start-turns.ensures.kept none)
+    c.in-Err.ensures.unfailing (c.start-turns.ensures.workless (sym c.is_file_call.ensures ∙ c.if-not-is_file_call.false) none)
+
+pub returns-in-Ok-clause-may : goal.returns-in-Ok-clause-may
+returns-in-Ok-clause-may g c = λ function is.
+    let caller = caller_of c.args.p c.args.process.now in
+    c.reply.ensures.may caller function c.args.call.now
+    (still_entered caller function c.args.call.now c.start-turns.new.self.service c.do_turns.new.self.service c.do_turns.ensures.left.kept.service (c.start-turns.ensures.entered function is))

@@ -1,12 +1,12 @@
-use Rattle.std.proofs.Common.{◌≡◌, suc, ◌+◌, refl, subst, ap, ◌∙◌, arith}
+use Rattle.std.proofs.Common.{◌≡◌, ◌+◌, refl, subst, ap, ◌∙◌, arith}
 use Rattle.mpm_bdos.specs.Serving.{Serves}
 use Rattle.mpm_bdos.specs.Turns.{told_images, has_work}
-use Rattle.mpm_bdos.proofs.AtOnceLaws.{no_turns, one_more_turn, cause_since, is_ok_or_err}
+use Rattle.mpm_bdos.proofs.AtOnceLaws.{no_turns, no_more, one_more, one_more_turn, cause_since, is_ok_or_err}
 use Rattle.mpm_bdos.proofs.bdos.Bdos.do_turns.Goals as goal
 
 pub loop-turn-init : goal.loop-turn-init
 loop-turn-init g c = record {
-  serves = λ s first few. first;
+  serves = λ s ended first few. subst (Serves (told_images (g.D.Drives.disks c.args.drives.now)) c.args.self.now s) (no_more ended) first;
   left = no_turns g.D.Drives.attached g.D.Drives.disks g.D.Drives.failed_names c.args.self.now c.args.drives.now c.requires.fits;
   calls = omega arith;
   idle = λ none. (refl, none);
@@ -18,10 +18,10 @@ loop-turn-preserved g c =
     let now = c.turn.new in
     let does = c.turn.ensures in
     let so = c.loop-turn.invariant in
-    let more : suc c.loop-turn._turn ≡ c.loop-turn._turn + 1 = omega arith in
+    let turn = c.loop-turn._turn in
     record {
-      serves = λ s first few. subst (Serves (told_images (g.D.Drives.disks now.drives)) now.self s) more
-          (c.in_default.ensures.ok s c.loop-turn._turn (so.serves s first (omega (arith, few))) (omega (arith, few)));
+      serves = λ s ended first few. subst (Serves (told_images (g.D.Drives.disks now.drives)) now.self s) (one_more ended turn)
+          (c.in_default.ensures.ok s (ended + turn) (so.serves s ended first (omega (arith, few))) (omega (arith, few)));
       left = one_more_turn g.D.Drives.attached g.D.Drives.disks g.D.Drives.failed_names c.args.self.now c.loop-turn.self now.self c.args.drives.now c.loop-turn.drives now.drives so.left
           (record { kept = does.kept; fits = does.fits; images = does.images; beside = does.beside; names = does.names; attached_are = does.attached });
       calls = omega (arith, does.calls, so.calls);
@@ -34,12 +34,14 @@ returns-in-Err g c =
     let now = c.turn.new in
     let does = c.turn.ensures in
     let so = c.loop-turn.invariant in
+    let turn = c.loop-turn._turn in
     record {
-      ok = λ s first few. tt;
-      err = λ s first few. record {
-        turn = c.loop-turn._turn;
+      ok = λ s ended first few. tt;
+      err = λ s ended first few. record {
+        turn = ended + turn;
+        since = omega arith;
         its = omega (arith, few, c.loop-turn-test.true);
-        stops = c.in-Err.ensures.err s c.loop-turn._turn (so.serves s first (omega (arith, few, c.loop-turn-test.true))) (omega (arith, few, c.loop-turn-test.true));
+        stops = c.in-Err.ensures.err s (ended + turn) (so.serves s ended first (omega (arith, few, c.loop-turn-test.true))) (omega (arith, few, c.loop-turn-test.true));
       };
       left = one_more_turn g.D.Drives.attached g.D.Drives.disks g.D.Drives.failed_names c.args.self.now c.loop-turn.self now.self c.args.drives.now c.loop-turn.drives now.drives so.left
           (record { kept = does.kept; fits = does.fits; images = does.images; beside = does.beside; names = does.names; attached_are = does.attached });
@@ -55,8 +57,8 @@ returns g c =
     let so = c.loop-turn.invariant in
     let all : c.loop-turn._turn ≡ c.args.turns = omega (arith, c.loop-turn-test.false, c.loop-turn.auto._turn-end) in
     record {
-      ok = λ s first few. subst (Serves (told_images (g.D.Drives.disks c.loop-turn.drives)) c.loop-turn.self s) all (so.serves s first (omega (arith, few, all)));
-      err = λ s first few. tt;
+      ok = λ s ended first few. subst (λ turns. Serves (told_images (g.D.Drives.disks c.loop-turn.drives)) c.loop-turn.self s (ended + turns)) all (so.serves s ended first (omega (arith, few, all)));
+      err = λ s ended first few. tt;
       left = so.left;
       calls = omega (arith, so.calls, all);
       idle = λ none. (so.idle none).0;

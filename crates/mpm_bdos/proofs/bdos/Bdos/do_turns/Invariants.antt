@@ -1,4 +1,4 @@
-use Rattle.std.proofs.Common.{◌≡◌, ◌≤◌, ◌+◌, ◌*◌, false}
+use Rattle.std.proofs.Common.{◌≡◌, ℕ, ◌≤◌, ◌+◌, ◌*◌, false}
 use Rattle.mpm_bdos.specs.Filing.{Situation}
 use Rattle.mpm_bdos.specs.Jobs.{call_turns}
 use Rattle.mpm_bdos.specs.Serving.{Serves}
@@ -8,7 +8,7 @@ use Rattle.mpm_bdos.proofs.bdos.Bdos.do_turns.Given as goal
 
 abbrev pub invariant-loop-turn : goal.invariant-loop-turn
 invariant-loop-turn g l = record {
-  serves : (s : Situation) → Serves (told_images (g.D.Drives.disks l.initial.drives)) l.initial.self s 0 → l._turn ≤ call_turns s → Serves (told_images (g.D.Drives.disks l.drives)) l.self s l._turn;
+  serves : (s : Situation) (ended : ℕ) → Serves (told_images (g.D.Drives.disks l.initial.drives)) l.initial.self s ended → ended + l._turn ≤ call_turns s → Serves (told_images (g.D.Drives.disks l.drives)) l.self s (ended + l._turn);
   left : TurnsLeave g.D.Drives.attached g.D.Drives.disks g.D.Drives.failed_names l.initial.self l.self l.initial.drives l.drives;
   calls : l.steps ≤ l.initial.steps + 20 * l._turn;
   idle : has_work l.initial.self.service ≡ false → (l.drives ≡ l.initial.drives) × (has_work l.self.service ≡ false);

@@ -6,7 +6,7 @@ use Rattle.mpm_machine.proofs.machine.Machine.bare.Goals as goal
 
 pub returns-clause-bare : goal.returns-clause-bare
 returns-clause-bare c =
-    booted_parts c.args.file.now c.args.script c.new-3.result c.in_ok-kernel.kernel c.in_ok-memory.memory c.none.result c.requires.some_console c.requires.consoles c.requires.printers
+    booted_parts c.args.file.now c.args.script c.new-3.result c.in_ok-kernel.kernel c.in_ok-memory.memory c.none.result c.new-4.result c.requires.some_console c.requires.consoles c.requires.printers
     (omega (arith, c.requires.segments)) c.new-3.ensures.script c.new-3.ensures.interrupts
     (c.in_ok-kernel.ensures.kernel ∙ ap (new_kernel c.args.file.now.consoles c.args.file.now.printers) c.moment_of.ensures)
-    (c.in_ok-memory.ensures ∙ ap new_memory c.as_slice.ensures) c.none.ensures
+    (c.in_ok-memory.ensures ∙ ap new_memory c.as_slice.ensures) c.none.ensures c.new-4.ensures

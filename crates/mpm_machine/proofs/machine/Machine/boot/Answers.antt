@@ -1,6 +1,6 @@
 use Rattle.std.proofs.Common.{◌∙◌}
 use Rattle.mpm_machine.proofs.OpeningLaws.{boots, opened_here}
-use Rattle.mpm_machine.proofs.SlotLaws.{has_residents}
+use Rattle.mpm_machine.proofs.SlotLaws.{has_residents, interprets_opened}
 use Rattle.mpm_machine.proofs.machine.Machine.boot.Goals as goal
 
 pub begin_residents-requires : goal.begin_residents-requires
@@ -12,16 +12,22 @@ begin_residents-requires g c =
       consoles = so.consoles;
       queues = so.queues;
       room = so.room;
+      nobody = so.nobody;
     }
 
-pub returns-in-Ok-begin_residents-clause-opening : goal.returns-in-Ok-begin_residents-clause-opening
-returns-in-Ok-begin_residents-clause-opening g c =
-    opened_here c.args.file.now c.args.script c.in-Ok.machine.system c.begin_residents.new.self.system c.in-Ok.ensures.booted c.in-Ok-begin_residents.ensures.system
+pub returns-clause-opening : goal.returns-clause-opening
+returns-clause-opening g c =
+    opened_here c.args.file.now c.args.script c.in-Ok.machine.system c.begin_residents.new.self.system c.in-Ok.ensures.booted c.begin_residents.ensures.system
 
-pub returns-in-Ok-begin_residents-clause-start : goal.returns-in-Ok-begin_residents-clause-start
-returns-in-Ok-begin_residents-clause-start g c = c.in-Ok-begin_residents.ensures.steps ∙ c.in-Ok.ensures.bare.start
+pub returns-clause-start : goal.returns-clause-start
+returns-clause-start g c = c.begin_residents.ensures.steps ∙ c.in-Ok.ensures.bare.start
 
-pub returns-in-Ok-begin_residents-clause-residents : goal.returns-in-Ok-begin_residents-clause-residents
-returns-in-Ok-begin_residents-clause-residents g c =
+pub returns-clause-residents : goal.returns-clause-residents
+returns-clause-residents g c =
     has_residents c.args.file.now c.args.script c.in-Ok.machine.system c.begin_residents.new.self.system c.in-Ok.ensures.booted c.in-Ok.ensures.bare.whole
-    (opened_here c.args.file.now c.args.script c.in-Ok.machine.system c.begin_residents.new.self.system c.in-Ok.ensures.booted c.in-Ok-begin_residents.ensures.system)
+    (opened_here c.args.file.now c.args.script c.in-Ok.machine.system c.begin_residents.new.self.system c.in-Ok.ensures.booted c.begin_residents.ensures.system)
+
+pub returns-clause-interprets : goal.returns-clause-interprets
+returns-clause-interprets g c =
+    interprets_opened c.args.file.now c.args.script c.in-Ok.machine.system c.begin_residents.new.self.system c.requires c.in-Ok.ensures.booted c.in-Ok.ensures.bare.whole
+    (opened_here c.args.file.now c.args.script c.in-Ok.machine.system c.begin_residents.new.self.system c.in-Ok.ensures.booted c.begin_residents.ensures.system)

@@ -1,6 +1,6 @@
-use Rattle.std.proofs.Common.{◌≡◌, ◌≤◌, ◌<◌, ◌+◌, ◌-◌, ℕ, List, [], Option}
+use Rattle.std.proofs.Common.{◌≡◌, ◌≤◌, ◌<◌, ◌+◌, ◌-◌, ℕ, List, Option}
 use Rattle.mpm_output.specs.Outside.{seen}
-use Rattle.mpm_machine.specs.State.{State, IsWhole, StandsWithDrives, HoldsDrives}
+use Rattle.mpm_machine.specs.State.{State, IsWhole, NoCompletions, StandsWithDrives, HoldsDrives}
 use Rattle.mpm_machine.specs.Due.{NobodyDue}
 use Rattle.mpm_machine.specs.Mounting.{HasNoDrive, KeepsMounted}
 use Rattle.mpm_machine.specs.Faults.{counts}
@@ -16,7 +16,7 @@ invariant-loop-done g l = record {
   due : 0 < l.done → NobodyDue l.self.system.kernel;
   few : l.done ≤ l.n;
   whole : IsWhole l.self.system;
-  no_completions : l.self.system.kernel.dispatcher.completed ≡ [];
+  no_completions : NoCompletions l.self.system;
   steps : l.self.system.steps ≡ l.initial.self.system.steps + l.done;
   faults : counts g.S.Sink.faults g.D.Drives.faults l.sink l.drives ≡ counts g.S.Sink.faults g.D.Drives.faults l.initial.sink l.initial.drives;
   trace : l.render.trace ≡ l.initial.render.trace;

@@ -1,8 +1,9 @@
 use Rattle.std.proofs.Common.{sym, subst}
 use Rattle.mpm_bdos.specs.Serving.{Kept}
 use Rattle.mpm_machine.specs.Mounting.{KeepsMounted}
-use Rattle.mpm_machine.proofs.StandingLaws.{Leaves, step_stands, step_stops, step_shows}
+use Rattle.mpm_machine.proofs.StandingLaws.{step_stands, step_stops, step_shows}
 use Rattle.mpm_machine.proofs.FilesStepLaws.{step_whole, step_handed, step_settled, step_counted}
+use Rattle.mpm_machine.proofs.GoingSteps.{acts_stepped}
 use Rattle.mpm_machine.proofs.FailingLaws.{step_leaves}
 use Rattle.mpm_machine.proofs.machine.Machine.step.Goals as goal
 
@@ -41,3 +42,6 @@ pub returns-in-Ok-clause-keeps : goal.returns-in-Ok-clause-keeps
 returns-in-Ok-clause-keeps g c =
     subst (λ (k : Kept). KeepsMounted (g.D.Drives.disks c.args.drives.now) (g.D.Drives.disks c.take_step.new.drives) c.args.self.now.bdos.mounted k.mounted) (sym c.leave_files.ensures.rest)
     c.in-Ok.ensures.keeps
+
+pub returns-in-Ok-clause-interprets : goal.returns-in-Ok-clause-interprets
+returns-in-Ok-clause-interprets g c = acts_stepped _ _ c.args.self.now.system c.take_step.new.self.system c.requires.whole c.in-Ok.ensures.step

@@ -1,5 +1,6 @@
 use Rattle.std.proofs.Common.{refl, sym, subst}
 use Rattle.mpm_machine.proofs.FilesStepLaws.{made_here, files_have_filed, files_stop, files_have_stepped, files_have_stopped, unwritten_has_stopped}
+use Rattle.mpm_machine.proofs.FileStepLaws.{call_records}
 use Rattle.mpm_procs.specs.Table.{call_of}
 use Rattle.mpm_machine.specs.FileCalls.{told_of}
 use Rattle.mpm_bdos.specs.Serving.{Kept}
@@ -11,6 +12,10 @@ pub call_files-requires-clause-lives : goal.call_files-requires-clause-lives
 call_files-requires-clause-lives g c =
     (made_here c.args.p c.args.self.now.system c.make_file_call.new.self c.requires.whole c.requires.lives c.make_file_call.ensures).lives
 
+pub call_files-requires-clause-whole : goal.call_files-requires-clause-whole
+call_files-requires-clause-whole g c =
+    (made_here c.args.p c.args.self.now.system c.make_file_call.new.self c.requires.whole c.requires.lives c.make_file_call.ensures).whole
+
 pub conclude-requires-clause-whole : goal.conclude-requires-clause-whole
 conclude-requires-clause-whole g c =
     (made_here c.args.p c.args.self.now.system c.make_file_call.new.self c.requires.whole c.requires.lives c.make_file_call.ensures).whole
@@ -18,6 +23,9 @@ conclude-requires-clause-whole g c =
 pub conclude-requires-clause-lives : goal.conclude-requires-clause-lives
 conclude-requires-clause-lives g c =
     (made_here c.args.p c.args.self.now.system c.make_file_call.new.self c.requires.whole c.requires.lives c.make_file_call.ensures).lives
+
+pub conclude-requires-clause-none : goal.conclude-requires-clause-none
+conclude-requires-clause-none g c = call_records c.args.p c.args.self.now.system c.make_file_call.new.self c.requires.no_completions.written c.make_file_call.ensures
 
 pub returns-in-Ok-clause-ok : goal.returns-in-Ok-clause-ok
 returns-in-Ok-clause-ok g c filing stands =
@@ -35,13 +43,13 @@ pub returns-in-Ok-clause-step : goal.returns-in-Ok-clause-step
 returns-in-Ok-clause-step g c =
     files_have_stepped c.conclude.result (told_of (call_of c.make_file_call.new.self.kernel.dispatcher.procs c.args.p) c.call_files.new.reply c.in-Ok.extended) c.args.p _ _
     c.args.self.now.system c.make_file_call.new.self c.conclude.new.self.system
-    c.requires.whole c.requires.no_completions c.requires.caller c.make_file_call.ensures refl c.conclude.ensures.ok
+    c.requires.whole c.requires.no_completions c.requires.caller c.make_file_call.ensures refl c.in-Ok.ensures.told c.conclude.ensures.ok
 
 pub returns-in-Ok-clause-stops : goal.returns-in-Ok-clause-stops
 returns-in-Ok-clause-stops g c =
     files_have_stopped c.conclude.result (told_of (call_of c.make_file_call.new.self.kernel.dispatcher.procs c.args.p) c.call_files.new.reply c.in-Ok.extended) c.args.p _ _
     c.args.self.now.system c.make_file_call.new.self
-    c.requires.whole c.requires.no_completions c.requires.caller c.make_file_call.ensures refl c.conclude.ensures.err
+    c.requires.whole c.requires.no_completions c.requires.caller c.make_file_call.ensures refl c.in-Ok.ensures.told c.conclude.ensures.err
 
 pub returns-in-Err-clause-stops : goal.returns-in-Err-clause-stops
 returns-in-Err-clause-stops g c = unwritten_has_stopped c.args.p _ c.args.self.now.system c.requires.whole c.requires.no_completions c.requires.caller

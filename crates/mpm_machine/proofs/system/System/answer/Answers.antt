@@ -1,12 +1,12 @@
-use Rattle.mpm_output.specs.Outside.{by_sink}
-use Rattle.mpm_output.proofs.WritingLaws.{emits_same}
-use Rattle.mpm_machine.proofs.WholeLaws.{lives_replied, answered_emitted}
+use Rattle.std.proofs.Common.{◌∙◌}
+use Rattle.mpm_machine.proofs.WholeLaws.{lives_replied, room_replied, answers_recorded}
 use Rattle.mpm_machine.proofs.system.System.answer.Goals as goal
 
 pub record-requires : goal.record-requires
-record-requires g c =
-    record { lives = lives_replied c.args.reply.now _ c.args.p c.args.seg c.args.self.now c.reply.new.self c.requires.lives c.reply.ensures }
+record-requires c = record {
+  lives = lives_replied c.args.reply.now _ c.args.p c.args.seg c.args.self.now c.reply.new.self c.requires.lives c.reply.ensures;
+  room = room_replied c.args.reply.now _ c.args.p c.args.seg c.args.self.now c.reply.new.self c.requires.room c.reply.ensures;
+}
 
-pub returns-clause-wrote : goal.returns-clause-wrote
-returns-clause-wrote g c =
-    emits_same by_sink _ _ _ _ _ (answered_emitted c.args.reply.now c.args.p c.args.seg c.args.self.now c.reply.new.self c.reply.ensures) c.record.ensures.wrote
+pub returns : goal.returns
+returns c = c.record.ensures ∙ answers_recorded c.args.reply.now c.args.p c.args.seg c.args.self.now c.reply.new.self c.reply.ensures

@@ -1,5 +1,5 @@
 use Rattle.std.proofs.Common.{◌∙◌, sym, arith}
-use Rattle.mpm_machine.proofs.OpeningLaws.{first_here, residents_here, whole_picked, no_completions_picked}
+use Rattle.mpm_machine.proofs.OpeningLaws.{one_begun, first_here, residents_here, whole_picked, no_completions_picked}
 use Rattle.mpm_machine.proofs.system.System.begin_residents.Goals as goal
 
 pub begin_interpreting-requires-clause-some : goal.begin_interpreting-requires-clause-some
@@ -7,32 +7,37 @@ begin_interpreting-requires-clause-some c = omega (arith, c.requires.consoles, c
 
 pub begin_terminals-requires-clause-whole : goal.begin_terminals-requires-clause-whole
 begin_terminals-requires-clause-whole c =
-    (first_here c.args.self.now c.begin_interpreting.new.self c.args.consoles c.requires.whole c.requires.queues c.requires.room c.in_ok-begin_interpreting.ensures).whole
+    (first_here c.args.self.now c.begin_interpreting.new.self c.args.consoles c.requires.whole c.requires.queues c.requires.room c.begin_interpreting.ensures).whole
 
 pub begin_terminals-requires-clause-consoles : goal.begin_terminals-requires-clause-consoles
 begin_terminals-requires-clause-consoles c =
     c.requires.consoles
-    ∙ sym (first_here c.args.self.now c.begin_interpreting.new.self c.args.consoles c.requires.whole c.requires.queues c.requires.room c.in_ok-begin_interpreting.ensures).consoles
+    ∙ sym (first_here c.args.self.now c.begin_interpreting.new.self c.args.consoles c.requires.whole c.requires.queues c.requires.room c.begin_interpreting.ensures).consoles
+
+pub begin_terminals-requires-clause-first : goal.begin_terminals-requires-clause-first
+begin_terminals-requires-clause-first c =
+    omega (arith, one_begun c.args.self.now c.begin_interpreting.new.self c.args.consoles c.requires.nobody c.begin_interpreting.ensures)
 
 pub pick-requires : goal.pick-requires
-pick-requires c = c.in_ok-begin_terminals.ensures.whole.sound
+pick-requires c = c.begin_terminals.ensures.whole.sound
 
 pub returns-clause-system : goal.returns-clause-system
 returns-clause-system c =
-    residents_here c.args.self.now c.begin_interpreting.new.self c.begin_terminals.new.self c.pick.new.self c.args.consoles c.in_ok-begin_interpreting.ensures
-    c.in_ok-begin_terminals.ensures.system c.pick.ensures.kernel
+    residents_here c.args.self.now c.begin_interpreting.new.self c.begin_terminals.new.self c.pick.new.self c.args.consoles c.begin_interpreting.ensures
+    c.begin_terminals.ensures.system c.pick.ensures.kernel
 
 pub returns-clause-whole : goal.returns-clause-whole
-returns-clause-whole c = whole_picked c.begin_terminals.new.self c.pick.new.self c.in_ok-begin_terminals.ensures.whole c.pick.ensures.kernel
+returns-clause-whole c = whole_picked c.begin_terminals.new.self c.pick.new.self c.begin_terminals.ensures.whole c.pick.ensures.kernel
 
 pub returns-clause-no_completions : goal.returns-clause-no_completions
 returns-clause-no_completions c =
-    no_completions_picked c.begin_terminals.new.self.kernel c.pick.new.self c.pick.ensures.kernel
-    (c.in_ok-begin_terminals.ensures.completed
-    ∙ (first_here c.args.self.now c.begin_interpreting.new.self c.args.consoles c.requires.whole c.requires.queues c.requires.room c.in_ok-begin_interpreting.ensures).completed
-    ∙ c.requires.no_completions)
+    let first = first_here c.args.self.now c.begin_interpreting.new.self c.args.consoles c.requires.whole c.requires.queues c.requires.room c.begin_interpreting.ensures in
+    no_completions_picked c.begin_terminals.new.self c.pick.new.self c.pick.ensures.kernel (record {
+      answered = c.begin_terminals.ensures.completed ∙ first.completed ∙ c.requires.no_completions.answered;
+      written = c.begin_terminals.ensures.records ∙ first.records ∙ c.requires.no_completions.written;
+    })
 
 pub returns-clause-steps : goal.returns-clause-steps
 returns-clause-steps c =
-    c.in_ok-begin_terminals.ensures.steps
-    ∙ (first_here c.args.self.now c.begin_interpreting.new.self c.args.consoles c.requires.whole c.requires.queues c.requires.room c.in_ok-begin_interpreting.ensures).steps
+    c.begin_terminals.ensures.steps
+    ∙ (first_here c.args.self.now c.begin_interpreting.new.self c.args.consoles c.requires.whole c.requires.queues c.requires.room c.begin_interpreting.ensures).steps

@@ -13,10 +13,14 @@ pub begin_terminal-requires-clause-console : goal.begin_terminal-requires-clause
 begin_terminal-requires-clause-console c =
     omega (arith, c.loop-console-test.true, c.requires.consoles, c.loop-console.invariant.consoles)
 
+pub begin_terminal-requires-clause-room : goal.begin_terminal-requires-clause-room
+begin_terminal-requires-clause-room c =
+    omega (arith, c.loop-console-test.true, c.requires.consoles, c.requires.first, c.requires.whole.sound.units.consoles, c.loop-console.invariant.few)
+
 pub loop-console-preserved : goal.loop-console-preserved
 loop-console-preserved c =
     begun_more c.args.self.now c.loop-console.self c.begin_terminal.new.self c.loop-console.console c.loop-console.invariant
-    (omega (arith, c.loop-console-test.true, c.requires.consoles)) c.in_ok-begin_terminal.ensures
+    (omega (arith, c.loop-console-test.true, c.requires.consoles)) c.begin_terminal.ensures
 
 pub returns-clause-system : goal.returns-clause-system
 returns-clause-system c =

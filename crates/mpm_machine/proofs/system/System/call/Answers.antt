@@ -28,7 +28,7 @@ conclude-requires g c =
     let kept = kept_after c.args.p c.args.seg c.args.self.now c.take_call.new.self c.requires.whole c.requires.lives c.take_call.ensures in
     let done = done_after c.args.p c.args.seg c.args.self.now c.take_call.new.self c.serve-outcome.new.self c.serve-outcome.result c.serve-outcome.new.reply
     c.requires.ready c.take_call.ensures kept c.serve-outcome.ensures.system c.serve-outcome.ensures.outcome c.serve-outcome.ensures.reply in
-    record { whole = done.whole; lives = done.lives }
+    record { whole = done.whole; lives = done.lives; room = done.room c.requires.room }
 
 pub returns-in_err-put_echo-clause-wrote : goal.returns-in_err-put_echo-clause-wrote
 returns-in_err-put_echo-clause-wrote g c =

@@ -1,7 +1,6 @@
-use Rattle.std.proofs.lemmas.Result.{on_ok_weaker}
-use Rattle.mpm_output.specs.Outside.{TheSink, by_sink}
+use Rattle.mpm_output.specs.Outside.{TheSink}
 use Rattle.mpm_output.proofs.WritingLaws.{passes_on}
-use Rattle.mpm_machine.proofs.CallLaws.{lives_said, popped_after, completed_system, emits_call, text_fails}
+use Rattle.mpm_machine.proofs.CallLaws.{lives_said, room_popped, popped_after, completed_system, wrote_text, text_fails}
 use Rattle.mpm_machine.proofs.system.System.complete.Goals as goal
 
 pub returns-in_err-speak-clause-wrote : goal.returns-in_err-speak-clause-wrote
@@ -16,14 +15,16 @@ pop-requires g c =
 pub fulfil-requires : goal.fulfil-requires
 fulfil-requires g c =
     let so = popped_after c.args.p c.args.seg c.args.self.now c.speak.new.self c.pop.new.self c.requires.whole c.requires.lives c.in_ok-speak.ensures.system c.pop.ensures in
-    record { whole = so.whole; lives = so.lives }
+    record {
+      whole = so.whole;
+      lives = so.lives;
+      room = room_popped c.args.p c.args.seg c.args.self.now c.speak.new.self c.pop.new.self c.requires.room c.in_ok-speak.ensures.system c.pop.ensures;
+    }
 
 pub returns : goal.returns
 returns g c =
     let so = popped_after c.args.p c.args.seg c.args.self.now c.speak.new.self c.pop.new.self c.requires.whole c.requires.lives c.in_ok-speak.ensures.system c.pop.ensures in
     record {
-      system = on_ok_weaker c.fulfil.result (λ is. completed_system c.args.reply.now c.args.p c.args.seg c.args.self.now c.pop.new.self c.fulfil.new.self so is)
-          c.fulfil.ensures.system;
-      wrote = emits_call by_sink _ _ _ _ c.args.reply.now c.args.p c.args.seg c.args.self.now c.pop.new.self so
-          c.in_ok-speak.ensures.wrote.ok c.fulfil.ensures.wrote;
+      system = completed_system c.args.reply.now c.args.p c.args.seg c.args.self.now c.pop.new.self c.fulfil.new.self so c.fulfil.ensures;
+      wrote = record { ok = wrote_text _ _ c.args.reply.now c.args.p c.args.seg c.args.self.now c.in_ok-speak.ensures.wrote.ok; err = tt };
     }

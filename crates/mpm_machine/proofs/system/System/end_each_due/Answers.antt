@@ -1,12 +1,16 @@
-use Rattle.std.proofs.Common.{sym, subst, arith}
+use Rattle.std.proofs.Common.{[], sym, subst, arith}
 use Rattle.mpm_output.specs.Outside.{TheSink}
 use Rattle.mpm_machine.specs.State.{IsWhole}
 use Rattle.mpm_machine.proofs.WholeStepLaws.{whole_if_due}
+use Rattle.mpm_machine.proofs.WholeLaws.{whole_records}
 use Rattle.mpm_machine.proofs.DueLaws.{due_nothing, due_more, due_fails, due_system, due_wrote}
 use Rattle.mpm_machine.proofs.system.System.end_each_due.Goals as goal
 
 pub loop-number-init : goal.loop-number-init
-loop-number-init g c = record { so = due_nothing c.args.self.now _; whole = c.requires.whole }
+loop-number-init g c = record { so = due_nothing c.args.self.now _ c.requires.none; whole = c.requires.whole }
+
+pub end_if_due-requires : goal.end_if_due-requires
+end_if_due-requires g c = record { whole = c.loop-number.invariant.whole; none = c.loop-number.invariant.so.none }
 
 pub returns-in-Err-clause-wrote : goal.returns-in-Err-clause-wrote
 returns-in-Err-clause-wrote g c = record {
@@ -18,7 +22,8 @@ pub loop-number-preserved : goal.loop-number-preserved
 loop-number-preserved g c = record {
   so = due_more c.args.self.now c.loop-number.self c.end_if_due.new.self c.loop-number.number _ _ _ c.loop-number.invariant.so
       c.in_default.ensures.system c.in_default.ensures.wrote.ok;
-  whole = subst IsWhole (sym c.in_default.ensures.system) (whole_if_due c.loop-number.number c.loop-number.self c.loop-number.invariant.whole);
+  whole = subst IsWhole (sym c.in_default.ensures.system)
+      (whole_records _ [] (whole_if_due c.loop-number.number c.loop-number.self c.loop-number.invariant.whole));
 }
 
 pub returns : goal.returns

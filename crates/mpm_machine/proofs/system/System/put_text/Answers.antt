@@ -4,7 +4,7 @@ use Rattle.mpm_procs.specs.Table.{call_of}
 use Rattle.mpm_kernel.specs.Kernel.{Kernel}
 use Rattle.mpm_machine.specs.State.{Change}
 use Rattle.mpm_output.specs.Outside.{by_sink}
-use Rattle.mpm_machine.proofs.ChangeLaws.{wrote_silent, emits_as}
+use Rattle.mpm_machine.proofs.ChangeLaws.{emits_silent, emits_as}
 use Rattle.mpm_machine.proofs.SayingLaws.{told_there, told_nowhere}
 use Rattle.mpm_machine.proofs.system.System.put_text.Goals as goal
 
@@ -24,5 +24,5 @@ returns g c =
     let nothing = told_nowhere call c.console_told-console.result c.args.self.now c.console_told-console.ensures (omega (arith, c.if-console-consoles.false, c.consoles.ensures)) in
     record {
       system = sym (ap (λ (change : Change). change.system) nothing);
-      wrote = record { ok = wrote_silent _ _ _ nothing; err = tt };
+      wrote = emits_silent by_sink _ _ _ _ nothing;
     }

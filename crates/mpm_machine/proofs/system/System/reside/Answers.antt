@@ -1,7 +1,7 @@
 use Rattle.std.proofs.Common.{◌≡◌, ◌∙◌, OnOk, sym, ap, subst}
 use Rattle.mpm_machine.specs.State.{Change}
 use Rattle.mpm_output.specs.Outside.{by_sink}
-use Rattle.mpm_machine.proofs.ChangeLaws.{wrote_silent, emits_as}
+use Rattle.mpm_machine.proofs.ChangeLaws.{emits_silent, emits_as}
 use Rattle.mpm_machine.proofs.ResidingLaws.{resides, nobody_resides}
 use Rattle.mpm_machine.proofs.system.System.reside.Goals as goal
 
@@ -10,7 +10,7 @@ returns-then-not-has g c =
     let nobody = nobody_resides c.args.p c.args.self.now (sym c.has.ensures ∙ c.if-not-has.true) in
     record {
       system = sym (ap (λ (change : Change). change.system) nobody);
-      wrote = record { ok = wrote_silent _ _ _ nobody; err = tt };
+      wrote = emits_silent by_sink _ _ _ _ nobody;
     }
 
 pub act_native-requires : goal.act_native-requires

@@ -7,7 +7,7 @@ use Rattle.mpm_kernel.specs.Kernel.{Kernel}
 use Rattle.mpm_machine.specs.State.{Change}
 use Rattle.mpm_output.specs.Outside.{by_sink}
 use Rattle.mpm_output.proofs.WritingLaws.{emits_one, on_ok_always}
-use Rattle.mpm_machine.proofs.ChangeLaws.{wrote_silent, emits_as}
+use Rattle.mpm_machine.proofs.ChangeLaws.{emits_silent, emits_as}
 use Rattle.mpm_machine.proofs.SayingLaws.{tab_said, byte_said, directly_said, byte_printed, says_nothing}
 use Rattle.mpm_machine.proofs.system.System.speak_byte.Goals as goal
 
@@ -63,7 +63,7 @@ returns-in_default g c =
     }) in
     record {
       system = λ string. sym (ap (λ (change : Change). change.system) (nothing string));
-      wrote = λ string. record { ok = wrote_silent _ _ _ (nothing string); err = tt };
+      wrote = λ string. emits_silent by_sink _ _ _ _ (nothing string);
     }
 
 pub returns-in_default-2 : goal.returns-in_default-2
@@ -80,7 +80,7 @@ returns-in_default-2 g c =
     }) in
     record {
       system = λ string. sym (ap (λ (change : Change). change.system) (nothing string));
-      wrote = λ string. record { ok = wrote_silent _ _ _ (nothing string); err = tt };
+      wrote = λ string. emits_silent by_sink _ _ _ _ (nothing string);
     }
 
 pub returns-in_default-3 : goal.returns-in_default-3
@@ -96,7 +96,7 @@ returns-in_default-3 g c =
     }) in
     record {
       system = λ string. sym (ap (λ (change : Change). change.system) (nothing string));
-      wrote = λ string. record { ok = wrote_silent _ _ _ (nothing string); err = tt };
+      wrote = λ string. emits_silent by_sink _ _ _ _ (nothing string);
     }
 
 pub returns-in-5 : goal.returns-in-5

@@ -1,6 +1,6 @@
-use Rattle.mpm_output.specs.Outside.{TheSink, by_sink}
+use Rattle.mpm_output.specs.Outside.{TheSink}
 use Rattle.mpm_output.proofs.WritingLaws.{passes_on}
-use Rattle.mpm_machine.proofs.FileLaws.{told_stays, told_fails, told_answers}
+use Rattle.mpm_machine.proofs.FileLaws.{room_told, told_stays, told_fails, wrote_told, told_system}
 use Rattle.mpm_machine.proofs.system.System.tell_and_meet.Goals as goal
 
 pub returns-in_err-tell_error-clause-wrote : goal.returns-in_err-tell_error-clause-wrote
@@ -8,20 +8,18 @@ returns-in_err-tell_error-clause-wrote g c =
     passes_on _ _ _ _ c.from_residual.ensures.0
     (told_fails TheSink c.args.answers c.args.error c.args.reply.now c.args.p c.args.self.now _ _ c.in_err-tell_error.ensures.wrote.err)
 
-pub put_file_reply-requires : goal.put_file_reply-requires
-put_file_reply-requires g c = record {
-  lives = (told_stays c.args.error c.args.p c.args.self.now c.tell_error.new.self c.requires.whole c.requires.lives c.in_ok-tell_error.ensures.system).lives;
+pub answer_or_end-requires : goal.answer_or_end-requires
+answer_or_end-requires g c =
+    let told = told_stays c.args.error c.args.p c.args.self.now c.tell_error.new.self c.requires.whole c.requires.lives c.tell_error.ensures.system in
+    record {
+      whole = told.whole;
+      lives = told.lives;
+      room = room_told c.args.error c.args.p c.args.self.now c.tell_error.new.self c.requires.room c.tell_error.ensures.system;
+    }
+
+pub returns : goal.returns
+returns g c = record {
+  system = told_system c.args.answers c.args.error c.args.reply.now c.args.p c.args.self.now c.tell_error.new.self c.answer_or_end.new.self
+      c.tell_error.ensures.system c.answer_or_end.ensures;
+  wrote = record { ok = wrote_told c.args.answers c.args.error c.args.reply.now c.args.p c.args.self.now _ _ c.in_ok-tell_error.ensures.wrote.ok; err = tt };
 }
-
-pub returns-then-answers-clause-wrote : goal.returns-then-answers-clause-wrote
-returns-then-answers-clause-wrote g c =
-    told_answers by_sink _ c.args.answers c.args.error c.args.reply.now c.args.p c.args.self.now c.tell_error.new.self _ _ _ c.if-answers.true
-    c.in_ok-tell_error.ensures.system c.in_ok-tell_error.ensures.wrote.ok c.put_file_reply.ensures.wrote
-
-pub end-requires-clause-whole : goal.end-requires-clause-whole
-end-requires-clause-whole g c =
-    (told_stays c.args.error c.args.p c.args.self.now c.tell_error.new.self c.requires.whole c.requires.lives c.in_ok-tell_error.ensures.system).whole
-
-pub end-requires-clause-lives : goal.end-requires-clause-lives
-end-requires-clause-lives g c =
-    (told_stays c.args.error c.args.p c.args.self.now c.tell_error.new.self c.requires.whole c.requires.lives c.in_ok-tell_error.ensures.system).lives

@@ -1,0 +1,245 @@
+-- What a call may be answered, whatever is on the drives: its bytes, its file control block, and why it is refused.
+use Rattle.std.proofs.Common.{◌≡◌, ◌∙◌, inl, inr, ℕ, zero, suc, ◌<◌, Bool, true, false, List, [], ◌∷◌, ◌++◌, Option, Some, None, IfSome, length, get_or, refl, sym, ap, subst, arith}
+use Rattle.std.specs.Prelude.{option_map, bytes_eq, if◌then◌else◌}
+use Rattle.std.proofs.lemmas.Option.{same_Some}
+use Rattle.mpm_base.specs.Calls.{Taken, Answer}
+use Rattle.mpm_fcb.specs.declared.block.ControlBlock.{ControlBlock}
+use Rattle.mpm_fcb.specs.Blocks.{block_of, bytes_of}
+use Rattle.mpm_fcb.proofs.Back.{bytes_back}
+use Rattle.mpm_bdos.specs.declared.caller.Caller.{Caller}
+use Rattle.mpm_bdos.specs.declared.functions.FileFunction.{FileFunction}
+use Rattle.mpm_bdos.specs.declared.functions.FileFunction.TheVariants.{ResetDisks, OpenFile, CloseFile, SearchFirst, SearchNext, DeleteFile, ReadSequential, WriteSequential, MakeFile, RenameFile, ProtectDisk, SetAttributes, ReadRandom, WriteRandom, FileSize, ResetDrives, AccessDrives, FreeDrives, TestAndWrite, LockRecord, UnlockRecord, FreeSpace, FlushBuffers, SetLabel, LabelData, ReadXfcb, WriteXfcb}
+use Rattle.mpm_bdos.specs.declared.refusals.Refusal.{Refusal}
+use Rattle.mpm_bdos.specs.declared.refusals.Extended.{Extended}
+use Rattle.mpm_bdos.specs.declared.refusals.Refusal.TheVariants.{NotMounted, Busy}
+use Rattle.mpm_bdos.specs.Filing.{LastSearch}
+use Rattle.mpm_bdos.specs.Subjects.{drive_by}
+use Rattle.mpm_bdos.specs.Refusals.{refusals_of, refusals_of_each}
+use Rattle.mpm_bdos.specs.Replies.{where_changed}
+use Rattle.mpm_bdos.specs.Asking.{unnamed_refusal, unmounted_refusal}
+use Rattle.mpm_bdos.specs.Serving.{InService}
+use Rattle.mpm_bdos.specs.Turns.{without_work}
+use Rattle.mpm_bdos.specs.Answering.{AreParts, MayPlace, IsCoded, MayAmount, MayGrant, MayAnswer, tells_block, IsOneOf, IsOfRow, IsEntered, HasEntered}
+use Rattle.mpm_bdos.proofs.FinishLaws.{unchanged}
+use Rattle.mpm_bdos.proofs.Started.{nothing_some}
+
+-- whole parts
+pub no_part : (size most : ℕ) → AreParts size most []
+no_part size most = record { parts = 0; few = omega arith; length_is = omega arith }
+
+pub one_part : (size : ℕ) (bytes : List ℕ) → length bytes ≡ size → AreParts size 1 bytes
+one_part size bytes is = record { parts = 1; few = omega arith; length_is = omega (arith, is) }
+
+-- a block that a function tells nothing in is the one that it was given, and stays
+either_way : {X : Type 0} (P : X → Type 0) (same : Bool) (x : X) → P x → IfSome (if same then None else (Some x)) P
+either_way P true x so = tt
+either_way P false x so = so
+
+block_by : (told : Bool) (old bytes : List ℕ) (fcb : Option (List ℕ)) → (told ≡ false → bytes ≡ old) → length bytes ≡ 36 → fcb ≡ where_changed old bytes
+    → IfSome fcb (λ b. (told ≡ true) × (length b ≡ 36))
+block_by true old bytes fcb stays size is =
+    subst (λ f. IfSome f (λ b. (true ≡ true) × (length b ≡ 36))) (sym is) (either_way (λ b. (true ≡ true) × (length b ≡ 36)) (bytes_eq bytes old) bytes (refl, size))
+block_by false old bytes fcb stays size is =
+    subst (λ f. IfSome f (λ b. (false ≡ true) × (length b ≡ 36))) (sym (is ∙ ap (where_changed old) (stays refl) ∙ unchanged old)) tt
+
+pub told_block : (function : FileFunction) (old : List ℕ) (given block : ControlBlock) (fcb : Option (List ℕ)) → length old ≡ 36 → given ≡ block_of old
+    → (tells_block function ≡ false → block ≡ given) → length (bytes_of block) ≡ 36 → fcb ≡ where_changed old (bytes_of block)
+    → IfSome fcb (λ b. (tells_block function ≡ true) × (length b ≡ 36))
+told_block function old given block fcb length_is given_is stays size is =
+    block_by (tells_block function) old (bytes_of block) fcb (λ untold. ap bytes_of (stays untold) ∙ bytes_back old given given_is length_is) size is
+
+-- a refusal of some
+pub one_at : (refusals : List Refusal) (place : ℕ) (other : Refusal) → place < length refusals → IsOneOf (get_or refusals place other) refusals
+unfolding IsOneOf
+one_at [] place other within = absurd (omega (arith, within))
+one_at (one ∷ others) zero other within = inl refl
+one_at (one ∷ others) (suc place) other within = inr (one_at others place other (omega (arith, within)))
+
+one_of_first : (refusal : Refusal) (ones others : List Refusal) → IsOneOf refusal ones → IsOneOf refusal (ones ++ others)
+unfolding IsOneOf
+one_of_first refusal [] others is = absurd is
+one_of_first refusal (one ∷ ones) others (inl same) = inl same
+one_of_first refusal (one ∷ ones) others (inr is) = inr (one_of_first refusal ones others is)
+
+one_of_last : (refusal : Refusal) (ones others : List Refusal) → IsOneOf refusal others → IsOneOf refusal (ones ++ others)
+unfolding IsOneOf
+one_of_last refusal [] others is = is
+one_of_last refusal (one ∷ ones) others is = inr (one_of_last refusal ones others is)
+
+pub in_row : (function : FileFunction) (result : Option Refusal) → IfSome result (λ refusal. IsOneOf refusal (refusals_of function)) → IfSome result (IsOfRow function)
+in_row function None is = tt
+in_row function (Some refusal) is = one_of_first refusal (refusals_of function) (refusals_of_each function) is
+
+pub in_row_of_each : (function : FileFunction) (result : Option Refusal) → IfSome result (λ refusal. IsOneOf refusal (refusals_of_each function)) → IfSome result (IsOfRow function)
+in_row_of_each function None is = tt
+in_row_of_each function (Some refusal) is = one_of_last refusal (refusals_of function) (refusals_of_each function) is
+
+-- a call that names a drive is refused where that isn't mounted
+named_in_row : (function : FileFunction) (search : Option LastSearch) (own word : ℕ) (b : ControlBlock) (drive : ℕ) → drive_by search own word b function ≡ Some drive
+    → IsOfRow function NotMounted
+unfolding drive_by refusals_of IsOneOf
+named_in_row ResetDisks search own word b drive is = absurd (nothing_some drive is)
+named_in_row OpenFile search own word b drive is = inl refl
+named_in_row CloseFile search own word b drive is = inl refl
+named_in_row SearchFirst search own word b drive is = inl refl
+named_in_row SearchNext search own word b drive is = inl refl
+named_in_row DeleteFile search own word b drive is = inl refl
+named_in_row ReadSequential search own word b drive is = inl refl
+named_in_row WriteSequential search own word b drive is = inl refl
+named_in_row MakeFile search own word b drive is = inl refl
+named_in_row RenameFile search own word b drive is = inl refl
+named_in_row ProtectDisk search own word b drive is = absurd (nothing_some drive is)
+named_in_row SetAttributes search own word b drive is = inl refl
+named_in_row ReadRandom search own word b drive is = inl refl
+named_in_row WriteRandom search own word b drive is = inl refl
+named_in_row FileSize search own word b drive is = inl refl
+named_in_row ResetDrives search own word b drive is = absurd (nothing_some drive is)
+named_in_row AccessDrives search own word b drive is = absurd (nothing_some drive is)
+named_in_row FreeDrives search own word b drive is = absurd (nothing_some drive is)
+named_in_row TestAndWrite search own word b drive is = inl refl
+named_in_row LockRecord search own word b drive is = inl refl
+named_in_row UnlockRecord search own word b drive is = inl refl
+named_in_row FreeSpace search own word b drive is = inl refl
+named_in_row FlushBuffers search own word b drive is = absurd (nothing_some drive is)
+named_in_row SetLabel search own word b drive is = inl refl
+named_in_row LabelData search own word b drive is = inl refl
+named_in_row ReadXfcb search own word b drive is = inl refl
+named_in_row WriteXfcb search own word b drive is = inl refl
+
+-- and one that names none where drives are busy, or nothing is sought
+busy_where : (busy : Bool) (function : FileFunction) → IsOfRow function Busy → IfSome (if busy then Some Busy else None) (IsOfRow function)
+busy_where true function is = is
+busy_where false function is = tt
+
+unnamed_in_row : (busy : Bool) (function : FileFunction) → IfSome (unnamed_refusal busy function) (IsOfRow function)
+unfolding refusals_of IsOneOf
+unnamed_in_row busy ResetDisks = busy_where busy ResetDisks (inl refl)
+unnamed_in_row busy OpenFile = tt
+unnamed_in_row busy CloseFile = tt
+unnamed_in_row busy SearchFirst = tt
+unnamed_in_row busy SearchNext = inr (inl refl)
+unnamed_in_row busy DeleteFile = tt
+unnamed_in_row busy ReadSequential = tt
+unnamed_in_row busy WriteSequential = tt
+unnamed_in_row busy MakeFile = tt
+unnamed_in_row busy RenameFile = tt
+unnamed_in_row busy ProtectDisk = busy_where busy ProtectDisk (inl refl)
+unnamed_in_row busy SetAttributes = tt
+unnamed_in_row busy ReadRandom = tt
+unnamed_in_row busy WriteRandom = tt
+unnamed_in_row busy FileSize = tt
+unnamed_in_row busy ResetDrives = busy_where busy ResetDrives (inl refl)
+unnamed_in_row busy AccessDrives = tt
+unnamed_in_row busy FreeDrives = tt
+unnamed_in_row busy TestAndWrite = tt
+unnamed_in_row busy LockRecord = tt
+unnamed_in_row busy UnlockRecord = tt
+unnamed_in_row busy FreeSpace = tt
+unnamed_in_row busy FlushBuffers = tt
+unnamed_in_row busy SetLabel = tt
+unnamed_in_row busy LabelData = tt
+unnamed_in_row busy ReadXfcb = tt
+unnamed_in_row busy WriteXfcb = tt
+
+pub unmounted_in_row : (function : FileFunction) (search : Option LastSearch) (own word : ℕ) (b : ControlBlock) (busy : Bool) (result : Option Refusal)
+    → result ≡ unmounted_refusal (drive_by search own word b function) (unnamed_refusal busy function) → IfSome result (IsOfRow function)
+unmounted_in_row function search own word b busy result is =
+    subst (λ r. IfSome r (IsOfRow function)) (sym is) (by_drive (drive_by search own word b function) refl)
+  where
+    by_drive : (drive : Option ℕ) → drive_by search own word b function ≡ drive → IfSome (unmounted_refusal drive (unnamed_refusal busy function)) (IsOfRow function)
+    by_drive None none = unnamed_in_row busy function
+    by_drive (Some drive) some = named_in_row function search own word b drive some
+
+-- it has entered service as long as its turns go on
+same_service : (caller : Caller) (function : FileFunction) (call : Taken) (one other : InService) → without_work other ≡ without_work one → IsEntered caller function call one
+    → IsEntered caller function call other
+same_service caller function call one other same is = record {
+  caller_is = ap (λ (s : InService). s.caller) same ∙ is.caller_is;
+  function_is = ap (λ (s : InService). s.function) same ∙ is.function_is;
+  call_is = ap (λ (s : InService). s.call) same ∙ is.call_is;
+  row = subst (λ r. IfSome r (IsOfRow function)) (sym (ap (λ (s : InService). s.refusal) same)) is.row;
+}
+
+pub still_entered : (caller : Caller) (function : FileFunction) (call : Taken) (one other : Option InService) → option_map without_work other ≡ option_map without_work one
+    → HasEntered caller function call one → HasEntered caller function call other
+still_entered caller function call None other same is = absurd is
+still_entered caller function call (Some one) None same is = absurd (nothing_some (without_work one) same)
+still_entered caller function call (Some one) (Some other) same is = same_service caller function call one other (same_Some (without_work other) (without_work one) same) is
+
+-- what is answered by way of what entered service is that call's
+pub entered_answers : (caller : Caller) (function : FileFunction) (call : Taken) (service : InService) (answer : Answer) (extended : Option Extended) → IsEntered caller function call service
+    → (IfSome service.refusal (IsOfRow service.function) → MayAnswer service.caller.multi service.function service.call.dma answer extended)
+    → MayAnswer caller.multi function call.dma answer extended
+entered_answers caller function call service answer extended is may =
+    subst (λ (one : Caller). MayAnswer one.multi function call.dma answer extended) is.caller_is
+    (subst (λ one. MayAnswer service.caller.multi one call.dma answer extended) is.function_is
+    (subst (λ (one : Taken). MayAnswer service.caller.multi service.function one.dma answer extended) is.call_is
+    (may (subst (λ one. IfSome service.refusal (IsOfRow one)) (sym is.function_is) is.row))))
+
+-- nothing may be placed by any function
+nothing_placed : (function : FileFunction) (multi : ℕ) → MayPlace function multi []
+nothing_placed ResetDisks multi = refl
+nothing_placed OpenFile multi = refl
+nothing_placed CloseFile multi = refl
+nothing_placed SearchFirst multi = no_part 128 1
+nothing_placed SearchNext multi = no_part 128 1
+nothing_placed DeleteFile multi = refl
+nothing_placed ReadSequential multi = no_part 128 multi
+nothing_placed WriteSequential multi = refl
+nothing_placed MakeFile multi = refl
+nothing_placed RenameFile multi = refl
+nothing_placed ProtectDisk multi = refl
+nothing_placed SetAttributes multi = refl
+nothing_placed ReadRandom multi = no_part 128 multi
+nothing_placed WriteRandom multi = refl
+nothing_placed FileSize multi = refl
+nothing_placed ResetDrives multi = refl
+nothing_placed AccessDrives multi = refl
+nothing_placed FreeDrives multi = refl
+nothing_placed TestAndWrite multi = refl
+nothing_placed LockRecord multi = refl
+nothing_placed UnlockRecord multi = refl
+nothing_placed FreeSpace multi = no_part 3 1
+nothing_placed FlushBuffers multi = refl
+nothing_placed SetLabel multi = refl
+nothing_placed LabelData multi = refl
+nothing_placed ReadXfcb multi = refl
+nothing_placed WriteXfcb multi = refl
+
+-- and 0 be answered
+all_done : (function : FileFunction) → IsCoded function 0
+all_done function = record { done = 0; few = omega arith; end = None; is = refl }
+
+nothing_amounts : (function : FileFunction) → MayAmount function 0
+nothing_amounts ResetDisks = refl
+nothing_amounts OpenFile = refl
+nothing_amounts CloseFile = refl
+nothing_amounts SearchFirst = refl
+nothing_amounts SearchNext = refl
+nothing_amounts DeleteFile = refl
+nothing_amounts ReadSequential = all_done ReadSequential
+nothing_amounts WriteSequential = all_done WriteSequential
+nothing_amounts MakeFile = refl
+nothing_amounts RenameFile = refl
+nothing_amounts ProtectDisk = refl
+nothing_amounts SetAttributes = refl
+nothing_amounts ReadRandom = all_done ReadRandom
+nothing_amounts WriteRandom = all_done WriteRandom
+nothing_amounts FileSize = refl
+nothing_amounts ResetDrives = refl
+nothing_amounts AccessDrives = refl
+nothing_amounts FreeDrives = refl
+nothing_amounts TestAndWrite = all_done TestAndWrite
+nothing_amounts LockRecord = all_done LockRecord
+nothing_amounts UnlockRecord = refl
+nothing_amounts FreeSpace = refl
+nothing_amounts FlushBuffers = refl
+nothing_amounts SetLabel = refl
+nothing_amounts LabelData = omega arith
+nothing_amounts ReadXfcb = refl
+nothing_amounts WriteXfcb = refl
+
+pub nothing_granted : (function : FileFunction) (multi dma given : ℕ) (answer : Answer) → answer ≡ record { hl = 0; fcb = None; at = given; bytes = [] } → given ≡ dma
+    → MayGrant multi function dma answer
+nothing_granted function multi dma given answer is same =
+    subst (MayGrant multi function dma) (sym is) (record { value = nothing_amounts function; at = same; bytes = nothing_placed function multi; block = tt })

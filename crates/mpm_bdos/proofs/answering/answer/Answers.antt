@@ -1,0 +1,16 @@
+use Rattle.std.proofs.Common.{◌∙◌, sym, ap, subst}
+use Rattle.mpm_base.specs.Calls.{Answer}
+use Rattle.mpm_bdos.specs.Answering.{MayPlace, MayAmount}
+use Rattle.mpm_bdos.proofs.Answerable.{told_block}
+use Rattle.mpm_bdos.proofs.answering.answer.Goals as goal
+
+pub returns-clause-may : goal.returns-clause-may
+returns-clause-may c =
+    let g = c.args.granted.now in
+    record {
+      value = subst (MayAmount g.function) (sym (ap (λ (a : Answer). a.hl) c.place_block.ensures.all ∙ c.answer_bytes.ensures.value)) c.value-value.ensures.amount;
+      at = ap (λ (a : Answer). a.at) c.place_block.ensures.all ∙ c.answer_bytes.ensures.at;
+      bytes = subst (MayPlace g.function c.args.multi) (sym (ap (λ (a : Answer). a.bytes) c.place_block.ensures.all)) c.answer_bytes.ensures.bytes;
+      block = told_block g.function c.args.fcb.now g.block c.block.result _ c.place_block.ensures.given c.requires.block c.block.ensures.untold
+          c.place_block.ensures.size (ap (λ (a : Answer). a.fcb) c.place_block.ensures.all);
+    }

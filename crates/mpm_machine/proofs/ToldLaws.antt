@@ -1,0 +1,73 @@
+-- What a process may be told of its file call, whatever is on the drives.
+use Rattle.std.proofs.Common.{◌≡◌, ◌∙◌, ℕ, [], true, false, Option, Some, None, IfSome, IfOk, Result, refl, sym, ap, subst}
+use Rattle.std.specs.Prelude.{is_some}
+use Rattle.mpm_base.specs.Calls.{Taken, Answer, answering}
+use Rattle.mpm_procs.specs.Table.{process_in, call_of}
+use Rattle.mpm_procs.specs.declared.process.Process.{Process}
+use Rattle.mpm_bdos.specs.declared.functions.FileFunction.{FileFunction}
+use Rattle.mpm_bdos.specs.declared.functions.DirectFunction.{DirectFunction}
+use Rattle.mpm_bdos.specs.declared.refusals.Extended.{Extended}
+use Rattle.mpm_bdos.specs.Functions.{function_of}
+use Rattle.mpm_bdos.specs.Direct.{Directly, IsToldDirectly, direct_of, direct_by}
+use Rattle.mpm_bdos.specs.Answering.{MayAnswer}
+use Rattle.mpm_bdos.proofs.Answerable.{nothing_granted}
+use Rattle.mpm_machine.specs.declared.system.System.{System}
+use Rattle.mpm_machine.specs.FileCalls.{looked_at, MayTell, IsToldOf}
+use Rattle.mpm_machine.proofs.FilingLaws.{named_by}
+
+-- one that the disk serves
+pub disk_told : {E : Type 0} (p : ℕ) (system : System) (caller process : Process) (call : Taken) (reply : Answer) (result : Result (Option Extended) E)
+    → caller ≡ looked_at process → process ≡ process_in system.kernel.dispatcher.procs p → call ≡ call_of system.kernel.dispatcher.procs p
+    → is_some (function_of (call_of system.kernel.dispatcher.procs p).function) ≡ true
+    → ((function : FileFunction) → function_of call.function ≡ Some function → IfOk result (MayAnswer caller.multi function call.dma reply))
+    → IfOk result (IsToldOf p system reply)
+unfolding IsToldOf
+disk_told p system caller process call reply result looks lives calls some may =
+    let procs = system.kernel.dispatcher.procs in
+    let named = named_by (function_of (call_of procs p).function) some in
+    let function : FileFunction = named.0 in
+    let its : function_of call.function ≡ Some function = ap (λ (c : Taken). function_of c.function) calls ∙ named.1 in
+    subst (λ f. IfOk result (MayTell f (direct_of (call_of procs p).function) p system reply)) (sym named.1)
+    (subst (λ (one : Process). IfOk result (MayAnswer one.multi function (call_of procs p).dma reply)) (looks ∙ ap looked_at lives)
+    (subst (λ (one : Taken). IfOk result (MayAnswer caller.multi function one.dma reply)) calls (may function its)))
+
+-- one that it doesn't
+pub directly_told : (p : ℕ) (system : System) (call : Taken) (process : Process) (first reply : Answer) (extended : Option Extended)
+    → call ≡ call_of system.kernel.dispatcher.procs p → process ≡ process_in system.kernel.dispatcher.procs p
+    → function_of (call_of system.kernel.dispatcher.procs p).function ≡ None → first ≡ answering 0
+    → IfSome (direct_of call.function) (λ function. IsToldDirectly process.drive function call reply extended)
+    → (direct_of call.function ≡ None → reply ≡ first) → (direct_of call.function ≡ None → extended ≡ None) → IsToldOf p system reply extended
+unfolding IsToldOf
+directly_told p system call process first reply extended calls lives none nothing told other unanswered =
+    let procs = system.kernel.dispatcher.procs in
+    subst (λ f. MayTell f (direct_of (call_of procs p).function) p system reply extended) (sym none)
+    (by_direct (direct_of (call_of procs p).function) (ap (λ (c : Taken). direct_of c.function) calls))
+  where
+    by_direct : (found : Option DirectFunction) → direct_of call.function ≡ found → MayTell None found p system reply extended
+    by_direct None is = (other is ∙ nothing, unanswered is)
+    by_direct (Some function) is =
+        let its : IsToldDirectly process.drive function call reply extended =
+        subst (λ found. IfSome found (λ one. IsToldDirectly process.drive one call reply extended)) is told in
+        subst (λ (one : Process). IsToldDirectly one.drive function (call_of system.kernel.dispatcher.procs p) reply extended) lives
+        (subst (λ (one : Taken). IsToldDirectly process.drive function one reply extended) calls its)
+
+-- each call may be told something
+told_by_function : (function : Option FileFunction) (other : Option DirectFunction) (p : ℕ) (system : System)
+    → (answer : Answer) × (extended : Option Extended) × MayTell function other p system answer extended
+told_by_function (Some function) other p system =
+    let procs = system.kernel.dispatcher.procs in
+    let dma = (call_of procs p).dma in
+    let multi = (process_in procs p).multi in
+    let answer : Answer = record { hl = 0; fcb = None; at = dma; bytes = [] } in
+    (answer, None, record { refusal = None; tells = (nothing_granted function multi dma dma answer refl refl, refl) })
+told_by_function None (Some function) p system =
+    let procs = system.kernel.dispatcher.procs in
+    let done : Directly = direct_by (λ _. None) (λ _. false) (process_in procs p).drive (call_of procs p) function in
+    (done.answer, done.extended, record { kinds = λ _. None; protected = λ _. false; answer_is = refl; extended_is = refl })
+told_by_function None None p system = (answering 0, None, (refl, refl))
+
+pub something_told : (p : ℕ) (system : System) → (answer : Answer) × (extended : Option Extended) × IsToldOf p system answer extended
+unfolding IsToldOf
+something_told p system =
+    let number = (call_of system.kernel.dispatcher.procs p).function in
+    told_by_function (function_of number) (direct_of number) p system

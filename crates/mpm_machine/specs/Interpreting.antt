@@ -1,0 +1,52 @@
+-- The command line interpreter of a machine in every step: it acts in slot 0 alone, lives there in no segment, and the segment
+-- that it names is the one that it has reserved. (MP/M II User's Guide, "Command Line Interpreter"; Programmer's Guide,
+-- functions 128 to 130; System Guide, "Resident System Processes".)
+use Rattle.std.specs.Prelude.{◌≡◌, ℕ, ◌+◌, ◌*◌, ◌<◌, ◌≤◌, ◌==◌, ◌||◌, Bool, true, false, length, Some, None}
+use Rattle.mpm_banks.specs.Memory.{Memory, HasSegment, IsMemory, segment_of}
+use Rattle.mpm_banks.specs.Allocations.{spec_of}
+use Rattle.mpm_banks.specs.declared.segment.Allocation.TheVariants.{Reserved}
+use Rattle.mpm_base.specs.declared.functions.TheConstants.{SET_BDOS_ERROR_MODE, CHAIN_TO_PROGRAM}
+use Rattle.mpm_procs.specs.Table.{Lives, process_in, call_of}
+use Rattle.mpm_processor.specs.Gates.{IsHome}
+use Rattle.mpm_cli.specs.Interpreters.{Interpreter}
+use Rattle.mpm_cli.specs.Standing.{is_loading, Stands}
+use Rattle.mpm_residents.specs.Natives.{native_in, interprets_if_there}
+use Rattle.mpm_residents.specs.declared.native.Native.TheVariants.{Cli}
+use Rattle.mpm_machine.specs.declared.system.System.{System}
+
+-- the segment that an interpreter names is there, slot 0 has reserved it, and it lies where the interpreter has it
+pub record HasReserved (cli : Interpreter) (memory : Memory) : Type 0 where
+  pub there : HasSegment memory cli.seg
+  pub reserved : (segment_of memory cli.seg).allocation ≡ Reserved 0
+  pub spec : spec_of memory cli.seg ≡ cli.spec
+
+-- the functions that set the error mode, or chain: an interpreter calls none of them
+abbrev pub sets_or_chains : ℕ → Bool
+sets_or_chains f = f == SET_BDOS_ERROR_MODE || f == CHAIN_TO_PROGRAM
+
+-- an interpreter acts in slot 0 and in no other; its process lives in no segment, takes extended errors as answers, no end of it is
+-- put off, and none of these functions is what it called last; the interpreter counts the consoles that there are
+pub record IsActing (system : System) : Type 0 where
+  pub cli : Interpreter
+  pub acts : native_in system.residents 0 ≡ Some (Cli cli)
+  pub alone : (p : ℕ) → interprets_if_there (native_in system.residents p) ≡ true → p ≡ 0
+  pub lives : Lives system.kernel.dispatcher.procs 0
+  pub resides : (process_in system.kernel.dispatcher.procs 0).seg ≡ None
+  pub answers : (process_in system.kernel.dispatcher.procs 0).error_mode ≡ 255
+  pub goes_on : (process_in system.kernel.dispatcher.procs 0).abort_due ≡ false
+  pub calls : sets_or_chains (call_of system.kernel.dispatcher.procs 0).function ≡ false
+  pub stands : Stands cli
+  pub consoles : cli.consoles ≡ length system.kernel.units.consoles
+
+-- and a process may live in each segment; where the interpreter has a segment, it is the one that it has reserved
+pub record Interprets (system : System) : Type 0 where
+  pub acting : IsActing system
+  pub memory : IsMemory system.memory
+  pub homes : (seg : ℕ) → HasSegment system.memory seg → IsHome system.memory seg
+  pub has : is_loading acting.cli.row ≡ true → HasReserved acting.cli system.memory
+
+-- an address of a segment that slot 0 has reserved, within the segment's pages
+pub record IsOwn (memory : Memory) (seg at : ℕ) : Type 0 where
+  pub reserved : (segment_of memory seg).allocation ≡ Reserved 0
+  pub first : 256 * (segment_of memory seg).base ≤ at
+  pub below : at < 256 * ((segment_of memory seg).base + (segment_of memory seg).pages)

@@ -1,0 +1,109 @@
+ghost use Rattle.std.specs.Prelude.{◌≡◌, ◌↔◌, ◌<◌, false, [], ◌∷◌, ◌++◌, length};
+ghost use Rattle.mpm_output.specs.Writing.{Writes};
+ghost use Rattle.mpm_render.specs.Outputs.{Completed};
+ghost use Rattle.mpm_machine.specs.Step.{recorded_behind};
+
+use arrayvec::ArrayVec;
+use mpm_port::{Failed, Sink};
+use mpm_render::Render;
+use std::marker::Model;
+
+/// A completed call: the step, its process and its function, and the registers as its reply left them.
+#[derive(Default, Drop)]
+pub(crate) struct Record {
+    pub step: u64,
+    pub process: u8,
+    pub function: u8,
+    pub a: u8,
+    pub bc: u16,
+    pub de: u16,
+    pub hl: u16,
+}
+
+impl Model for Record {
+    ghost use Rattle.mpm_render.specs.Completions.{Completion, completion};
+
+    ghost Value = { Completion };
+
+    ghost view = { λ r. completion r.step r.process r.function r.a r.bc r.de r.hl };
+}
+
+impl Record {
+    /// The record comes out.
+    fn write<S: Sink>(&self, render: &mut Render, sink: &mut S) -> Result<(), Failed>
+        ensures { Writes S.written S.faults render.old sink.old render.new sink.new (Completed self.now ∷ []) result }
+    {
+        render.trace(
+            self.step,
+            self.process,
+            self.function,
+            self.a,
+            self.bc,
+            self.de,
+            self.hl,
+            sink,
+        )
+    }
+}
+
+/// The records of the calls that this step completed and that aren't written yet, in order: at most one by what the step begins
+/// with, 65 behind it, and 64 by an end; one more by a call whose last turn is over.
+#[derive(Drop)]
+pub(crate) struct Records {
+    items: ArrayVec<Record, 131>,
+}
+
+impl Model for Records {
+    ghost use Rattle.std.specs.Prelude.{List};
+    ghost use Rattle.mpm_render.specs.Completions.{Completion};
+
+    ghost Value = { List Completion };
+
+    ghost view = { λ r. r.items.items };
+}
+
+impl Records {
+    /// None.
+    pub fn new() -> Records
+        ensures { result ≡ [] }
+    {
+        Records {
+            items: ArrayVec::new(),
+        }
+    }
+
+    /// Whether there are some.
+    #[inline]
+    pub fn has_some(&self) -> bool
+        ensures { (result ≡ false) ↔ (self.now ≡ []) }
+    {
+        !self.items.is_empty()
+    }
+
+    /// One more, behind the others.
+    pub fn put(&mut self, call: Record)
+        requires { length self.old < 131 }
+        ensures { self.new ≡ self.old ++ call ∷ [] }
+    {
+        self.items.push(call);
+    }
+
+    /// They come out, in order.
+    pub fn write<S: Sink>(&self, render: &mut Render, sink: &mut S) -> Result<(), Failed>
+        ensures { Writes S.written S.faults render.old sink.old render.new sink.new (recorded_behind self.now []) result }
+    {
+        for call in self.items.as_slice() {
+            if let Err(Failed) = call.write(render, sink) {
+                return Err(Failed);
+            }
+        }
+        Ok(())
+    }
+
+    /// None are left.
+    pub fn clear(&mut self)
+        ensures { self.new ≡ [] }
+    {
+        self.items.clear();
+    }
+}
