@@ -12,6 +12,7 @@ use crate::sink::RealSink;
 use mpm_top::{Status, run_words};
 use std::alloc::{AllocError, Global};
 use std::env;
+use std::fs::File;
 use std::io::ErrorKind;
 use std::process::ExitCode;
 
@@ -32,7 +33,18 @@ fn words_after_name(alloc: Global, rt: &HostRuntime) -> Result<Vec<String>, Stat
     Ok(words)
 }
 
+/// Files that may only be read, in the place of each standard stream that was closed: else an image that is opened would be the
+/// standard output, and the text would be written into it. Where there is no `/dev/null` nothing is held.
+fn held_places(rt: &HostRuntime) -> [Option<File>; 3] {
+    [
+        File::open(rt, "/dev/null").ok(),
+        File::open(rt, "/dev/null").ok(),
+        File::open(rt, "/dev/null").ok(),
+    ]
+}
+
 fn main(rt: HostRuntime) -> ExitCode {
+    let _places = held_places(&rt);
     let alloc = rt.alloc();
     let status = match words_after_name(alloc, &rt) {
         Ok(words) => {
