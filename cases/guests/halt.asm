@@ -1,0 +1,6 @@
+; Keeps the processor for itself.
+
+        org     0100h
+
+        di
+        halt
