@@ -12,14 +12,17 @@ use Rattle.mpm_bdos.specs.declared.functions.FileFunction.TheVariants.{ResetDisk
 use Rattle.mpm_bdos.specs.declared.refusals.Refusal.{Refusal}
 use Rattle.mpm_bdos.specs.declared.refusals.Extended.{Extended}
 use Rattle.mpm_bdos.specs.declared.refusals.Refusal.TheVariants.{NotMounted, Busy}
+use Rattle.mpm_bdos.specs.declared.answers.Answered.{Answered}
+use Rattle.mpm_bdos.specs.declared.answers.Answered.TheVariants.{AsExtended, AsRecord, AsNotFound}
 use Rattle.mpm_bdos.specs.Filing.{LastSearch}
 use Rattle.mpm_bdos.specs.Subjects.{drive_by}
 use Rattle.mpm_bdos.specs.Refusals.{refusals_of, refusals_of_each}
 use Rattle.mpm_bdos.specs.Replies.{where_changed}
 use Rattle.mpm_bdos.specs.Asking.{unnamed_refusal, unmounted_refusal}
 use Rattle.mpm_bdos.specs.Serving.{InService}
-use Rattle.mpm_bdos.specs.Turns.{without_work}
-use Rattle.mpm_bdos.specs.Answering.{AreParts, MayPlace, IsCoded, MayAmount, MayGrant, MayAnswer, tells_block, IsOneOf, IsOfRow, IsEntered, HasEntered}
+use Rattle.mpm_bdos.specs.Outcomes.{refused_extended}
+use Rattle.mpm_bdos.specs.Turns.{drive_served, without_work}
+use Rattle.mpm_bdos.specs.Answering.{IsOfDrive, AreParts, MayPlace, IsCoded, MayAmount, MayGrant, MayAnswer, tells_block, IsOneOf, IsOfRow, IsEntered, HasEntered}
 use Rattle.mpm_bdos.proofs.FinishLaws.{unchanged}
 use Rattle.mpm_bdos.proofs.Started.{nothing_some}
 
@@ -175,6 +178,19 @@ entered_answers caller function call service answer extended is may =
     (subst (λ one. MayAnswer service.caller.multi one call.dma answer extended) is.function_is
     (subst (λ (one : Taken). MayAnswer service.caller.multi service.function one.dma answer extended) is.call_is
     (may (subst (λ one. IfSome service.refusal (IsOfRow one)) (sym is.function_is) is.row))))
+
+-- its extended error is of the drive of what was in service
+pub of_its_drive : (drive : ℕ) (found : Answered) (extended : Option Extended) → extended ≡ refused_extended drive found → IsOfDrive drive extended
+of_its_drive drive found extended is = subst (IsOfDrive drive) (sym is) (by_sort found)
+  where
+    by_sort : (one : Answered) → IsOfDrive drive (refused_extended drive one)
+    by_sort (AsExtended code) = refl
+    by_sort (AsRecord code) = tt
+    by_sort AsNotFound = tt
+
+pub of_served_drive : (drive : ℕ) (service : InService) (found : Option InService) (extended : Option Extended) → found ≡ Some service → drive_served found ≡ Some drive
+    → IsOfDrive service.drive extended → IsOfDrive drive extended
+of_served_drive drive service found extended is served = subst (λ number. IsOfDrive number extended) (same_Some service.drive drive (sym (ap drive_served is) ∙ served))
 
 -- nothing may be placed by any function
 nothing_placed : (function : FileFunction) (multi : ℕ) → MayPlace function multi []

@@ -16,17 +16,20 @@ use Rattle.mpm_bdos.specs.Filing.{Situation}
 use Rattle.mpm_bdos.specs.Functions.{function_of}
 use Rattle.mpm_bdos.specs.Starting.{entering}
 use Rattle.mpm_bdos.specs.Subjects.{drive_number, drive_at}
-use Rattle.mpm_bdos.specs.Jobs.{job_of}
+use Rattle.mpm_bdos.specs.declared.functions.FileFunction.TheVariants.{ResetDisks, OpenFile, CloseFile, SearchFirst, SearchNext, DeleteFile, ReadSequential, WriteSequential, MakeFile, RenameFile, ProtectDisk, SetAttributes, ReadRandom, WriteRandom, FileSize, ResetDrives, AccessDrives, FreeDrives, TestAndWrite, LockRecord, UnlockRecord, FreeSpace, FlushBuffers, SetLabel, LabelData, ReadXfcb, WriteXfcb}
+use Rattle.mpm_bdos.specs.declared.refusals.Refusal.{Refusal}
+use Rattle.mpm_bdos.specs.Refusals.{refusal_of}
+use Rattle.mpm_bdos.specs.Jobs.{job_by, unless_refused, job_of}
 use Rattle.mpm_bdos.specs.Serving.{InService, Kept, Serves, WorksOn, StandsWhere, StandEach, directory_at}
-use Rattle.mpm_bdos.specs.Turns.{FitsDrives, KeepsImages, TurnKeeps, drive_served, has_work, labelled, without_work}
-use Rattle.mpm_bdos.specs.AtOnce.{TurnsLeave, ChangesAlone}
+use Rattle.mpm_bdos.specs.Turns.{FitsDrives, IsIdle, KeepsImages, TurnKeeps, drive_served, has_work, labelled, without_work}
+use Rattle.mpm_bdos.specs.AtOnce.{TurnsLeave, ChangesAlone, IsAtRest, has_job}
 
 -- a turn leaves the drive in service
 its_drive : (service : Option InService) → drive_served (option_map without_work service) ≡ drive_served service
 its_drive None = refl
 its_drive (Some service) = refl
 
-same_drive : (one other : Option InService) → option_map without_work other ≡ option_map without_work one → drive_served other ≡ drive_served one
+pub same_drive : (one other : Option InService) → option_map without_work other ≡ option_map without_work one → drive_served other ≡ drive_served one
 same_drive one other same = sym (its_drive other) ∙ ap drive_served same ∙ its_drive one
 
 still_there : (one other : Option Directory) → option_map labelled other ≡ option_map labelled one → is_some other ≡ is_some one
@@ -77,6 +80,60 @@ one_more_turn attached disks failed old mid new drives later now first next = re
   names = next.names ∙ first.names;
   attached_are = λ number. next.attached_are number ∙ first.attached_are number;
 }
+
+-- where the call in service has no work, nothing is done in some turns, and in one more
+pub rests_again : {D : Type 0} (old mid new : Kept) (drives later now : D) (steps between behind : ℕ) → IsAtRest old mid drives later steps between → TurnKeeps mid new
+    → IsIdle mid.service new.service mid.mounted new.mounted mid.cached new.cached later now between behind → IsAtRest old new drives now steps behind
+rests_again old mid new drives later now steps between behind first kept idle = record {
+  kept = kept.rest ∙ (λ i. record mid { mounted = idle.directories i; cached = idle.cache i; service = idle.call i }) ∙ first.kept;
+  device = idle.drives ∙ first.device;
+  calls = idle.calls ∙ first.calls;
+}
+
+pub still_none : (old now : Kept) → now ≡ old → has_work old.service ≡ false → has_work now.service ≡ false
+still_none old now same none = ap (λ (kept : Kept). has_work kept.service) same ∙ none
+
+-- a call that is refused has no job, nor has one of a function without
+pub refused_is_jobless : (s : Situation) (refusal : Refusal) → refusal_of s ≡ Some refusal → job_of s ≡ None
+unfolding job_of
+refused_is_jobless s refusal is = ap (λ found. unless_refused found (job_by s s.function)) is
+
+pub is_jobless : (s : Situation) → has_job s.function ≡ false → job_of s ≡ None
+unfolding job_of job_by
+is_jobless s none = ap (unless_refused (refusal_of s)) (by_function s.function none) ∙ nothing (refusal_of s)
+  where
+    nothing : (refusal : Option Refusal) → unless_refused refusal None ≡ None
+    nothing None = refl
+    nothing (Some refusal) = refl
+
+    by_function : (f : FileFunction) → has_job f ≡ false → job_by s f ≡ None
+    by_function OpenFile is = absurd (true≢false is)
+    by_function DeleteFile is = absurd (true≢false is)
+    by_function ReadSequential is = absurd (true≢false is)
+    by_function WriteSequential is = absurd (true≢false is)
+    by_function MakeFile is = absurd (true≢false is)
+    by_function RenameFile is = absurd (true≢false is)
+    by_function SetAttributes is = absurd (true≢false is)
+    by_function ReadRandom is = absurd (true≢false is)
+    by_function WriteRandom is = absurd (true≢false is)
+    by_function TestAndWrite is = absurd (true≢false is)
+    by_function SetLabel is = absurd (true≢false is)
+    by_function WriteXfcb is = absurd (true≢false is)
+    by_function ResetDisks is = refl
+    by_function CloseFile is = refl
+    by_function SearchFirst is = refl
+    by_function SearchNext is = refl
+    by_function ProtectDisk is = refl
+    by_function FileSize is = refl
+    by_function ResetDrives is = refl
+    by_function AccessDrives is = refl
+    by_function FreeDrives is = refl
+    by_function LockRecord is = refl
+    by_function UnlockRecord is = refl
+    by_function FreeSpace is = refl
+    by_function FlushBuffers is = refl
+    by_function LabelData is = refl
+    by_function ReadXfcb is = refl
 
 -- the drive of a call in service is the one that its turns change
 pub changes_alone : {D : Type 0} (attached : D → ℕ → Option ℕ) (disks : D → Option Disks) (failed : D → List (List ℕ)) (old new : Kept) (drives now : D) (drive : ℕ)

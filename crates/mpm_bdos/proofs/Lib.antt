@@ -20,6 +20,8 @@ pub mod Freed
 pub mod LastSearches
 pub mod LockEnds
 pub mod LockedOff
+pub mod SomeImages
+pub mod LockedCalls
 pub mod Locking
 pub mod Unlocking
 pub mod StillProtected

@@ -54,7 +54,7 @@ few_step : (e : Option RecordEnd) (opens : OpenFiles) (rest : Locking) (count : 
 few_step None opens rest count h = one_further rest.end rest.moved count h
 few_step (Some end) opens rest count h = omega arith
 
-few_locked : (count : ℕ) (drive : Drive) (opens : OpenFiles) (p : ℕ) (file : FileKey) (n : ℕ) → IfSome (locking drive opens p file n count).end (λ end. (locking drive opens p file n count).moved < count)
+pub few_locked : (count : ℕ) (drive : Drive) (opens : OpenFiles) (p : ℕ) (file : FileKey) (n : ℕ) → IfSome (locking drive opens p file n count).end (λ end. (locking drive opens p file n count).moved < count)
 unfolding locking
 few_locked zero drive opens p file n = tt
 few_locked (suc count) drive opens p file n =

@@ -90,6 +90,10 @@ pub record MayAnswer (multi : ℕ) (function : FileFunction) (dma : ℕ) (answer
   pub refusal : Option Refusal
   pub tells : Tells refusal multi function dma answer extended
 
+-- an extended error, if there is one, is of a drive
+abbrev pub IsOfDrive : ℕ → Option Extended → Type 0
+IsOfDrive drive extended = IfSome extended (λ error. error.drive ≡ drive)
+
 -- a caller's call of a function is in service, and if it is refused, by a refusal of its row
 pub record IsEntered (caller : Caller) (function : FileFunction) (call : Taken) (service : InService) : Type 0 where
   pub caller_is : service.caller ≡ caller

@@ -1,10 +1,12 @@
 -- A file call that is done at once, its turns one after another.
-use Rattle.std.specs.Prelude.{◌≡◌, ◌≢◌, ℕ, ◌<◌, ◌≤◌, List, Option, Some}
+use Rattle.std.specs.Prelude.{◌≡◌, ◌≢◌, ℕ, ◌<◌, ◌≤◌, Bool, true, false, List, Option, Some, None}
 use Rattle.mpm_port.specs.Disks.{Disks, Told}
 use Rattle.mpm_mount.specs.Directories.{Directory}
+use Rattle.mpm_bdos.specs.declared.functions.FileFunction.{FileFunction}
+use Rattle.mpm_bdos.specs.declared.functions.FileFunction.TheVariants.{OpenFile, DeleteFile, ReadSequential, WriteSequential, MakeFile, RenameFile, SetAttributes, ReadRandom, WriteRandom, TestAndWrite, SetLabel, WriteXfcb}
 use Rattle.mpm_bdos.specs.Filing.{Situation}
-use Rattle.mpm_bdos.specs.Jobs.{call_turns}
-use Rattle.mpm_bdos.specs.Serving.{Kept, directory_at}
+use Rattle.mpm_bdos.specs.Jobs.{job_of, call_turns}
+use Rattle.mpm_bdos.specs.Serving.{Kept, StandEach, directory_at}
 use Rattle.mpm_bdos.specs.Turns.{FitsDrives, KeepsImages, StaysBeside, TurnKeeps, StopsWithin, drive_served}
 
 -- what some turns of the call in service leave of what is kept, of the drives and of their images
@@ -31,6 +33,33 @@ FailsIn disks s = FailsSince disks s 0
 pub record ChangesAlone (drive : ℕ) (old new : List (Option Directory)) (disks now : Option Disks) : Type 0 where
   pub places : (number : ℕ) → Some drive ≢ Some number → directory_at new number ≡ directory_at old number
   pub images : KeepsImages (Some drive) old disks now
+
+-- nothing is done in the turns of a call that has no work
+pub record IsAtRest {D : Type 0} (old new : Kept) (drives now : D) (steps steps' : ℕ) : Type 0 where
+  pub kept : new ≡ old
+  pub device : now ≡ drives
+  pub calls : steps' ≡ steps
+
+-- a call without a job, on drives for which some images stand, whether or not these are told
+pub record IsJobless (images : ℕ → List ℕ) (mounted : List (Option Directory)) (s : Situation) : Type 0 where
+  pub stand : StandEach images mounted s.filing.drives
+  pub none : job_of s ≡ None
+
+-- the functions whose calls have a job, where they aren't refused
+abbrev pub has_job : FileFunction → Bool
+has_job OpenFile = true
+has_job DeleteFile = true
+has_job ReadSequential = true
+has_job WriteSequential = true
+has_job MakeFile = true
+has_job RenameFile = true
+has_job SetAttributes = true
+has_job ReadRandom = true
+has_job WriteRandom = true
+has_job TestAndWrite = true
+has_job SetLabel = true
+has_job WriteXfcb = true
+has_job function = false
 
 -- nothing is done in a call that is none on files and drives
 pub record IsUntouched {R D : Type 0} (old new : Kept) (reply reply' : R) (drives now : D) (steps steps' : ℕ) : Type 0 where

@@ -82,7 +82,12 @@ is_protected protected number = slice_index_or protected number false
 unfoldable pub direct : Filing → ℕ → Taken → DirectFunction → Directly
 direct filing drive call function = direct_by (kind_of filing) (is_protected filing.protected) drive call function
 
--- what such a call answers whatever is on the drives: some drives are mounted, of some kinds, and some are protected
+-- what such a call answers, by the kinds of the drives that are mounted and by which drives are protected
+pub record ComesDirectly (kinds : ℕ → Option Kind) (protected : ℕ → Bool) (drive : ℕ) (function : DirectFunction) (call : Taken) (answer : Answer) (extended : Option Extended) : Type 0 where
+  pub answer_is : answer ≡ (direct_by kinds protected drive call function).answer
+  pub extended_is : extended ≡ (direct_by kinds protected drive call function).extended
+
+-- and where these aren't named: some drives are mounted, of some kinds, and some are protected
 pub record IsToldDirectly (drive : ℕ) (function : DirectFunction) (call : Taken) (answer : Answer) (extended : Option Extended) : Type 0 where
   pub kinds : ℕ → Option Kind
   pub protected : ℕ → Bool

@@ -33,8 +33,8 @@ impl Bdos {
     ghost use Rattle.mpm_bdos.specs.Turns.{FitsDrives, StaysBeside, has_work, labelled, told_images};
     ghost use Rattle.mpm_bdos.specs.Starting.{caller_of, entering};
     ghost use Rattle.mpm_bdos.specs.Finishing.{ComesTo};
-    ghost use Rattle.mpm_bdos.specs.Answering.{MayAnswer};
-    ghost use Rattle.mpm_bdos.specs.AtOnce.{TurnsLeave, FailsSince, FailsIn, ChangesAlone, IsUntouched};
+    ghost use Rattle.mpm_bdos.specs.Answering.{IsOfDrive, MayAnswer};
+    ghost use Rattle.mpm_bdos.specs.AtOnce.{TurnsLeave, FailsSince, FailsIn, ChangesAlone, IsAtRest, IsJobless, IsUntouched};
 
     /// Does so many turns of the call in service, one after another, up to the first in which its drive fails. Each takes 20 calls of
     /// the drives at most.
@@ -54,7 +54,7 @@ impl Bdos {
             → OnErr result (FailsSince (D.disks drives.new) s ended) }
         ensures left { TurnsLeave D.attached D.disks D.failed_names self.old self.new drives.old drives.new }
         ensures calls { steps.new ≤ steps.old + 20 * turns }
-        ensures idle { has_work self.old.service ≡ false → drives.new ≡ drives.old }
+        ensures idle { has_work self.old.service ≡ false → IsAtRest self.old self.new drives.old drives.new steps.old steps.new }
         ensures unfailing { has_work self.old.service ≡ false → IsOk result }
         ensures cause { HasCause (D.faults drives.old) (D.faults drives.new) result }
     {
@@ -75,7 +75,8 @@ impl Bdos {
 
     /// Does a process's call on files and drives at once: it enters service, its turns follow one another, and it is answered,
     /// with its extended error, if it has one. A call of another function does nothing. Each turn takes 20 calls of the drives at
-    /// most; where no drive is mounted, none. Behind it no call is in service. (MP/M II Programmer's Guide, "BDOS Function Calls", "BDOS Error Handling".)
+    /// most; where no drive is mounted, or it has no job, as one that is refused, none: then it comes to its outcome whether or not
+    /// the images are told. Behind it no call is in service. (MP/M II Programmer's Guide, "BDOS Function Calls", "BDOS Error Handling".)
     ///
     /// # Errors
     /// Where the drive of the call failed: then it isn't answered, and its directory is no more that of its image.
@@ -98,6 +99,12 @@ impl Bdos {
         ensures err { (before : List (Option Drive)) (function : functions.FileFunction) → function_of call.now.function ≡ Some function
             → StandEach (told_images (D.disks drives.old)) self.old.mounted before
             → OnErr result (FailsIn (D.disks drives.new) (entering self.old before (caller_of p process.now) function call.now (stamp_of now))) }
+        ensures jobless { (images : ℕ → List ℕ) (before : List (Option Drive)) (function : functions.FileFunction) → function_of call.now.function ≡ Some function
+            → IsJobless images self.old.mounted (entering self.old before (caller_of p process.now) function call.now (stamp_of now))
+            → IfOk result (ComesTo images (entering self.old before (caller_of p process.now) function call.now (stamp_of now)) self.new reply.new) }
+        ensures idle { (images : ℕ → List ℕ) (before : List (Option Drive)) (function : functions.FileFunction) → function_of call.now.function ≡ Some function
+            → IsJobless images self.old.mounted (entering self.old before (caller_of p process.now) function call.now (stamp_of now))
+            → (drives.new ≡ drives.old) × (steps.new ≡ steps.old) × IsOk result }
         ensures alone { (before : List (Option Drive)) (function : functions.FileFunction) → function_of call.now.function ≡ Some function
             → ChangesAlone (drive_number (entering self.old before (caller_of p process.now) function call.now (stamp_of now))) self.old.mounted self.new.mounted (D.disks drives.old) (D.disks drives.new) }
         ensures calls { (images : ℕ → List ℕ) (before : List (Option Drive)) (function : functions.FileFunction) → function_of call.now.function ≡ Some function
@@ -105,6 +112,8 @@ impl Bdos {
             → steps.new ≤ steps.old + 20 * call_turns (entering self.old before (caller_of p process.now) function call.now (stamp_of now)) }
         ensures may { (function : functions.FileFunction) → function_of call.now.function ≡ Some function
             → IfOk result (MayAnswer process.now.multi function call.now.dma reply.new) }
+        ensures drive { (before : List (Option Drive)) (function : functions.FileFunction) → function_of call.now.function ≡ Some function
+            → IfOk result (IsOfDrive (drive_number (entering self.old before (caller_of p process.now) function call.now (stamp_of now)))) }
         ensures none { ((number : ℕ) → directory_at self.old.mounted number ≡ None) → drives.new ≡ drives.old }
         ensures unfailing { ((number : ℕ) → directory_at self.old.mounted number ≡ None) → IsOk result }
         ensures service { (function : functions.FileFunction) → function_of call.now.function ≡ Some function → self.new.service ≡ None }

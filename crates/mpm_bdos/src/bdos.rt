@@ -4,7 +4,7 @@ ghost use Rattle.mpm_port.specs.Disks.{Disks, Told};
 ghost use Rattle.mpm_cache.specs.Coherent.{IsCoherent, HasNoAlias};
 ghost use Rattle.mpm_files.specs.declared.turning.Progress.TheVariants as progress;
 ghost use Rattle.mpm_mount.specs.Drives.{Drive};
-ghost use Rattle.mpm_bdos.specs.Direct.{IsToldDirectly, direct_of, direct};
+ghost use Rattle.mpm_bdos.specs.Direct.{ComesDirectly, IsToldDirectly, is_protected, direct_of, direct};
 ghost use Rattle.mpm_bdos.specs.Filing.{Situation};
 ghost use Rattle.mpm_bdos.specs.Outcomes.{left_by, without_search};
 ghost use Rattle.mpm_bdos.specs.Jobs.{call_turns};
@@ -63,7 +63,7 @@ impl Model for Bdos {
 
 impl Bdos {
     ghost use Rattle.mpm_opens.specs.Opens.{AreOpen};
-    ghost use Rattle.mpm_bdos.specs.Serving.{AreInPlace, StandEach, Serves, directory_at, filing_of, nothing_kept};
+    ghost use Rattle.mpm_bdos.specs.Serving.{AreInPlace, StandEach, Serves, directory_at, kind_at, filing_of, nothing_kept};
     ghost use Rattle.std.specs.Option.{option_copied};
 
     /// Nothing is open, marked, sought or protected, nothing is cached, and no call is in service. Of the sixteen drives those
@@ -97,8 +97,9 @@ impl Bdos {
         self.mounted.get(drive)
     }
 
-    /// Does a call that no disk serves, as 14, 24, 29, 31 and 36 are, of a process; nothing where it is another one. While a call
-    /// is in service it answers as before that. What becomes of the process's drive is not done here.
+    /// Does a call that no disk serves, as 14, 24, 29, 31 and 36 are, of a process, by which drives are mounted and protected,
+    /// whatever is on them; nothing where it is another one. While a call is in service it answers as before that. What becomes of
+    /// the process's drive is not done here.
     pub fn direct(&self, call: &Call, process: &Process, reply: &mut Reply) -> Option<Extended>
         ensures answer { (images : ℕ → List ℕ) (drives : List (Option Drive)) → StandEach images self.now.mounted drives
             → IfSome (direct_of call.now.function) (λ function. reply.new ≡ (direct (filing_of self.now drives) process.now.drive call.now function).answer) }
@@ -108,6 +109,7 @@ impl Bdos {
             → IfSome (direct_of call.now.function) (λ function. reply.new ≡ (direct s.filing process.now.drive call.now function).answer) }
         ensures served_extended { (images : ℕ → List ℕ) (s : Situation) (j : ℕ) → Serves images self.now s j
             → IfSome (direct_of call.now.function) (λ function. result ≡ (direct s.filing process.now.drive call.now function).extended) }
+        ensures exact { IfSome (direct_of call.now.function) (λ function. ComesDirectly (kind_at self.now.mounted) (is_protected self.now.protected) process.now.drive function call.now reply.new result) }
         ensures told { IfSome (direct_of call.now.function) (λ function. IsToldDirectly process.now.drive function call.now reply.new result) }
         ensures other { direct_of call.now.function ≡ None → reply.new ≡ reply.old }
         ensures unanswered { direct_of call.now.function ≡ None → result ≡ None }

@@ -6,7 +6,7 @@ ghost use Rattle.mpm_mount.specs.Drives.{Drive};
 ghost use Rattle.mpm_fcb.specs.Blocks.{block_of};
 ghost use Rattle.mpm_fcb.specs.Positions.{sequential_record};
 ghost use Rattle.mpm_bdos.specs.declared.refusals.Refusal.{Refusal as Refused};
-ghost use Rattle.mpm_bdos.specs.Answering.{IsOfRow, MayGrant, MayAnswer};
+ghost use Rattle.mpm_bdos.specs.Answering.{IsOfDrive, IsOfRow, MayGrant, MayAnswer};
 ghost use Rattle.mpm_bdos.specs.Asking.{called};
 ghost use Rattle.mpm_bdos.specs.Changes.{marks_by, protected_by};
 ghost use Rattle.mpm_bdos.specs.Driving.{freed_by};
@@ -196,6 +196,7 @@ fn reply_service(
     requires users { HaveUsers opens.old }
     ensures may { IfSome service.now.refusal (IsOfRow service.now.function)
         → MayAnswer service.now.caller.multi service.now.function service.now.call.dma reply.new result }
+    ensures drive { IsOfDrive service.now.drive result }
     ensures users { HaveUsers opens.new }
     ensures comes { (images : ℕ → List ℕ) (s : Situation)
         → Serves images (spec.serving mounted.now protected.old opens.old marks.old searches.old service.now) s (call_turns s)
@@ -224,15 +225,16 @@ fn reply_service(
 }
 
 impl Bdos {
-    ghost use Rattle.std.specs.Prelude.{◌≡◌, ℕ, List, None};
+    ghost use Rattle.std.specs.Prelude.{◌≡◌, ℕ, List, Some, None};
     ghost use Rattle.mpm_base.specs.Calls.{Taken};
     ghost use Rattle.mpm_bdos.specs.declared.caller.Caller as callers;
     ghost use Rattle.mpm_bdos.specs.declared.functions.FileFunction as functions;
-    ghost use Rattle.mpm_bdos.specs.Answering.{HasEntered, MayAnswer};
+    ghost use Rattle.mpm_bdos.specs.Answering.{HasEntered, IsOfDrive, MayAnswer};
     ghost use Rattle.mpm_bdos.specs.Filing.{Situation};
     ghost use Rattle.mpm_bdos.specs.Finishing.{ComesTo};
     ghost use Rattle.mpm_bdos.specs.Jobs.{call_turns};
     ghost use Rattle.mpm_bdos.specs.Serving.{Serves};
+    ghost use Rattle.mpm_bdos.specs.Turns.{drive_served};
 
     /// Answers the call in service, behind its turns, with its extended error, if it has one; then none is in service. Nothing is
     /// answered where none was. (MP/M II Programmer's Guide, "BDOS Function Calls", "BDOS Error Handling".)
@@ -240,6 +242,7 @@ impl Bdos {
         ensures comes { (images : ℕ → List ℕ) (s : Situation) → Serves images self.old s (call_turns s) → ComesTo images s self.new reply.new result }
         ensures may { (caller : callers.Caller) (function : functions.FileFunction) (call : Taken) → HasEntered caller function call self.old.service
             → MayAnswer caller.multi function call.dma reply.new result }
+        ensures drive { (drive : ℕ) → drive_served self.old.service ≡ Some drive → IsOfDrive drive result }
         ensures kept { self.new ≡ record self.old { protected = self.new.protected; opens = self.new.opens; marks = self.new.marks; searches = self.new.searches; service = None } }
         ensures idle { self.old.service ≡ None → self.new ≡ self.old }
         ensures no_reply { self.old.service ≡ None → reply.new ≡ reply.old }

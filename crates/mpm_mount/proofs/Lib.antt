@@ -1,3 +1,4 @@
+pub mod Wholes
 pub mod Ranges
 pub mod Positions
 pub mod UsedBlocks

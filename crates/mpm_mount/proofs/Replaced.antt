@@ -13,7 +13,7 @@ use Rattle.mpm_dirent.specs.declared.kinds.Entry.{Entry}
 use Rattle.mpm_dirent.specs.declared.kinds.Entry.TheVariants.{Free, File, Xfcb, Label, Kept}
 use Rattle.mpm_dirent.specs.Proper.{IsProper}
 use Rattle.mpm_mount.specs.Faults.{holds, first_fault}
-use Rattle.mpm_mount.specs.Directories.{others, IsKept}
+use Rattle.mpm_mount.specs.Directories.{others, IsKept, IsWhole}
 use Rattle.mpm_mount.specs.Using.{IsUsedBy, Claims, Frees, IsInside}
 use Rattle.mpm_mount.proofs.Ranges.{or_none}
 use Rattle.mpm_mount.proofs.UsedBlocks.{or_last}
@@ -61,15 +61,16 @@ pub kept_used : (kind : Kind) (entries : List Entry) (blocks : Blocks) → IsKep
 kept_used kind entries blocks kept = record { of_kind = kept.of_kind; used = kept.used }
 
 pub kept_exchanged : (kind : Kind) (entries after : List Entry) (slot : ℕ) (new : Entry) (before mid now : Blocks) → IsKept kind entries before → slot < length entries
-    → IsProper (geometry_of kind).wide new → first_fault kind (slice_set entries slot new) ≡ None
+    → IsProper (geometry_of kind).wide new → IsWhole new → first_fault kind (slice_set entries slot new) ≡ None
     → Frees kind (get_or entries slot Free) before mid → Claims kind new mid now → after ≡ slice_set entries slot new → IsKept kind after now
-kept_exchanged kind entries after slot new before mid now kept h proper faultless frees claims is =
+kept_exchanged kind entries after slot new before mid now kept h proper whole faultless frees claims is =
     let used = used_exchanged kind entries slot new before mid now kept.faultless h (kept_used kind entries before kept) frees claims in
     let P : List Entry → Type 0 = λ es. IsKept kind es now in
     subst P (sym is) (record {
       full = length-set entries slot new ∙ kept.full;
       faultless = faultless;
       proper = All-set (IsProper (geometry_of kind).wide) entries slot new proper kept.proper;
+      whole = All-set IsWhole entries slot new whole kept.whole;
       of_kind = used.of_kind;
       used = used.used;
     })

@@ -7,7 +7,7 @@ use Rattle.mpm_blocks.specs.Geometries.{geometry_of, last_block, block_records}
 use Rattle.mpm_blocks.specs.Sectors.{sectors_of}
 use Rattle.mpm_dirent.specs.declared.kinds.Entry.{Entry}
 use Rattle.mpm_dirent.specs.declared.kinds.Entry.TheVariants.{Free, File, Xfcb, Label, Kept}
-use Rattle.mpm_dirent.specs.Proper.{IsProper}
+use Rattle.mpm_dirent.specs.Proper.{IsProper, HasSizes}
 use Rattle.mpm_mount.specs.Drives.{FileName, Drive, entry_name}
 use Rattle.mpm_mount.specs.Faults.{holds, is_named, is_label, is_xfcb, first_fault}
 use Rattle.mpm_mount.specs.Images.{entries_of, drive_of}
@@ -71,17 +71,24 @@ free_entries_in d = count_by is_free d.entries
 abbrev pub others : {X : Type 0} → List X → ℕ → List X
 others entries slot = take slot entries ++ drop (suc slot) entries
 
+-- the parts of an entry have the lengths of their arrays, also where it is kept unread
+abbrev pub IsWhole : Entry → Type 0
+IsWhole (Kept bytes) = length bytes ≡ 32
+IsWhole entry = HasSizes entry
+
 -- a directory of a kind: all slots, no fault, and entries that can be written
 pub record IsDirectory (kind : Kind) (entries : List Entry) : Type 0 where
   pub full : length entries ≡ (geometry_of kind).drm + 1
   pub faultless : first_fault kind entries ≡ None
   pub proper : All (IsProper (geometry_of kind).wide) entries
+  pub whole : All IsWhole entries
 
 -- what a directory keeps of itself: all slots, no fault, entries that can be written, and which blocks are used
 pub record IsKept (kind : Kind) (entries : List Entry) (blocks : Blocks) : Type 0 where
   pub full : length entries ≡ (geometry_of kind).drm + 1
   pub faultless : first_fault kind entries ≡ None
   pub proper : All (IsProper (geometry_of kind).wide) entries
+  pub whole : All IsWhole entries
   pub of_kind : blocks.kind ≡ kind
   pub used : blocks.used ≡ used_blocks kind entries
 

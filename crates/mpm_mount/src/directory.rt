@@ -2,7 +2,7 @@ ghost use Rattle.std.specs.Prelude.{◌≡◌, ℕ, ◌+◌, ◌<◌, ◌≤◌,
 ghost use Rattle.mpm_blocks.specs.Geometries.{geometry_of, last_block};
 ghost use Rattle.mpm_dirent.specs.Proper.{IsProper};
 ghost use Rattle.mpm_mount.specs.Faults.{plain, cause_of, first_fault};
-ghost use Rattle.mpm_mount.specs.Directories.{IsKept, others, entry_in, with_entry, extent_slot, xfcb_slot, label_slot, free_slot, free_block, free_records_in, free_entries_in};
+ghost use Rattle.mpm_mount.specs.Directories.{IsDirectory, IsKept, IsWhole, others, entry_in, with_entry, extent_slot, xfcb_slot, label_slot, free_slot, free_block, free_records_in, free_entries_in};
 ghost use Rattle.mpm_mount.specs.Searching.{IsNext, search_of};
 ghost use Rattle.mpm_mount.specs.Using.{IsInside, Claims, Frees};
 
@@ -61,6 +61,7 @@ impl Mounted {
     /// The drive's kind.
     pub fn kind(&self) -> Kind
         ensures kind { result ≡ self.now.kind }
+        ensures directory { IsDirectory self.now.kind self.now.entries }
         ensures full { length self.now.entries ≡ (geometry_of self.now.kind).drm + 1 }
         ensures faultless { first_fault self.now.kind self.now.entries ≡ None }
     {
@@ -99,6 +100,7 @@ impl Mounted {
         requires faultless { cause_of self.old.kind (others self.old.entries slot) entry ≡ None }
         ensures { self.new ≡ with_entry self.old slot entry }
     {
+        tell_whole(&entry);
         replace(
             self.kind,
             &mut self.entries,
@@ -163,11 +165,43 @@ impl Mounted {
     }
 }
 
+/// Says how long an array is.
+fn tell_size<T, const N: usize>(array: &[T; N])
+    ensures { length array.now ≡ N }
+{}
+
+/// Says what is so of each entry: its parts have the lengths of their arrays.
+fn tell_whole(entry: &Entry)
+    ensures { IsWhole entry.now }
+{
+    match entry {
+        Entry::Free => {}
+        Entry::File { file } => {
+            tell_size(&file.name);
+            tell_size(&file.blocks);
+        }
+        Entry::Xfcb { xfcb } => {
+            tell_size(&xfcb.name);
+            tell_size(&xfcb.password);
+            tell_size(&xfcb.first);
+            tell_size(&xfcb.second);
+        }
+        Entry::Label { label } => {
+            tell_size(&label.name);
+            tell_size(&label.password);
+            tell_size(&label.first);
+            tell_size(&label.second);
+        }
+        Entry::Kept { bytes } => tell_size(bytes),
+    }
+}
+
 /// Replaces an entry, and frees and uses blocks by it.
 fn replace(kind: Kind, entries: &mut Vec<Entry>, blocks: &mut BlockMap, slot: usize, entry: Entry)
     requires kept { IsKept kind entries.old.items blocks.old }
     requires slot { slot < length entries.old.items }
     requires proper { IsProper (geometry_of kind).wide entry }
+    requires whole { IsWhole entry }
     requires faultless { cause_of kind (others entries.old.items slot) entry ≡ None }
     ensures entries { entries.new.items ≡ slice_set entries.old.items slot entry }
     ensures kept { IsKept kind entries.new.items blocks.new }

@@ -3,7 +3,7 @@ ghost use Rattle.std.specs.List.{All};
 ghost use Rattle.mpm_blocks.specs.Geometries.{geometry_of};
 ghost use Rattle.mpm_blocks.specs.Sectors.{told_image};
 ghost use Rattle.mpm_dirent.specs.Proper.{IsProper};
-ghost use Rattle.mpm_mount.specs.Directories.{IsDirectory};
+ghost use Rattle.mpm_mount.specs.Directories.{IsDirectory, IsWhole};
 ghost use Rattle.mpm_mount.specs.Faults as faults;
 ghost use Rattle.mpm_mount.specs.Mounting.{SameDrives, Counts, IsFault, IsImageFault, IsOfOtherSize, IsMounted};
 
@@ -68,6 +68,7 @@ fn check_size<D: Drives>(drives: &mut D, drive: u8, kind: Kind) -> Result<(), Mo
 fn checked(alloc: Global, drive: u8, kind: Kind, entries: Vec<Entry>) -> Result<Mounted, MountError>
     requires full { length entries.items ≡ (geometry_of kind).drm + 1 }
     requires proper { All (IsProper (geometry_of kind).wide) entries.items }
+    requires whole { All IsWhole entries.items }
     ensures ok { IfOk result (λ mounted. mounted ≡ record { drive = drive; kind = kind; entries = entries.items }) }
     ensures faultless { OnOk result (faults.first_fault kind entries.items ≡ None) }
     ensures directory { IfOk result (λ mounted. IsDirectory kind mounted.entries) }

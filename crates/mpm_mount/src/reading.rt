@@ -4,6 +4,7 @@ ghost use Rattle.mpm_blocks.specs.Geometries.{geometry_of};
 ghost use Rattle.mpm_blocks.specs.Sectors.{sectors_of, told_image};
 ghost use Rattle.mpm_dirent.specs.Entries.{part};
 ghost use Rattle.mpm_dirent.specs.Proper.{IsProper};
+ghost use Rattle.mpm_mount.specs.Directories.{IsWhole};
 ghost use Rattle.mpm_mount.specs.Images.{entries_of, entries_in};
 ghost use Rattle.mpm_mount.specs.Mounting.{SameDrives, Counts, IsDevice, IsSectorOf};
 
@@ -26,6 +27,7 @@ pub(crate) fn read_directory<D: Drives>(
     ensures entries { IfOk result (λ entries. IfSome (told_image (D.disks drives.old) drive) (λ image. entries.items ≡ entries_of (sectors_of image kind) kind)) }
     ensures full { IfOk result (λ entries. length entries.items ≡ (geometry_of kind).drm + 1) }
     ensures proper { IfOk result (λ entries. All (IsProper (geometry_of kind).wide) entries.items) }
+    ensures whole { IfOk result (λ entries. All IsWhole entries.items) }
     ensures device { IfErr result IsDevice }
     ensures count { Counts (D.faults drives.old) (D.faults drives.new) result }
     ensures same { SameDrives D.attached D.disks D.failed_names drives.old drives.new }
@@ -53,6 +55,7 @@ fn read_sector<D: Drives>(
         entries.new.items ≡ entries.old.items ++ entries_in (sectors_of image kind sector) (geometry_of kind).wide 4)) }
     ensures size { OnOk result (length entries.new.items ≡ length entries.old.items + 4) }
     ensures proper { All (IsProper (geometry_of kind).wide) entries.old.items → OnOk result (All (IsProper (geometry_of kind).wide) entries.new.items) }
+    ensures whole { All IsWhole entries.old.items → OnOk result (All IsWhole entries.new.items) }
     ensures device { IfErr result IsDevice }
     ensures count { Counts (D.faults drives.old) (D.faults drives.new) result }
     ensures same { SameDrives D.attached D.disks D.failed_names drives.old drives.new }
@@ -72,6 +75,7 @@ fn read_sector<D: Drives>(
 fn push_entries(bytes: &[u8; 128], wide: bool, entries: &mut Vec<Entry>) -> Result<(), OutOfMemory>
     ensures entries { OnOk result (entries.new.items ≡ entries.old.items ++ entries_in bytes.now wide 4) }
     ensures proper { All (IsProper wide) entries.old.items → OnOk result (All (IsProper wide) entries.new.items) }
+    ensures whole { All IsWhole entries.old.items → OnOk result (All IsWhole entries.new.items) }
 {
     for place in 0..4 {
         entries.push(read_entry(&entry_bytes(bytes, place), wide))?;
@@ -82,7 +86,8 @@ fn push_entries(bytes: &[u8; 128], wide: bool, entries: &mut Vec<Entry>) -> Resu
 /// The bytes of one of the four entries of a sector.
 fn entry_bytes(bytes: &[u8; 128], place: usize) -> [u8; 32]
     requires { place ≤ 3 }
-    ensures { result ≡ part (32 * place) 32 bytes.now }
+    ensures part { result ≡ part (32 * place) 32 bytes.now }
+    ensures size { length result ≡ 32 }
 {
     let mut entry = [0; 32];
     entry.copy_from_slice(&bytes[32 * place..32 * place + 32]);

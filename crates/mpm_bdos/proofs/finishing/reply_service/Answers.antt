@@ -1,8 +1,10 @@
 use Rattle.std.proofs.Common.{◌∙◌, Some, None, IfSome, refl, sym, ap, subst}
 use Rattle.mpm_bdos.specs.Jobs.{call_turns}
 use Rattle.mpm_bdos.specs.Serving.{InService, Serves}
-use Rattle.mpm_bdos.specs.Answering.{IsOfRow, MayGrant}
+use Rattle.mpm_bdos.specs.Answering.{IsOfDrive, IsOfRow, MayGrant}
 use Rattle.mpm_bdos.specs.Finishing.{serving, ComesTo}
+use Rattle.mpm_bdos.specs.Refusals.{answered}
+use Rattle.mpm_bdos.proofs.Answerable.{of_its_drive}
 use Rattle.mpm_bdos.proofs.FinishLaws.{granted_comes, refused_comes, none_refuses}
 use Rattle.mpm_bdos.proofs.finishing.reply_service.Goals as goal
 
@@ -41,3 +43,8 @@ returns-in-None-clause-may c row = record {
   refusal = None;
   tells = (subst (λ (one : InService). MayGrant one.caller.multi one.function one.call.dma c.reply_granted.new.reply) c.service.view_is c.reply_granted.ensures.may, refl);
 }
+
+pub returns-in-Some-clause-drive : goal.returns-in-Some-clause-drive
+returns-in-Some-clause-drive c =
+    subst (λ (one : InService). IsOfDrive one.drive c.refuse.result) c.service.view_is
+    (of_its_drive c.service.inside.drive (answered c.in-Some.refusal) c.refuse.result c.refuse.ensures.extended)

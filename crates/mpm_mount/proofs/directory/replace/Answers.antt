@@ -31,6 +31,6 @@ pub returns-clause-kept : goal.returns-clause-kept
 returns-clause-kept c =
     let old : c.index.result.now ≡ slice_index_or c.args.entries.now.items c.args.slot Free = first_of (search rules, grind (arith, common_steps)) in
     kept_exchanged c.args.kind c.args.entries.now.items _ c.args.slot c.args.entry c.args.blocks.now c.free_blocks.new.blocks c.claim_blocks.new.blocks
-    c.requires.kept c.requires.slot c.requires.proper
+    c.requires.kept c.requires.slot c.requires.proper c.requires.whole
     (still_faultless c.args.kind c.args.entries.now.items c.args.slot c.args.entry c.requires.kept.faultless c.requires.slot c.requires.faultless)
     (subst (λ (e : Entry). Frees c.args.kind e c.args.blocks.now c.free_blocks.new.blocks) old c.free_blocks.ensures) c.claim_blocks.ensures refl

@@ -6,6 +6,7 @@ use Rattle.mpm_blocks.specs.Sectors.{sectors_of, told_image}
 use Rattle.mpm_blocks.proofs.ToldImages.{told_image_same}
 use Rattle.mpm_dirent.specs.declared.kinds.Entry.{Entry}
 use Rattle.mpm_dirent.specs.Proper.{IsProper}
+use Rattle.mpm_mount.specs.Directories.{IsWhole}
 use Rattle.mpm_mount.specs.Images.{entries_to}
 use Rattle.mpm_mount.proofs.EntriesRead.{told_none, told_more}
 use Rattle.mpm_mount.proofs.Telling.{same_itself, same_over}
@@ -19,6 +20,7 @@ loop-sector-init g c =
           (sym c.new-entries.ensures.items) (told_none told c.args.kind);
       size = ap length c.new-entries.ensures.items;
       proper = All-same (IsProper (geometry_of c.args.kind).wide) c.new-entries.result.items [] c.new-entries.ensures.items (All-nil (IsProper (geometry_of c.args.kind).wide));
+      whole = All-same IsWhole c.new-entries.result.items [] c.new-entries.ensures.items (All-nil IsWhole);
       count = refl;
       same = same_itself g.D.Drives.attached g.D.Drives.disks g.D.Drives.failed_names c.args.drives.now;
     }
@@ -32,6 +34,7 @@ loop-sector-preserved g c =
           c.loop-sector.invariant.entries c.in-Ok.ensures.entries;
       size = omega (arith, c.in-Ok.ensures.size, c.loop-sector.invariant.size);
       proper = c.in-Ok.ensures.proper c.loop-sector.invariant.proper;
+      whole = c.in-Ok.ensures.whole c.loop-sector.invariant.whole;
       count = c.in-Ok.ensures.count ∙ c.loop-sector.invariant.count;
       same = same_over g.D.Drives.attached g.D.Drives.disks g.D.Drives.failed_names c.args.drives.now c.loop-sector.drives c.read_sector.new.drives
           c.loop-sector.invariant.same c.in-Ok.ensures.same;

@@ -1,7 +1,7 @@
-use Rattle.std.proofs.Common.{◌≡◌, ◌+◌, refl, subst, ap, ◌∙◌, arith}
+use Rattle.std.proofs.Common.{◌≡◌, ◌+◌, refl, subst, ◌∙◌, arith}
 use Rattle.mpm_bdos.specs.Serving.{Serves}
-use Rattle.mpm_bdos.specs.Turns.{told_images, has_work}
-use Rattle.mpm_bdos.proofs.AtOnceLaws.{no_turns, no_more, one_more, one_more_turn, cause_since, is_ok_or_err}
+use Rattle.mpm_bdos.specs.Turns.{told_images}
+use Rattle.mpm_bdos.proofs.AtOnceLaws.{no_turns, no_more, one_more, one_more_turn, rests_again, still_none, cause_since, is_ok_or_err}
 use Rattle.mpm_bdos.proofs.bdos.Bdos.do_turns.Goals as goal
 
 pub loop-turn-init : goal.loop-turn-init
@@ -9,7 +9,7 @@ loop-turn-init g c = record {
   serves = λ s ended first few. subst (Serves (told_images (g.D.Drives.disks c.args.drives.now)) c.args.self.now s) (no_more ended) first;
   left = no_turns g.D.Drives.attached g.D.Drives.disks g.D.Drives.failed_names c.args.self.now c.args.drives.now c.requires.fits;
   calls = omega arith;
-  idle = λ none. (refl, none);
+  idle = λ none. record { kept = refl; device = refl; calls = refl };
   count = refl;
 }
 
@@ -25,7 +25,8 @@ loop-turn-preserved g c =
       left = one_more_turn g.D.Drives.attached g.D.Drives.disks g.D.Drives.failed_names c.args.self.now c.loop-turn.self now.self c.args.drives.now c.loop-turn.drives now.drives so.left
           (record { kept = does.kept; fits = does.fits; images = does.images; beside = does.beside; names = does.names; attached_are = does.attached });
       calls = omega (arith, does.calls, so.calls);
-      idle = λ none. let still = does.idle (so.idle none).1 in (still.drives ∙ (so.idle none).0, ap has_work still.call ∙ (so.idle none).1);
+      idle = λ none. rests_again c.args.self.now c.loop-turn.self now.self c.args.drives.now c.loop-turn.drives now.drives c.args.steps.now c.loop-turn.steps now.steps (so.idle none) does.kept
+          (does.idle (still_none c.args.self.now c.loop-turn.self (so.idle none).kept none));
       count = c.in_default.ensures.cause.stays ∙ so.count;
     }
 
@@ -46,8 +47,8 @@ returns-in-Err g c =
       left = one_more_turn g.D.Drives.attached g.D.Drives.disks g.D.Drives.failed_names c.args.self.now c.loop-turn.self now.self c.args.drives.now c.loop-turn.drives now.drives so.left
           (record { kept = does.kept; fits = does.fits; images = does.images; beside = does.beside; names = does.names; attached_are = does.attached });
       calls = omega (arith, does.calls, so.calls, c.loop-turn-test.true);
-      idle = λ none. absurd (is_ok_or_err _ _ _ c.in-Err.is (does.done (so.idle none).1));
-      unfailing = λ none. absurd (is_ok_or_err _ _ _ c.in-Err.is (does.done (so.idle none).1));
+      idle = λ none. absurd (is_ok_or_err _ _ _ c.in-Err.is (does.done (still_none c.args.self.now c.loop-turn.self (so.idle none).kept none)));
+      unfailing = λ none. absurd (is_ok_or_err _ _ _ c.in-Err.is (does.done (still_none c.args.self.now c.loop-turn.self (so.idle none).kept none)));
       cause = cause_since (g.D.Drives.faults c.args.drives.now) (g.D.Drives.faults c.loop-turn.drives) (g.D.Drives.faults now.drives) so.count
           c.in-Err.ensures.cause.later c.in-Err.ensures.cause.failed;
     }
@@ -61,7 +62,7 @@ returns g c =
       err = λ s ended first few. tt;
       left = so.left;
       calls = omega (arith, so.calls, all);
-      idle = λ none. (so.idle none).0;
+      idle = so.idle;
       unfailing = λ none. refl;
       cause = record { later = omega (arith, so.count); stays = so.count; failed = tt };
     }

@@ -2,7 +2,7 @@ use Rattle.std.proofs.Common.{◌∙◌, sym, ap, subst}
 use Rattle.mpm_bdos.specs.Jobs.{call_turns}
 use Rattle.mpm_bdos.specs.Serving.{Kept, Serves}
 use Rattle.mpm_bdos.specs.Answering.{HasEntered}
-use Rattle.mpm_bdos.proofs.Answerable.{entered_answers}
+use Rattle.mpm_bdos.proofs.Answerable.{entered_answers, of_served_drive}
 use Rattle.mpm_bdos.proofs.FinishLaws.{uncached, comes_still}
 use Rattle.mpm_bdos.proofs.Started.{nothing_some}
 use Rattle.mpm_bdos.proofs.bdos.Bdos.reply.Goals as goal
@@ -34,3 +34,8 @@ returns-in-Some-clause-may c = λ caller function call entered.
 pub returns-in-None-clause-may : goal.returns-in-None-clause-may
 returns-in-None-clause-may c = λ caller function call entered.
     absurd (subst (HasEntered caller function call) (ap (λ (kept : Kept). kept.service) (sym c.self.view_is) ∙ sym c.take.ensures.value ∙ c.in-None.is) entered)
+
+pub returns-in-Some-clause-drive : goal.returns-in-Some-clause-drive
+returns-in-Some-clause-drive c = λ drive served.
+    of_served_drive drive c.in-Some.service c.args.self.now.service c.reply_service.result
+    (ap (λ (kept : Kept). kept.service) (sym c.self.view_is) ∙ sym c.take.ensures.value ∙ c.in-Some.is) served c.reply_service.ensures.drive
