@@ -11,13 +11,13 @@ use Rattle.mpm_generator.specs.Images.{image_of}
 abbrev pub name_of_image : List ℕ
 name_of_image = codes "a"
 
--- two consoles, a tick each thousand steps, two segments of all pages, and drive A
+-- two consoles, a tick each thousand steps, turns of the disk of twenty steps, two segments of all pages, and drive A
 abbrev pub machine : MachineFile
 machine = record {
   consoles = 2;
   printers = 0;
   tick_every = 1000;
-  disk_turn = 0;
+  disk_turn = 20;
   date = 1;
   hour = 0;
   minute = 0;

@@ -61,7 +61,7 @@ fn machine(alloc: Global) -> Result<MachineFile, OutOfMemory>
         consoles: 2,
         printers: 0,
         tick_every: 1000,
-        disk_turn: 0,
+        disk_turn: 20,
         date: 1,
         hour: 0,
         minute: 0,

@@ -1,10 +1,10 @@
 -- What a change of the kernel leaves of a process, whoever makes it: whether it lives, where, whether its end is put off, the
--- function that it called last, and its error mode, but where that function sets it.
-use Rattle.std.proofs.Common.{◌≡◌, ◌≢◌, ◌∙◌, ℕ, ◌≤◌, List, length, inl, inr, refl, sym, ap, get_or-set_other}
+-- function that it called last, and its error mode and multi-sector count, but where that function sets it.
+use Rattle.std.proofs.Common.{◌≡◌, ◌≢◌, ◌∙◌, ℕ, ◌≤◌, List, length, inl, inr, sym, ap, get_or-set_other}
 use Rattle.std.proofs.lemmas.Bool.{cases_eq, cases_lt}
 use Rattle.std.proofs.lemmas.List.{set_past}
 use Rattle.mpm_base.specs.Calls.{Taken, no_call}
-use Rattle.mpm_base.specs.declared.functions.TheConstants.{SET_BDOS_ERROR_MODE}
+use Rattle.mpm_base.specs.declared.functions.TheConstants.{SET_MULTI_SECTOR_COUNT, SET_BDOS_ERROR_MODE}
 use Rattle.mpm_procs.specs.Table.{Table, lives, process_in, call_of, with_process, with_call, without}
 use Rattle.mpm_procs.specs.declared.process.Process.{Process}
 use Rattle.mpm_procs.proofs.MapLaws.{process_changed, process_kept, lives_changed, call_after, process_after, lives_after, call_changed, lives_without_other, process_without_other}
@@ -15,6 +15,7 @@ pub record StaysBeside (q : ℕ) (old new : Table) : Type 0 where
   pub due : (process_in new q).abort_due ≡ (process_in old q).abort_due
   pub function : (call_of new q).function ≡ (call_of old q).function
   pub answers : (call_of old q).function ≢ SET_BDOS_ERROR_MODE → (process_in new q).error_mode ≡ (process_in old q).error_mode
+  pub multi : (call_of old q).function ≢ SET_MULTI_SECTOR_COUNT → (process_in new q).multi ≡ (process_in old q).multi
 
 pub beside_same : (q : ℕ) (old new : Table) → new ≡ old → StaysBeside q old new
 beside_same q old new e = record {
@@ -23,6 +24,7 @@ beside_same q old new e = record {
   due = ap (λ procs. (process_in procs q).abort_due) e;
   function = ap (λ procs. (call_of procs q).function) e;
   answers = λ _. ap (λ procs. (process_in procs q).error_mode) e;
+  multi = λ _. ap (λ procs. (process_in procs q).multi) e;
 }
 
 pub beside_both : (q : ℕ) (old middle new : Table) → StaysBeside q old middle → StaysBeside q middle new → StaysBeside q old new
@@ -32,6 +34,7 @@ beside_both q old middle new first second = record {
   due = second.due ∙ first.due;
   function = second.function ∙ first.function;
   answers = λ other. second.answers (λ is. other (sym first.function ∙ is)) ∙ first.answers other;
+  multi = λ other. second.multi (λ is. other (sym first.function ∙ is)) ∙ first.multi other;
 }
 
 -- a process is another one: a field of each that is as before in it, is as before
@@ -54,24 +57,24 @@ field_kept field procs p q process same = elim (cases_eq q p) [
   | inr other ↦ ap field (process_kept procs p q process other)
 ]
 
-mode_kept : (procs : Table) (p q : ℕ) (process : Process)
-    → ((call_of procs p).function ≢ SET_BDOS_ERROR_MODE → process.error_mode ≡ (process_in procs p).error_mode)
-    → (call_of procs q).function ≢ SET_BDOS_ERROR_MODE → (process_in (with_process procs p process) q).error_mode ≡ (process_in procs q).error_mode
-mode_kept procs p q process mode sets = elim (cases_eq q p) [
-  | inl equal ↦
-      field_kept (λ (x : Process). x.error_mode) procs p q process
-      (mode (λ is. sets (ap (λ n. (call_of procs n).function) equal ∙ is)))
-  | inr other ↦ ap (λ (x : Process). x.error_mode) (process_kept procs p q process other)
+setting_kept : {X : Type 0} (field : Process → X) (setter : ℕ) (procs : Table) (p q : ℕ) (process : Process)
+    → ((call_of procs p).function ≢ setter → field process ≡ field (process_in procs p))
+    → (call_of procs q).function ≢ setter → field (process_in (with_process procs p process) q) ≡ field (process_in procs q)
+setting_kept field setter procs p q process kept sets = elim (cases_eq q p) [
+  | inl equal ↦ field_kept field procs p q process (kept (λ is. sets (ap (λ n. (call_of procs n).function) equal ∙ is)))
+  | inr other ↦ ap field (process_kept procs p q process other)
 ]
 
 pub beside_changed : (procs : Table) (p q : ℕ) (process : Process) → process.seg ≡ (process_in procs p).seg → process.abort_due ≡ (process_in procs p).abort_due
-    → ((call_of procs p).function ≢ SET_BDOS_ERROR_MODE → process.error_mode ≡ (process_in procs p).error_mode) → StaysBeside q procs (with_process procs p process)
-beside_changed procs p q process seg due mode = record {
+    → ((call_of procs p).function ≢ SET_BDOS_ERROR_MODE → process.error_mode ≡ (process_in procs p).error_mode)
+    → ((call_of procs p).function ≢ SET_MULTI_SECTOR_COUNT → process.multi ≡ (process_in procs p).multi) → StaysBeside q procs (with_process procs p process)
+beside_changed procs p q process seg due mode multi = record {
   living = lives_changed procs p q process;
   seg = field_kept (λ (x : Process). x.seg) procs p q process seg;
   due = field_kept (λ (x : Process). x.abort_due) procs p q process due;
   function = ap (λ (call : Taken). call.function) (call_after procs p q process);
-  answers = mode_kept procs p q process mode;
+  answers = setting_kept (λ (x : Process). x.error_mode) SET_BDOS_ERROR_MODE procs p q process mode;
+  multi = setting_kept (λ (x : Process). x.multi) SET_MULTI_SECTOR_COUNT procs p q process multi;
 }
 
 -- whoever it is, where another one changes
@@ -84,6 +87,7 @@ beside_other procs p q process other =
       due = ap (λ (x : Process). x.abort_due) same;
       function = ap (λ (call : Taken). call.function) (call_after procs p q process);
       answers = λ _. ap (λ (x : Process). x.error_mode) same;
+      multi = λ _. ap (λ (x : Process). x.multi) same;
     }
 
 -- a process keeps a call of the same function
@@ -114,6 +118,7 @@ beside_call procs p q call same = record {
   due = ap (λ (x : Process). x.abort_due) (process_after procs p q call);
   function = function_kept procs p q call same;
   answers = λ _. ap (λ (x : Process). x.error_mode) (process_after procs p q call);
+  multi = λ _. ap (λ (x : Process). x.multi) (process_after procs p q call);
 }
 
 -- where another one keeps it, whatever it calls
@@ -124,6 +129,7 @@ beside_others_call procs p q call other = record {
   due = ap (λ (x : Process). x.abort_due) (process_after procs p q call);
   function = ap (λ (x : Taken). x.function) (call_beside procs p q call other);
   answers = λ _. ap (λ (x : Process). x.error_mode) (process_after procs p q call);
+  multi = λ _. ap (λ (x : Process). x.multi) (process_after procs p q call);
 }
 
 -- another one is gone
@@ -141,4 +147,5 @@ beside_gone procs p q other =
       due = ap (λ (x : Process). x.abort_due) same;
       function = ap (λ (x : Taken). x.function) (call_without_other procs p q other);
       answers = λ _. ap (λ (x : Process). x.error_mode) same;
+      multi = λ _. ap (λ (x : Process). x.multi) same;
     }

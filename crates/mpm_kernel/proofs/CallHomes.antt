@@ -28,7 +28,7 @@ use Rattle.mpm_queues.proofs.SoundLaws.{reader_waits}
 use Rattle.mpm_queues.proofs.WaitLaws.{waits_one}
 use Rattle.mpm_dispatcher.specs.Dispatch.{with_other, lists_ready, also_completed, behind_equals, with_priority, with_procs}
 use Rattle.mpm_kernel.specs.Queueing.{with_queue, queue_made, opened, may_delete, deleted, queued, blocked_or_refused, taken_from, was_read, read_at, given_to, was_written, write_at}
-use Rattle.mpm_base.specs.declared.functions.TheConstants.{SET_BDOS_ERROR_MODE}
+use Rattle.mpm_base.specs.declared.functions.TheConstants.{SET_MULTI_SECTOR_COUNT, SET_BDOS_ERROR_MODE}
 use Rattle.mpm_kernel.proofs.Beside.{StaysBeside, beside_same, beside_both, beside_changed, beside_call}
 use Rattle.mpm_kernel.proofs.Homes.{SameHomes, homes_stay, homes_both, homes_changed, homes_call}
 
@@ -59,11 +59,12 @@ kept_same kernel called e count = record {
 pub kept_changed : (p value : ℕ) (kernel : Kernel) (process : Process) → IsSound kernel → Lives kernel.dispatcher.procs p
     → process.seg ≡ (process_in kernel.dispatcher.procs p).seg → process.abort_due ≡ (process_in kernel.dispatcher.procs p).abort_due
     → ((call_of kernel.dispatcher.procs p).function ≢ SET_BDOS_ERROR_MODE → process.error_mode ≡ (process_in kernel.dispatcher.procs p).error_mode)
+    → ((call_of kernel.dispatcher.procs p).function ≢ SET_MULTI_SECTOR_COUNT → process.multi ≡ (process_in kernel.dispatcher.procs p).multi)
     → KeepsHome kernel (valued value (with_changed kernel p process))
-kept_changed p value kernel process s h same due mode = record {
+kept_changed p value kernel process s h same due mode multi = record {
   homes = homes_changed kernel p process s.slots h same due;
   call = λ q _. call_after kernel.dispatcher.procs p q process;
-  beside = λ q. beside_changed kernel.dispatcher.procs p q process same due mode;
+  beside = λ q. beside_changed kernel.dispatcher.procs p q process same due mode multi;
   consoles = refl;
 }
 
@@ -96,7 +97,7 @@ kept_priority p value priority kernel s h =
     record {
       homes = homes_both kernel (with_changed kernel p process) _ (homes_changed kernel p process s.slots h refl refl) (homes_stay _ _ refl);
       call = λ q _. call_after kernel.dispatcher.procs p q process;
-      beside = λ q. beside_changed kernel.dispatcher.procs p q process refl refl (λ _. refl);
+      beside = λ q. beside_changed kernel.dispatcher.procs p q process refl refl (λ _. refl) (λ _. refl);
       consoles = refl;
     }
 
@@ -232,7 +233,7 @@ kept_inside p q message value old kernel s h same count =
           (homes_changed kernel p process (subst HasSlots (sym same) s.slots) (ap (λ procs. lives procs p) same ∙ h) refl refl);
       call = λ k _. call_after kernel.dispatcher.procs p k process ∙ ap (λ procs. call_of procs k) same;
       beside = λ k. beside_both k old.dispatcher.procs kernel.dispatcher.procs (with_changed kernel p process).dispatcher.procs
-          (beside_same k old.dispatcher.procs kernel.dispatcher.procs same) (beside_changed kernel.dispatcher.procs p k process refl refl (λ _. refl));
+          (beside_same k old.dispatcher.procs kernel.dispatcher.procs same) (beside_changed kernel.dispatcher.procs p k process refl refl (λ _. refl) (λ _. refl));
       consoles = count;
     }
 

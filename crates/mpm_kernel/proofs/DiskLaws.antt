@@ -1,18 +1,19 @@
 -- What a sound kernel stays through at the disk: a call waits, is served and is over.
-use Rattle.std.proofs.Common.{◌≡◌, ◌≢◌, ◌∙◌, ℕ, ◌<◌, ◌≤◌, true, false, Some, IfSome, inl, inr, refl, ap, arith}
-use Rattle.std.proofs.lemmas.Bool.{cases_eq}
+use Rattle.std.proofs.Common.{◌≡◌, ◌≢◌, ◌∙◌, ℕ, ◌<◌, ◌≤◌, ◌==◌, true, false, Option, Some, None, option_map, IfSome, if◌then◌else◌, inl, inr, refl, sym, ap, arith}
+use Rattle.std.proofs.lemmas.Bool.{cases_eq, eqb-true, ne_eqb}
 use Rattle.mpm_ready.specs.Order.{in_list}
 use Rattle.mpm_ready.proofs.TableLaws.{list_of_removed}
 use Rattle.mpm_procs.specs.Table.{lives, Lives, process_in}
 use Rattle.mpm_procs.proofs.MapLaws.{lives_below}
+use Rattle.mpm_service.specs.declared.service.Served.{Served}
 use Rattle.mpm_service.specs.declared.service.Turn.TheVariants.{Work}
 use Rattle.mpm_service.specs.Disk.{DiskService, no_service, entered, served_process, turned, turn_answer, begun}
 use Rattle.mpm_service.specs.Ahead.{passed_by, unserved}
-use Rattle.mpm_service.specs.Places.{at_disk}
+use Rattle.mpm_service.specs.Places.{is_call_of, at_disk, served_without, without_call}
 use Rattle.mpm_service.proofs.PlaceLaws.{at_none, at_entered, at_entered_other, at_turned, at_last, at_begun, at_passed, at_unserved, at_unserved_own, waits_not, served_not, without_absent}
 use Rattle.mpm_dispatcher.specs.Dispatch.{ready, IsReady, descheduled, lists_ready}
 use Rattle.mpm_kernel.specs.Kernel.{Kernel, places, IsSound, dispatched}
-use Rattle.mpm_kernel.specs.Disk.{with_disk, in_turns, waiting_for_disk, ready_again, IsOver}
+use Rattle.mpm_kernel.specs.Disk.{with_disk, is_served, in_turns, waiting_for_disk, ready_again, IsOver}
 use Rattle.mpm_kernel.specs.Ending.{discharged}
 use Rattle.mpm_kernel.proofs.DiskStays.{disk_discharged}
 use Rattle.mpm_kernel.proofs.PlaceLaws.{in_none, list_moved}
@@ -65,6 +66,35 @@ ready_waits_not kernel p s is_ready = waits_not kernel.disk p (ready_not_at_disk
 
 pub ready_served_not : (kernel : Kernel) (p : ℕ) → IsSound kernel → IsReady kernel.dispatcher p → IfSome kernel.disk.served (λ call. call.p ≢ p)
 ready_served_not kernel p s is_ready = served_not kernel.disk p (ready_not_at_disk kernel p s is_ready)
+
+-- whether a process is served, by whom the disk serves
+served_by : (served : Option Served) (p q : ℕ) → option_map (λ call. call.p) served ≡ Some q → is_call_of p served ≡ (q == p)
+served_by None p q is = absurd (cc)
+served_by (Some call) p q is = ap (λ (k : ℕ). k == p) cc
+
+pub served_is : (kernel : Kernel) (p q : ℕ) → served_process kernel.disk ≡ Some q → is_served kernel p ≡ (q == p)
+unfolding served_process
+served_is kernel p q is = served_by kernel.disk.served p q is
+
+served_by_none : (served : Option Served) (p : ℕ) → option_map (λ call. call.p) served ≡ None → is_call_of p served ≡ false
+served_by_none None p is = refl
+served_by_none (Some call) p is = absurd (cc)
+
+pub served_none : (kernel : Kernel) (p : ℕ) → served_process kernel.disk ≡ None → is_served kernel p ≡ false
+unfolding served_process
+served_none kernel p is = served_by_none kernel.disk.served p is
+
+-- who ends leaves the service of another
+still_served : (served : Option Served) (p q : ℕ) → q ≢ p → is_call_of q served ≡ true → is_call_of q (served_without p served) ≡ true
+still_served None p q other is = is
+still_served (Some call) p q other is =
+    let apart : (call.p == p) ≡ false = ne_eqb call.p p (λ same. other (sym (eqb-true call.p q is) ∙ same)) in
+    ap (λ b. is_call_of q (if b then None else (Some call))) apart ∙ is
+
+pub served_discharged : (kernel : Kernel) (p q : ℕ) → q ≢ p → is_served kernel q ≡ true → is_served (discharged kernel p) q ≡ true
+unfolding without_call
+served_discharged kernel p q other is =
+    ap (λ (disk : DiskService). is_call_of q disk.served) (disk_discharged kernel p) ∙ still_served kernel.disk.served p q other is
 
 -- so the end of one who is ready leaves the disk as it is
 pub disk_ended : (kernel : Kernel) (p : ℕ) → IsSound kernel → IsReady kernel.dispatcher p → (discharged kernel p).disk ≡ kernel.disk

@@ -471,6 +471,10 @@ unfolding discharged
 call_discharged kernel p q s h other none =
     call_without_other (relieved p kernel).dispatcher.procs p q other ∙ (keeps_relieved p q kernel s h other).call none
 
+pub call_given_back : (p q : ℕ) (kernel : Kernel) → IsSound kernel → Lives kernel.dispatcher.procs p → q ≢ p → waits kernel.queues q ≡ 0
+    → call_of (given_back p kernel).dispatcher.procs q ≡ call_of kernel.dispatcher.procs q
+call_given_back p q kernel s h other none = (keeps_given_back p q kernel s h other).call none
+
 -- what a process that leaves its resident procedure, or ends, leaves of each other one
 pub beside_given_back : (p q : ℕ) (kernel : Kernel) → IsSound kernel → Lives kernel.dispatcher.procs p → q ≢ p
     → StaysBeside q kernel.dispatcher.procs (given_back p kernel).dispatcher.procs

@@ -7,7 +7,7 @@ use Rattle.std.proofs.lemmas.List.{length-set}
 use Rattle.mpm_base.specs.Lists.{is_among}
 use Rattle.mpm_base.proofs.Choices.{either}
 use Rattle.mpm_base.specs.Calls.{Taken, word_at}
-use Rattle.mpm_base.specs.declared.functions.TheConstants.{SET_BDOS_ERROR_MODE, CALL_RESIDENT_SYSTEM_PROCEDURE}
+use Rattle.mpm_base.specs.declared.functions.TheConstants.{SET_MULTI_SECTOR_COUNT, SET_BDOS_ERROR_MODE, CALL_RESIDENT_SYSTEM_PROCEDURE}
 use Rattle.mpm_procs.specs.Table.{HasSlots, lives, Lives, process_in, call_of, with_process}
 use Rattle.mpm_procs.specs.declared.process.Process.{Process}
 use Rattle.mpm_procs.proofs.MapLaws.{lives_changed, call_after}
@@ -62,19 +62,19 @@ kept_call_done call p kernel s h own =
             (
               λ _. same _ refl refl,
               (
-                λ _. kept_changed p 0 kernel _ s h refl refl (λ _. refl),
+                λ _. kept_changed p 0 kernel _ s h refl refl (λ _. refl) (λ _. refl),
                 (
-                  λ _. kept_changed p _ kernel _ s h refl refl (λ _. refl),
+                  λ _. kept_changed p _ kernel _ s h refl refl (λ _. refl) (λ _. refl),
                   (
-                    λ _. kept_changed p _ kernel _ s h refl refl (λ _. refl),
+                    λ is. kept_changed p _ kernel _ s h refl refl (λ _. refl) (λ sets. absurd (sets (ap (λ (x : Taken). x.function) (sym own) ∙ only SET_MULTI_SECTOR_COUNT call.function is))),
                     (
-                      λ is. kept_changed p 0 kernel _ s h refl refl (λ sets. absurd (sets (ap (λ (x : Taken). x.function) (sym own) ∙ only SET_BDOS_ERROR_MODE call.function is))),
+                      λ is. kept_changed p 0 kernel _ s h refl refl (λ sets. absurd (sets (ap (λ (x : Taken). x.function) (sym own) ∙ only SET_BDOS_ERROR_MODE call.function is))) (λ _. refl),
                       (
                         λ _. kept_date_set call kernel,
                         (
                           λ _. same _ (procs_date_answered call kernel) (consoles_date_answered call kernel),
                           (
-                            λ _. kept_changed p 0 kernel _ s h refl refl (λ _. refl),
+                            λ _. kept_changed p 0 kernel _ s h refl refl (λ _. refl) (λ _. refl),
                             (
                               λ _. kept_polled call p kernel,
                               (
@@ -211,12 +211,13 @@ record HandedFrom (old new : Kernel) : Type 0 where
   pub seg : (q : ℕ) → (process_in new.dispatcher.procs q).seg ≡ (process_in old.dispatcher.procs q).seg
   pub due : (q : ℕ) → (process_in new.dispatcher.procs q).abort_due ≡ (process_in old.dispatcher.procs q).abort_due
   pub answers : (q : ℕ) → (process_in new.dispatcher.procs q).error_mode ≡ (process_in old.dispatcher.procs q).error_mode
+  pub multi : (q : ℕ) → (process_in new.dispatcher.procs q).multi ≡ (process_in old.dispatcher.procs q).multi
   pub units : new.units ≡ old.units
   pub queues : new.queues ≡ old.queues
   pub completed : new.dispatcher.completed ≡ old.dispatcher.completed
 
 handed_same : (kernel : Kernel) → HandedFrom kernel kernel
-handed_same kernel = record { lives = λ q. refl; call = λ q. refl; seg = λ q. refl; due = λ q. refl; answers = λ q. refl; units = refl; queues = refl; completed = refl }
+handed_same kernel = record { lives = λ q. refl; call = λ q. refl; seg = λ q. refl; due = λ q. refl; answers = λ q. refl; multi = λ q. refl; units = refl; queues = refl; completed = refl }
 
 -- a process is another one, whose end by an abort is put off as before
 pub aborted_changed : (kernel : Kernel) (p q : ℕ) (process : Process) → process.abort_due ≡ (process_in kernel.dispatcher.procs p).abort_due
@@ -236,6 +237,7 @@ handed_inside (Some k) p message kernel =
       seg = λ q. field_kept (λ (x : Process). x.seg) kernel.dispatcher.procs p q process refl;
       due = λ q. field_kept (λ (x : Process). x.abort_due) kernel.dispatcher.procs p q process refl;
       answers = λ q. field_kept (λ (x : Process). x.error_mode) kernel.dispatcher.procs p q process refl;
+      multi = λ q. field_kept (λ (x : Process). x.multi) kernel.dispatcher.procs p q process refl;
       units = refl;
       queues = refl;
       completed = refl;
@@ -267,7 +269,7 @@ aborted_handed_out kernel q = aborted_same kernel.dispatcher.procs (handed_out k
 pub beside_handed_out : (q : ℕ) (kernel : Kernel) → StaysBeside q kernel.dispatcher.procs (handed_out kernel).dispatcher.procs
 beside_handed_out q kernel =
     let from = handed_from kernel in
-    record { living = from.lives q; seg = from.seg q; due = from.due q; function = ap (λ (x : Taken). x.function) (from.call q); answers = λ _. from.answers q }
+    record { living = from.lives q; seg = from.seg q; due = from.due q; function = ap (λ (x : Taken). x.function) (from.call q); answers = λ _. from.answers q; multi = λ _. from.multi q }
 
 pub units_handed_out : (kernel : Kernel) → (handed_out kernel).units ≡ kernel.units
 units_handed_out kernel = (handed_from kernel).units

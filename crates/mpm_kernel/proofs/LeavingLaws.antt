@@ -155,3 +155,10 @@ owns_none p kernel s (ConsoleUnit n) has =
     all.kept (ConsoleUnit n) (none_of_consoles p (length kernel.units.consoles) n kernel s (omega arith) (omega (arith, has, all.consoles, first.consoles)))
 owns_none p kernel s (PrinterUnit n) has =
     no_printers p n kernel s has
+
+-- as many are there after each
+pub count_consoles_left : (p n : ℕ) (kernel : Kernel) → IsSound kernel → n ≤ length kernel.units.consoles → length (consoles_left p n kernel).units.consoles ≡ length kernel.units.consoles
+count_consoles_left p n kernel s few = (left_consoles p n kernel s few).consoles
+
+pub count_printers_left : (p n : ℕ) (kernel : Kernel) → IsSound kernel → n ≤ length kernel.units.printers → length (printers_left p n kernel).units.printers ≡ length kernel.units.printers
+count_printers_left p n kernel s few = (left_printers p n kernel s few).printers

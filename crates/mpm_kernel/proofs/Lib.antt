@@ -5,6 +5,7 @@ pub mod UnitWaits
 pub mod UnitCounts
 pub mod UnitLaws
 pub mod Soundness
+pub mod AwaitingLaws
 pub mod Passing
 pub mod LeavingLaws
 pub mod ChangeLaws
@@ -29,6 +30,8 @@ pub mod UnitHomes
 pub mod HomeLaws
 pub mod ProcedureLaws
 pub mod EndingLaws
+pub mod AwaitingCalls
+pub mod AwaitingEnds
 pub mod HoldingLaws
 pub mod OutcomeLaws
 pub mod EnsuredLaws

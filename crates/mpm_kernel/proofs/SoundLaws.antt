@@ -196,9 +196,11 @@ record Woke (kernel : Kernel) : Type 0 where
   pub completed : CompletedLive kernel
 
 -- who waits for a flag lives, and waits for nothing else
+pub waiter_waits : (kernel : Kernel) (flag q : ℕ) → IsSound kernel → flag < 32 → flag_at kernel.flags flag ≡ Waits q → 0 < waits_of kernel q
+waiter_waits kernel flag q s below is = omega (arith, flags_from kernel flag (Waits q) Clear q s below is, waiter_own q q refl)
+
 pub waiter_lives : (kernel : Kernel) (flag q : ℕ) → IsSound kernel → flag < 32 → flag_at kernel.flags flag ≡ Waits q → Lives kernel.dispatcher.procs q
-waiter_lives kernel flag q s below is =
-    s.live q (omega (arith, flags_from kernel flag (Waits q) Clear q s below is, waiter_own q q refl))
+waiter_lives kernel flag q s below is = s.live q (omega (arith, waiter_waits kernel flag q s below is))
 
 woke_by : (state : Flag) (flag : ℕ) (kernel : Kernel) → IsSound kernel → CompletedLive kernel → flag < 32 → flag_at kernel.flags flag ≡ state
     → Woke (with_woken (set_answer state) (record kernel { flags = with_flag kernel.flags flag (after_set state) }))

@@ -541,7 +541,7 @@ sound_fewer kernel flags clock queues s size are fewer = record {
 }
 
 -- a ready process is put behind its equals
-turned : (kernel : Kernel) (p : ℕ) → IsReady kernel.dispatcher p → dispatched (behind_equals p) kernel ≡ dispatched (moved ready p) kernel
+pub turned : (kernel : Kernel) (p : ℕ) → IsReady kernel.dispatcher p → dispatched (behind_equals p) kernel ≡ dispatched (moved ready p) kernel
 unfolding reinserted
 turned kernel p is_ready =
     let priority = (process_in kernel.dispatcher.procs p).priority in

@@ -12,7 +12,7 @@ use Rattle.mpm_kernel.specs.Called.{Called, valued, low_parameter}
 use Rattle.mpm_kernel.specs.Calls.{called}
 use Rattle.std.specs.Prelude.{nat_lt}
 use Rattle.mpm_base.proofs.Choices.{either}
-use Rattle.mpm_base.specs.declared.functions.TheConstants.{SET_BDOS_ERROR_MODE, CONSOLE_INPUT, RAW_CONSOLE_INPUT, DIRECT_CONSOLE_IO, READ_CONSOLE_BUFFER, GET_CONSOLE_STATUS}
+use Rattle.mpm_base.specs.declared.functions.TheConstants.{SET_MULTI_SECTOR_COUNT, SET_BDOS_ERROR_MODE, CONSOLE_INPUT, RAW_CONSOLE_INPUT, DIRECT_CONSOLE_IO, READ_CONSOLE_BUFFER, GET_CONSOLE_STATUS}
 use Rattle.mpm_queues.proofs.Finding.{lowest_passes}
 use Rattle.mpm_consoles.specs.Consoles.{Consoles, console_at}
 use Rattle.mpm_consoles.specs.Handling.{may_attach, gate_wait_begun, first_taken, raw_set, spoke as spoke_units}
@@ -69,10 +69,11 @@ kept_detached p unit kernel = kept_same kernel _ refl (many_left p unit kernel).
 kept_left_changed : (p : ℕ) (unit : Unit) (process : Process) (kernel : Kernel) → IsSound kernel → Lives kernel.dispatcher.procs p
     → process.seg ≡ (process_in kernel.dispatcher.procs p).seg → process.abort_due ≡ (process_in kernel.dispatcher.procs p).abort_due
     → ((call_of kernel.dispatcher.procs p).function ≢ SET_BDOS_ERROR_MODE → process.error_mode ≡ (process_in kernel.dispatcher.procs p).error_mode)
+    → ((call_of kernel.dispatcher.procs p).function ≢ SET_MULTI_SECTOR_COUNT → process.multi ≡ (process_in kernel.dispatcher.procs p).multi)
     → KeepsHome kernel (valued 0 (with_changed (unit_left p unit kernel) p process))
 unfolding unit_left
-kept_left_changed p unit process kernel s h same due mode =
-    kept_procs kernel (with_changed kernel p process) _ (kept_changed p 0 kernel process s h same due mode) refl (many_left p unit kernel).consoles
+kept_left_changed p unit process kernel s h same due mode multi =
+    kept_procs kernel (with_changed kernel p process) _ (kept_changed p 0 kernel process s h same due mode multi) refl (many_left p unit kernel).consoles
 
 queues_left : (p : ℕ) (unit : Unit) (kernel : Kernel) → (unit_left p unit kernel).queues ≡ kernel.queues
 unfolding unit_left
@@ -85,7 +86,7 @@ kept_console_set call p kernel s h =
     let process = process_in kernel.dispatcher.procs p in
     kept_if kernel (nat_lt console (length kernel.units.consoles)) _ _
     (kept_then kernel _ _
-    (kept_kernel_if kernel (process.console == console) _ _ 0 (kept_same kernel _ refl refl) (kept_left_changed p (ConsoleUnit process.console) _ kernel s h refl refl (λ _. refl)))
+    (kept_kernel_if kernel (process.console == console) _ _ 0 (kept_same kernel _ refl refl) (kept_left_changed p (ConsoleUnit process.console) _ kernel s h refl refl (λ _. refl) (λ _. refl)))
     (either (λ (k : Kernel). k.queues ≡ kernel.queues) (process.console == console) _ _ (λ _. refl) (λ _. queues_left p (ConsoleUnit process.console) kernel))
     (kept_attached p (ConsoleUnit console) _))
     (kept_same kernel _ refl refl)
@@ -97,7 +98,7 @@ kept_printer_set call p kernel s h =
     let process = process_in kernel.dispatcher.procs p in
     kept_if kernel (nat_lt printer (length kernel.units.printers)) _ _
     (kept_then kernel _ _
-    (kept_kernel_if kernel (process.printer == printer) _ _ 0 (kept_same kernel _ refl refl) (kept_left_changed p (PrinterUnit process.printer) _ kernel s h refl refl (λ _. refl)))
+    (kept_kernel_if kernel (process.printer == printer) _ _ 0 (kept_same kernel _ refl refl) (kept_left_changed p (PrinterUnit process.printer) _ kernel s h refl refl (λ _. refl) (λ _. refl)))
     (either (λ (k : Kernel). k.queues ≡ kernel.queues) (process.printer == printer) _ _ (λ _. refl) (λ _. queues_left p (PrinterUnit process.printer) kernel))
     (kept_attached p (PrinterUnit printer) _))
     (kept_same kernel _ refl refl)
@@ -107,7 +108,7 @@ unfolding assigned_to owner_made
 kept_assigned_to None call kernel s live = kept_same kernel _ refl refl
 kept_assigned_to (Some to) call kernel s live =
     kept_if kernel (is_meant call (process_in kernel.dispatcher.procs to)) _ _
-    (kept_procs kernel (with_changed kernel to (record (process_in kernel.dispatcher.procs to) { console = byte_in call 0 })) _ (kept_changed to 0 kernel _ s (live to refl) refl refl (λ _. refl)) refl (many_assigned kernel.units (byte_in call 0) to).consoles)
+    (kept_procs kernel (with_changed kernel to (record (process_in kernel.dispatcher.procs to) { console = byte_in call 0 })) _ (kept_changed to 0 kernel _ s (live to refl) refl refl (λ _. refl) (λ _. refl)) refl (many_assigned kernel.units (byte_in call 0) to).consoles)
     (kept_same kernel _ refl refl)
 
 first_true : (b c : Bool) → (b && c) ≡ true → b ≡ true
@@ -203,24 +204,25 @@ kept_direct call p console kernel =
 kept_process : (p : ℕ) (kernel : Kernel) (process : Process) (called : Called) → HasSlots kernel.dispatcher.procs → Lives kernel.dispatcher.procs p
     → process.seg ≡ (process_in kernel.dispatcher.procs p).seg → process.abort_due ≡ (process_in kernel.dispatcher.procs p).abort_due
     → ((call_of kernel.dispatcher.procs p).function ≢ SET_BDOS_ERROR_MODE → process.error_mode ≡ (process_in kernel.dispatcher.procs p).error_mode)
+    → ((call_of kernel.dispatcher.procs p).function ≢ SET_MULTI_SECTOR_COUNT → process.multi ≡ (process_in kernel.dispatcher.procs p).multi)
     → called.kernel.dispatcher.procs ≡ with_process kernel.dispatcher.procs p process
     → length called.kernel.units.consoles ≡ length kernel.units.consoles → KeepsHome kernel called
-kept_process p kernel process called slots h same due mode e count = record {
+kept_process p kernel process called slots h same due mode multi e count = record {
   homes = homes_both kernel (with_changed kernel p process) called.kernel (homes_changed kernel p process slots h same due) (homes_stay (with_changed kernel p process) called.kernel e);
   call = λ q _. ap (λ procs. call_of procs q) e ∙ call_after kernel.dispatcher.procs p q process;
   beside = λ q. beside_both q kernel.dispatcher.procs (with_process kernel.dispatcher.procs p process) called.kernel.dispatcher.procs
-      (beside_changed kernel.dispatcher.procs p q process same due mode) (beside_same q (with_process kernel.dispatcher.procs p process) called.kernel.dispatcher.procs e);
+      (beside_changed kernel.dispatcher.procs p q process same due mode multi) (beside_same q (with_process kernel.dispatcher.procs p process) called.kernel.dispatcher.procs e);
   consoles = count;
 }
 
 kept_line_done : (call : Taken) (p : ℕ) (kernel : Kernel) → HasSlots kernel.dispatcher.procs → Lives kernel.dispatcher.procs p → KeepsHome kernel (line_done call p kernel)
 unfolding line_done
-kept_line_done call p kernel slots h = kept_process p kernel _ _ slots h refl refl (λ _. refl) refl refl
+kept_line_done call p kernel slots h = kept_process p kernel _ _ slots h refl refl (λ _. refl) (λ _. refl) refl refl
 
 kept_joined : (call : Taken) (p console key : ℕ) (kernel : Kernel) → HasSlots kernel.dispatcher.procs → Lives kernel.dispatcher.procs p
     → KeepsHome kernel (valued 0 (key_joined call p console key kernel))
 unfolding key_joined echoed spoke
-kept_joined call p console key kernel slots h = kept_process p kernel _ _ slots h refl refl (λ _. refl) refl (consoles_spoken kernel.units console _)
+kept_joined call p console key kernel slots h = kept_process p kernel _ _ slots h refl refl (λ _. refl) (λ _. refl) refl (consoles_spoken kernel.units console _)
 
 joined_rest : (call : Taken) (p console key : ℕ) (kernel : Kernel) → HasSlots kernel.dispatcher.procs → Lives kernel.dispatcher.procs p
     → ((key_joined call p console key kernel).queues ≡ kernel.queues)

@@ -1,8 +1,9 @@
 -- File calls at the disk, which serves one after the other in turns: what becomes of the kernel as one waits, in each step of the
 -- disk, and as one is over. (The service in turns is this project's own; the order in which calls wait is that of the dispatcher:
 -- MP/M II Programmer's Guide, "Dispatcher".)
-use Rattle.std.specs.Prelude.{◌≡◌, ℕ, Some}
+use Rattle.std.specs.Prelude.{◌≡◌, ℕ, Bool, Some}
 use Rattle.mpm_service.specs.Disk.{DiskService, no_service, entered}
+use Rattle.mpm_service.specs.Places.{is_call_of}
 use Rattle.mpm_procs.specs.Table.{Lives, process_in}
 use Rattle.mpm_dispatcher.specs.Dispatch.{descheduled, made_ready}
 use Rattle.mpm_kernel.specs.Kernel.{Kernel, places, dispatched}
@@ -10,6 +11,10 @@ use Rattle.mpm_kernel.specs.Kernel.{Kernel, places, dispatched}
 -- the kernel with another service of the disk, by what becomes of it
 abbrev pub with_disk : (DiskService → DiskService) → Kernel → Kernel
 with_disk f kernel = record kernel { disk = f kernel.disk }
+
+-- the call of a process is in service
+abbrev pub is_served : Kernel → ℕ → Bool
+is_served kernel p = is_call_of p kernel.disk.served
 
 -- the disk serves in turns of so many steps, and serves nobody yet
 abbrev pub in_turns : ℕ → Kernel → Kernel

@@ -13,3 +13,4 @@ pub mod Ending
 pub mod Calls
 pub mod Events
 pub mod Lending
+pub mod Awaiting

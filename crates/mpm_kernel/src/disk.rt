@@ -11,7 +11,7 @@ impl Kernel {
     ghost use Rattle.mpm_procs.specs.Table.{Lives};
     ghost use Rattle.mpm_dispatcher.specs.Dispatch.{IsReady};
     ghost use Rattle.mpm_kernel.specs.Kernel.{IsSound};
-    ghost use Rattle.mpm_kernel.specs.Disk.{with_disk, in_turns, waiting_for_disk, ready_again, IsOver};
+    ghost use Rattle.mpm_kernel.specs.Disk.{with_disk, is_served, in_turns, waiting_for_disk, ready_again, IsOver};
 
     /// The disk serves in turns of so many steps, where `Kernel::new` lets no call wait for it. It is called before any does.
     pub fn set_disk_turn(&mut self, turn_steps: u32)
@@ -33,6 +33,17 @@ impl Kernel {
         ensures { result.now ≡ self.now.disk }
     {
         &self.disk
+    }
+
+    /// Whether the call of a process is in service.
+    #[tactic(auto, using(crate::proofs::DiskLaws::served_is, crate::proofs::DiskLaws::served_none))]
+    pub fn is_served(&self, p: Pid) -> bool
+        ensures { result ≡ is_served self.now p }
+    {
+        match self.disk.serving() {
+            Some(served) => served == p,
+            None => false,
+        }
     }
 
     /// The file call of a ready process waits for the disk from now on, behind all of equal or better priority: the process runs no

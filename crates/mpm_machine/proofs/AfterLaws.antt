@@ -1,5 +1,5 @@
 -- A machine as it begins: it is whole, and nobody is left to be handed out.
-use Rattle.std.proofs.Common.{◌∙◌, ℕ, zero, suc, ◌+◌, ◌≤◌, false, List, All, length, refl, sym, subst, arith, add-one}
+use Rattle.std.proofs.Common.{◌∙◌, ℕ, zero, suc, ◌+◌, ◌≤◌, false, List, All, length, refl, sym, ap, subst, arith, add-one}
 use Rattle.mpm_dispatcher.specs.Dispatch.{picked}
 use Rattle.mpm_script.specs.declared.event.Timed.{Timed}
 use Rattle.mpm_script.specs.Events.{IsTimed}
@@ -10,6 +10,7 @@ use Rattle.mpm_machine.specs.State.{IsWhole, NoCompletions}
 use Rattle.mpm_machine.specs.Opening.{with_terminals, begun_by_interpreter, with_interpreting, with_residents, booted, opened, opening_system}
 use Rattle.mpm_machine.proofs.PlacedLaws.{booted_is_bare, opening_is_bare}
 use Rattle.mpm_machine.proofs.OpeningLaws.{Begun, BegunSo, interpreting_begun, no_terminals, more_terminals, begun_none, begun_more, boots, whole_picked, no_completions_picked}
+use Rattle.mpm_service.specs.Disk.{DiskService}
 use Rattle.mpm_kernel.specs.Kernel.{dispatched}
 
 -- the openings
@@ -40,8 +41,10 @@ residents_begun file events is script =
       whole = all.whole;
       completed = all.completed ∙ first.completed;
       consoles = all.consoles ∙ first.consoles;
+      disk = all.disk ∙ first.disk;
       steps = all.steps ∙ first.steps;
       records = all.records ∙ first.records;
+      owed = all.owed ∙ first.owed;
     }
 
 pub opened_whole : (file : MachineFile) (events : List Timed) → IsMachine file → All IsTimed events → IsWhole (opened file events)
@@ -57,4 +60,4 @@ opened_handed file events is script =
     let bare = booted_is_bare file events is.some_console is.consoles is.printers (omega (arith, is.segments)) script in
     let begun = residents_begun file events is script in
     no_completions_picked afterwards (dispatched (picked false) afterwards.kernel) refl
-    (record { answered = begun.completed ∙ bare.no_completions.answered; written = begun.records ∙ bare.no_completions.written })
+    (record { answered = begun.completed ∙ bare.no_completions.answered; written = begun.records ∙ bare.no_completions.written; paid = λ idle. begun.owed ∙ bare.no_completions.paid (ap (λ (d : DiskService). d.served) (sym begun.disk) ∙ idle) })

@@ -44,12 +44,13 @@ use Rattle.mpm_kernel.specs.Consoling.{abort_taken}
 use Rattle.mpm_machine.specs.Residing.{native_outcome, calling_step, tells, telling_step, handing_step, native_step, resided}
 use Rattle.mpm_interrupts.specs.Interrupts.{due_taken}
 use Rattle.mpm_machine.specs.Finishing.{finished, completion_dequeued, finishing, all_finished, command_let_in, finished_or_ended, answered_from, all_answered}
-use Rattle.mpm_machine.specs.Due.{is_due, ended_if_due, due_terminated, with_ends, settled}
-use Rattle.mpm_machine.specs.Step.{instructed, illegal, executed, instruction_at, acted_at, gate_before, acted_by, acted, running_segment, coming, key_aborted, happened_to, event_come, interrupted, begun_by, with_settled, counted, step_of}
-use Rattle.mpm_machine.specs.Contained.{placed_reply, PlacesAt, WritesAt, IsWritten, IsIn, HandsAt, IsHanded, after_begun, Answers, AnswersAmong, AnswersOne, AnswersFrom, AnswersAtEnd, AnswersAtEnds, IsAnsweredAfter, IsContained}
+use Rattle.mpm_machine.specs.Due.{is_due, ended_if_due, due_terminated, with_ends}
+use Rattle.mpm_machine.specs.Step.{instructed, illegal, executed, instruction_at, acted_at, gate_before, acted_by, acted, running_segment, coming, key_aborted, happened_to, event_come, interrupted, begun_by, counted}
+use Rattle.mpm_machine.specs.Contained.{placed_reply, PlacesAt, WritesAt, IsWritten, IsIn, HandsAt, IsHanded, Answers, AnswersAmong, AnswersOne, AnswersFrom, AnswersAtEnd, AnswersAtEnds}
+use Rattle.mpm_machine.specs.Stepping.{begun_alone}
 use Rattle.mpm_machine.proofs.FinishLaws.{first_finished, left_completed, home_dequeued}
 use Rattle.mpm_machine.proofs.LoadingLaws.{changes_placing, changes_moving, changes_beginning}
-use Rattle.mpm_machine.proofs.WholeStepLaws.{whole_counted, whole_after_begun, whole_all_answered, whole_first, whole_first_answered, lives_dequeued, lives_in_time, whole_if_due, whole_due_end}
+use Rattle.mpm_machine.proofs.WholeStepLaws.{whole_first, whole_first_answered, lives_dequeued, lives_in_time, whole_if_due, whole_due_end}
 use Rattle.mpm_kernel.specs.Kernel.{is_resident}
 
 -- an end, and a call before its reply, change no byte
@@ -66,13 +67,13 @@ ended_alike p system = same_bytes_both system.memory (all_released system.memory
 aborted_alike : (p : ℕ) (system : System) → SameBytes system.memory (aborted p system).memory
 unfolding aborted memory_after_abort ended
 aborted_alike p system =
-    either (SameBytes system.memory) (is_resident system.kernel.dispatcher.procs p || waits_to_end system.kernel p false) _ _ (λ _. same_bytes_itself system.memory)
+    either (SameBytes system.memory) (is_resident system.kernel.dispatcher.procs p || waits_to_end system.kernel p) _ _ (λ _. same_bytes_itself system.memory)
     (λ _. ended_alike p system)
 
 aborting_alike : (named : Option ℕ) (p : ℕ) (system : System) → SameBytes system.memory (aborting_this named p system).system.memory
 aborting_alike None p system = same_bytes_itself system.memory
 aborting_alike (Some other) p system =
-    either (λ (s : Served). SameBytes system.memory s.system.memory) (other == p && not (waits_to_end system.kernel p false)) _ _
+    either (λ (s : Served). SameBytes system.memory s.system.memory) (other == p && not (waits_to_end system.kernel p)) _ _
     (λ _. same_bytes_itself system.memory) (λ _. aborted_alike other system)
 
 to_all_alike : (call : Taken) (p : ℕ) (system : System) → SameBytes system.memory (served_to_all call p system).system.memory
@@ -371,11 +372,11 @@ among_common (p ∷ ps) system seg at w e above none =
     among_common ps (first_finished p system) seg at (whole_first p system w first) (left_completed p ps system e) above (λ home later. none home (inr later))
     ∙ finished_common (process_in system.kernel.dispatcher.procs p).seg p (completion_dequeued system) seg at (lives_dequeued p system w first) (home_dequeued system p) above (λ home here. none home (inl here))
 
-answers_segments : (system : System) (seg at : ℕ) → IsWhole system → at < 49152 → (AnswersOne system seg at → ⊥)
+pub answers_segments : (system : System) (seg at : ℕ) → IsWhole system → at < 49152 → (AnswersOne system seg at → ⊥)
     → byte_at (all_finished system).memory seg at ≡ byte_at system.memory seg at
 answers_segments system seg at w below none = among_segments system.kernel.dispatcher.completed system seg at w refl below none
 
-answers_common : (system : System) (seg at : ℕ) → IsWhole system → 49152 ≤ at → ((home : ℕ) → AnswersOne system home at → ⊥)
+pub answers_common : (system : System) (seg at : ℕ) → IsWhole system → 49152 ≤ at → ((home : ℕ) → AnswersOne system home at → ⊥)
     → byte_at (all_finished system).memory seg at ≡ byte_at system.memory seg at
 answers_common system seg at w above none = among_common system.kernel.dispatcher.completed system seg at w refl above none
 
@@ -454,34 +455,31 @@ ends_common (p ∷ ps) system seg at w above none =
     ends_common ps (ended_if_due p system) seg at (whole_if_due p system w) above (λ home later. none home (inr later))
     ∙ end_common p system seg at w above (λ home here. none home (inl here))
 
--- so each byte that changes is written by the process that runs, or is of the reply to a held call
+-- so each byte that changes is written by what a step begins with, or is of the reply to a held call
 
-pub settled_segments : (begun : System) (seg at : ℕ) → IsWhole begun → at < 49152 → (IsAnsweredAfter begun seg at → ⊥)
-    → byte_at (settled begun).memory seg at ≡ byte_at begun.memory seg at
-unfolding settled with_ends IsAnsweredAfter
-settled_segments begun seg at w below none =
-    ends_segments (range_with_len 0 32) (all_answered begun) seg at (whole_all_answered begun _ w refl) below (λ later. none (inr later))
-    ∙ from_segments (first_completed begun.kernel.dispatcher.completed) begun seg at w refl below (λ here. none (inl here))
+pub begun_segments : (system : System) (seg at : ℕ) → IsWhole system → at < 49152 → (IsWritten system seg at → ⊥) → (IsHanded system seg at → ⊥)
+    → byte_at (begun_alone system).system.memory seg at ≡ byte_at system.memory seg at
+begun_segments system seg at w below unwritten unhanded = segments_begun (coming (counted system)) system seg at w refl below unwritten unhanded
 
-pub settled_common : (begun : System) (seg at : ℕ) → IsWhole begun → 49152 ≤ at → ((home : ℕ) → IsAnsweredAfter begun home at → ⊥)
-    → byte_at (settled begun).memory seg at ≡ byte_at begun.memory seg at
-unfolding settled with_ends IsAnsweredAfter
-settled_common begun seg at w above none =
-    ends_common (range_with_len 0 32) (all_answered begun) seg at (whole_all_answered begun _ w refl) above (λ home later. none home (inr later))
-    ∙ from_common (first_completed begun.kernel.dispatcher.completed) begun seg at w refl above (λ home here. none home (inl here))
+pub begun_common : (system : System) (seg at : ℕ) → IsWhole system → 49152 ≤ at → ((home : ℕ) → IsWritten system home at → ⊥)
+    → ((home : ℕ) → IsHanded system home at → ⊥) → byte_at (begun_alone system).system.memory seg at ≡ byte_at system.memory seg at
+begun_common system seg at w above unwritten unhanded = common_begun (coming (counted system)) system seg at w refl above unwritten unhanded
 
-pub step_is_contained : (system : System) → IsWhole system → IsContained system (step_of system).system
-unfolding step_of with_settled
-step_is_contained system w =
-    let afterwards = whole_after_begun (counted system) (after_begun system) (whole_counted system w) refl in
-    record {
-      segments = λ seg at below unwritten unhanded unanswered.
-          settled_segments (after_begun system) seg at afterwards below unanswered
-          ∙ segments_begun (coming (counted system)) system seg at w refl below unwritten unhanded;
-      common = λ seg at above unwritten unhanded unanswered.
-          settled_common (after_begun system) seg at afterwards above unanswered
-          ∙ common_begun (coming (counted system)) system seg at w refl above unwritten unhanded;
-    }
+pub answered_segments : (begun : System) (seg at : ℕ) → IsWhole begun → at < 49152 → (AnswersFrom (first_completed begun.kernel.dispatcher.completed) begun seg at → ⊥)
+    → byte_at (all_answered begun).memory seg at ≡ byte_at begun.memory seg at
+answered_segments begun seg at w below none = from_segments (first_completed begun.kernel.dispatcher.completed) begun seg at w refl below none
 
-pub is_contained : (old new : System) → IsWhole old → new ≡ (step_of old).system → IsContained old new
-is_contained old new w is = subst (IsContained old) (sym is) (step_is_contained old w)
+pub answered_common : (begun : System) (seg at : ℕ) → IsWhole begun → 49152 ≤ at
+    → ((home : ℕ) → AnswersFrom (first_completed begun.kernel.dispatcher.completed) begun home at → ⊥)
+    → byte_at (all_answered begun).memory seg at ≡ byte_at begun.memory seg at
+answered_common begun seg at w above none = from_common (first_completed begun.kernel.dispatcher.completed) begun seg at w refl above none
+
+pub ending_segments : (system : System) (seg at : ℕ) → IsWhole system → at < 49152 → (AnswersAtEnds (range_with_len 0 32) system seg at → ⊥)
+    → byte_at (with_ends system).memory seg at ≡ byte_at system.memory seg at
+unfolding with_ends
+ending_segments system seg at w below none = ends_segments (range_with_len 0 32) system seg at w below none
+
+pub ending_common : (system : System) (seg at : ℕ) → IsWhole system → 49152 ≤ at → ((home : ℕ) → AnswersAtEnds (range_with_len 0 32) system home at → ⊥)
+    → byte_at (with_ends system).memory seg at ≡ byte_at system.memory seg at
+unfolding with_ends
+ending_common system seg at w above none = ends_common (range_with_len 0 32) system seg at w above none

@@ -12,7 +12,7 @@ use Rattle.mpm_machine.specs.State.{Change, silent, HasRoomForAll, NobodyAborted
 use Rattle.mpm_machine.specs.Ending.{ended}
 use Rattle.mpm_dispatcher.specs.Dispatch.{first_completed}
 use Rattle.mpm_machine.specs.Finishing.{all_finished, completion_dequeued, command_let_in, finished_or_ended, answered_from, all_answered}
-use Rattle.mpm_machine.specs.Due.{is_due, ended_if_due, due_terminated, all_due_terminated, is_any_aborted, noted, with_ends, settled}
+use Rattle.mpm_machine.specs.Due.{is_due, ended_if_due, due_terminated, all_due_terminated, is_any_aborted, noted, with_ends}
 use Rattle.mpm_machine.specs.Step.{recorded_behind, records_out}
 use Rattle.mpm_machine.specs.After.{followed}
 use Rattle.mpm_output.specs.Outside.{Outside, Device}
@@ -27,7 +27,7 @@ stands_still : (p : ℕ) (system : System) → NobodyAborted system.kernel → e
 unfolding ended_if_due
 stands_still p system none =
     either (λ (s : System). s ≡ system) (is_due system.kernel p) _ _
-    (λ due. absurd (false≢true (sym (ap (λ b. b && not (waits_to_end system.kernel p false)) (none p)) ∙ due))) (λ _. refl)
+    (λ due. absurd (false≢true (sym (ap (λ b. b && not (waits_to_end system.kernel p)) (none p)) ∙ due))) (λ _. refl)
 
 pub nobody_due : (ps : List ℕ) (system : System) → NobodyAborted system.kernel → due_terminated ps system ≡ system
 unfolding due_terminated
@@ -164,40 +164,37 @@ unfolding answered_from
 no_completions_from None system none = completed_none system.kernel.dispatcher.completed none
 no_completions_from (Some p) system first = no_completions_finished _ (finished_or_ended p (command_let_in p (completion_dequeued system))) refl
 
-pub no_completions_settled : (system : System) → (settled system).kernel.dispatcher.completed ≡ []
-unfolding settled with_ends
-no_completions_settled system =
-    no_completions_due (range_with_len 0 32) (all_answered system) (no_completions_from (first_completed system.kernel.dispatcher.completed) system refl)
+pub no_completions_answered : (system : System) → (all_answered system).kernel.dispatcher.completed ≡ []
+no_completions_answered system = no_completions_from (first_completed system.kernel.dispatcher.completed) system refl
+
+pub no_completions_ends : (system : System) → system.kernel.dispatcher.completed ≡ [] → (with_ends system).kernel.dispatcher.completed ≡ []
+unfolding with_ends
+no_completions_ends system none = no_completions_due (range_with_len 0 32) system none
 
 -- the end of a step: the records of those that were answered come out, and then those of ends
 
-settled_apart : (system : System) → records_out (settled system) ≡ followed (records_out (all_answered system)) (records_out (with_ends (cleared (all_answered system))))
-unfolding settled
-settled_apart system = out_apart with_ends (all_answered system) ends_beside
+ends_behind : (system written : System) → written ≡ (records_out system).system
+    → records_out (with_ends system) ≡ followed (records_out system) (records_out (with_ends written))
+ends_behind system written was =
+    out_apart with_ends system ends_beside ∙ ap (λ (s : System). followed (records_out system) (records_out (with_ends s))) (sym was)
 
-pub answers_fail : (device : Device) (system answered : System) (o n : Outside) → answered ≡ all_answered system → Fails device o n (records_out answered).emitted
-    → Fails device o n (records_out (settled system)).emitted
-answers_fail device system answered o n is failed =
-    fails_same device o n _ _ (ap (λ (s : System). (records_out (with_ends (cleared s))).emitted ++ (records_out s).emitted) is ∙ ap (λ (c : Change). c.emitted) (sym (settled_apart system)))
-    (fails_before device o n (records_out answered).emitted (records_out (with_ends (cleared answered))).emitted failed)
+pub records_fail : (device : Device) (system : System) (o n : Outside) → Fails device o n (records_out system).emitted
+    → Fails device o n (records_out (with_ends system)).emitted
+records_fail device system o n failed =
+    fails_same device o n _ _ (ap (λ (c : Change). c.emitted) (sym (ends_behind system (records_out system).system refl)))
+    (fails_before device o n (records_out system).emitted (records_out (with_ends (records_out system).system)).emitted failed)
 
-ends_behind : (system answered written : System) → answered ≡ all_answered system → written ≡ (records_out answered).system
-    → records_out (settled system) ≡ followed (records_out answered) (records_out (with_ends written))
-ends_behind system answered written is was =
-    settled_apart system ∙ ap (λ (s : System). followed (records_out s) (records_out (with_ends (cleared s)))) (sym is)
-    ∙ ap (λ (s : System). followed (records_out answered) (records_out (with_ends s))) (sym was)
-
-pub emits_ends : {A E : Type 0} (device : E → Device) (r : Result A E) (system answered written : System) (o m n : Outside)
-    → answered ≡ all_answered system → written ≡ (records_out answered).system → Wrote o m (records_out answered).emitted
-    → Emits device m n (records_out (with_ends written)).emitted r → Emits device o n (records_out (settled system)).emitted r
-emits_ends device r system answered written o m n is was wrote emits =
-    emits_same device o n _ _ r (ap (λ (c : Change). c.emitted) (sym (ends_behind system answered written is was))) (emits_after device o m n _ _ r wrote emits)
+pub emits_ends : {A E : Type 0} (device : E → Device) (r : Result A E) (system written : System) (o m n : Outside)
+    → written ≡ (records_out system).system → Wrote o m (records_out system).emitted
+    → Emits device m n (records_out (with_ends written)).emitted r → Emits device o n (records_out (with_ends system)).emitted r
+emits_ends device r system written o m n was wrote emits =
+    emits_same device o n _ _ r (ap (λ (c : Change). c.emitted) (sym (ends_behind system written was))) (emits_after device o m n _ _ r wrote emits)
 
 pub none_written : (answered written : System) → written ≡ (records_out answered).system → written.records ≡ []
 none_written answered written is = ap (λ (s : System). s.records) is
 
-pub ends_system : {A E : Type 0} (r : Result A E) (system answered written new : System) → answered ≡ all_answered system → written ≡ (records_out answered).system
-    → OnOk r (new ≡ (records_out (with_ends written)).system) → OnOk r (new ≡ (records_out (settled system)).system)
-ends_system r system answered written new is was ends =
+pub ends_system : {A E : Type 0} (r : Result A E) (system written new : System) → written ≡ (records_out system).system
+    → OnOk r (new ≡ (records_out (with_ends written)).system) → OnOk r (new ≡ (records_out (with_ends system)).system)
+ends_system r system written new was ends =
     let P : Change → Type 0 = λ c. OnOk r (new ≡ c.system) in
-    subst P (sym (ends_behind system answered written is was)) ends
+    subst P (sym (ends_behind system written was)) ends

@@ -1,8 +1,8 @@
 -- What the images stand for where a step stopped.
-use Rattle.std.proofs.Common.{◌≡◌, ◌≢◌, ◌≤◌, ◌+◌, ◌*◌, ◌∙◌, ℕ, zero, suc, true, List, [], ◌∷◌, Option, Some, None, Result, Ok, Err, inl, inr, refl, sym, ap, subst, arith, get_or-set_other}
-use Rattle.std.specs.Prelude.{◌⊎◌, OnErr, IfErr, is_some, option_map, unwrap_or, slice_index_or, slice_set}
+use Rattle.std.proofs.Common.{◌≡◌, ◌≢◌, ◌<◌, ◌≤◌, ◌+◌, ◌*◌, ◌∙◌, ℕ, zero, suc, true, List, [], ◌∷◌, Option, Some, None, Result, Ok, Err, inl, inr, refl, sym, ap, subst, arith, get_or-set_other}
+use Rattle.std.specs.Prelude.{◌⊎◌, OnErr, is_some, option_map, unwrap_or, slice_index_or, slice_set}
 use Rattle.std.proofs.lemmas.Bool.{false≢true, cases_eq}
-use Rattle.mpm_base.specs.Calls.{Taken, Answer}
+use Rattle.mpm_base.specs.Calls.{Taken}
 use Rattle.mpm_port.specs.Disks.{Disks}
 use Rattle.mpm_blocks.specs.Sectors.{told_image}
 use Rattle.mpm_clock.specs.declared.moment.Moment.{Moment}
@@ -21,37 +21,31 @@ use Rattle.mpm_files.proofs.Tied.{kind_of}
 use Rattle.mpm_files.proofs.Contained.{turn_contained}
 use Rattle.mpm_files.proofs.StandingLaws.{among_all}
 use Rattle.mpm_bdos.specs.declared.functions.FileFunction.{FileFunction}
-use Rattle.mpm_bdos.specs.declared.refusals.Extended.{Extended}
 use Rattle.mpm_bdos.specs.Functions.{function_of}
 use Rattle.mpm_bdos.specs.Filing.{Filing, Situation}
 use Rattle.mpm_bdos.specs.Subjects.{drive_number, blank_drive, drive_at}
-use Rattle.mpm_bdos.specs.Jobs.{call_turns}
-use Rattle.mpm_bdos.specs.Outcomes.{Outcome}
-use Rattle.mpm_bdos.specs.Serving.{Kept, StandsWhere, StandEach, directory_at}
+use Rattle.mpm_bdos.specs.Jobs.{call_turns, job_of}
+use Rattle.mpm_bdos.specs.Outcomes.{drives_after}
+use Rattle.mpm_bdos.specs.Serving.{Kept, Serves, StandsWhere, StandEach, directory_at}
 use Rattle.mpm_bdos.specs.Starting.{caller_of, entering as entering_here}
-use Rattle.mpm_bdos.specs.Turns.{labelled, told_images, has_directory}
-use Rattle.mpm_bdos.specs.AtOnce.{FailsIn, ChangesAlone}
-use Rattle.mpm_bdos.proofs.ServedLaws.{job_mounted}
+use Rattle.mpm_bdos.specs.Turns.{KeepsImages, StopsWithin, drive_served, labelled, told_images, has_directory}
+use Rattle.mpm_bdos.specs.AtOnce.{FailsSince, FailsIn, ChangesAlone}
+use Rattle.mpm_bdos.proofs.ServedLaws.{job_mounted, kinds_within, set_within}
 use Rattle.mpm_bdos.proofs.Fitting.{there_label}
-use Rattle.mpm_output.specs.Outside.{Outside}
-use Rattle.mpm_output.specs.Writing.{Stopped}
 use Rattle.mpm_render.specs.Shown.{Kept as Lines}
 use Rattle.mpm_machine.specs.declared.system.System.{System}
 use Rattle.mpm_machine.specs.declared.machine.Machine.{Machine}
 use Rattle.mpm_machine.specs.declared.machine.StepFault.{StepFault}
-use Rattle.mpm_machine.specs.declared.machine.StepFault.TheVariants.{DiskFault, WriteFault}
-use Rattle.mpm_machine.specs.State.{State, StandsForFiles, StandsWithDrives}
-use Rattle.mpm_machine.specs.Filed.{IsOutcome}
-use Rattle.mpm_machine.specs.FileCalls.{file_caller, call_made, looked_at, situation_of, outcome_in, told_of, step_concluded, filed}
-use Rattle.mpm_machine.specs.Failing.{call_found, call_by, call_in, turns_of, HaveImages, HaveImagesOf, IsWithin, FailsWithin, StopsOn, StopsWithImages}
+use Rattle.mpm_machine.specs.Files.{Files, StandsBetween, StandsForFiles}
+use Rattle.mpm_machine.specs.State.{State, StandsWithDrives}
+use Rattle.mpm_machine.specs.FileCalls.{looked_at, situation_of}
+use Rattle.mpm_machine.specs.Failing.{working_at_once, working_if, turns_done, HaveImages, HaveImagesOf, IsWithin, FailsWithin, StopsOn, StopsWithImages}
 use Rattle.mpm_machine.proofs.FilingLaws.{named_by, situation_is}
-use Rattle.mpm_machine.proofs.FilesStepLaws.{filed_alone, filed_is, if_err_by}
-use Rattle.mpm_machine.proofs.StandingLaws.{stepped_drives}
 
 -- the call's drive within a turn: what the call doesn't name is as before it
 
-pub within_contained : (call : Situation) (files : Drive) (within : IsWithin call files) → IsContained (drive_at call) within.job 0 files
-within_contained call files within =
+pub within_contained : (call : Situation) (ended : ℕ) (files : Drive) (within : IsWithin call ended files) → IsContained (drive_at call) within.job 0 files
+within_contained call ended files within =
     among_all (IsContained (drive_at call) within.job 0) (units_done (drive_at call) within.job within.turn)
     (stages (unit_at (drive_at call) within.job within.turn) (units_done (drive_at call) within.job within.turn)) files
     (turn_contained (drive_at call) within.job 0 within.turn (omega arith)) within.among
@@ -132,49 +126,97 @@ have_changed disks now old new drives number d files c = record {
 
 -- where a device failed in a call, its drive is within a turn
 
-call_label : (images : ℕ → List ℕ) (mounted : List (Option Directory)) (call : Situation) → is_some (slice_index_or call.filing.drives (drive_number call) None) ≡ true
-    → StandEach images mounted call.filing.drives → option_map labelled (directory_at mounted (drive_number call)) ≡ Some (drive_number call, (drive_at call).kind)
+-- drives among which the call's is of its kind, and each other one is as the call found it
+pub record AreBehind (call : Situation) (drives : List (Option Drive)) : Type 0 where
+  pub there : is_some (slice_index_or drives (drive_number call) None) ≡ true
+  pub kind : (unwrap_or (slice_index_or drives (drive_number call) None) blank_drive).kind ≡ (drive_at call).kind
+  pub set : (drive : Option Drive) → slice_set drives (drive_number call) drive ≡ slice_set call.filing.drives (drive_number call) drive
+
+pub behind_nothing : (call : Situation) (job : Job) → job_of call ≡ Some job → AreBehind call call.filing.drives
 unfolding drive_at
-call_label images mounted call there stand =
-    label_there (drive_number call) (images (drive_number call)) (directory_at mounted (drive_number call)) (slice_index_or call.filing.drives (drive_number call) None) there
-    (stand.each (drive_number call))
+behind_nothing call job is = record { there = job_mounted call job is; kind = refl; set = λ drive. refl }
+
+same_kind_there : (one other : Option Drive) → option_map (λ (d : Drive). d.kind) one ≡ option_map (λ (d : Drive). d.kind) other → is_some other ≡ true
+    → (is_some one ≡ true) × ((unwrap_or one blank_drive).kind ≡ (unwrap_or other blank_drive).kind)
+same_kind_there None None same some = absurd (false≢true some)
+same_kind_there None (Some d) same some = absurd (cc)
+same_kind_there (Some d) None same some = absurd (false≢true some)
+same_kind_there (Some d) (Some e) same some = (refl, cc)
+
+pub behind_turns : (call : Situation) (j : ℕ) (job : Job) → job_of call ≡ Some job → AreBehind call (drives_after call j)
+unfolding drive_at
+behind_turns call j job is =
+    let number = drive_number call in
+    let both = same_kind_there (slice_index_or (drives_after call j) number None) (slice_index_or call.filing.drives number None) (kinds_within call j number) (job_mounted call job is) in
+    record { there = both.0; kind = both.1; set = set_within call j }
+
+call_label : (images : ℕ → List ℕ) (mounted : List (Option Directory)) (call : Situation) (drives : List (Option Drive)) → AreBehind call drives
+    → StandEach images mounted drives → option_map labelled (directory_at mounted (drive_number call)) ≡ Some (drive_number call, (drive_at call).kind)
+call_label images mounted call drives behind stand =
+    let number = drive_number call in
+    label_there number (images number) (directory_at mounted number) (slice_index_or drives number None) behind.there (stand.each number)
+    ∙ ap (λ k. Some (number, k)) behind.kind
 
 same_number : (one other : ℕ) → Some one ≡ Some other → other ≡ one
 same_number one other same = cc
 
-fails_stand : (disks now : Option Disks) (old new : List (Option Directory)) (call : Situation) → FailsIn now call → ChangesAlone (drive_number call) old new disks now
-    → ((number : ℕ) → option_map labelled (directory_at new number) ≡ option_map labelled (directory_at old number)) → StandEach (told_images disks) old call.filing.drives
-    → HaveImagesOf (FailsWithin (Some call)) now new
-fails_stand disks now old new call fails alone labels stand =
+fails_stand : (disks now : Option Disks) (old new : List (Option Directory)) (call : Situation) (drives : List (Option Drive)) (ended most : ℕ) → AreBehind call drives
+    → FailsSince now call ended → KeepsImages (Some (drive_number call)) old disks now
+    → ((number : ℕ) → option_map labelled (directory_at new number) ≡ option_map labelled (directory_at old number)) → StandEach (told_images disks) old drives
+    → HaveImagesOf (FailsWithin (Some (record { call = call; ended = ended; most = most }))) now new
+fails_stand disks now old new call drives ended most behind fails images labels stand =
     let stops = fails.stops in
     let found = stops.contained.within in
     let number = drive_number call in
     let d = found.directory in
-    let within : IsWithin call found.files = record { job = stops.job; its = stops.its; turn = stops.contained.turn; among = found.among } in
-    let there = job_mounted call stops.job stops.its in
-    let kind : (drive_at call).kind ≡ d.kind = sym (within_contained call found.files within).keeps.kind ∙ kind_of found.stands.image d found.files found.stands.stands in
+    let within : IsWithin call ended found.files =
+    record { job = stops.job; its = stops.its; turn = stops.contained.turn; since = omega (arith, fails.since, stops.contained.since); among = found.among } in
+    let kind : (drive_at call).kind ≡ d.kind = sym (within_contained call ended found.files within).keeps.kind ∙ kind_of found.stands.image d found.files found.stands.stands in
     let told : told_image now number ≡ Some found.stands.image = ap (told_image now) (sym found.here) ∙ found.stands.told in
-    let changes : Changes disks now old new call.filing.drives number d found.files = record {
-      label = call_label (told_images disks) old call there stand ∙ ap (λ n. Some (n, (drive_at call).kind)) (sym found.here) ∙ ap (λ k. Some (d.drive, k)) kind;
+    let changes : Changes disks now old new drives number d found.files = record {
+      label = call_label (told_images disks) old call drives behind stand ∙ ap (λ n. Some (n, (drive_at call).kind)) (sym found.here) ∙ ap (λ k. Some (d.drive, k)) kind;
       here = found.here;
       stands = subst (λ image. Stands image d found.files) (told_images_is now number found.stands.image told) found.stands.stands;
-      there = there;
-      images = λ other apart some. alone.images other (λ same. apart (same_number number other same)) some;
+      there = behind.there;
+      images = λ other apart some. images other (λ same. apart (same_number number other same)) some;
       labels = labels;
       stand = stand;
     } in
     record {
-      drives = slice_set call.filing.drives number (Some found.files);
-      are = record { found = call; is = refl; files = found.files; within = within; drives_are = refl };
-      images = have_changed disks now old new call.filing.drives number d found.files changes;
+      drives = slice_set drives number (Some found.files);
+      are = record { found = record { call = call; ended = ended; most = most }; is = refl; files = found.files; within = within; drives_are = behind.set (Some found.files) };
+      images = have_changed disks now old new drives number d found.files changes;
     }
+
+-- one that is done at once
+at_once_fails : (disks now : Option Disks) (old new : List (Option Directory)) (call : Situation) → FailsIn now call → ChangesAlone (drive_number call) old new disks now
+    → ((number : ℕ) → option_map labelled (directory_at new number) ≡ option_map labelled (directory_at old number)) → StandEach (told_images disks) old call.filing.drives
+    → HaveImagesOf (FailsWithin (Some (working_at_once call))) now new
+at_once_fails disks now old new call fails alone labels stand =
+    fails_stand disks now old new call call.filing.drives 0 (call_turns call) (behind_nothing call fails.stops.job fails.stops.its) fails alone.images labels stand
+
+-- and one in service, in its turns from one on
+pub turns_fail : (disks now : Option Disks) (old : Kept) (new : List (Option Directory)) (call : Situation) (ended most : ℕ) → Serves (told_images disks) old call ended → FailsSince now call ended
+    → KeepsImages (drive_served old.service) old.mounted disks now
+    → ((number : ℕ) → option_map labelled (directory_at new number) ≡ option_map labelled (directory_at old.mounted number))
+    → HaveImagesOf (FailsWithin (Some (record { call = call; ended = ended; most = most }))) now new
+turns_fail disks now old new call ended most serves fails images labels =
+    let on : drive_served old.service ≡ Some (drive_number call) = ap drive_served serves.there ∙ ap (λ n. Some n) serves.is.drive in
+    fails_stand disks now old.mounted new call (drives_after call ended) ended most (behind_turns call ended fails.stops.job fails.stops.its) fails
+    (subst (λ drive. KeepsImages drive old.mounted disks now) on images) labels serves.stand
+
+pub turn_fails : (disks now : Option Disks) (old : Kept) (new : List (Option Directory)) (call : Situation) (j most : ℕ) → Serves (told_images disks) old call j → j < call_turns call
+    → StopsWithin now call j → KeepsImages (drive_served old.service) old.mounted disks now
+    → ((number : ℕ) → option_map labelled (directory_at new number) ≡ option_map labelled (directory_at old.mounted number))
+    → HaveImagesOf (FailsWithin (Some (record { call = call; ended = j; most = most }))) now new
+turn_fails disks now old new call j most serves below stops images labels =
+    turns_fail disks now old new call j most serves (record { turn = j; since = omega arith; its = below; stops = stops }) images labels
 
 -- a call that a process keeps
 
 found_is : (filing : Filing) (function : FileFunction) (p : ℕ) (system : System) → function_of (call_of system.kernel.dispatcher.procs p).function ≡ Some function
-    → call_found filing p system ≡ Some (situation_of filing function p system)
-unfolding call_found
-found_is filing function p system is = ap (option_map (λ f. situation_of filing f p system)) is
+    → working_if true filing p system ≡ Some (working_at_once (situation_of filing function p system))
+found_is filing function p system is = ap (option_map (λ f. working_at_once (situation_of filing f p system))) is
 
 err_by : {A E P Q : Type 0} (r : Result A E) → (P → Q) → OnErr r P → OnErr r Q
 err_by (Ok a) so p = tt
@@ -182,93 +224,45 @@ err_by (Err e) so p = so p
 
 pub disk_fails : {A E : Type 0} (disks now : Option Disks) (filing : Filing) (p : ℕ) (system : System) (kept new : Kept) (caller process : Process) (call : Taken) (moment : Moment) (result : Result A E)
     → caller ≡ looked_at process → process ≡ process_in system.kernel.dispatcher.procs p → call ≡ call_of system.kernel.dispatcher.procs p → moment ≡ moment_of system.kernel.clock
-    → is_some (function_of (call_of system.kernel.dispatcher.procs p).function) ≡ true → StandsForFiles kept disks filing
+    → is_some (function_of (call_of system.kernel.dispatcher.procs p).function) ≡ true → StandsBetween kept disks filing
     → ((before : List (Option Drive)) (function : FileFunction) → function_of call.function ≡ Some function → StandEach (told_images disks) kept.mounted before
     → OnErr result (FailsIn now (entering_here kept before (caller_of p caller) function call (stamp moment))))
     → ((before : List (Option Drive)) (function : FileFunction) → function_of call.function ≡ Some function
     → ChangesAlone (drive_number (entering_here kept before (caller_of p caller) function call (stamp moment))) kept.mounted new.mounted disks now)
     → ((number : ℕ) → option_map labelled (directory_at new.mounted number) ≡ option_map labelled (directory_at kept.mounted number))
-    → OnErr result (HaveImagesOf (FailsWithin (call_found filing p system)) now new.mounted)
+    → OnErr result (HaveImagesOf (FailsWithin (working_if true filing p system)) now new.mounted)
 disk_fails disks now filing p system kept new caller process call moment result looks lives calls at some stands fails alone labels =
     let named = named_by (function_of (call_of system.kernel.dispatcher.procs p).function) some in
     let function = named.0 in
     let s = entering_here kept filing.drives (caller_of p caller) function call (stamp moment) in
     let its : function_of call.function ≡ Some function = ap (λ (c : Taken). function_of c.function) calls ∙ named.1 in
     let is : s ≡ situation_of filing function p system = situation_is filing p system kept function caller process call moment stands.filing_is looks lives calls at in
-    let found : call_found filing p system ≡ Some s = found_is filing function p system named.1 ∙ ap (λ c. Some c) (sym is) in
+    let found : working_if true filing p system ≡ Some (working_at_once s) = found_is filing function p system named.1 ∙ ap (λ c. Some (working_at_once c)) (sym is) in
     err_by result (λ (failed : FailsIn now s). subst (λ c. HaveImagesOf (FailsWithin c) now new.mounted) (sym found)
-    (fails_stand disks now kept.mounted new.mounted s failed (alone filing.drives function its) labels stands.stand))
+    (at_once_fails disks now kept.mounted new.mounted s failed (alone filing.drives function its) labels stands.stand))
     (fails filing.drives function its stands.stand)
 
 -- how often it calls its drive
 
 pub disk_calls : (disks : Option Disks) (filing : Filing) (p : ℕ) (system : System) (kept : Kept) (caller process : Process) (call : Taken) (moment : Moment) (before behind : ℕ)
     → caller ≡ looked_at process → process ≡ process_in system.kernel.dispatcher.procs p → call ≡ call_of system.kernel.dispatcher.procs p → moment ≡ moment_of system.kernel.clock
-    → is_some (function_of (call_of system.kernel.dispatcher.procs p).function) ≡ true → StandsForFiles kept disks filing
+    → is_some (function_of (call_of system.kernel.dispatcher.procs p).function) ≡ true → StandsBetween kept disks filing
     → ((images : ℕ → List ℕ) (drives : List (Option Drive)) (function : FileFunction) → function_of call.function ≡ Some function → StandEach images kept.mounted drives
     → behind ≤ before + 20 * call_turns (entering_here kept drives (caller_of p caller) function call (stamp moment)))
-    → behind ≤ before + 20 * turns_of (call_found filing p system)
+    → behind ≤ before + 20 * turns_done (working_if true filing p system)
 disk_calls disks filing p system kept caller process call moment before behind looks lives calls at some stands bound =
     let named = named_by (function_of (call_of system.kernel.dispatcher.procs p).function) some in
     let function = named.0 in
     let s = entering_here kept filing.drives (caller_of p caller) function call (stamp moment) in
     let its : function_of call.function ≡ Some function = ap (λ (c : Taken). function_of c.function) calls ∙ named.1 in
     let is : s ≡ situation_of filing function p system = situation_is filing p system kept function caller process call moment stands.filing_is looks lives calls at in
-    let found : call_found filing p system ≡ Some s = found_is filing function p system named.1 ∙ ap (λ c. Some c) (sym is) in
-    subst (λ c. behind ≤ before + 20 * turns_of c) (sym found) (bound (told_images disks) filing.drives function its stands.stand)
-
--- the step in which it was made
-
-in_step : (filing : Filing) (p : ℕ) (old made : System) → file_caller old ≡ Some p → made ≡ call_made p old → call_found filing p made ≡ call_in filing old
-unfolding call_in
-in_step filing p old made some is = ap (call_found filing p) is ∙ sym (ap (λ caller. call_by caller filing old) some)
-
-pub drive_stops : (filing : Filing) (p : ℕ) (old made : System) (now : Option Disks) (mounted : List (Option Directory)) → file_caller old ≡ Some p → made ≡ call_made p old
-    → HaveImagesOf (FailsWithin (call_found filing p made)) now mounted → HaveImagesOf (StopsOn DiskFault old filing) now mounted
-drive_stops filing p old made now mounted some is has = record {
-  drives = has.drives;
-  are = subst (λ call. FailsWithin call has.drives) (in_step filing p old made some is) has.are;
-  images = has.images;
-}
-
-pub calls_in_step : (filing : Filing) (p : ℕ) (old made : System) (before behind : ℕ) → file_caller old ≡ Some p → made ≡ call_made p old
-    → behind ≤ before + 20 * turns_of (call_found filing p made) → behind ≤ before + 20 * turns_of (call_in filing old)
-calls_in_step filing p old made before behind some is = subst (λ call. behind ≤ before + 20 * turns_of call) (in_step filing p old made some is)
-
--- where the sink failed the images stand for what the call, if one was made, has left
-
-done_stops : (filing : Filing) (system : System) (disks : Option Disks) (kept : Kept) (drives : List (Option Drive)) → drives ≡ (filed filing system).filing.drives
-    → StandEach (told_images disks) kept.mounted drives → HaveImagesOf (StopsOn WriteFault system filing) disks kept.mounted
-done_stops filing system disks kept drives is stand = record {
-  drives = drives;
-  are = is ∙ sym (stepped_drives system filing);
-  images = record { directories = kept.mounted; labels = λ number. refl; stand = stand };
-}
-
-pub alone_stops_on : (filing : Filing) (old : System) (disks : Option Disks) (kept left : Kept) → file_caller old ≡ None → left ≡ kept → StandsForFiles kept disks filing
-    → HaveImagesOf (StopsOn WriteFault old filing) disks left.mounted
-alone_stops_on filing old disks kept left none same stands =
-    subst (λ (k : Kept). HaveImagesOf (StopsOn WriteFault old filing) disks k.mounted) (sym same)
-    (done_stops filing old disks kept filing.drives (ap (λ (f : Filing). f.drives) (sym (filed_alone old filing none))) stands.stand)
-
-pub sink_stops : {A : Type 0} (r : Result A StepFault) (filing : Filing) (p : ℕ) (o n : Outside) (old made : System) (kept left : Kept) (disks : Option Disks) (answer : Answer) (extended : Option Extended)
-    → file_caller old ≡ Some p → made ≡ call_made p old → left ≡ kept → IsOutcome disks (outcome_in filing p made) kept answer extended
-    → IfErr r (λ fault. (fault ≡ WriteFault) × Stopped o n (step_concluded (told_of (call_of made.kernel.dispatcher.procs p) answer extended) p made).emitted)
-    → IfErr r (λ fault. HaveImagesOf (StopsOn fault old filing) disks left.mounted)
-sink_stops r filing p o n old made kept left disks answer extended some is same outcome stopped =
-    let there : (outcome_in filing p made).filing.drives ≡ (filed filing old).filing.drives =
-    ap (λ s. (outcome_in filing p s).filing.drives) is ∙ sym (ap (λ (x : Outcome). x.filing.drives) (filed_is filing p old some)) in
-    let here : HaveImagesOf (StopsOn WriteFault old filing) disks left.mounted =
-    subst (λ (k : Kept). HaveImagesOf (StopsOn WriteFault old filing) disks k.mounted) (sym same)
-    (done_stops filing old disks kept (outcome_in filing p made).filing.drives there outcome.files.stand) in
-    if_err_by (λ fault. (fault ≡ WriteFault) × Stopped o n (step_concluded (told_of (call_of made.kernel.dispatcher.procs p) answer extended) p made).emitted)
-    (λ fault. HaveImagesOf (StopsOn fault old filing) disks left.mounted) r
-    (λ fault so. subst (λ f. HaveImagesOf (StopsOn f old filing) disks left.mounted) (sym so.0) here) stopped
+    let found : working_if true filing p system ≡ Some (working_at_once s) = found_is filing function p system named.1 ∙ ap (λ c. Some (working_at_once c)) (sym is) in
+    subst (λ c. behind ≤ before + 20 * turns_done c) (sym found) (bound (told_images disks) filing.drives function its stands.stand)
 
 -- the step of a state
 
 pub step_leaves : (old : Machine) (disks now : Option Disks) (mounted : List (Option Directory)) (fault : StepFault) (kept : Lines) (written : Option (List ℕ)) (s : State) (first : Option (List ℕ))
-    → ((filing : Filing) → StandsForFiles old.bdos disks filing → HaveImagesOf (StopsOn fault old.system filing) now mounted)
+    → ((files : Files) → StandsForFiles old.system.kernel.disk old.bdos disks files → HaveImagesOf (StopsOn fault old.system files) now mounted)
     → StandsWithDrives old kept written disks s first → StopsWithImages fault now mounted s
 step_leaves old disks now mounted fault kept written s first leaves stands =
-    subst (λ system. HaveImagesOf (StopsOn fault system s.filing) now mounted) stands.system.parts (leaves s.filing stands.files)
+    subst (λ system. HaveImagesOf (StopsOn fault system s.files) now mounted) stands.system.parts (leaves s.files stands.files)

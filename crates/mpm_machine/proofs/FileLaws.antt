@@ -1,55 +1,70 @@
 -- File calls: a system stays whole through the parts of the step in which one is made, and what is said in them.
-use Rattle.std.proofs.Common.{◌≡◌, ◌∙◌, ℕ, Bool, true, false, not, ◌==◌, Option, Some, None, Result, length, arith, refl, sym, ap, subst}
+use Rattle.std.proofs.Common.{◌≡◌, ◌∙◌, ℕ, Bool, true, false, not, ◌==◌, Option, Some, None, length, arith, refl, sym, ap, subst}
 use Rattle.std.specs.Prelude.{is_some, is_none}
 use Rattle.std.proofs.lemmas.Bool.{false≢true}
 use Rattle.mpm_base.proofs.Choices.{either}
 use Rattle.mpm_base.specs.Calls.{Answer}
 use Rattle.mpm_procs.specs.Table.{lives, Lives, process_in, call_of}
-use Rattle.mpm_procs.proofs.MapLaws.{lives_changed, call_after}
-use Rattle.mpm_dispatcher.specs.Dispatch.{picked}
-use Rattle.mpm_kernel.specs.Kernel.{IsSound, with_changed, dispatched as with_dispatcher}
+use Rattle.mpm_procs.specs.declared.process.Process.{Process}
+use Rattle.mpm_procs.proofs.MapLaws.{lives_below, lives_changed, process_changed, call_after}
+use Rattle.mpm_banks.specs.Memory.{byte_at}
+use Rattle.mpm_gate.specs.Replies.{returned}
+use Rattle.mpm_dispatcher.specs.Dispatch.{IsReady}
+use Rattle.mpm_kernel.specs.Kernel.{with_changed}
 use Rattle.mpm_kernel.proofs.SoundLaws.{sound_process, live_kept}
 use Rattle.mpm_kernel.proofs.HomeLaws.{homes_changed}
 use Rattle.mpm_residents.specs.declared.native.Native.{Native}
 use Rattle.mpm_residents.specs.Natives.{native_call, native_in}
 use Rattle.mpm_output.specs.Outside.{Outside, Device}
-use Rattle.mpm_output.specs.Writing.{Wrote, Fails, Emits}
+use Rattle.mpm_output.specs.Writing.{Wrote, Fails}
 use Rattle.mpm_output.specs.Texts.{error_text}
 use Rattle.mpm_bdos.specs.declared.refusals.Extended.{Extended}
 use Rattle.mpm_bdos.specs.Outcomes.{CallerChange, Stays, Selects, Resets}
 use Rattle.mpm_bdos.specs.Direct.{Directly}
 use Rattle.mpm_machine.specs.declared.system.System.{System}
-use Rattle.mpm_machine.specs.State.{Change, IsWhole, HasRoom, NoCompletions, speaking}
-use Rattle.mpm_machine.specs.Serving.{asked, popped, answering_call}
+use Rattle.mpm_machine.specs.State.{Change, IsWhole, HasRoom, speaking}
+use Rattle.mpm_machine.specs.Serving.{asked, keeping, popped}
 use Rattle.mpm_machine.specs.Residing.{asked_by}
-use Rattle.mpm_machine.specs.Due.{settled, NobodyDue}
-use Rattle.mpm_machine.specs.Step.{records_out, with_settled, counted}
-use Rattle.mpm_machine.specs.FileCalls.{made_by, call_made, first_dma, with_caller, reply_by, file_replied, error_told, answered_or_ended, told_then, error_met, answered_by, concluded, step_concluded}
+use Rattle.mpm_machine.specs.Step.{counted}
+use Rattle.mpm_machine.specs.FileCalls.{made_by, call_made, first_dma, with_caller, reply_by, file_replied, error_told, answered_or_ended, told_then, error_met, answered_by, concluded}
 use Rattle.mpm_machine.proofs.WholeLaws.{StaysWhole, whole_kernel, whole_speaking, whole_ended, whole_popped, whole_replied, whole_residents, keeps_call, keeps_asked}
-use Rattle.mpm_machine.proofs.WholeStepLaws.{whole_counted, whole_settled, whole_dispatched, no_completions_step}
-use Rattle.mpm_machine.proofs.NobodyDueLaws.{nobody_due_dispatched}
-use Rattle.mpm_machine.proofs.StepLaws.{settled_fails, emits_settled}
+use Rattle.mpm_machine.proofs.WholeStepLaws.{whole_counted}
 
 -- the call is made
 pub record Made (p : ℕ) (old new : System) : Type 0 where
   pub whole : IsWhole new
   pub lives : Lives new.kernel.dispatcher.procs p
+  pub ready : IsReady old.kernel.dispatcher p → IsReady new.kernel.dispatcher p
   pub home : (process_in new.kernel.dispatcher.procs p).seg ≡ (process_in old.kernel.dispatcher.procs p).seg
+
+home_popped : (p seg : ℕ) (system : System) → IsWhole system → Lives system.kernel.dispatcher.procs p
+    → (process_in (popped p seg system).kernel.dispatcher.procs p).seg ≡ (process_in system.kernel.dispatcher.procs p).seg
+unfolding popped
+home_popped p seg system w h =
+    let procs = system.kernel.dispatcher.procs in
+    let process = record (process_in procs p) { regs = returned (byte_at system.memory seg) (process_in procs p).regs } in
+    ap (λ (q : Process). q.seg) (process_changed procs p process (omega (arith, w.sound.slots.processes, lives_below procs p w.sound.slots h)))
+
+ready_popped : (p seg : ℕ) (system : System) → IsReady system.kernel.dispatcher p → IsReady (popped p seg system).kernel.dispatcher p
+unfolding popped
+ready_popped p seg system is_ready = is_ready
 
 made_at : (seg : Option ℕ) (native : Option Native) (p : ℕ) (system : System) → IsWhole system → Lives system.kernel.dispatcher.procs p
     → native_in system.residents p ≡ native → Made p system (made_by seg p system)
 made_at (Some seg) native p system w h here =
-    let kept = keeps_call p (asked p seg system) system w h in record { whole = kept.whole; lives = kept.lives; home = kept.home }
-made_at None None p system w h here = subst (λ o. Made p system (asked_by o p system)) (sym here) (record { whole = w; lives = h; home = refl })
+    let kept = keeps_call p (asked p seg system) system w h in
+    let behind = whole_popped p seg (keeping p (asked p seg system) system) kept.whole kept.lives in
+    record { whole = behind.whole; lives = behind.lives; ready = λ is_ready. ready_popped p seg (keeping p (asked p seg system) system) (kept.ready is_ready); home = home_popped p seg (keeping p (asked p seg system) system) kept.whole kept.lives ∙ kept.home }
+made_at None None p system w h here = subst (λ o. Made p system (asked_by o p system)) (sym here) (record { whole = w; lives = h; ready = λ is_ready. is_ready; home = refl })
 made_at None (Some native) p system w h here =
     let kept = keeps_asked p (native_call native) system w h in
-    subst (λ o. Made p system (asked_by o p system)) (sym here) (record { whole = kept.whole; lives = kept.lives; home = kept.home })
+    subst (λ o. Made p system (asked_by o p system)) (sym here) (record { whole = kept.whole; lives = kept.lives; ready = kept.ready; home = kept.home })
 
 pub makes : (p : ℕ) (system : System) → IsWhole system → Lives system.kernel.dispatcher.procs p → Made p system (call_made p system)
 unfolding call_made
 makes p system w h =
     let made = made_at (process_in system.kernel.dispatcher.procs p).seg _ p (counted system) (whole_counted system w) h refl in
-    record { whole = made.whole; lives = made.lives; home = made.home }
+    record { whole = made.whole; lives = made.lives; ready = made.ready; home = made.home }
 
 -- its caller changes, where it isn't refused by an extended error
 
@@ -91,31 +106,9 @@ room_changed Resets p old new room is = omega (arith, room, ap (λ (s : System).
 
 -- it is answered
 
--- behind its return address its process lives, and keeps its call
-pub lives_popped : (p seg : ℕ) (old behind : System) → Lives old.kernel.dispatcher.procs p → behind ≡ popped p seg old → Lives behind.kernel.dispatcher.procs p
-unfolding popped
-lives_popped p seg old behind h is =
-    ap (λ (s : System). lives s.kernel.dispatcher.procs p) is ∙ lives_changed old.kernel.dispatcher.procs p p _ ∙ h
-
-pub room_behind : (p seg : ℕ) (old behind : System) → HasRoom old → behind ≡ popped p seg old → HasRoom behind
-unfolding popped
-room_behind p seg old behind room is = omega (arith, room, ap (λ (s : System). length s.records) is)
-
-call_popped : (p seg : ℕ) (system : System) → call_of (popped p seg system).kernel.dispatcher.procs p ≡ call_of system.kernel.dispatcher.procs p
-unfolding popped
-call_popped p seg system = call_after system.kernel.dispatcher.procs p p _
-
-pub answers_behind : (reply : Answer) (p seg : ℕ) (old behind : System) → behind ≡ popped p seg old
-    → answering_call reply (call_of behind.kernel.dispatcher.procs p) p seg behind ≡ reply_by (Some seg) reply p old
-answers_behind reply p seg old behind is =
-    ap (λ (s : System). answering_call reply (call_of s.kernel.dispatcher.procs p) p seg s) is
-    ∙ ap (λ call. answering_call reply call p seg (popped p seg old)) (call_popped p seg old)
-
 whole_reply_by : (seg : Option ℕ) (reply : Answer) (p : ℕ) (system : System) → IsWhole system → Lives system.kernel.dispatcher.procs p
     → IsWhole (reply_by seg reply p system)
-whole_reply_by (Some seg) reply p system w h =
-    let behind = whole_popped p seg system w h in
-    (whole_replied reply (call_of system.kernel.dispatcher.procs p) p seg (popped p seg system) behind.whole behind.lives).whole
+whole_reply_by (Some seg) reply p system w h = (whole_replied reply (call_of system.kernel.dispatcher.procs p) p seg system w h).whole
 whole_reply_by None reply p system w h = whole_residents system _ w
 
 whole_file_replied : (reply : Answer) (p : ℕ) (system : System) → IsWhole system → Lives system.kernel.dispatcher.procs p
@@ -167,33 +160,6 @@ whole_concluded told p system w h =
     let changed = whole_caller told.caller p system w h in
     whole_answered_by told.extended told.answer p (with_caller told.caller p system) changed.whole changed.lives
 
-pub whole_concluded_here : (told : Directly) (p : ℕ) (system afterwards : System) → IsWhole system → Lives system.kernel.dispatcher.procs p
-    → afterwards ≡ (concluded told p system).system → IsWhole afterwards
-whole_concluded_here told p system afterwards w h is = subst IsWhole (sym is) (whole_concluded told p system w h)
-
--- and the step ends
-
-pub sound_settled_here : (begun afterwards : System) → IsWhole begun → afterwards ≡ (records_out (settled begun)).system → IsSound afterwards.kernel
-sound_settled_here begun afterwards w is =
-    let P : System → Type 0 = λ s. IsSound s.kernel in subst P (sym is) (whole_settled begun w).sound
-
-pub whole_step_concluded : (told : Directly) (p : ℕ) (system : System) → IsWhole system → Lives system.kernel.dispatcher.procs p
-    → IsWhole (step_concluded told p system).system
-unfolding step_concluded
-whole_step_concluded told p system w h = whole_dispatched false (concluded told p system) (whole_concluded told p system w h)
-
-pub no_completions_concluded : (told : Directly) (p : ℕ) (system : System) → NoCompletions (step_concluded told p system).system
-unfolding step_concluded with_settled
-no_completions_concluded told p system =
-    let begun = (concluded told p system).system in
-    let afterwards = (records_out (settled begun)).system in
-    no_completions_step begun afterwards (with_dispatcher (picked false) afterwards.kernel) false refl refl
-
-pub nobody_due_concluded : (told : Directly) (p : ℕ) (system : System) → IsWhole system → Lives system.kernel.dispatcher.procs p
-    → NobodyDue (step_concluded told p system).system.kernel
-unfolding step_concluded
-nobody_due_concluded told p system w h = nobody_due_dispatched false (concluded told p system) (whole_concluded told p system w h)
-
 -- what is said: where a part fails, and what comes behind it
 
 pub told_fails : (device : Device) (answers : Bool) (error : Extended) (reply : Answer) (p : ℕ) (system : System) (o n : Outside)
@@ -210,14 +176,3 @@ pub told_system : (answers : Bool) (error : Extended) (reply : Answer) (p : ℕ)
     → new ≡ answered_or_ended answers reply p told → new ≡ (told_then answers error reply p system).system
 unfolding told_then
 told_system answers error reply p system told new is was = was ∙ ap (answered_or_ended answers reply p) is
-
-pub concluded_fails : (device : Device) (told : Directly) (p : ℕ) (system : System) (o n : Outside) → Fails device o n (concluded told p system).emitted
-    → Fails device o n (step_concluded told p system).emitted
-unfolding step_concluded
-concluded_fails device told p system o n failed = settled_fails device (concluded told p system) o n failed
-
-pub concluded_settles : {A E : Type 0} (device : E → Device) (r : Result A E) (told : Directly) (p : ℕ) (system begun : System) (o m n : Outside)
-    → begun ≡ (concluded told p system).system → Wrote o m (concluded told p system).emitted → Emits device m n (records_out (settled begun)).emitted r
-    → Emits device o n (step_concluded told p system).emitted r
-unfolding step_concluded
-concluded_settles device r told p system begun o m n is wrote emits = emits_settled device r (concluded told p system) begun o m n is wrote emits

@@ -1,8 +1,11 @@
 -- A step by what a file call comes to, if one is made in it: when none is, and what is so behind it.
-use Rattle.std.proofs.Common.{◌≡◌, ◌∙◌, ℕ, ◌+◌, Bool, false, not, ◌&&◌, ◌==◌, [], Option, Some, None, is_some, if◌then◌else◌, length, refl, sym, ap, subst}
+use Rattle.std.proofs.Common.{◌≡◌, ◌∙◌, ℕ, ◌+◌, ◌≤◌, Bool, true, false, not, ◌&&◌, ◌==◌, [], Option, Some, None, is_some, if◌then◌else◌, length, refl, sym, ap, subst, arith}
 use Rattle.mpm_base.proofs.Choices.{either}
 use Rattle.mpm_base.specs.Calls.{Answer}
 use Rattle.mpm_procs.specs.Table.{process_in, call_of}
+use Rattle.mpm_service.specs.Disk.{served_process, turn_answer}
+use Rattle.mpm_service.specs.declared.service.Turn.{Turn}
+use Rattle.mpm_service.specs.declared.service.Turn.TheVariants.{Idle, Passing, Work, Starts}
 use Rattle.mpm_processor.specs.declared.gate.Gate.{Gate}
 use Rattle.mpm_residents.specs.declared.native.Native.{Native}
 use Rattle.mpm_residents.specs.Natives.{native_in}
@@ -14,14 +17,15 @@ use Rattle.mpm_machine.specs.State.{Change, IsWhole, NoCompletions, HasRoomForAl
 use Rattle.mpm_machine.specs.Ending.{ended}
 use Rattle.mpm_machine.specs.Serving.{keeping, popped}
 use Rattle.mpm_machine.specs.Residing.{asked_by}
-use Rattle.mpm_machine.specs.Step.{gate_before, coming, with_settled, counted, step_of}
-use Rattle.mpm_machine.specs.FileCalls.{at_gate, called_next, is_file_number, calls_files, file_caller_by, file_caller, made_by, call_made, with_caller, reply_by, file_replied, error_told, told_then, error_met, answered_by, concluded, step_concluded, step_by, step_with}
-use Rattle.mpm_machine.specs.After.{IsOfCall, IsStep, IsToldIn, IsMade}
+use Rattle.mpm_machine.specs.Step.{gate_before, coming, counted}
+use Rattle.mpm_machine.specs.FileCalls.{at_gate, called_next, is_file_number, calls_files, file_caller_by, file_caller, made_by, call_made, with_caller, reply_by, file_replied, error_told, told_then, error_met, answered_by, concluded}
+use Rattle.mpm_machine.specs.DiskStep.{is_done_at_once, file_called, ready_again, step_passed, call_over, over_after, served_by, disk_served, process_over, all_paid, entered_by, entered_unless, call_entered}
+use Rattle.mpm_machine.specs.Stepping.{Telling, begun_with, begun_as, is_instruction, paid_after, entered_after, ended_after, rest_of, step_with, nothing_told}
+use Rattle.mpm_machine.specs.After.{IsOfCall, made_in, IsStep, IsToldIn, IsMade}
 use Rattle.mpm_machine.proofs.FiledLaws.{contained_by}
-use Rattle.mpm_machine.proofs.TallyLaws.{Tally, tally, OneMore, none_more, one_more_behind, answering_more, more_have_room, settled_steps}
-use Rattle.mpm_machine.proofs.FiledValue.{files_by_value}
-use Rattle.mpm_machine.proofs.StepLaws.{step_steps}
-use Rattle.mpm_machine.proofs.StepWithLaws.{with_none, instructed_with, served_with}
+use Rattle.mpm_machine.proofs.TallyLaws.{Tally, tally, OneMore, none_more, one_more_behind, answering_more, more_have_room, begun_more, all_answered_steps, all_finished_steps, ends_steps}
+use Rattle.mpm_machine.proofs.StepWithLaws.{instructed_with, served_with}
+use Rattle.mpm_machine.proofs.FiledValue.{filed_by_value, over_by_value, enters_by_value}
 
 -- none is made where no process runs, or the one that runs is at no gate
 
@@ -43,10 +47,6 @@ gateless system p seg runs home none =
     ap (λ running. file_caller_by comes running system) runs
     ∙ ap (λ (b : Bool). if b && not comes then Some p else None) (calls_nothing system p seg home none)
 
-pub filing_is : (told : Directly) (p : ℕ) (system : System) → file_caller system ≡ Some p → step_with told system ≡ step_concluded told p (call_made p system)
-unfolding step_with
-filing_is told p system some = ap (λ caller. step_by caller told system) some
-
 -- it is counted once, and completes one call at most
 
 caller_tally : (change : CallerChange) (p : ℕ) (system : System) → tally (with_caller change p system) ≡ tally system
@@ -55,15 +55,9 @@ caller_tally Stays p system = refl
 caller_tally (Selects drive) p system = refl
 caller_tally Resets p system = refl
 
-popped_tally : (p seg : ℕ) (system : System) → tally (popped p seg system) ≡ tally system
-unfolding popped
-popped_tally p seg system = refl
-
 reply_more : (seg : Option ℕ) (reply : Answer) (p : ℕ) (system : System) → OneMore system (reply_by seg reply p system)
 reply_more None reply p system = none_more system _ refl
-reply_more (Some seg) reply p system =
-    one_more_behind system (popped p seg system) _ (popped_tally p seg system)
-    (answering_more reply (call_of system.kernel.dispatcher.procs p) p seg (popped p seg system))
+reply_more (Some seg) reply p system = answering_more reply (call_of system.kernel.dispatcher.procs p) p seg system
 
 replied_more : (reply : Answer) (p : ℕ) (system : System) → OneMore system (file_replied reply p system)
 unfolding file_replied
@@ -95,21 +89,15 @@ answered_more : (error : Option Extended) (reply : Answer) (p : ℕ) (system : S
 answered_more None reply p system = replied_more reply p system
 answered_more (Some error) reply p system = met_more error reply p system
 
-concluded_more : (told : Directly) (p : ℕ) (system : System) → OneMore system (concluded told p system).system
+pub concluded_more : (told : Directly) (p : ℕ) (system : System) → OneMore system (concluded told p system).system
 unfolding concluded
 concluded_more told p system =
     one_more_behind system (with_caller told.caller p system) _ (caller_tally told.caller p system)
     (answered_more told.extended told.answer p (with_caller told.caller p system))
 
-pub concluded_has_room : (told : Directly) (p : ℕ) (old concluding : System) → old.records ≡ [] → concluding ≡ (concluded told p old).system
-    → HasRoomForAll (length concluding.records + 1)
-concluded_has_room told p old concluding none is =
-    let P : System → Type 0 = λ s. HasRoomForAll (length s.records + 1) in
-    subst P (sym is) (more_have_room old (concluded told p old).system none (concluded_more told p old))
-
 made_tally : (seg : Option ℕ) (native : Option Native) (p : ℕ) (system : System) → native_in system.residents p ≡ native
     → tally (made_by seg p system) ≡ tally system
-unfolding keeping
+unfolding keeping popped
 made_tally (Some seg) native p system here = refl
 made_tally None None p system here = ap (λ o. tally (asked_by o p system)) here
 made_tally None (Some native) p system here = ap (λ o. tally (asked_by o p system)) here
@@ -121,54 +109,123 @@ call_tally p system = made_tally (process_in system.kernel.dispatcher.procs p).s
 pub call_records : (p : ℕ) (old made : System) → old.records ≡ [] → made ≡ call_made p old → made.records ≡ []
 call_records p old made none is = ap (λ (s : System). s.records) is ∙ ap (λ (t : Tally). t.records) (call_tally p old) ∙ none
 
-step_concluded_steps : (told : Directly) (p : ℕ) (system : System) → (step_concluded told p system).system.steps ≡ system.steps
-unfolding step_concluded with_settled
-step_concluded_steps told p system = settled_steps (concluded told p system).system ∙ (concluded_more told p system).steps
+called_more : (told : Directly) (p : ℕ) (system : System) → OneMore system (file_called told p system).system
+unfolding file_called
+called_more told p system =
+    either (λ (c : Change). OneMore system c.system) (is_done_at_once p system) _ _ (λ _. concluded_more told p system) (λ _. none_more system _ refl)
 
-steps_by : (caller : Option ℕ) (told : Directly) (system : System) → (step_by caller told system).system.steps ≡ system.steps + 1
-steps_by None told system = step_steps system
-steps_by (Some p) told system = step_concluded_steps told p (call_made p system) ∙ ap (λ (t : Tally). t.steps) (call_tally p system)
+pub called_few : (told : Directly) (p : ℕ) (made called : System) → made.records ≡ [] → called ≡ (file_called told p made).system → length called.records ≤ 1
+called_few told p made called none is =
+    omega (arith, ap (λ (s : System). length s.records) is, (called_more told p made).few, ap length none)
 
-pub steps_with : (told : Directly) (system : System) → (step_with told system).system.steps ≡ system.steps + 1
+begun_with_more : (caller : Option ℕ) (told : Directly) (system : System) → OneMore (counted system) (begun_with caller told system).system
+begun_with_more None told system = begun_more (coming (counted system)) (counted system)
+begun_with_more (Some p) told system =
+    one_more_behind (counted system) (call_made p system) _ (call_tally p system) (called_more told p (call_made p system))
+
+pub begun_steps : (told : Directly) (system : System) → (begun_as told system).system.steps ≡ system.steps + 1
+unfolding begun_as
+begun_steps told system =
+    all_answered_steps (begun_with (file_caller system) told system).system ∙ (begun_with_more (file_caller system) told system).steps
+
+pub begun_with_has_room : (caller : Option ℕ) (told : Directly) (system begun : System) → system.records ≡ [] → begun ≡ (begun_with caller told system).system
+    → HasRoomForAll (length begun.records + 1)
+begun_with_has_room caller told system begun none is =
+    let P : System → Type 0 = λ s. HasRoomForAll (length s.records + 1) in
+    subst P (sym is) (more_have_room (counted system) (begun_with caller told system).system none (begun_with_more caller told system))
+
+over_steps : (turn : Turn) (told : Directly) (system : System) → (over_after turn told system).system.steps ≡ system.steps
+unfolding call_over
+over_steps Idle told system = refl
+over_steps Passing told system = refl
+over_steps (Starts p) told system = refl
+over_steps (Work p true) told system =
+    all_finished_steps (concluded told p (ready_again p system)).system ∙ (concluded_more told p (ready_again p system)).steps
+over_steps (Work p false) told system = refl
+
+served_by_steps : (served : Option ℕ) (told : Directly) (system : System) → (served_by served told system).system.steps ≡ system.steps
+served_by_steps None told system = refl
+served_by_steps (Some p) told system = over_steps (turn_answer system.kernel.disk) told (step_passed system)
+
+entered_by_steps : (turn : Turn) (turns : ℕ) (system : System) → (entered_by turn turns system).steps ≡ system.steps
+entered_by_steps Idle turns system = refl
+entered_by_steps Passing turns system = refl
+entered_by_steps (Work p last) turns system = refl
+entered_by_steps (Starts p) turns system = refl
+
+entered_unless_steps : (served : Option ℕ) (turns : ℕ) (system : System) → (entered_unless served turns system).steps ≡ system.steps
+entered_unless_steps (Some p) turns system = refl
+entered_unless_steps None turns system = entered_by_steps (turn_answer system.kernel.disk) turns (step_passed system)
+
+pub rest_steps : (instruction : Bool) (telling : Telling) (begun : Change) → (rest_of instruction telling begun).system.steps ≡ begun.system.steps
+unfolding rest_of ended_after entered_after call_entered all_paid disk_served
+rest_steps instruction telling begun =
+    let paid = paid_after telling.at_disk begun.system in
+    ends_steps (entered_after telling begun.system)
+    ∙ entered_unless_steps (served_process paid.kernel.disk) telling.turns paid
+    ∙ served_by_steps (served_process begun.system.kernel.disk) telling.at_disk begun.system
+
+pub steps_with : (telling : Telling) (system : System) → (step_with telling system).system.steps ≡ system.steps + 1
 unfolding step_with
-steps_with told system = steps_by (file_caller system) told system
+steps_with telling system =
+    rest_steps (is_instruction (file_caller system) system) telling (begun_as telling.at_gate system) ∙ begun_steps telling.at_gate system
 
 -- and its parts are what is said of a step
 
-abbrev step_is : (told : Directly) (system : System) → IsWhole system → NoCompletions system → IsOfCall (file_caller system) told system
-    → IsStep system (step_with told system)
-step_is told system w handed its = record {
-  told = told;
-  of_call = its;
+abbrev OfCall : Telling → System → Type 0
+OfCall telling system = IsOfCall (process_over (begun_as telling.at_gate system).system) telling.at_disk (begun_as telling.at_gate system).system
+
+abbrev step_is : (telling : Telling) (system : System) → IsWhole system → NoCompletions system
+    → IsOfCall (file_caller system) telling.at_gate (made_in (file_caller system) system) → OfCall telling system → IsStep system (step_with telling system)
+step_is telling system w handed first later = record {
+  telling = telling;
+  at_gate = first;
+  at_disk = later;
   is = refl;
-  contained = contained_by told system w;
-  instruction = λ p seg i. instructed_with told p seg system handed i;
-  calls = λ p seg i none. served_with told p seg system i none;
+  contained = contained_by telling system w;
+  instruction = λ p seg i. instructed_with telling p seg system handed i;
+  calls = λ p seg i none. served_with telling p seg system i none;
 }
 
-pub is_step : (told : Directly) (system : System) (change : Change) → IsWhole system → NoCompletions system → IsOfCall (file_caller system) told system
-    → change ≡ step_with told system → IsStep system change
-is_step told system change w handed its is = subst (IsStep system) (sym is) (step_is told system w handed its)
+pub is_step : (telling : Telling) (system : System) (change : Change) → IsWhole system → NoCompletions system
+    → IsOfCall (file_caller system) telling.at_gate (made_in (file_caller system) system) → OfCall telling system → change ≡ step_with telling system → IsStep system change
+is_step telling system change w handed first later is = subst (IsStep system) (sym is) (step_is telling system w handed first later)
 
 -- and of one that a machine makes
 
-pub is_made : (told : Directly) (system : System) (change : Change) → IsWhole system → NoCompletions system → IsOfCall (file_caller system) told system
-    → IsToldIn (file_caller system) told system → change ≡ step_with told system → IsMade system change
-is_made told system change w handed its tells is =
-    let made : IsMade system (step_with told system) = record {
-      step = step_is told system w handed its;
-      tells = tells;
-      files = files_by_value (file_caller system) told system tells;
+pub is_made : (telling : Telling) (system : System) (change : Change) → IsWhole system → NoCompletions system
+    → IsOfCall (file_caller system) telling.at_gate (made_in (file_caller system) system) → OfCall telling system
+    → IsToldIn (file_caller system) telling.at_gate (made_in (file_caller system) system)
+    → IsToldIn (process_over (begun_as telling.at_gate system).system) telling.at_disk (begun_as telling.at_gate system).system
+    → change ≡ step_with telling system → IsMade system change
+is_made telling system change w handed first later tells_first tells_later is =
+    let made : IsMade system (step_with telling system) = record {
+      step = step_is telling system w handed first later;
+      at_gate = tells_first;
+      at_disk = tells_later;
+      filed = filed_by_value (file_caller system) telling.at_gate (made_in (file_caller system) system) tells_first;
+      over = over_by_value (process_over (begun_as telling.at_gate system).system) telling.at_disk (begun_as telling.at_gate system).system tells_later;
+      enters = enters_by_value (paid_after telling.at_disk (begun_as telling.at_gate system).system);
     } in
     subst (IsMade system) (sym is) made
 
--- so is a step without a file call
+-- and of one in which no file call is made and none is over
 
-abbrev nothing_told : Directly
-nothing_told = record { caller = Stays; answer = record { hl = 0; fcb = None; at = 0; bytes = [] }; extended = None }
-
-pub is_made_alone : (system : System) (change : Change) → IsWhole system → NoCompletions system → file_caller system ≡ None → change ≡ step_of system
+is_made_so : (caller over : Option ℕ) (telling : Telling) (system : System) (change : Change) → IsWhole system → NoCompletions system
+    → file_caller system ≡ caller → caller ≡ None → process_over (begun_as telling.at_gate system).system ≡ over → over ≡ None → change ≡ step_with telling system
     → IsMade system change
-is_made_alone system change w handed none is =
-    is_made nothing_told system change w handed (subst (λ caller. IsOfCall caller nothing_told system) (sym none) tt)
-    (subst (λ caller. IsToldIn caller nothing_told system) (sym none) tt) (is ∙ sym (with_none nothing_told system none))
+is_made_so caller over telling system change w handed alone none here nobody is =
+    let made = made_in (file_caller system) system in
+    let begun = (begun_as telling.at_gate system).system in
+    is_made telling system change w handed
+    (subst (λ c. IsOfCall c telling.at_gate made) (sym (alone ∙ none)) tt) (subst (λ c. IsOfCall c telling.at_disk begun) (sym (here ∙ nobody)) tt)
+    (subst (λ c. IsToldIn c telling.at_gate made) (sym (alone ∙ none)) tt) (subst (λ c. IsToldIn c telling.at_disk begun) (sym (here ∙ nobody)) tt) is
+
+-- by nothing that is told
+abbrev pub telling_nothing : Telling
+telling_nothing = record { at_gate = nothing_told; at_disk = nothing_told; turns = 1 }
+
+pub is_made_still : (system : System) (change : Change) → IsWhole system → NoCompletions system → file_caller system ≡ None
+    → process_over (begun_as nothing_told system).system ≡ None → ((telling : Telling) → change ≡ step_with telling system) → IsMade system change
+is_made_still system change w handed alone nobody is =
+    is_made_so (file_caller system) (process_over (begun_as nothing_told system).system) telling_nothing system change w handed refl alone refl nobody (is telling_nothing)

@@ -10,9 +10,9 @@ use Rattle.mpm_bdos.specs.Filing.{Filing}
 use Rattle.mpm_bdos.specs.declared.refusals.Extended.{Extended}
 use Rattle.mpm_bdos.specs.Direct.{Directly, direct_of}
 use Rattle.mpm_machine.specs.declared.system.System.{System}
-use Rattle.mpm_machine.specs.FileCalls.{call_made, MayTell, IsToldOf, outcome_by, outcome_in}
-use Rattle.mpm_machine.specs.After.{IsToldIn, FiledByValue, IsFiledByValue}
-use Rattle.mpm_machine.specs.Contained.{DiffersInBytes}
+use Rattle.mpm_machine.specs.FileCalls.{situation_of, MayTell, IsToldOf, outcome_by, outcome_in}
+use Rattle.mpm_machine.specs.DiskStep.{told_of_call}
+use Rattle.mpm_machine.specs.After.{IsToldIn, IsFiledByValue, IsOverByValue, EntersByValue}
 
 value_by : (function : Option FileFunction) (other : Option DirectFunction) (filing : Filing) (p : ℕ) (old new : System) → new.kernel ≡ old.kernel
     → outcome_by function other filing p new ≡ outcome_by function other filing p old
@@ -25,9 +25,6 @@ unfolding outcome_in
 by_kernel filing p old new same =
     ap (λ (kernel : Kernel). outcome_by (function_of (call_of kernel.dispatcher.procs p).function) (direct_of (call_of kernel.dispatcher.procs p).function) filing p new) same
     ∙ value_by (function_of (call_of old.kernel.dispatcher.procs p).function) (direct_of (call_of old.kernel.dispatcher.procs p).function) filing p old new same
-
-filed_by_value : (filing : Filing) (p : ℕ) (one other : System) → DiffersInBytes one other → outcome_in filing p other ≡ outcome_in filing p one
-filed_by_value filing p one other differs = by_kernel filing p one other differs.kernel
 
 -- nor does what it may be answered
 
@@ -45,11 +42,22 @@ told_by_kernel p old new answer extended same tells =
     subst (λ (kernel : Kernel). MayTell (function_of (call_of kernel.dispatcher.procs p).function) (direct_of (call_of kernel.dispatcher.procs p).function) p new answer extended) (sym same)
     (tells_by (function_of (call_of old.kernel.dispatcher.procs p).function) (direct_of (call_of old.kernel.dispatcher.procs p).function) p old new answer extended same tells)
 
-pub files_by_value : (caller : Option ℕ) (told : Directly) (old : System) → IsToldIn caller told old → IsFiledByValue caller told old
-files_by_value None told old tells = tt
-files_by_value (Some p) told old tells =
-    let made = call_made p old in
-    record {
-      outcome = λ filing other differs. filed_by_value filing p made other differs;
-      tells = λ other differs. told_by_kernel p made other told.answer told.extended differs.kernel tells;
-    }
+-- one that is done at once
+pub filed_by_value : (caller : Option ℕ) (told : Directly) (system : System) → IsToldIn caller told system → IsFiledByValue caller told system
+filed_by_value None told system tells = tt
+filed_by_value (Some p) told system tells = record {
+  outcome = λ filing other differs. by_kernel filing p system other differs.kernel;
+  tells = λ other differs. told_by_kernel p system other told.answer told.extended differs.kernel tells;
+}
+
+-- one that is over, and one that enters service
+pub over_by_value : (over : Option ℕ) (told : Directly) (system : System) → IsToldIn over told system → IsOverByValue over told system
+over_by_value None told system tells = tt
+over_by_value (Some p) told system tells = record {
+  outcome = λ s other differs. ap (λ (kernel : Kernel). told_of_call s p (record system { kernel = kernel })) differs.kernel;
+  tells = λ other differs. told_by_kernel p system other told.answer told.extended differs.kernel tells;
+}
+
+pub enters_by_value : (system : System) → EntersByValue system
+enters_by_value system = λ filing function p other differs.
+    ap (λ (kernel : Kernel). situation_of filing function p (record system { kernel = kernel })) differs.kernel

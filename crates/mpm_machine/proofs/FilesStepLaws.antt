@@ -1,197 +1,238 @@
--- A step, and what was written in it, by what a file call comes to, if one is made in it.
-use Rattle.std.proofs.Common.{◌≡◌, ◌∙◌, ℕ, ◌+◌, Option, Some, None, IsSome, Result, Ok, Err, OnOk, refl, sym, ap, subst}
-use Rattle.std.specs.Prelude.{IfErr}
-use Rattle.mpm_base.specs.Calls.{Answer}
+-- A step of the machine is what it begins with and the rest of it, by what its file calls may tell, and by what is on the drives.
+use Rattle.std.proofs.Common.{◌≡◌, ◌∙◌, ℕ, Bool, true, ◌++◌, List, [], Option, Some, None, refl, sym, ap, subst}
 use Rattle.mpm_port.specs.Disks.{Disks}
-use Rattle.mpm_procs.specs.Table.{Lives, call_of}
-use Rattle.mpm_output.specs.Outside.{Outside}
+use Rattle.mpm_procs.specs.Table.{call_of}
+use Rattle.mpm_render.specs.Outputs.{Output}
+use Rattle.mpm_output.specs.Outside.{Outside, TheSink}
 use Rattle.mpm_output.specs.Writing.{Wrote, Stopped}
-use Rattle.mpm_bdos.specs.declared.refusals.Extended.{Extended}
+use Rattle.mpm_output.proofs.WritingLaws.{wrote_after, fails_before, fails_within, fails_same}
 use Rattle.mpm_bdos.specs.Direct.{Directly}
-use Rattle.mpm_bdos.specs.Filing.{Filing}
-use Rattle.mpm_bdos.specs.Outcomes.{Outcome}
 use Rattle.mpm_bdos.specs.Serving.{Kept}
 use Rattle.mpm_machine.specs.declared.system.System.{System}
 use Rattle.mpm_machine.specs.declared.machine.StepFault.{StepFault}
 use Rattle.mpm_machine.specs.declared.machine.StepFault.TheVariants.{DiskFault, WriteFault}
-use Rattle.mpm_machine.specs.State.{Change, StandsForFiles, IsWhole, NoCompletions}
-use Rattle.mpm_machine.specs.Due.{NobodyDue}
-use Rattle.mpm_machine.specs.Step.{step_of}
-use Rattle.mpm_machine.specs.Filed.{IsOutcome}
-use Rattle.mpm_machine.specs.FileCalls.{file_caller, call_made, IsToldOf, change_of, told_by, told_of, step_concluded, step_with, filed_by, filed, stepped, outcome_in}
-use Rattle.mpm_machine.specs.After.{IsOfCall, IsToldIn, HasStepped, HasStopped, HasFiled, HasConcluded, StopsBy}
-use Rattle.mpm_machine.proofs.FileLaws.{Made, makes}
-use Rattle.mpm_machine.proofs.FilingLaws.{told_is}
-use Rattle.mpm_machine.proofs.StepWithLaws.{with_none, whole_with, no_completions_with, nobody_due_with}
-use Rattle.mpm_machine.proofs.FileStepLaws.{filing_is, steps_with, is_made, is_made_alone}
+use Rattle.mpm_machine.specs.Files.{Files, StandsForFiles, drives_in}
+use Rattle.mpm_machine.specs.State.{Change, IsWhole, NoCompletions, silent}
+use Rattle.mpm_machine.specs.Faults.{OnDiskFault}
+use Rattle.mpm_machine.specs.FileCalls.{file_caller, told_of}
+use Rattle.mpm_machine.specs.DiskStep.{process_over}
+use Rattle.mpm_machine.specs.Failing.{does_work}
+use Rattle.mpm_machine.specs.Stepping.{Telling, begun_as, is_instruction, entered_after, ended_after, rest_of, step_with, nothing_told, told_first, files_begun, before_disk, telling_then, telling_of, files_rest, stepped}
+use Rattle.mpm_machine.specs.After.{IsOfCall, made_in, IsToldIn, IsMade, HasStepped, HasSteppedTo, HasStopped, StopsBy, HasBegunStep, HasBegunTo, HasBegunToStop, HasEndedStep, HasEndedTo, HasEndedToStop}
+use Rattle.mpm_machine.proofs.RestLaws.{rest_emitted}
+use Rattle.mpm_machine.proofs.FileStepLaws.{is_made}
 use Rattle.mpm_machine.proofs.ToldLaws.{something_told}
 
-stepped_is : (system : System) (filing : Filing) → (stepped system filing).change ≡ step_with (told_by (filed filing system)) system
+-- a call that is made, or is over, may be told something
+record MayBeTold (whose : Option ℕ) (system : System) : Type 0 where
+  pub told : Directly
+  pub of_call : IsOfCall whose told system
+  pub tells : IsToldIn whose told system
+
+may_be_told : (whose : Option ℕ) (system : System) → MayBeTold whose system
+may_be_told None system = record { told = nothing_told; of_call = tt; tells = tt }
+may_be_told (Some p) system =
+    let any = something_told p system in
+    record { told = told_of (call_of system.kernel.dispatcher.procs p) any.0 any.1; of_call = refl; tells = any.2 }
+
+-- what a step begins with, and the rest of it, by what is told at the disk and for how many turns the next call enters
+abbrev joined : Directly → Telling → Telling
+joined at_gate rest = record { at_gate = at_gate; at_disk = rest.at_disk; turns = rest.turns }
+
+-- the rest of it looks at no call that is made
+rest_joined : (instruction : Bool) (at_gate : Directly) (telling : Telling) (begun : Change) → rest_of instruction telling begun ≡ rest_of instruction (joined at_gate telling) begun
+unfolding rest_of ended_after entered_after
+rest_joined instruction at_gate telling begun = refl
+
+step_is_rest : (told : Directly) (telling : Telling) (old : System)
+    → step_with (joined told telling) old ≡ rest_of (is_instruction (file_caller old) old) (joined told telling) (begun_as told old)
+unfolding step_with
+step_is_rest told telling old = refl
+
+silent_rest : (instruction : Bool) (telling : Telling) (begun : Change) → (rest_of instruction telling (silent begun.system)).system ≡ (rest_of instruction telling begun).system
+unfolding rest_of
+silent_rest instruction telling begun = refl
+
+-- the whole step, by its parts
+whole_system : (instruction : Bool) (told : Directly) (telling : Telling) (old middle new : System) → instruction ≡ is_instruction (file_caller old) old
+    → middle ≡ (begun_as told old).system → new ≡ (rest_of instruction telling (silent middle)).system → new ≡ (step_with (joined told telling) old).system
+whole_system instruction told telling old middle new i is ends =
+    ends
+    ∙ ap (λ (s : System). (rest_of instruction telling (silent s)).system) is
+    ∙ ap (λ (c : Change). c.system) (rest_joined instruction told telling (silent (begun_as told old).system))
+    ∙ ap (λ b. (rest_of b (joined told telling) (silent (begun_as told old).system)).system) i
+    ∙ silent_rest (is_instruction (file_caller old) old) (joined told telling) (begun_as told old)
+    ∙ ap (λ (c : Change). c.system) (sym (step_is_rest told telling old))
+
+whole_emitted : (instruction : Bool) (told : Directly) (telling : Telling) (old middle : System) → instruction ≡ is_instruction (file_caller old) old
+    → middle ≡ (begun_as told old).system
+    → (rest_of instruction telling (silent middle)).emitted ++ (begun_as told old).emitted ≡ (step_with (joined told telling) old).emitted
+whole_emitted instruction told telling old middle i is =
+    let first = begun_as told old in
+    ap (λ (s : System). (rest_of instruction telling (silent s)).emitted ++ first.emitted) is
+    ∙ ap (λ (c : Change). c.emitted ++ first.emitted) (rest_joined instruction told telling (silent first.system))
+    ∙ ap (λ b. (rest_of b (joined told telling) (silent first.system)).emitted ++ first.emitted) i
+    ∙ sym (rest_emitted (is_instruction (file_caller old) old) (joined told telling) first)
+    ∙ ap (λ (c : Change). c.emitted) (sym (step_is_rest told telling old))
+
+wrote_same : (o n : Outside) (a b : List Output) → a ≡ b → Wrote o n a → Wrote o n b
+wrote_same o n a b is wrote = subst (Wrote o n) is wrote
+
+change_is : (new : System) (change : Change) → new ≡ change.system → record { system = new; emitted = change.emitted } ≡ change
+change_is new change is = ap (λ (s : System). let c : Change = record { system = s; emitted = change.emitted } in c) is
+
+-- whatever is on the drives
+
+pub has_stepped : (instruction : Bool) (o m n : Outside) (old middle new : System) → IsWhole old → NoCompletions old → HasBegunStep instruction o m old middle
+    → HasEndedStep instruction m n middle new → HasStepped o n old new
+has_stepped instruction o m n old middle new w handed begun ended =
+    let telling = joined begun.told ended.telling in
+    let change = step_with telling old in
+    let P : System → Type 0 = λ s. IsOfCall (process_over s) ended.telling.at_disk s in
+    let Q : System → Type 0 = λ s. IsToldIn (process_over s) ended.telling.at_disk s in
+    let is = whole_system instruction begun.told ended.telling old middle new begun.instruction_is begun.system ended.system in
+    record {
+      emitted = change.emitted;
+      is = is_made telling old (record { system = new; emitted = change.emitted }) w handed begun.of_call (subst P begun.system ended.of_call) begun.tells
+          (subst Q begun.system ended.tells) (change_is new change is);
+      wrote = wrote_same o n _ change.emitted (whole_emitted instruction begun.told ended.telling old middle begun.instruction_is begun.system)
+          (wrote_after o m n (begun_as begun.told old).emitted (rest_of instruction ended.telling (silent middle)).emitted begun.wrote ended.wrote);
+    }
+
+-- what it begins with stopped
+
+stops_before : (fault : StepFault) (o n : Outside) (a b : List Output) → StopsBy fault o n a → StopsBy fault o n (b ++ a)
+stops_before WriteFault o n a b stops = fails_before TheSink o n a b stops
+stops_before DiskFault o n a b stops = stops
+
+stops_same : (fault : StepFault) (o n : Outside) (a b : List Output) → a ≡ b → StopsBy fault o n a → StopsBy fault o n b
+stops_same fault o n a b is stops = subst (StopsBy fault o n) is stops
+
+pub begun_has_stopped : (fault : StepFault) (o n : Outside) (old : System) → IsWhole old → NoCompletions old → OnDiskFault fault (does_work old ≡ true)
+    → HasBegunToStop fault o n old → HasStopped fault o n old
+begun_has_stopped fault o n old w handed works begun =
+    let middle = (begun_as begun.told old).system in
+    let any = may_be_told (process_over middle) middle in
+    let rest : Telling = record { at_gate = nothing_told; at_disk = any.told; turns = 1 } in
+    let telling = joined begun.told rest in
+    let change = step_with telling old in
+    let i = is_instruction (file_caller old) old in
+    record {
+      change = change;
+      is = is_made telling old change w handed begun.of_call any.of_call begun.tells any.tells refl;
+      stops = stops_same fault o n _ change.emitted (whole_emitted i begun.told rest old middle refl refl)
+          (stops_before fault o n (begun_as begun.told old).emitted (rest_of i rest (silent middle)).emitted begun.stops);
+      works = works;
+    }
+
+-- the disk did, before anything was written
+pub disk_has_stopped : (o : Outside) (old : System) → IsWhole old → NoCompletions old → does_work old ≡ true → HasStopped DiskFault o o old
+disk_has_stopped o old w handed works =
+    let any = may_be_told (file_caller old) (made_in (file_caller old) old) in
+    begun_has_stopped DiskFault o o old w handed works (record { told = any.told; of_call = any.of_call; tells = any.tells; stops = refl })
+
+-- or the rest of it
+pub ended_has_stopped : (instruction : Bool) (o m n : Outside) (old middle : System) → IsWhole old → NoCompletions old → HasBegunStep instruction o m old middle
+    → HasEndedToStop instruction m n middle → HasStopped WriteFault o n old
+ended_has_stopped instruction o m n old middle w handed begun ended =
+    let telling = joined begun.told ended.telling in
+    let change = step_with telling old in
+    let P : System → Type 0 = λ s. IsOfCall (process_over s) ended.telling.at_disk s in
+    let Q : System → Type 0 = λ s. IsToldIn (process_over s) ended.telling.at_disk s in
+    record {
+      change = change;
+      is = is_made telling old change w handed begun.of_call (subst P begun.system ended.of_call) begun.tells (subst Q begun.system ended.tells) refl;
+      stops = fails_same TheSink o n _ change.emitted (whole_emitted instruction begun.told ended.telling old middle begun.instruction_is begun.system)
+          (fails_within TheSink o m n (begun_as begun.told old).emitted (rest_of instruction ended.telling (silent middle)).emitted [] begun.wrote ended.stops);
+      works = tt;
+    }
+
+-- by what is on the drives
+
+telling_is : (old : System) (files : Files)
+    → joined (told_first old files) (telling_then nothing_told (before_disk old files).system (files_begun old files)) ≡ telling_of old files
+unfolding telling_of telling_then
+telling_is old files = refl
+
+first_is : (old : System) (files : Files) → before_disk old files ≡ begun_as (told_first old files) old
+unfolding before_disk
+first_is old files = refl
+
+stepped_is : (old : System) (files : Files) → (stepped old files).change ≡ step_with (telling_of old files) old
 unfolding stepped
-stepped_is system filing = refl
+stepped_is old files = refl
 
-change_of_both : (one other : System) (c : Change) → one ≡ other → c.system ≡ other → (record c { system = one }) ≡ c
-change_of_both one other c is same = ap (λ system. record c { system = system }) (is ∙ sym same)
+stepped_files : (old : System) (files : Files) → (stepped old files).files ≡ files_rest (before_disk old files).system (files_begun old files)
+unfolding stepped
+stepped_files old files = refl
 
--- a step without a file call
+-- the rest of it is that behind what it begins with
+rest_here : (old middle : System) (files : Files) → middle ≡ (before_disk old files).system
+    → telling_then nothing_told middle (files_begun old files) ≡ telling_then nothing_told (before_disk old files).system (files_begun old files)
+rest_here old middle files is = ap (λ (s : System). telling_then nothing_told s (files_begun old files)) is
 
-stepped_alone : (system : System) (filing : Filing) → file_caller system ≡ None → (stepped system filing).change ≡ step_of system
-stepped_alone system filing none = stepped_is system filing ∙ with_none (told_by (filed filing system)) system none
+step_so : (old : System) (files : Files)
+    → step_with (joined (told_first old files) (telling_then nothing_told (before_disk old files).system (files_begun old files))) old ≡ (stepped old files).change
+step_so old files = ap (λ (t : Telling). step_with t old) (telling_is old files) ∙ sym (stepped_is old files)
 
-pub filed_alone : (system : System) (filing : Filing) → file_caller system ≡ None → (filed filing system).filing ≡ filing
-unfolding filed
-filed_alone system filing none = ap (λ caller. (filed_by caller filing system).filing) none
-
-pub alone_has_filed : (filing : Filing) (o n : Outside) (old new : System) (kept : Kept) (disks : Option Disks) → file_caller old ≡ None → new ≡ (step_of old).system
-    → Wrote o n (step_of old).emitted → StandsForFiles kept disks filing → HasFiled filing o n old new kept disks
-alone_has_filed filing o n old new kept disks none is wrote stands =
-    let same = stepped_alone old filing none in
+pub has_stepped_to : (instruction : Bool) (files : Files) (o m n : Outside) (old middle new : System) (between kept : Kept) (disks : Option Disks)
+    → instruction ≡ is_instruction (file_caller old) old → HasBegunTo files o m old middle between disks
+    → HasEndedTo instruction (files_begun old files) m n middle new kept disks → HasSteppedTo files o n old new kept disks
+has_stepped_to instruction files o m n old middle new between kept disks i begun ended =
+    let told = told_first old files in
+    let here = telling_then nothing_told middle (files_begun old files) in
+    let there = telling_then nothing_told (before_disk old files).system (files_begun old files) in
+    let same = rest_here old middle files begun.system in
+    let is = begun.system ∙ ap (λ (c : Change). c.system) (first_is old files) in
+    let R : Files → Type 0 = λ f. StandsForFiles new.kernel.disk kept disks f in
     record {
-      system = is ∙ ap (λ (c : Change). c.system) (sym same);
-      wrote = subst (λ (c : Change). Wrote o n c.emitted) (sym same) wrote;
-      files = subst (StandsForFiles kept disks) (sym (filed_alone old filing none)) stands;
+      system = whole_system instruction told here old middle new i is ended.system
+          ∙ ap (λ (t : Telling). (step_with (joined told t) old).system) same ∙ ap (λ (c : Change). c.system) (step_so old files);
+      wrote = wrote_same o n _ (stepped old files).change.emitted
+          (whole_emitted instruction told here old middle i is ∙ ap (λ (t : Telling). (step_with (joined told t) old).emitted) same ∙ ap (λ (c : Change). c.emitted) (step_so old files))
+          (wrote_after o m n (begun_as told old).emitted (rest_of instruction here (silent middle)).emitted
+          (wrote_same o m _ (begun_as told old).emitted (ap (λ (c : Change). c.emitted) (first_is old files)) begun.wrote) ended.wrote);
+      stands = subst R (ap (λ (s : System). files_rest s (files_begun old files)) begun.system ∙ sym (stepped_files old files)) ended.stands;
     }
 
-pub alone_has_stepped : (o n : Outside) (old new : System) → IsWhole old → NoCompletions old → file_caller old ≡ None → new ≡ (step_of old).system
-    → Wrote o n (step_of old).emitted → HasStepped o n old new
-alone_has_stepped o n old new w handed none is wrote = record {
-  emitted = (step_of old).emitted;
-  is = is_made_alone old (record { system = new; emitted = (step_of old).emitted }) w handed none (change_of_both new (step_of old).system (step_of old) is refl);
-  wrote = wrote;
-}
+-- where what it begins with stopped, or the rest of it
+pub begun_stops_by : (fault : StepFault) (files : Files) (o n : Outside) (old : System) → StopsBy fault o n (before_disk old files).emitted
+    → StopsBy fault o n (stepped old files).change.emitted
+begun_stops_by fault files o n old stops =
+    let told = told_first old files in
+    let there = telling_then nothing_told (before_disk old files).system (files_begun old files) in
+    let i = is_instruction (file_caller old) old in
+    let is = ap (λ (c : Change). c.system) (first_is old files) in
+    stops_same fault o n _ (stepped old files).change.emitted
+    (whole_emitted i told there old (before_disk old files).system refl is ∙ ap (λ (c : Change). c.emitted) (step_so old files))
+    (stops_before fault o n (begun_as told old).emitted (rest_of i there (silent (before_disk old files).system)).emitted
+    (stops_same fault o n _ (begun_as told old).emitted (ap (λ (c : Change). c.emitted) (first_is old files)) stops))
 
-pub alone_stops : (filing : Filing) (o n : Outside) (old : System) → file_caller old ≡ None → Stopped o n (step_of old).emitted
-    → Stopped o n (stepped old filing).change.emitted
-alone_stops filing o n old none stopped = subst (λ (c : Change). Stopped o n c.emitted) (sym (stepped_alone old filing none)) stopped
+pub ended_stops_by : (instruction : Bool) (files : Files) (o m n : Outside) (old middle : System) (between : Kept) (disks : Option Disks)
+    → instruction ≡ is_instruction (file_caller old) old → HasBegunTo files o m old middle between disks
+    → Stopped m n (rest_of instruction (telling_then nothing_told middle (files_begun old files)) (silent middle)).emitted
+    → StopsBy WriteFault o n (stepped old files).change.emitted
+ended_stops_by instruction files o m n old middle between disks i begun stopped =
+    let told = told_first old files in
+    let here = telling_then nothing_told middle (files_begun old files) in
+    let is = begun.system ∙ ap (λ (c : Change). c.system) (first_is old files) in
+    fails_same TheSink o n _ (stepped old files).change.emitted
+    (whole_emitted instruction told here old middle i is ∙ ap (λ (t : Telling). (step_with (joined told t) old).emitted) (rest_here old middle files begun.system)
+    ∙ ap (λ (c : Change). c.emitted) (step_so old files))
+    (fails_within TheSink o m n (begun_as told old).emitted (rest_of instruction here (silent middle)).emitted []
+    (wrote_same o m _ (begun_as told old).emitted (ap (λ (c : Change). c.emitted) (first_is old files)) begun.wrote) stopped)
 
-pub alone_has_stopped : (o n : Outside) (old : System) → IsWhole old → NoCompletions old → file_caller old ≡ None → Stopped o n (step_of old).emitted
-    → HasStopped WriteFault o n old
-alone_has_stopped o n old w handed none stopped = record {
-  change = step_of old;
-  is = is_made_alone old (step_of old) w handed none refl;
-  stops = stopped;
-  calls = tt;
-}
+-- for which drives the images then stand
 
--- a step with one
-
-pub made_here : (p : ℕ) (old made : System) → IsWhole old → Lives old.kernel.dispatcher.procs p → made ≡ call_made p old → Made p old made
-made_here p old made w h is = subst (Made p old) (sym is) (makes p old w h)
-
-pub filed_is : (filing : Filing) (p : ℕ) (old : System) → file_caller old ≡ Some p → filed filing old ≡ outcome_in filing p (call_made p old)
-unfolding filed
-filed_is filing p old some = ap (λ caller. filed_by caller filing old) some
-
--- what it comes to is what was answered
-answered_is : (filing : Filing) (p : ℕ) (old made : System) (kept : Kept) (disks : Option Disks) (answer : Answer) (extended : Option Extended)
-    → file_caller old ≡ Some p → made ≡ call_made p old → IsOutcome disks (outcome_in filing p made) kept answer extended
-    → (stepped old filing).change ≡ step_concluded (told_of (call_of made.kernel.dispatcher.procs p) answer extended) p made
-answered_is filing p old made kept disks answer extended some is outcome =
-    let told = told_of (call_of made.kernel.dispatcher.procs p) answer extended in
-    let same : told_by (filed filing old) ≡ told =
-    ap told_by (filed_is filing p old some ∙ ap (outcome_in filing p) (sym is)) ∙ sym (told_is disks filing p made kept answer extended outcome) in
-    stepped_is old filing ∙ ap (λ (t : Directly). step_with t old) same ∙ filing_is told p old some ∙ ap (step_concluded told p) (sym is)
-
-on_ok_by : {A E P Q : Type 0} (r : Result A E) → (P → Q) → OnOk r P → OnOk r Q
-on_ok_by (Ok a) so p = so p
-on_ok_by (Err e) so p = tt
-
-pub if_err_by : {A E : Type 0} (P Q : E → Type 0) (r : Result A E) → ((e : E) → P e → Q e) → IfErr r P → IfErr r Q
-if_err_by P Q (Ok a) so p = tt
-if_err_by P Q (Err e) so p = so e p
-
-pub files_have_filed : {A E : Type 0} (r : Result A E) (filing : Filing) (p : ℕ) (o n : Outside) (old made new : System) (kept left : Kept) (disks : Option Disks) (answer : Answer) (extended : Option Extended)
-    → file_caller old ≡ Some p → made ≡ call_made p old → left ≡ kept → IsOutcome disks (outcome_in filing p made) kept answer extended
-    → OnOk r (HasConcluded (told_of (call_of made.kernel.dispatcher.procs p) answer extended) p o n made new)
-    → OnOk r (HasFiled filing o n old new left disks)
-files_have_filed r filing p o n old made new kept left disks answer extended some is same outcome concluded =
-    let change = answered_is filing p old made kept disks answer extended some is outcome in
-    let there : StandsForFiles kept disks (filed filing old).filing =
-    subst (λ (f : Filing). StandsForFiles kept disks f) (ap (λ s. (outcome_in filing p s).filing) is ∙ sym (ap (λ (x : Outcome). x.filing) (filed_is filing p old some))) outcome.files in
-    on_ok_by r (λ (c : HasConcluded (told_of (call_of made.kernel.dispatcher.procs p) answer extended) p o n made new).
-    let has : HasFiled filing o n old new left disks = record {
-      system = c.system ∙ ap (λ (x : Change). x.system) (sym change);
-      wrote = subst (λ (x : Change). Wrote o n x.emitted) (sym change) c.wrote;
-      files = subst (λ (k : Kept). StandsForFiles k disks (filed filing old).filing) (sym same) there;
-    } in has) concluded
-
-pub files_stop : {A : Type 0} (r : Result A StepFault) (filing : Filing) (p : ℕ) (o n : Outside) (old made : System) (kept : Kept) (disks : Option Disks) (answer : Answer) (extended : Option Extended)
-    → file_caller old ≡ Some p → made ≡ call_made p old → IsOutcome disks (outcome_in filing p made) kept answer extended
-    → IfErr r (λ fault. (fault ≡ WriteFault) × Stopped o n (step_concluded (told_of (call_of made.kernel.dispatcher.procs p) answer extended) p made).emitted)
-    → IfErr r (λ fault. StopsBy fault o n (stepped old filing).change.emitted)
-files_stop r filing p o n old made kept disks answer extended some is outcome stopped =
-    let told = told_of (call_of made.kernel.dispatcher.procs p) answer extended in
-    let change = answered_is filing p old made kept disks answer extended some is outcome in
-    if_err_by (λ fault. (fault ≡ WriteFault) × Stopped o n (step_concluded told p made).emitted) (λ fault. StopsBy fault o n (stepped old filing).change.emitted) r
-    (λ fault so. subst (λ f. StopsBy f o n (stepped old filing).change.emitted) (sym so.0) (subst (λ (x : Change). Stopped o n x.emitted) (sym change) so.1)) stopped
-
-of_call : (told : Directly) (p : ℕ) (old made : System) → file_caller old ≡ Some p → made ≡ call_made p old
-    → told.caller ≡ change_of (call_of made.kernel.dispatcher.procs p) told.extended → IsOfCall (file_caller old) told old
-of_call told p old made some is changes =
-    subst (λ caller. IsOfCall caller told old) (sym some) (subst (λ (m : System). told.caller ≡ change_of (call_of m.kernel.dispatcher.procs p) told.extended) is changes)
-
-told_in : (told : Directly) (p : ℕ) (old made : System) → file_caller old ≡ Some p → made ≡ call_made p old → IsToldOf p made told.answer told.extended → IsToldIn (file_caller old) told old
-told_in told p old made some is tells =
-    subst (λ caller. IsToldIn caller told old) (sym some) (subst (λ (m : System). IsToldOf p m told.answer told.extended) is tells)
-
-pub files_have_stepped : {A E : Type 0} (r : Result A E) (told : Directly) (p : ℕ) (o n : Outside) (old made new : System) → IsWhole old → NoCompletions old
-    → file_caller old ≡ Some p → made ≡ call_made p old → told.caller ≡ change_of (call_of made.kernel.dispatcher.procs p) told.extended
-    → IsToldOf p made told.answer told.extended → OnOk r (HasConcluded told p o n made new) → OnOk r (HasStepped o n old new)
-files_have_stepped r told p o n old made new w handed some is changes tells concluded =
-    let all : step_concluded told p made ≡ step_with told old = ap (step_concluded told p) is ∙ sym (filing_is told p old some) in
-    on_ok_by r (λ (c : HasConcluded told p o n made new).
-    let has : HasStepped o n old new = record {
-      emitted = (step_concluded told p made).emitted;
-      is = is_made told old (record { system = new; emitted = (step_concluded told p made).emitted }) w handed (of_call told p old made some is changes) (told_in told p old made some is tells)
-          (change_of_both new (step_concluded told p made).system (step_concluded told p made) c.system refl ∙ all);
-      wrote = c.wrote;
-    } in has) concluded
-
-pub files_have_stopped : {A : Type 0} (r : Result A StepFault) (told : Directly) (p : ℕ) (o n : Outside) (old made : System) → IsWhole old → NoCompletions old
-    → file_caller old ≡ Some p → made ≡ call_made p old → told.caller ≡ change_of (call_of made.kernel.dispatcher.procs p) told.extended
-    → IsToldOf p made told.answer told.extended → IfErr r (λ fault. (fault ≡ WriteFault) × Stopped o n (step_concluded told p made).emitted) → IfErr r (λ fault. HasStopped fault o n old)
-files_have_stopped r told p o n old made w handed some is changes tells stopped =
-    let all : step_concluded told p made ≡ step_with told old = ap (step_concluded told p) is ∙ sym (filing_is told p old some) in
-    if_err_by (λ fault. (fault ≡ WriteFault) × Stopped o n (step_concluded told p made).emitted) (λ fault. HasStopped fault o n old) r
-    (λ fault so.
-    let has : HasStopped WriteFault o n old = record {
-      change = step_concluded told p made;
-      is = is_made told old (step_concluded told p made) w handed (of_call told p old made some is changes) (told_in told p old made some is tells) all;
-      stops = so.1;
-      calls = tt;
-    } in subst (λ f. HasStopped f o n old) (sym so.0) has) stopped
-
--- where its drive failed nothing was written
-there : (p : ℕ) (caller : Option ℕ) → caller ≡ Some p → IsSome caller
-there p None is = absurd (cc)
-there p (Some q) is = refl
-
-pub unwritten_has_stopped : (p : ℕ) (o : Outside) (old : System) → IsWhole old → NoCompletions old → file_caller old ≡ Some p
-    → HasStopped DiskFault o o old
-unwritten_has_stopped p o old w handed some =
-    let made = call_made p old in
-    let some_told = something_told p made in
-    let told : Directly = told_of (call_of made.kernel.dispatcher.procs p) some_told.0 some_told.1 in
-    record {
-      change = step_with told old;
-      is = is_made told old (step_with told old) w handed (of_call told p old made some refl refl) (told_in told p old made some refl some_told.2) refl;
-      stops = refl;
-      calls = there p (file_caller old) some;
-    }
-
--- what is so behind it
-
-behind : (o n : Outside) (old new : System) (P : System → Type 0) (step : HasStepped o n old new) → P (step_with step.is.step.told old).system → P new
-behind o n old new P step so = subst P (sym (ap (λ (c : Change). c.system) step.is.step.is)) so
-
-pub step_whole : (o n : Outside) (old new : System) → IsWhole old → HasStepped o n old new → IsWhole new
-step_whole o n old new w step = behind o n old new IsWhole step (whole_with step.is.step.told old w)
-
-pub step_handed : (o n : Outside) (old new : System) → HasStepped o n old new → NoCompletions new
-step_handed o n old new step = behind o n old new NoCompletions step (no_completions_with step.is.step.told old)
-
-pub step_settled : (o n : Outside) (old new : System) → IsWhole old → HasStepped o n old new → NobodyDue new.kernel
-step_settled o n old new w step = behind o n old new (λ system. NobodyDue system.kernel) step (nobody_due_with step.is.step.told old w)
-
-pub step_counted : (o n : Outside) (old new : System) → HasStepped o n old new → new.steps ≡ old.steps + 1
-step_counted o n old new step = behind o n old new (λ system. system.steps ≡ old.steps + 1) step (steps_with step.is.step.told old)
+pub stepped_drives : (instruction : Bool) (files : Files) (old middle : System) → instruction ≡ is_instruction (file_caller old) old → middle ≡ (before_disk old files).system
+    → drives_in (rest_of instruction (telling_then nothing_told middle (files_begun old files)) (silent middle)).system.kernel.disk.served (files_rest middle (files_begun old files))
+    ≡ drives_in (stepped old files).change.system.kernel.disk.served (stepped old files).files
+stepped_drives instruction files old middle i is =
+    let told = told_first old files in
+    let here = telling_then nothing_told middle (files_begun old files) in
+    let first = is ∙ ap (λ (c : Change). c.system) (first_is old files) in
+    let end : (rest_of instruction here (silent middle)).system ≡ (stepped old files).change.system =
+    whole_system instruction told here old middle (rest_of instruction here (silent middle)).system i first refl
+    ∙ ap (λ (t : Telling). (step_with (joined told t) old).system) (rest_here old middle files is) ∙ ap (λ (c : Change). c.system) (step_so old files) in
+    ap (λ (s : System). drives_in s.kernel.disk.served (files_rest middle (files_begun old files))) end
+    ∙ ap (λ (f : Files). drives_in (stepped old files).change.system.kernel.disk.served f) (ap (λ (s : System). files_rest s (files_begun old files)) is ∙ sym (stepped_files old files))

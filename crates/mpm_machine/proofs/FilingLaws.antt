@@ -24,17 +24,17 @@ use Rattle.mpm_bdos.specs.Jobs.{turned, call_turns}
 use Rattle.mpm_bdos.specs.Outcomes.{CallerChange, Stays, Selects, Resets, caller_by, file_call, outcome_by as served_by}
 use Rattle.mpm_bdos.specs.Refusals.{refusal_of}
 use Rattle.mpm_bdos.specs.Direct.{Directly, parameters_told, direct_numbers, direct_of, direct, direct_by, kind_of, is_protected, where_mounted, selected}
-use Rattle.mpm_bdos.specs.Serving.{Kept, StandEach, directory_at, filing_of}
+use Rattle.mpm_bdos.specs.Serving.{Kept, InService, StandEach, Serves, directory_at, filing_of}
+use Rattle.mpm_bdos.specs.Answering.{HasEntered}
 use Rattle.mpm_bdos.specs.Starting.{caller_of, entering as entering_here}
 use Rattle.mpm_bdos.specs.Turns.{labelled, told_images}
 use Rattle.mpm_base.specs.declared.kind.Kind.{Kind}
 use Rattle.mpm_machine.specs.declared.system.System.{System}
 use Rattle.mpm_mount.specs.Directories.{Directory}
-use Rattle.mpm_machine.specs.State.{StandsForFiles}
+use Rattle.mpm_machine.specs.Files.{StandsBetween, left_each, owes, all_left}
 use Rattle.mpm_machine.specs.Mounting.{HasNoDrive}
-use Rattle.mpm_machine.specs.Filed.{IsOutcome, AreLiving, left_if}
-use Rattle.mpm_machine.specs.FileCalls.{file_caller, call_made, looked_at, entering, situation_of, outcome_by, outcome_in, filed_by, filed, change_of, told_by, told_of, is_gone, left_each, left_behind}
-use Rattle.mpm_machine.specs.After.{IsOfCall}
+use Rattle.mpm_machine.specs.Filed.{IsOutcome, left_if}
+use Rattle.mpm_machine.specs.FileCalls.{looked_at, entering, situation_of, directly, outcome_by, outcome_in, change_of, told_by, told_of}
 
 -- a row of a table of numbers
 
@@ -165,79 +165,98 @@ changed_by None None filing p system none other =
     let number = (call_of system.kernel.dispatcher.procs p).function in
     plain_change (call_of system.kernel.dispatcher.procs p) None number refl (neither_reset number (number == 13) refl none) (neither_select number (number == 14) refl other)
 
-caller_changed : (filing : Filing) (p : ℕ) (system : System)
+pub caller_changed : (filing : Filing) (p : ℕ) (system : System)
     → (outcome_in filing p system).caller ≡ change_of (call_of system.kernel.dispatcher.procs p) (outcome_in filing p system).extended
 unfolding outcome_in
 caller_changed filing p system =
     let number = (call_of system.kernel.dispatcher.procs p).function in
     changed_by (function_of number) (direct_of number) filing p system refl refl
 
--- so is what its caller is told
-pub filed_of_call : (filing : Filing) (system : System) → IsOfCall (file_caller system) (told_by (filed filing system)) system
-unfolding filed
-filed_of_call filing system = by_caller (file_caller system)
-  where
-    by_caller : (caller : Option ℕ) → IsOfCall caller (told_by (filed_by caller filing system)) system
-    by_caller None = tt
-    by_caller (Some p) = caller_changed filing p (call_made p system)
+-- so what is told is all that its caller sees
+pub told_all : (filing : Filing) (p : ℕ) (system : System)
+    → told_of (call_of system.kernel.dispatcher.procs p) (outcome_in filing p system).answer (outcome_in filing p system).extended ≡ told_by (outcome_in filing p system)
+told_all filing p system =
+    let outcome = outcome_in filing p system in
+    ap (λ (c : CallerChange). let told : Directly = record { caller = c; answer = outcome.answer; extended = outcome.extended } in told) (sym (caller_changed filing p system))
 
--- what was answered is all of that
+-- what was answered is told
 pub told_is : (disks : Option Disks) (filing : Filing) (p : ℕ) (system : System) (kept : Kept) (answer : Answer) (extended : Option Extended)
     → IsOutcome disks (outcome_in filing p system) kept answer extended
-    → told_of (call_of system.kernel.dispatcher.procs p) answer extended ≡ told_by (outcome_in filing p system)
+    → told_of (call_of system.kernel.dispatcher.procs p) answer extended
+    ≡ told_of (call_of system.kernel.dispatcher.procs p) (outcome_in filing p system).answer (outcome_in filing p system).extended
 told_is disks filing p system kept answer extended is =
     let call = call_of system.kernel.dispatcher.procs p in
-    let outcome = outcome_in filing p system in
-    ap (λ (a : Answer). told_of call a extended) is.answer_is
-    ∙ ap (λ (e : Option Extended). told_of call outcome.answer e) is.extended_is
-    ∙ ap (λ (c : CallerChange). let told : Directly = record { caller = c; answer = outcome.answer; extended = outcome.extended } in told) (sym (caller_changed filing p system))
+    ap (λ (a : Answer). told_of call a extended) is.answer_is ∙ ap (λ (e : Option Extended). told_of call (outcome_in filing p system).answer e) is.extended_is
 
--- a call that no disk serves
+-- a call that no disk serves: what it answers, and that it leaves files as they are
 
-directly_by : (found : Option DirectFunction) (disks : Option Disks) (filing : Filing) (p : ℕ) (system : System) (kept : Kept) (answer : Answer) (extended : Option Extended)
-    → StandsForFiles kept disks filing
+directly_by : (found : Option DirectFunction) (filing : Filing) (p : ℕ) (system : System) (answer : Answer) (extended : Option Extended)
     → IfSome found (λ function. answer ≡ (direct filing (process_in system.kernel.dispatcher.procs p).drive (call_of system.kernel.dispatcher.procs p) function).answer)
     → IfSome found (λ function. extended ≡ (direct filing (process_in system.kernel.dispatcher.procs p).drive (call_of system.kernel.dispatcher.procs p) function).extended)
     → (found ≡ None → answer ≡ answering 0) → (found ≡ None → extended ≡ None)
-    → IsOutcome disks (outcome_by None found filing p system) kept answer extended
-directly_by None disks filing p system kept answer extended stands a e empty mute = record { answer_is = empty refl; extended_is = mute refl; files = stands }
-directly_by (Some function) disks filing p system kept answer extended stands a e empty mute = record { answer_is = a; extended_is = e; files = stands }
+    → (answer ≡ (outcome_by None found filing p system).answer) × (extended ≡ (outcome_by None found filing p system).extended)
+directly_by None filing p system answer extended a e empty mute = (empty refl, mute refl)
+directly_by (Some function) filing p system answer extended a e empty mute = (a, e)
+
+pub directly_answered : (filing : Filing) (p : ℕ) (system : System) (call : Taken) (process : Process) (before answer : Answer) (extended : Option Extended)
+    → call ≡ call_of system.kernel.dispatcher.procs p → process ≡ process_in system.kernel.dispatcher.procs p
+    → function_of (call_of system.kernel.dispatcher.procs p).function ≡ None → before ≡ answering 0
+    → IfSome (direct_of call.function) (λ function. answer ≡ (direct filing process.drive call function).answer)
+    → IfSome (direct_of call.function) (λ function. extended ≡ (direct filing process.drive call function).extended)
+    → (direct_of call.function ≡ None → answer ≡ before) → (direct_of call.function ≡ None → extended ≡ None)
+    → (answer ≡ (outcome_in filing p system).answer) × (extended ≡ (outcome_in filing p system).extended)
+unfolding outcome_in
+directly_answered filing p system call process before answer extended calls lives none empty a e other unanswered =
+    let number = (call_of system.kernel.dispatcher.procs p).function in
+    let A : ℕ → Taken → Type 0 = λ drive c. IfSome (direct_of c.function) (λ function. answer ≡ (direct filing drive c function).answer) in
+    let E : ℕ → Taken → Type 0 = λ drive c. IfSome (direct_of c.function) (λ function. extended ≡ (direct filing drive c function).extended) in
+    let drive : process.drive ≡ (process_in system.kernel.dispatcher.procs p).drive = ap (λ (x : Process). x.drive) lives in
+    let answers : A (process_in system.kernel.dispatcher.procs p).drive (call_of system.kernel.dispatcher.procs p) =
+    subst (A (process_in system.kernel.dispatcher.procs p).drive) calls (subst (λ d. A d call) drive a) in
+    let errs : E (process_in system.kernel.dispatcher.procs p).drive (call_of system.kernel.dispatcher.procs p) =
+    subst (E (process_in system.kernel.dispatcher.procs p).drive) calls (subst (λ d. E d call) drive e) in
+    let at : direct_of call.function ≡ direct_of number = ap (λ (c : Taken). direct_of c.function) calls in
+    subst (λ (served : Option FileFunction). (answer ≡ (outcome_by served (direct_of number) filing p system).answer) × (extended ≡ (outcome_by served (direct_of number) filing p system).extended))
+    (sym none) (directly_by (direct_of number) filing p system answer extended answers errs (λ nothing. other (at ∙ nothing) ∙ empty) (λ nothing. unanswered (at ∙ nothing)))
+
+same_filing : (found : Option DirectFunction) (filing : Filing) (p : ℕ) (system : System) → (outcome_by None found filing p system).filing ≡ filing
+same_filing None filing p system = refl
+same_filing (Some function) filing p system = refl
+
+pub filing_stays : (filing : Filing) (p : ℕ) (system : System) → function_of (call_of system.kernel.dispatcher.procs p).function ≡ None → (outcome_in filing p system).filing ≡ filing
+unfolding outcome_in
+filing_stays filing p system none =
+    let number = (call_of system.kernel.dispatcher.procs p).function in
+    ap (λ (served : Option FileFunction). (outcome_by served (direct_of number) filing p system).filing) none ∙ same_filing (direct_of number) filing p system
 
 pub directly_is : (disks : Option Disks) (filing : Filing) (p : ℕ) (system : System) (kept : Kept) (call : Taken) (process : Process) (before answer : Answer) (extended : Option Extended)
     → call ≡ call_of system.kernel.dispatcher.procs p → process ≡ process_in system.kernel.dispatcher.procs p
-    → function_of (call_of system.kernel.dispatcher.procs p).function ≡ None → StandsForFiles kept disks filing → before ≡ answering 0
+    → function_of (call_of system.kernel.dispatcher.procs p).function ≡ None → StandsBetween kept disks filing → before ≡ answering 0
     → ((images : ℕ → List ℕ) (drives : List (Option Drive)) → StandEach images kept.mounted drives
     → IfSome (direct_of call.function) (λ function. answer ≡ (direct (filing_of kept drives) process.drive call function).answer))
     → ((images : ℕ → List ℕ) (drives : List (Option Drive)) → StandEach images kept.mounted drives
     → IfSome (direct_of call.function) (λ function. extended ≡ (direct (filing_of kept drives) process.drive call function).extended))
     → (direct_of call.function ≡ None → answer ≡ before) → (direct_of call.function ≡ None → extended ≡ None)
     → IsOutcome disks (outcome_in filing p system) kept answer extended
-unfolding outcome_in
 directly_is disks filing p system kept call process before answer extended calls lives none stands empty a e other unanswered =
-    let number = (call_of system.kernel.dispatcher.procs p).function in
-    let A : Filing → ℕ → Taken → Type 0 = λ f drive c. IfSome (direct_of c.function) (λ function. answer ≡ (direct f drive c function).answer) in
-    let E : Filing → ℕ → Taken → Type 0 = λ f drive c. IfSome (direct_of c.function) (λ function. extended ≡ (direct f drive c function).extended) in
-    let drive : process.drive ≡ (process_in system.kernel.dispatcher.procs p).drive = ap (λ (x : Process). x.drive) lives in
-    let answers : A filing (process_in system.kernel.dispatcher.procs p).drive (call_of system.kernel.dispatcher.procs p) =
-    subst (A filing (process_in system.kernel.dispatcher.procs p).drive) calls (subst (λ d. A filing d call) drive (subst (λ f. A f process.drive call) stands.filing_is (a (told_images disks) filing.drives stands.stand))) in
-    let errs : E filing (process_in system.kernel.dispatcher.procs p).drive (call_of system.kernel.dispatcher.procs p) =
-    subst (E filing (process_in system.kernel.dispatcher.procs p).drive) calls (subst (λ d. E filing d call) drive (subst (λ f. E f process.drive call) stands.filing_is (e (told_images disks) filing.drives stands.stand))) in
-    let at : direct_of call.function ≡ direct_of number = ap (λ (c : Taken). direct_of c.function) calls in
-    subst (λ (served : Option FileFunction). IsOutcome disks (outcome_by served (direct_of number) filing p system) kept answer extended) (sym none)
-    (directly_by (direct_of number) disks filing p system kept answer extended stands answers errs (λ nothing. other (at ∙ nothing) ∙ empty) (λ nothing. unanswered (at ∙ nothing)))
+    let A : Filing → Type 0 = λ f. IfSome (direct_of call.function) (λ function. answer ≡ (direct f process.drive call function).answer) in
+    let E : Filing → Type 0 = λ f. IfSome (direct_of call.function) (λ function. extended ≡ (direct f process.drive call function).extended) in
+    let so = directly_answered filing p system call process before answer extended calls lives none empty
+    (subst A stands.filing_is (a (told_images disks) filing.drives stands.stand)) (subst E stands.filing_is (e (told_images disks) filing.drives stands.stand)) other unanswered in
+    record { answer_is = so.0; extended_is = so.1; files = subst (StandsBetween kept disks) (sym (filing_stays filing p system none)) stands }
 
 -- a call that the disk serves
 
 comes_to : (disks : Option Disks) (filing : Filing) (p : ℕ) (system : System) (new : Kept) (s : Situation) (function : FileFunction) (answer : Answer) (extended : Option Extended)
-    → s ≡ situation_of filing function p system → function_of (call_of system.kernel.dispatcher.procs p).function ≡ Some function
+    → s ≡ situation_of filing function p system → function_of (call_of system.kernel.dispatcher.procs p).function ≡ Some function → new.service ≡ None
     → ComesTo (told_images disks) s new answer extended → IsOutcome disks (outcome_in filing p system) new answer extended
 unfolding outcome_in
-comes_to disks filing p system new s function answer extended is named comes =
+comes_to disks filing p system new s function answer extended is named idle comes =
     let P : Situation → Type 0 = λ t. IsOutcome disks (file_call t) new answer extended in
     let here : P s = record {
       answer_is = comes.answer_is;
       extended_is = comes.extended_is;
-      files = record { filing_is = comes.filing_is; stand = comes.stand };
+      files = record { idle = idle; filing_is = comes.filing_is; stand = comes.stand };
     } in
     subst (λ (served : Option FileFunction). IsOutcome disks (outcome_by served (direct_of (call_of system.kernel.dispatcher.procs p).function) filing p system) new answer extended) (sym named)
     (subst P is here)
@@ -264,56 +283,87 @@ ok_by P Q (Err e) so is = tt
 pub disk_is : {E : Type 0} (disks now : Option Disks) (filing : Filing) (p : ℕ) (system : System) (kept new : Kept) (caller process : Process) (call : Taken) (moment : Moment)
     (answer : Answer) (result : Result (Option Extended) E)
     → caller ≡ looked_at process → process ≡ process_in system.kernel.dispatcher.procs p → call ≡ call_of system.kernel.dispatcher.procs p → moment ≡ moment_of system.kernel.clock
-    → IsSome (function_of (call_of system.kernel.dispatcher.procs p).function) → StandsForFiles kept disks filing
+    → IsSome (function_of (call_of system.kernel.dispatcher.procs p).function) → StandsBetween kept disks filing
+    → ((function : FileFunction) → function_of call.function ≡ Some function → new.service ≡ None)
     → ((before : List (Option Drive)) (function : FileFunction) → function_of call.function ≡ Some function → StandEach (told_images disks) kept.mounted before
     → IfOk result (ComesTo (told_images now) (entering_here kept before (caller_of p caller) function call (stamp moment)) new answer))
     → IfOk result (IsOutcome now (outcome_in filing p system) new answer)
-disk_is disks now filing p system kept new caller process call moment answer result looks lives calls at some stands ok =
+disk_is disks now filing p system kept new caller process call moment answer result looks lives calls at some stands idle ok =
     let found = named_by (function_of (call_of system.kernel.dispatcher.procs p).function) some in
     let function = found.0 in
+    let its : function_of call.function ≡ Some function = ap (λ (c : Taken). function_of c.function) calls ∙ found.1 in
     let s = entering_here kept filing.drives (caller_of p caller) function call (stamp moment) in
     let is = situation_is filing p system kept function caller process call moment stands.filing_is looks lives calls at in
     ok_by (ComesTo (told_images now) s new answer) (IsOutcome now (outcome_in filing p system) new answer) result
-    (λ extended comes. comes_to now filing p system new s function answer extended is found.1 comes)
-    (ok filing.drives function (ap (λ (c : Taken). function_of c.function) calls ∙ found.1) stands.stand)
+    (λ extended comes. comes_to now filing p system new s function answer extended is found.1 (idle function its) comes)
+    (ok filing.drives function its stands.stand)
 
--- which slots are lived in
+-- behind it no call is in service
+pub at_once_idle : (call kept : Taken) {service : Option InService} → call ≡ kept → IsSome (function_of kept.function)
+    → ((function : FileFunction) → function_of call.function ≡ Some function → service ≡ None) → service ≡ None
+at_once_idle call kept calls some idle =
+    let found = named_by (function_of kept.function) some in idle found.0 (ap (λ (c : Taken). function_of c.function) calls ∙ found.1)
 
-pub record AreLivingTo (procs : Table) (slots : List Bool) (number : ℕ) : Type 0 where
-  pub full : length slots ≡ 32
-  pub each : (p : ℕ) → p < number → slice_index_or slots p false ≡ lives procs p
+-- a call that enters service, in the situation of this moment
+pub turns_are : (disks : Option Disks) (filing : Filing) (p : ℕ) (system : System) (kept : Kept) (function : FileFunction) (caller process : Process) (call : Taken) (moment : Moment) (turns : ℕ)
+    → caller ≡ looked_at process → process ≡ process_in system.kernel.dispatcher.procs p → call ≡ call_of system.kernel.dispatcher.procs p → moment ≡ moment_of system.kernel.clock
+    → function_of (call_of system.kernel.dispatcher.procs p).function ≡ Some function → StandsBetween kept disks filing
+    → ((images : ℕ → List ℕ) (drives : List (Option Drive)) (named : FileFunction) → function_of call.function ≡ Some named → StandEach images kept.mounted drives
+    → turns ≡ call_turns (entering_here kept drives (caller_of p caller) named call (stamp moment)))
+    → turns ≡ call_turns (situation_of filing function p system)
+turns_are disks filing p system kept function caller process call moment turns looks lives calls at is stands each =
+    each (told_images disks) filing.drives function (ap (λ (c : Taken). function_of c.function) calls ∙ is) stands.stand
+    ∙ ap call_turns (situation_is filing p system kept function caller process call moment stands.filing_is looks lives calls at)
+
+pub serves_at_entry : (disks : Option Disks) (filing : Filing) (p : ℕ) (system : System) (kept new : Kept) (function : FileFunction) (caller process : Process) (call : Taken) (moment : Moment)
+    → caller ≡ looked_at process → process ≡ process_in system.kernel.dispatcher.procs p → call ≡ call_of system.kernel.dispatcher.procs p → moment ≡ moment_of system.kernel.clock
+    → function_of (call_of system.kernel.dispatcher.procs p).function ≡ Some function → StandsBetween kept disks filing
+    → ((images : ℕ → List ℕ) (drives : List (Option Drive)) (named : FileFunction) → function_of call.function ≡ Some named → StandEach images kept.mounted drives
+    → Serves images new (entering_here kept drives (caller_of p caller) named call (stamp moment)) 0)
+    → Serves (told_images disks) new (situation_of filing function p system) 0
+serves_at_entry disks filing p system kept new function caller process call moment looks lives calls at is stands each =
+    subst (λ (s : Situation). Serves (told_images disks) new s 0) (situation_is filing p system kept function caller process call moment stands.filing_is looks lives calls at)
+    (each (told_images disks) filing.drives function (ap (λ (c : Taken). function_of c.function) calls ∙ is) stands.stand)
+
+pub entered_as : (p : ℕ) (caller process : Process) (call : Taken) (system : System) (service : Option InService) (function : FileFunction)
+    → caller ≡ looked_at process → process ≡ process_in system.kernel.dispatcher.procs p → call ≡ call_of system.kernel.dispatcher.procs p
+    → function_of (call_of system.kernel.dispatcher.procs p).function ≡ Some function
+    → ((named : FileFunction) → function_of call.function ≡ Some named → HasEntered (caller_of p caller) named call service)
+    → HasEntered (caller_of p (looked_at (process_in system.kernel.dispatcher.procs p))) function (call_of system.kernel.dispatcher.procs p) service
+entered_as p caller process call system service function looks lives calls is entered =
+    subst (λ (x : Process). HasEntered (caller_of p x) function (call_of system.kernel.dispatcher.procs p) service) (looks ∙ ap looked_at lives)
+    (subst (λ (c : Taken). HasEntered (caller_of p caller) function c service) calls (entered function (ap (λ (c : Taken). function_of c.function) calls ∙ is)))
 
 -- and who left
 
-pub leaves_first : (procs later : Table) (filing : Filing) → left_each (is_gone procs later) (range_with_len 0 (32 - 0)) filing ≡ left_behind procs later filing
-unfolding left_behind
-leaves_first procs later filing = refl
+pub leaves_first : (owed : List Bool) (filing : Filing) → left_each (owes owed) (range_with_len 0 (32 - 0)) filing ≡ all_left owed filing
+unfolding all_left
+leaves_first owed filing = refl
 
 leaves_one : (gone : ℕ → Bool) (p : ℕ) (ps : List ℕ) (filing : Filing) → left_each gone (p ∷ ps) filing ≡ left_each gone ps (left_if (gone p) p filing)
 unfolding left_each
 leaves_one gone p ps filing = refl
 
-pub leaves_more : (procs later : Table) (slots : List Bool) (number : ℕ) (gone : Bool) (before now whole : Filing) → number < 32 → AreLiving procs slots
-    → gone ≡ (slice_index_or slots number false && not (lives later number)) → now ≡ left_if gone number before
-    → left_each (is_gone procs later) (range_with_len number (32 - number)) before ≡ whole
-    → left_each (is_gone procs later) (range_with_len (number + 1) (32 - (number + 1))) now ≡ whole
-leaves_more procs later slots number gone before now whole below living is leaves so =
+pub leaves_more : (owed : List Bool) (number : ℕ) (gone : Bool) (before now whole : Filing) → number < 32
+    → gone ≡ owes owed number → now ≡ left_if gone number before
+    → left_each (owes owed) (range_with_len number (32 - number)) before ≡ whole
+    → left_each (owes owed) (range_with_len (number + 1) (32 - (number + 1))) now ≡ whole
+leaves_more owed number gone before now whole below is leaves so =
     let left : 32 - number ≡ suc (32 - (number + 1)) = omega (arith, below) in
-    let same : gone ≡ is_gone procs later number = is ∙ ap (λ b. b && not (lives later number)) (living.each number below) in
     let ps = range_with_len (number + 1) (32 - (number + 1)) in
-    ap (left_each (is_gone procs later) ps) (leaves ∙ ap (λ b. left_if b number before) same)
-    ∙ sym (leaves_one (is_gone procs later) number ps before)
-    ∙ ap (λ n. left_each (is_gone procs later) (range_with_len number n) before) (sym left)
+    ap (left_each (owes owed) ps) (leaves ∙ ap (λ b. left_if b number before) is)
+    ∙ sym (leaves_one (owes owed) number ps before)
+    ∙ ap (λ n. left_each (owes owed) (range_with_len number n) before) (sym left)
     ∙ so
 
 nobody_left : (gone : ℕ → Bool) (filing : Filing) → left_each gone [] filing ≡ filing
 unfolding left_each
 nobody_left gone filing = refl
 
-pub leaves_last : (procs later : Table) (number : ℕ) (filing whole : Filing) → number ≡ 32 → left_each (is_gone procs later) (range_with_len number (32 - number)) filing ≡ whole
+pub leaves_last : (owed : List Bool) (number : ℕ) (filing whole : Filing) → number ≡ 32 → left_each (owes owed) (range_with_len number (32 - number)) filing ≡ whole
     → filing ≡ whole
-leaves_last procs later number filing whole all so =
-    sym (nobody_left (is_gone procs later) filing) ∙ ap (λ n. left_each (is_gone procs later) (range_with_len n (32 - n)) filing) (sym all) ∙ so
+leaves_last owed number filing whole all so =
+    sym (nobody_left (owes owed) filing) ∙ ap (λ n. left_each (owes owed) (range_with_len n (32 - n)) filing) (sym all) ∙ so
 
 -- where no drive is mounted, none is
 

@@ -142,6 +142,17 @@ others_have_room now new p room first is =
       finished_records (process_in now.kernel.dispatcher.procs p).seg p (completion_dequeued now),
     )
 
+-- as many more records there are then, at most
+finishing_few : (ps : List ℕ) (system : System) → length (finishing ps system).records ≤ length system.records + length ps
+unfolding finishing
+finishing_few [] system = omega arith
+finishing_few (p ∷ ps) system =
+    let seg = (process_in system.kernel.dispatcher.procs p).seg in
+    omega (arith, finishing_few ps (finished seg p (completion_dequeued system)), finished_records seg p (completion_dequeued system))
+
+pub finished_few : (system new : System) → new ≡ all_finished system → length system.kernel.dispatcher.completed ≤ 64 → length new.records ≤ length system.records + 64
+finished_few system new is few = omega (arith, ap (λ (s : System). length s.records) is, finishing_few system.kernel.dispatcher.completed system, few)
+
 -- the first of those that a step completed was answered, and then the others
 
 pub answered_system : (p : ℕ) (old handed first new : System) → first_completed old.kernel.dispatcher.completed ≡ Some p → handed ≡ completion_dequeued old
@@ -165,6 +176,17 @@ first_records p system =
 
 pub first_has_room : (old handed : System) → HasRoomForAll (length old.records + 1) → handed ≡ completion_dequeued old → HasRoom handed
 first_has_room old handed room out = omega (arith, room, ap (λ (s : System). length s.records) out)
+
+pub answered_few : (p : ℕ) (old handed first new : System) → handed ≡ completion_dequeued old → first ≡ finished_or_ended p (command_let_in p handed)
+    → length new.records ≤ length first.records + 64 → length new.records ≤ length old.records + 65
+answered_few p old handed first new out done few =
+    omega (
+      arith,
+      few,
+      ap (λ (s : System). length s.records) done,
+      first_records p (command_let_in p handed),
+      ap (λ (s : System). length s.records) out,
+    )
 
 pub rest_have_room : (p : ℕ) (old handed first : System) → HasRoomForAll (length old.records + 1) → handed ≡ completion_dequeued old
     → first ≡ finished_or_ended p (command_let_in p handed) → HasRoomForAll (length first.records)

@@ -1,15 +1,26 @@
 -- Steps in which nothing is done, as no process runs and none is ready.
-use Rattle.std.proofs.Common.{◌≡◌, ◌∙◌, ℕ, zero, suc, ◌+◌, ◌<◌, false, None, refl, sym, ap, subst, arith, add-one}
+use Rattle.std.proofs.Common.{◌≡◌, ◌∙◌, ℕ, zero, suc, ◌+◌, ◌<◌, false, Option, Some, None, option_map, refl, sym, ap, subst, arith, add-one}
+use Rattle.mpm_service.specs.Disk.{DiskService}
+use Rattle.mpm_service.specs.Ahead.{passed_on, passed_by}
+use Rattle.mpm_service.specs.declared.service.Served.{Served}
 use Rattle.mpm_kernel.specs.Kernel.{Kernel}
+use Rattle.mpm_kernel.specs.Disk.{with_disk}
+use Rattle.mpm_kernel.proofs.DiskLaws.{sound_passed_by}
+use Rattle.mpm_kernel.proofs.HomeLaws.{homes_stay}
+use Rattle.mpm_bdos.specs.Direct.{Directly}
 use Rattle.mpm_machine.specs.declared.system.System.{System}
-use Rattle.mpm_machine.specs.State.{State, IsWhole, NoCompletions, NobodyAborted, silent}
-use Rattle.mpm_machine.specs.Step.{acted_by, acted, running_segment, at_instruction, counted, step_of}
+use Rattle.mpm_machine.specs.State.{State, Change, IsWhole, NoCompletions, NobodyAborted, silent}
+use Rattle.mpm_machine.specs.Files.{Files, Between, Within, AreWithin}
+use Rattle.mpm_machine.specs.Step.{acted_by, acted, running_segment, at_instruction, counted, dispatched}
+use Rattle.mpm_machine.specs.DiskStep.{process_over}
+use Rattle.mpm_machine.specs.Stepping.{Telling, begun_as, step_with, nothing_told}
 use Rattle.mpm_machine.specs.After.{next, after, AreSteps}
-use Rattle.mpm_machine.specs.Moving.{IsIdle, later, Quiet}
-use Rattle.mpm_machine.proofs.WholeLaws.{whole_steps}
-use Rattle.mpm_machine.proofs.FileStepLaws.{nobody_calls, is_made_alone}
-use Rattle.mpm_machine.proofs.PlainLaws.{plain_next}
-use Rattle.mpm_machine.proofs.QuietLaws.{none_comes, step_still, picked_same}
+use Rattle.mpm_machine.specs.Moving.{IsIdle, later, Quiet, CanPass}
+use Rattle.mpm_machine.proofs.WholeLaws.{whole_kernel, whole_steps}
+use Rattle.mpm_machine.proofs.FileStepLaws.{nobody_calls, is_made_still}
+use Rattle.mpm_machine.proofs.PlainLaws.{plain_next, files_still}
+use Rattle.mpm_machine.proofs.QuietLaws.{none_comes, begun_quiet, step_quiet, picked_same}
+use Rattle.mpm_machine.proofs.PassingLaws.{still_ahead, passes_on, passes_nothing, fewer_pass, nobody_over, rest_still}
 
 -- nothing is done
 
@@ -24,20 +35,58 @@ pub record Idles (system : System) (n : ℕ) : Type 0 where
   pub settled : NobodyAborted system.kernel
   pub none_deferred : system.abort_deferred ≡ false
   pub quiet : Quiet n system
+  pub passing : CanPass n system.kernel.disk
 
-idle_step : (system : System) (n : ℕ) → Idles system (n + 1) → step_of (later system n) ≡ silent (later system (n + 1))
-idle_step system n on =
+none_before : (served : Option Served) (n : ℕ) → option_map (passed_on n) served ≡ None → served ≡ None
+none_before None n is = refl
+none_before (Some call) n is = absurd (cc)
+
+handed_idle : (system : System) (steps n : ℕ) → NoCompletions system → NoCompletions (record system { steps = steps; kernel = with_disk (passed_by n) system.kernel })
+unfolding passed_by
+handed_idle system steps n none = record { answered = none.answered; written = none.written; paid = λ idle. none.paid (none_before system.kernel.disk.served n idle) }
+
+idle_step : (telling : Telling) (system : System) (n : ℕ) → Idles system (n + 1) → step_with telling (later system n) ≡ silent (later system (n + 1))
+idle_step telling system n on =
     let begun = counted (later system n) in
     let idle = on.idle (omega arith) in
-    step_still (later system n) begun (none_comes begun (on.quiet n (omega arith))) (nothing_acted begun idle.running) (record { answered = on.no_completions.answered; written = on.no_completions.written }) on.settled on.none_deferred
-    ∙ ap (λ (kernel : Kernel). silent (record begun { kernel = kernel })) (picked_same (at_instruction begun) system.kernel (idle.nobody ∙ sym idle.running))
-    ∙ ap (λ (steps : ℕ). silent (record system { steps = steps })) (omega arith)
+    let instruction = at_instruction begun in
+    let passed = with_disk (passed_by (n + 1)) system.kernel in
+    step_quiet telling (later system n) begun (nobody_calls (later system n) idle.running) (none_comes begun (on.quiet n (omega arith))) (nothing_acted begun idle.running) on.no_completions.answered
+    ∙ rest_still instruction telling begun (handed_idle system (system.steps + n + 1) n on.no_completions) on.settled on.none_deferred (still_ahead n system.kernel.disk on.passing)
+    ∙ ap (λ (disk : DiskService). dispatched instruction (silent (record begun { kernel = record system.kernel { disk = disk } }))) (passes_on n system.kernel.disk on.passing)
+    ∙ ap (λ (kernel : Kernel). silent (record begun { kernel = kernel })) (picked_same instruction passed (idle.nobody ∙ sym idle.running))
+    ∙ ap (λ (steps : ℕ). silent (record system { steps = steps; kernel = passed })) (omega arith)
+
+over_idle : (told : Directly) (system : System) (n : ℕ) → Idles system (n + 1) → process_over (begun_as told (later system n)).system ≡ None
+over_idle told system n on =
+    let begun = counted (later system n) in
+    let idle = on.idle (omega arith) in
+    ap (λ (c : Change). process_over c.system)
+    (begun_quiet told (later system n) begun (nobody_calls (later system n) idle.running) (none_comes begun (on.quiet n (omega arith))) (nothing_acted begun idle.running) on.no_completions.answered)
+    ∙ nobody_over begun (still_ahead n system.kernel.disk on.passing)
+
+within_on : (served : Option Served) (files : Files) (n : ℕ) → AreWithin served files → AreWithin (option_map (passed_on n) served) files
+within_on None (Between filing) n within = tt
+within_on None (Within s) n within = absurd within
+within_on (Some call) (Between filing) n within = absurd within
+within_on (Some call) (Within s) n within = tt
+
+idle_within : (system : System) (files : Files) (n : ℕ) → AreWithin system.kernel.disk.served files → AreWithin (passed_by n system.kernel.disk).served files
+unfolding passed_by
+idle_within system files n within = within_on system.kernel.disk.served files n within
 
 -- so n of them are n steps, which say nothing
 
-idle_next : (s : State) (n : ℕ) → Idles s.system (n + 1) → next (record s { system = later s.system n }) ≡ record s { system = later s.system (n + 1) }
-idle_next s n on =
-    plain_next (record s { system = later s.system n }) (later s.system (n + 1)) (nobody_calls (later s.system n) (on.idle (omega arith)).running) (idle_step s.system n on) refl
+idle_next : (s : State) (n : ℕ) → Idles s.system (n + 1) → AreWithin s.system.kernel.disk.served s.files
+    → next (record s { system = later s.system n }) ≡ record s { system = later s.system (n + 1) }
+idle_next s n on within =
+    let here = record s { system = later s.system n } in
+    let begun = counted (later s.system n) in
+    let idle = on.idle (omega arith) in
+    plain_next here (later s.system (n + 1)) (λ telling. idle_step telling s.system n on)
+    (files_still here begun (nobody_calls (later s.system n) idle.running) (none_comes begun (on.quiet n (omega arith))) (nothing_acted begun idle.running)
+    (handed_idle s.system (s.system.steps + n + 1) n on.no_completions) on.settled on.none_deferred (still_ahead n s.system.kernel.disk on.passing)
+    (idle_within s.system s.files n within))
 
 fewer : (system : System) (n : ℕ) → Idles system (n + 1) → Idles system n
 fewer system n on = record {
@@ -46,30 +95,43 @@ fewer system n on = record {
   settled = on.settled;
   none_deferred = on.none_deferred;
   quiet = λ k below. on.quiet k (omega (arith, below));
+  passing = fewer_pass n system.kernel.disk on.passing;
 }
 
-after_idle : (n : ℕ) (s : State) → Idles s.system n → after n s ≡ record s { system = later s.system n }
+later_nothing : (system : System) → later system 0 ≡ system
+later_nothing system =
+    ap (λ (disk : DiskService). record system { steps = system.steps + 0; kernel = record system.kernel { disk = disk } }) (passes_nothing system.kernel.disk)
+    ∙ ap (λ (steps : ℕ). record system { steps = steps }) (omega arith)
+
+after_idle : (n : ℕ) (s : State) → Idles s.system n → AreWithin s.system.kernel.disk.served s.files → after n s ≡ record s { system = later s.system n }
 unfolding after
-after_idle zero s on = ap (λ (steps : ℕ). record s { system = record s.system { steps = steps } }) (omega arith)
-after_idle (suc n) s on =
+after_idle zero s on within = ap (λ (system : System). record s { system = system }) (sym (later_nothing s.system))
+after_idle (suc n) s on within =
     let on_more : Idles s.system (n + 1) = subst (Idles s.system) (sym (add-one n)) on in
-    ap next (after_idle n s (fewer s.system n on_more)) ∙ idle_next s n on_more ∙ ap (λ k. record s { system = later s.system k }) (add-one n)
+    ap next (after_idle n s (fewer s.system n on_more) within) ∙ idle_next s n on_more within ∙ ap (λ k. record s { system = later s.system k }) (add-one n)
 
 -- what becomes of a state in them
-pub idle_state : (n : ℕ) (old new : System) (s : State) → Idles old n → new ≡ later old n → s.system ≡ old → after n s ≡ record s { system = new }
-idle_state n old new s on is same =
-    after_idle n s (subst (λ (system : System). Idles system n) (sym same) on)
+pub idle_state : (n : ℕ) (old new : System) (s : State) → Idles old n → AreWithin old.kernel.disk.served s.files → new ≡ later old n → s.system ≡ old
+    → after n s ≡ record s { system = new }
+idle_state n old new s on within is same =
+    let P : System → Type 0 = λ system. Idles system n × AreWithin system.kernel.disk.served s.files in
+    let facts : P s.system = subst P (sym same) (on, within) in
+    after_idle n s facts.0 facts.1
     ∙ ap (λ system. record s { system = later system n }) same ∙ ap (λ system. record s { system = system }) (sym is)
+
+whole_later : (system : System) (n : ℕ) → IsWhole system → IsWhole (later system n)
+whole_later system n w =
+    whole_steps (record system { kernel = with_disk (passed_by n) system.kernel }) (system.steps + n)
+    (whole_kernel system _ w (sound_passed_by system.kernel n w.sound) w.live (homes_stay system.kernel _ refl))
 
 steps_idle : (n : ℕ) (system : System) → IsWhole system → Idles system n → AreSteps n system (silent (later system n))
 unfolding AreSteps
-steps_idle zero system w on = ap (λ (steps : ℕ). silent (record system { steps = steps })) (omega arith)
+steps_idle zero system w on = ap silent (later_nothing system)
 steps_idle (suc n) system w on =
     let on_more : Idles system (n + 1) = subst (Idles system) (sym (add-one n)) on in
     let here = later system n in
-    let is = is_made_alone here (silent (later system (n + 1))) (whole_steps system (system.steps + n) w)
-    (record { answered = on.no_completions.answered; written = on.no_completions.written })
-    (nobody_calls here (on_more.idle (omega arith)).running) (sym (idle_step system n on_more)) in
+    let is = is_made_still here (silent (later system (n + 1))) (whole_later system n w) (handed_idle system (system.steps + n) n on.no_completions)
+    (nobody_calls here (on_more.idle (omega arith)).running) (over_idle nothing_told system n on_more) (λ telling. sym (idle_step telling system n on_more)) in
     (silent here, silent (later system (n + 1)), steps_idle n system w (fewer system n on_more), is, ap (λ k. silent (later system k)) (sym (add-one n)))
 
 -- and they are so many steps
@@ -80,4 +142,7 @@ pub idle_settled : (n : ℕ) (old new : System) → Idles old n → new ≡ late
 idle_settled n old new on is = subst (λ (system : System). NobodyAborted system.kernel) (sym is) on.settled
 
 pub idle_whole : (n : ℕ) (old new : System) → IsWhole old → new ≡ later old n → IsWhole new
-idle_whole n old new w is = subst IsWhole (sym is) (whole_steps old (old.steps + n) w)
+idle_whole n old new w is = subst IsWhole (sym is) (whole_later old n w)
+
+pub idle_handed : (n : ℕ) (old new : System) → NoCompletions old → new ≡ later old n → NoCompletions new
+idle_handed n old new none is = subst NoCompletions (sym is) (handed_idle old (old.steps + n) n none)

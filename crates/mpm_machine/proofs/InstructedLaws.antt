@@ -1,5 +1,5 @@
 -- What a listed instruction changes besides memory: its process's registers, and the readiness of devices that it reads.
-use Rattle.std.proofs.Common.{◌≡◌, ◌∙◌, ℕ, zero, suc, ◌-◌, Bool, true, false, ◌&&◌, nat_le, List, [], ◌∷◌, Option, Some, None, IsSome, get_or, set, refl, sym, ap, subst}
+use Rattle.std.proofs.Common.{◌≡◌, ◌∙◌, ℕ, zero, suc, ◌-◌, Bool, true, false, ◌&&◌, nat_le, List, [], ◌∷◌, Option, Some, None, IsSome, get_or, set, refl, ap}
 use Rattle.mpm_base.proofs.Choices.{either}
 use Rattle.z80_regs.specs.Outcome.{Outcome, Action, Write, Input}
 use Rattle.z80_ext.specs.Instruction.{registers_after, actions_of}
@@ -11,9 +11,10 @@ use Rattle.mpm_procs.specs.Table.{process_in}
 use Rattle.mpm_machine.specs.declared.system.System.{System}
 use Rattle.mpm_processor.specs.declared.gate.Gate.{Gate}
 use Rattle.mpm_machine.specs.State.{Change, silent}
-use Rattle.mpm_machine.specs.Due.{with_ends}
 use Rattle.mpm_machine.specs.Serving.{with_regs}
-use Rattle.mpm_machine.specs.Step.{instructed, executed, instruction_at, acted_at, acted_by, acted, running_segment, is_no_gate, instruction_by, at_instruction, counted, records_out, dispatched, step_of}
+use Rattle.mpm_machine.specs.Step.{instructed, executed, instruction_at, acted_at, acted_by, acted, running_segment, is_no_gate, instruction_by, at_instruction, counted}
+use Rattle.mpm_machine.specs.FileCalls.{file_caller}
+use Rattle.mpm_machine.specs.Stepping.{Telling, rest_of, step_with}
 use Rattle.mpm_machine.specs.Contained.{Instructs, OnlyInstructed}
 use Rattle.mpm_machine.proofs.QuietLaws.{step_quiet}
 
@@ -67,9 +68,10 @@ by_instruction system p seg i =
     ∙ ap (λ home. instruction_by (Some p) home begun) i.home
     ∙ ap is_no_gate i.no_gate
 
-step_instructs : (system : System) (p seg : ℕ) → Instructs system p seg → system.kernel.dispatcher.completed ≡ [] → OnlyInstructed p system (step_of system).system
+pub instructs_only : (telling : Telling) (system : System) (p seg : ℕ) → file_caller system ≡ None → Instructs system p seg → system.kernel.dispatcher.completed ≡ []
+    → OnlyInstructed telling p system (step_with telling system).system
 unfolding instructed
-step_instructs system p seg i no_completions =
+instructs_only telling system p seg none i no_completions =
     let outcome = instruction_at p seg system in
     let begun = counted system in
     let actions = actions_of outcome in
@@ -82,14 +84,10 @@ step_instructs system p seg i no_completions =
       memory = memory_after actions seg system.memory;
       clears = λ device h. clears_all actions system.kernel.devices device h;
       bytes = same_segments_after actions seg system.memory;
-      is = ap (λ (change : Change). change.system) (step_quiet system afterwards i.quiet (acts system p seg i) no_completions)
-          ∙ ap (λ b. (dispatched b (records_out (with_ends afterwards))).system) (by_instruction system p seg i)
-          ∙ ap (λ (d : Devices). (dispatched true (records_out (with_ends (record begun {
+      is = ap (λ (change : Change). change.system) (step_quiet telling system afterwards none i.quiet (acts system p seg i) no_completions)
+          ∙ ap (λ b. (rest_of b telling (silent afterwards)).system) (by_instruction system p seg i)
+          ∙ ap (λ (d : Devices). (rest_of true telling (silent (record begun {
             kernel = with_regs (record system.kernel { devices = d }) p regs;
             memory = memory_after actions seg system.memory;
-          })))).system) (only_ready actions system.kernel.devices);
+          }))).system) (only_ready actions system.kernel.devices);
     }
-
-pub instructs_only : (old new : System) (p seg : ℕ) → Instructs old p seg → old.kernel.dispatcher.completed ≡ [] → new ≡ (step_of old).system
-    → OnlyInstructed p old new
-instructs_only old new p seg i no_completions is = subst (OnlyInstructed p old) (sym is) (step_instructs old p seg i no_completions)

@@ -100,15 +100,16 @@ begins_with_slot system i is =
     ∙ ap (λ b. b && slot) (console_is_there system i.acting)
 
 -- a segment that is reserved is one for the interpreter, and it goes on
-pub reserves_always : (memory : Memory) (base : Option ℕ) (pages seg : ℕ) (call : Taken) (cli : Interpreter) → IsMemory memory → lowest_segment memory base pages ≡ Some seg
+pub reserves_always : (memory : Memory) (base : Option ℕ) (pages seg : ℕ) (call : Taken) (cli : Interpreter) → length memory.segments ≤ 16
+    → ((n : ℕ) → HasSegment memory n → IsHome memory n) → lowest_segment memory base pages ≡ Some seg
     → reserved pages (reserve_reply memory call (Some seg)) cli ≡ record cli { row = row_for_piece cli.load; seg = seg; spec = spec_of memory seg }
-reserves_always memory base pages seg call cli m found =
+reserves_always memory base pages seg call cli few homes found =
     let fits = lowest_free_fits memory base pages seg found in
     let segment = segment_of memory seg in
-    let sizes = m.segments seg no_segment fits.0 in
+    let home = homes seg fits.0 in
     let enough = (and_parts (nat_le pages segment.pages) _ (and_parts (is_free segment.allocation) _ fits.1).1).0 in
     let passes : (nat_lt seg 16 && (nat_le pages segment.pages && nat_le (segment.base + segment.pages) 192)) ≡ true =
-    both (nat_lt seg 16) _ (grind (arith, nat_tests, m.count, fits.0)) (both (nat_le pages segment.pages) _ enough (grind (arith, nat_tests, sizes.below))) in
+    both (nat_lt seg 16) _ (grind (arith, nat_tests, few, fits.0)) (both (nat_le pages segment.pages) _ enough (grind (arith, nat_tests, home.end))) in
     ap (λ (b : Bool). if b then record cli { row = row_for_piece cli.load; seg = seg; spec = spec_of memory seg } else record cli { row = CloseAfter NoMemory }) passes
 
 -- code is moved wholly
@@ -188,7 +189,7 @@ own_at Close memory cli seg at s has hands = absurd hands
 own_at (Tell message) memory cli seg at s has hands = absurd hands
 own_at Give memory cli seg at s has hands = absurd hands
 
-same_resident : (one other : Interpreter) → Some (Cli one) ≡ Some (Cli other) → one ≡ other
+pub same_resident : (one other : Interpreter) → Some (Cli one) ≡ Some (Cli other) → one ≡ other
 same_resident one other is = cc
 
 own_by : (native : Native) (who : ℕ) (system : System) (i : Interprets system) (seg at : ℕ) → native_in system.residents who ≡ Some native

@@ -1,5 +1,5 @@
 -- What is kept of files as a machine begins holds its drives.
-use Rattle.std.proofs.Common.{◌≡◌, ◌≢◌, ◌∙◌, ℕ, zero, suc, Bool, true, false, ◌||◌, List, [], ◌∷◌, Option, Some, None, IfSome, inl, inr, ◌==◌, length, refl, sym, ap, subst}
+use Rattle.std.proofs.Common.{◌≡◌, ◌≢◌, ◌∙◌, ℕ, zero, suc, ◌<◌, Bool, true, false, ◌||◌, List, [], ◌∷◌, Option, Some, None, IfSome, inl, inr, ◌==◌, length, refl, sym, ap, subst, arith}
 use Rattle.std.specs.Prelude.{◌⊎◌, replicate, is_some, bytes_eq, slice_index_or, slice_set}
 use Rattle.std.specs.List.{AllByRecursion}
 use Rattle.std.proofs.lemmas.Bool.{false≢true}
@@ -16,8 +16,13 @@ use Rattle.mpm_mount.specs.Directories.{Directory}
 use Rattle.mpm_drives.specs.Images.{Untold, Images}
 use Rattle.mpm_drives.specs.Mounted.{number_of, IsNamed, AreMounted}
 use Rattle.mpm_bdos.specs.Serving.{Kept, directory_at, all_put, in_places, nothing_kept}
-use Rattle.mpm_bdos.specs.Turns.{FitsDrives, has_directory}
-use Rattle.mpm_machine.specs.State.{HoldsDrives}
+use Rattle.mpm_bdos.specs.Turns.{FitsDrives, has_directory, has_work}
+use Rattle.mpm_service.specs.Disk.{DiskService, no_service}
+use Rattle.mpm_service.specs.Places.{at_disk}
+use Rattle.mpm_service.specs.declared.service.Served.{Served}
+use Rattle.mpm_service.proofs.PlaceLaws.{at_none}
+use Rattle.mpm_kernel.specs.Kernel.{Kernel}
+use Rattle.mpm_machine.specs.Holding.{IsOwn, HoldsDrives}
 use Rattle.mpm_machine.specs.Mounting.{HasMounted, HasNoDrive}
 
 -- what is so of each directory by its number is so of what stands in each place
@@ -125,9 +130,28 @@ there : (P : Directory → Type 0) (Q : Type 0) (place : Option Directory) → I
 there P Q None each so some = absurd (false≢true some)
 there P Q (Some d) each so some = so d each
 
-pub holds_mounted : {D : Type 0} (attached : D → ℕ → Option ℕ) (disks : D → Option Disks) (images : Images) (specs : List DriveSpec) (kept : Kept) (drives : D)
-    → all_differ specs ≡ true → HasMounted (attached drives) (disks drives) images specs kept → HoldsDrives attached disks kept drives
-holds_mounted attached disks images specs kept drives differ has =
+-- where the disk serves nobody yet
+pub holds_idle : {D : Type 0} (attached : D → ℕ → Option ℕ) (disks : D → Option Disks) (kernel : Kernel) (turn_steps : ℕ) (kept : Kept) (drives : D)
+    → kernel.disk ≡ no_service turn_steps → FitsDrives attached disks kept.mounted kept.cached drives
+    → (((number : ℕ) → directory_at kept.mounted number ≡ None) → has_work kept.service ≡ false) → HoldsDrives attached disks kernel kept drives
+unfolding no_service
+holds_idle attached disks kernel turn_steps kept drives idle fits workless =
+    let none : kernel.disk.served ≡ None = ap (λ (d : DiskService). d.served) idle in
+    record {
+      filed = λ p some. absurd (omega (arith, some, ap (λ (d : DiskService). at_disk d p) idle, at_none turn_steps p));
+      own = subst (λ (o : Option Served). IfSome o (λ call. IsOwn kernel.dispatcher.procs call.p kept.service)) (sym none) tt;
+      begun = subst (λ (o : Option Served). IfSome o (λ call. 0 < call.left)) (sym none) tt;
+      fits = fits;
+      workless = workless;
+    }
+
+pub holds_again : {D : Type 0} (attached : D → ℕ → Option ℕ) (disks : D → Option Disks) (old new : Kernel) (turn_steps : ℕ) (kept : Kept) (drives : D)
+    → new.disk ≡ no_service turn_steps → HoldsDrives attached disks old kept drives → HoldsDrives attached disks new kept drives
+holds_again attached disks old new turn_steps kept drives idle holds = holds_idle attached disks new turn_steps kept drives idle holds.fits holds.workless
+
+pub holds_mounted : {D : Type 0} (attached : D → ℕ → Option ℕ) (disks : D → Option Disks) (images : Images) (specs : List DriveSpec) (kernel : Kernel) (turn_steps : ℕ) (kept : Kept) (drives : D)
+    → all_differ specs ≡ true → kernel.disk ≡ no_service turn_steps → HasMounted (attached drives) (disks drives) images specs kept → HoldsDrives attached disks kernel kept drives
+holds_mounted attached disks images specs kernel turn_steps kept drives differ idle has =
     let ds = has.directories in
     let mounted = in_places ds in
     let a = attached drives in
@@ -145,8 +169,8 @@ holds_mounted attached disks images specs kept drives differ has =
         alone = λ drive some. alone x drive;
       };
     } in
-    let here : HoldsDrives attached disks (nothing_kept mounted) drives = record { idle = refl; fits = fits } in
-    subst (λ (k : Kept). HoldsDrives attached disks k drives) (sym has.is) here
+    let here : HoldsDrives attached disks kernel (nothing_kept mounted) drives = holds_idle attached disks kernel turn_steps (nothing_kept mounted) drives idle fits (λ none. refl) in
+    subst (λ (k : Kept). HoldsDrives attached disks kernel k drives) (sym has.is) here
 
 pub mounted_here : (a : ℕ → Option ℕ) (x : Option Disks) (images : Images) (specs : List DriveSpec) {read : List DriveSpec} (ds items : List Directory) (kept : Kept)
     → read ≡ specs → AreMounted a x images read ds → items ≡ ds → kept ≡ nothing_kept (in_places items) → HasMounted a x images specs kept
@@ -173,7 +197,7 @@ unfolding all_put
 none_mounted = λ number. no_place 16 number
 
 -- and where nothing is mounted
-pub holds_nothing : {D : Type 0} (attached : D → ℕ → Option ℕ) (disks : D → Option Disks) (kept : Kept) (drives : D) → kept ≡ nothing_kept (in_places [])
-    → HoldsDrives attached disks kept drives
-holds_nothing attached disks kept drives is =
-    holds_mounted attached disks (λ name. Untold) [] kept drives refl (record { directories = []; mounted = tt; is = is })
+pub holds_nothing : {D : Type 0} (attached : D → ℕ → Option ℕ) (disks : D → Option Disks) (kernel : Kernel) (turn_steps : ℕ) (kept : Kept) (drives : D)
+    → kernel.disk ≡ no_service turn_steps → kept ≡ nothing_kept (in_places []) → HoldsDrives attached disks kernel kept drives
+holds_nothing attached disks kernel turn_steps kept drives idle is =
+    holds_mounted attached disks (λ name. Untold) [] kernel turn_steps kept drives refl idle (record { directories = []; mounted = tt; is = is })

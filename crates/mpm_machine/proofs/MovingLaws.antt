@@ -1,5 +1,5 @@
 -- Steps that are instructions of one process.
-use Rattle.std.proofs.Common.{◌≡◌, ◌∙◌, ℕ, zero, suc, ◌+◌, ◌<◌, ◌≤◌, false, ◌&&◌, Option, Some, None, IsSome, is_some, inl, inr, length, refl, sym, ap, subst, arith, add-one, set-set, get_or-set_same}
+use Rattle.std.proofs.Common.{◌≡◌, ◌∙◌, ℕ, zero, suc, ◌+◌, ◌<◌, ◌≤◌, false, ◌&&◌, Option, Some, None, option_map, IsSome, is_some, inl, inr, length, refl, sym, ap, subst, arith, add-one, set-set, get_or-set_same}
 use Rattle.std.proofs.lemmas.Bool.{cases_eq}
 use Rattle.z80_regs.specs.declared.regs.Regs.{Regs}
 use Rattle.z80_regs.specs.Outcome.{Outcome}
@@ -22,25 +22,38 @@ use Rattle.mpm_processor.specs.Gates.{gate_of}
 use Rattle.mpm_processor.specs.Moving.{View, instruction_in, moved, moves, CanMove}
 use Rattle.mpm_machine.specs.declared.system.System.{System}
 use Rattle.mpm_machine.specs.Gates.{is_inside}
-use Rattle.mpm_machine.specs.State.{State, IsWhole, NobodyAborted, silent, NoCompletions}
+use Rattle.mpm_machine.specs.State.{State, Change, IsWhole, NobodyAborted, silent, NoCompletions}
 use Rattle.mpm_machine.specs.Serving.{with_regs}
-use Rattle.mpm_machine.specs.Step.{instructed, executed, instruction_at, acted_at, gate_before, acted_by, acted, running_segment, at_instruction, coming, counted, step_of}
+use Rattle.mpm_machine.specs.Step.{instructed, executed, instruction_at, acted_at, gate_before, acted_by, acted, running_segment, at_instruction, coming, counted, dispatched as step_dispatched}
 use Rattle.mpm_machine.specs.FileCalls.{file_caller}
+use Rattle.mpm_machine.specs.Files.{Files, Between, Within, AreWithin}
+use Rattle.mpm_machine.specs.DiskStep.{process_over}
+use Rattle.mpm_machine.specs.Stepping.{Telling, begun_as, step_with, nothing_told}
+use Rattle.mpm_bdos.specs.Direct.{Directly}
+use Rattle.mpm_service.specs.Disk.{DiskService}
+use Rattle.mpm_service.specs.Ahead.{passed_on, passed_by}
+use Rattle.mpm_service.specs.declared.service.Served.{Served}
+use Rattle.mpm_kernel.proofs.DiskLaws.{sound_passed_by}
 use Rattle.mpm_machine.specs.After.{next, after, AreSteps}
 use Rattle.mpm_interrupts.specs.Interrupts.{due}
-use Rattle.mpm_machine.specs.Moving.{Moved, view_of, with_view, RunsOn, Quiet}
+use Rattle.mpm_machine.specs.Moving.{Moved, view_of, with_view, RunsOn, Quiet, CanPass}
 use Rattle.mpm_machine.proofs.HomeLaws.{KeepsHomes, keeps_itself, keeps_both, keeps_acted}
 use Rattle.mpm_machine.proofs.WholeLaws.{same_regs, whole_kernel, whole_memory, whole_regs, whole_steps}
-use Rattle.mpm_machine.proofs.FileStepLaws.{gateless, is_made_alone}
-use Rattle.mpm_machine.proofs.PlainLaws.{plain_next}
-use Rattle.mpm_machine.proofs.QuietLaws.{none_comes, step_still, picked_same}
+use Rattle.mpm_machine.proofs.FileStepLaws.{gateless, is_made_still}
+use Rattle.mpm_machine.proofs.PlainLaws.{plain_next, files_still}
+use Rattle.mpm_machine.proofs.QuietLaws.{none_comes, begun_quiet, step_quiet, picked_same}
+use Rattle.mpm_machine.proofs.PassingLaws.{still_ahead, passes_on, passes_nothing, fewer_pass, nobody_over, rest_still}
 
 -- a view that a process already has, and one after another
 
 view_itself : (system : System) (p : ℕ) → with_view system p (view_of system p) 0 ≡ system
 unfolding with_view
 view_itself system p =
-    ap (λ (kernel : Kernel). record system { steps = system.steps + 0; kernel = kernel }) (same_regs system.kernel p)
+    ap (λ (disk : DiskService). record system {
+      steps = system.steps + 0;
+      kernel = with_regs (record system.kernel { disk = disk }) p (process_in system.kernel.dispatcher.procs p).regs;
+    }) (passes_nothing system.kernel.disk)
+    ∙ ap (λ (kernel : Kernel). record system { steps = system.steps + 0; kernel = kernel }) (same_regs system.kernel p)
     ∙ ap (λ (n : ℕ). record system { steps = n }) (omega arith)
 
 regs_of_view : (system : System) (p n : ℕ) (view : View) → p < length system.kernel.dispatcher.procs.processes
@@ -61,13 +74,21 @@ regs_twice kernel p first last below =
 
 -- an instruction makes one view of another
 
+-- as the disk has not made its step yet
+abbrev unpassed : System → ℕ → View → ℕ → System
+unpassed system p view n = record system {
+  steps = system.steps + (n + 1);
+  kernel = with_regs (record system.kernel { devices = view.devices; disk = passed_by n system.kernel.disk }) p view.regs;
+  memory = view.memory;
+}
+
 ran_view : (system : System) (p seg n : ℕ) (view : View) → p < length system.kernel.dispatcher.procs.processes
-    → instructed (instruction_in seg view) p seg (counted (with_view system p view n)) ≡ with_view system p (moved seg view) (n + 1)
+    → instructed (instruction_in seg view) p seg (counted (with_view system p view n)) ≡ unpassed system p (moved seg view) n
 unfolding instructed with_view
 ran_view system p seg n view below =
     let outcome = instruction_in seg view in
     let next = moved seg view in
-    let kernel = record system.kernel { devices = next.devices } in
+    let kernel = record system.kernel { devices = next.devices; disk = passed_by n system.kernel.disk } in
     let old = process_in system.kernel.dispatcher.procs p in
     let at : process_in (with_view system p view n).kernel.dispatcher.procs p ≡ record old { regs = view.regs } = regs_of_view system p n view below in
     ap (λ (regs : Regs). record system {
@@ -104,7 +125,7 @@ gate_of_view system p seg n view below can =
 
 acted_view : (system : System) (p seg n : ℕ) (view : View) → p < length system.kernel.dispatcher.procs.processes → RunsOn system p seg
     → CanMove (is_inside system.kernel.dispatcher.procs p) seg view
-    → acted (counted (with_view system p view n)) ≡ silent (with_view system p (moved seg view) (n + 1))
+    → acted (counted (with_view system p view n)) ≡ silent (unpassed system p (moved seg view) n)
 unfolding acted with_view
 acted_view system p seg n view below on can =
     let begun = counted (with_view system p view n) in
@@ -133,9 +154,9 @@ quiet_view system p n view quiet = none_comes (counted (with_view system p view 
 
 -- and nobody is aborted in them
 
-nobody_view : (kernel : Kernel) (devices : Devices) (p : ℕ) (regs : Regs) → p < length kernel.dispatcher.procs.processes → NobodyAborted kernel
-    → NobodyAborted (with_regs (record kernel { devices = devices }) p regs)
-nobody_view kernel devices p regs below none = λ q.
+nobody_view : (kernel : Kernel) (devices : Devices) (disk : DiskService) (p : ℕ) (regs : Regs) → p < length kernel.dispatcher.procs.processes → NobodyAborted kernel
+    → NobodyAborted (with_regs (record kernel { devices = devices; disk = disk }) p regs)
+nobody_view kernel devices disk p regs below none = λ q.
     let process = record (process_in kernel.dispatcher.procs p) { regs = regs } in
     let procs = with_process kernel.dispatcher.procs p process in
     let same : (process_in procs q).abort_due ≡ (process_in kernel.dispatcher.procs q).abort_due = elim (cases_eq q p) [
@@ -149,29 +170,44 @@ nobody_view kernel devices p regs below none = λ q.
 settled_view : (system : System) (p n : ℕ) (view : View) → p < length system.kernel.dispatcher.procs.processes → NobodyAborted system.kernel
     → NobodyAborted (with_view system p view n).kernel
 unfolding with_view
-settled_view system p n view below none = nobody_view system.kernel view.devices p view.regs below none
+settled_view system p n view below none = nobody_view system.kernel view.devices (passed_by n system.kernel.disk) p view.regs below none
 
-step_view : (system : System) (p seg n : ℕ) (view : View) → p < length system.kernel.dispatcher.procs.processes → RunsOn system p seg
-    → CanMove (is_inside system.kernel.dispatcher.procs p) seg view
-    → due (system.steps + n + 1) system.interrupts ≡ None
-    → step_of (with_view system p view n) ≡ silent (with_view system p (moved seg view) (n + 1))
+-- no call is in service behind steps that passed where none was before
+none_before : (served : Option Served) (n : ℕ) → option_map (passed_on n) served ≡ None → served ≡ None
+none_before None n is = refl
+none_before (Some call) n is = absurd (cc)
+
+handed_unpassed : (system : System) (p n : ℕ) (view : View) → NoCompletions system → NoCompletions (unpassed system p view n)
+unfolding passed_by
+handed_unpassed system p n view none =
+    record { answered = none.answered; written = none.written; paid = λ idle. none.paid (none_before system.kernel.disk.served n idle) }
+
+step_view : (telling : Telling) (system : System) (p seg n : ℕ) (view : View) → p < length system.kernel.dispatcher.procs.processes → RunsOn system p seg
+    → CanMove (is_inside system.kernel.dispatcher.procs p) seg view → due (system.steps + n + 1) system.interrupts ≡ None → CanPass (n + 1) system.kernel.disk
+    → file_caller (with_view system p view n) ≡ None
+    → step_with telling (with_view system p view n) ≡ silent (with_view system p (moved seg view) (n + 1))
 unfolding with_view
-step_view system p seg n view below on can quiet =
+step_view telling system p seg n view below on can quiet passing alone =
     let begun = counted (with_view system p view n) in
-    let later = with_view system p (moved seg view) (n + 1) in
-    step_still (with_view system p view n) later (quiet_view system p n view quiet) (acted_view system p seg n view below on can)
-    (record { answered = on.no_completions.answered; written = on.no_completions.written })
-    (nobody_view system.kernel (moved seg view).devices p (moved seg view).regs below on.settled) on.none_deferred
-    ∙ ap (λ (kernel : Kernel). silent (record later { kernel = kernel })) (picked_same (at_instruction begun) later.kernel (on.first ∙ sym on.running))
+    let later = unpassed system p (moved seg view) n in
+    let instruction = at_instruction begun in
+    let last = with_view system p (moved seg view) (n + 1) in
+    step_quiet telling (with_view system p view n) later alone (quiet_view system p n view quiet) (acted_view system p seg n view below on can) on.no_completions.answered
+    ∙ rest_still instruction telling later (handed_unpassed system p n (moved seg view) on.no_completions)
+    (nobody_view system.kernel (moved seg view).devices (passed_by n system.kernel.disk) p (moved seg view).regs below on.settled) on.none_deferred
+    (still_ahead n system.kernel.disk passing)
+    ∙ ap (λ (disk : DiskService). step_dispatched instruction (silent (record later { kernel = record later.kernel { disk = disk } }))) (passes_on n system.kernel.disk passing)
+    ∙ ap (λ (kernel : Kernel). silent (record last { kernel = kernel })) (picked_same instruction last.kernel (on.first ∙ sym on.running))
 
 -- so n of them are n steps, which say nothing
 
 abbrev with_system : State → System → State
 with_system s system = record s { system = system }
 
-same_alive : (system : System) (p n m : ℕ) (one other : View) → (with_view system p one n).kernel.dispatcher.procs.alive ≡ (with_view system p other m).kernel.dispatcher.procs.alive
-unfolding with_view with_process
-same_alive system p n m one other = refl
+handed_view : (system : System) (p n : ℕ) (view : View) → NoCompletions system → NoCompletions (with_view system p view n)
+unfolding with_view passed_by
+handed_view system p n view none =
+    record { answered = none.answered; written = none.written; paid = λ idle. none.paid (none_before system.kernel.disk.served n idle) }
 
 alone_view : (system : System) (p seg n : ℕ) (view : View) → p < length system.kernel.dispatcher.procs.processes → RunsOn system p seg
     → CanMove (is_inside system.kernel.dispatcher.procs p) seg view → file_caller (with_view system p view n) ≡ None
@@ -184,8 +220,9 @@ whole_view : (system : System) (p n : ℕ) (view : View) → IsWhole system → 
     → IsWhole (with_view system p view n)
 unfolding with_view
 whole_view system p n view w h keeps =
-    let polled = record system.kernel { devices = view.devices } in
-    let before = whole_kernel system polled w (sound_devices system.kernel view.devices w.sound) w.live (homes_stay _ _ refl) in
+    let polled = record system.kernel { devices = view.devices; disk = passed_by n system.kernel.disk } in
+    let sound = sound_passed_by (record system.kernel { devices = view.devices }) n (sound_devices system.kernel view.devices w.sound) in
+    let before = whole_kernel system polled w sound w.live (homes_stay _ _ refl) in
     let changed = whole_regs p view.regs (record system { kernel = polled }) before h in
     let afterwards = whole_memory _ view.memory changed.whole keeps in
     whole_steps _ (system.steps + n) afterwards
@@ -197,42 +234,68 @@ keeps_moved (suc n) seg view =
     let before = moves n seg view in
     keeps_both view.memory before.memory _ (keeps_moved n seg view) (keeps_acted (actions_of (instruction_in seg before)) seg before.memory)
 
+-- files stay as they are in them
+within_on : (served : Option Served) (files : Files) (n : ℕ) → AreWithin served files → AreWithin (option_map (passed_on n) served) files
+within_on None (Between filing) n within = tt
+within_on None (Within s) n within = absurd within
+within_on (Some call) (Between filing) n within = absurd within
+within_on (Some call) (Within s) n within = tt
+
+unpassed_within : (s : State) (p n : ℕ) (view : View) → AreWithin s.system.kernel.disk.served s.files → AreWithin (unpassed s.system p view n).kernel.disk.served s.files
+unfolding passed_by
+unpassed_within s p n view within = within_on s.system.kernel.disk.served s.files n within
+
+-- no call is over in one of them
+over_view : (told : Directly) (system : System) (p seg n : ℕ) (view : View) → p < length system.kernel.dispatcher.procs.processes → RunsOn system p seg
+    → CanMove (is_inside system.kernel.dispatcher.procs p) seg view → due (system.steps + n + 1) system.interrupts ≡ None → CanPass (n + 1) system.kernel.disk
+    → file_caller (with_view system p view n) ≡ None → process_over (begun_as told (with_view system p view n)).system ≡ None
+over_view told system p seg n view below on can quiet passing alone =
+    ap (λ (c : Change). process_over c.system)
+    (begun_quiet told (with_view system p view n) (unpassed system p (moved seg view) n) alone (quiet_view system p n view quiet) (acted_view system p seg n view below on can) on.no_completions.answered)
+    ∙ nobody_over (unpassed system p (moved seg view) n) (still_ahead n system.kernel.disk passing)
+
 next_view : (s : State) (p seg n : ℕ) (view : View) → p < length s.system.kernel.dispatcher.procs.processes → RunsOn s.system p seg
     → CanMove (is_inside s.system.kernel.dispatcher.procs p) seg view
-    → due (s.system.steps + n + 1) s.system.interrupts ≡ None
+    → due (s.system.steps + n + 1) s.system.interrupts ≡ None → CanPass (n + 1) s.system.kernel.disk → AreWithin s.system.kernel.disk.served s.files
     → next (with_system s (with_view s.system p view n)) ≡ with_system s (with_view s.system p (moved seg view) (n + 1))
-next_view s p seg n view below on can quiet =
-    plain_next (with_system s (with_view s.system p view n)) (with_view s.system p (moved seg view) (n + 1)) (alone_view s.system p seg n view below on can)
-    (step_view s.system p seg n view below on can quiet) (same_alive s.system p (n + 1) n (moved seg view) view)
+next_view s p seg n view below on can quiet passing within =
+    let here = with_system s (with_view s.system p view n) in
+    let alone = alone_view s.system p seg n view below on can in
+    plain_next here (with_view s.system p (moved seg view) (n + 1))
+    (λ telling. step_view telling s.system p seg n view below on can quiet passing alone)
+    (files_still here (unpassed s.system p (moved seg view) n) alone (quiet_view s.system p n view quiet) (acted_view s.system p seg n view below on can)
+    (handed_unpassed s.system p n (moved seg view) on.no_completions)
+    (nobody_view s.system.kernel (moved seg view).devices (passed_by n s.system.kernel.disk) p (moved seg view).regs below on.settled) on.none_deferred
+    (still_ahead n s.system.kernel.disk passing) (unpassed_within s p n (moved seg view) within))
 
 after_moves : (n : ℕ) (s : State) (p seg : ℕ) → p < length s.system.kernel.dispatcher.procs.processes → RunsOn s.system p seg
     → ((k : ℕ) → k < n → CanMove (is_inside s.system.kernel.dispatcher.procs p) seg (moves k seg (view_of s.system p))) → Quiet n s.system
+    → CanPass n s.system.kernel.disk → AreWithin s.system.kernel.disk.served s.files
     → after n s ≡ with_system s (with_view s.system p (moves n seg (view_of s.system p)) n)
 unfolding moves after
-after_moves zero s p seg below on each quiet = ap (λ system. record s { system = system }) (sym (view_itself s.system p))
-after_moves (suc n) s p seg below on each quiet =
+after_moves zero s p seg below on each quiet passing within = ap (λ system. record s { system = system }) (sym (view_itself s.system p))
+after_moves (suc n) s p seg below on each quiet passing within =
     let view = moves n seg (view_of s.system p) in
-    ap next (after_moves n s p seg below on (λ k less. each k (omega (arith, less))) (λ k less. quiet k (omega (arith, less))))
-    ∙ next_view s p seg n view below on (each n (omega arith)) (quiet n (omega arith))
+    let more : CanPass (n + 1) s.system.kernel.disk = subst (λ (k : ℕ). CanPass k s.system.kernel.disk) (sym (add-one n)) passing in
+    ap next (after_moves n s p seg below on (λ k less. each k (omega (arith, less))) (λ k less. quiet k (omega (arith, less))) (fewer_pass n s.system.kernel.disk more) within)
+    ∙ next_view s p seg n view below on (each n (omega arith)) (quiet n (omega arith)) more within
     ∙ ap (λ count. record s { system = with_view s.system p (moved seg view) count }) (add-one n)
-
-handed_view : (system : System) (p n : ℕ) (view : View) → NoCompletions system → NoCompletions (with_view system p view n)
-unfolding with_view
-handed_view system p n view none = record { answered = none.answered; written = none.written }
 
 steps_moves : (n : ℕ) (system : System) (p seg : ℕ) → IsWhole system → Lives system.kernel.dispatcher.procs p → p < length system.kernel.dispatcher.procs.processes
     → RunsOn system p seg → ((k : ℕ) → k < n → CanMove (is_inside system.kernel.dispatcher.procs p) seg (moves k seg (view_of system p))) → Quiet n system
-    → AreSteps n system (silent (with_view system p (moves n seg (view_of system p)) n))
+    → CanPass n system.kernel.disk → AreSteps n system (silent (with_view system p (moves n seg (view_of system p)) n))
 unfolding moves AreSteps
-steps_moves zero system p seg w h below on each quiet = ap silent (view_itself system p)
-steps_moves (suc n) system p seg w h below on each quiet =
+steps_moves zero system p seg w h below on each quiet passing = ap silent (view_itself system p)
+steps_moves (suc n) system p seg w h below on each quiet passing =
     let view = moves n seg (view_of system p) in
     let here = with_view system p view n in
     let one = with_view system p (moved seg view) (n + 1) in
     let can = each n (omega arith) in
-    let first = steps_moves n system p seg w h below on (λ k less. each k (omega (arith, less))) (λ k less. quiet k (omega (arith, less))) in
-    let is = is_made_alone here (silent one) (whole_view system p n view w h (keeps_moved n seg (view_of system p)))
-    (handed_view system p n view on.no_completions) (alone_view system p seg n view below on can) (sym (step_view system p seg n view below on can (quiet n (omega arith)))) in
+    let more : CanPass (n + 1) system.kernel.disk = subst (λ (k : ℕ). CanPass k system.kernel.disk) (sym (add-one n)) passing in
+    let first = steps_moves n system p seg w h below on (λ k less. each k (omega (arith, less))) (λ k less. quiet k (omega (arith, less))) (fewer_pass n system.kernel.disk more) in
+    let alone = alone_view system p seg n view below on can in
+    let is = is_made_still here (silent one) (whole_view system p n view w h (keeps_moved n seg (view_of system p)))
+    (handed_view system p n view on.no_completions) alone (over_view nothing_told system p seg n view below on can (quiet n (omega arith)) more alone) (λ telling. sym (step_view telling system p seg n view below on can (quiet n (omega arith)) more alone)) in
     (silent here, silent one, first, is, ap (λ count. silent (with_view system p (moved seg view) count)) (sym (add-one n)))
 
 pub runs_on : (system : System) (p seg : ℕ) → IsWhole system → system.kernel.dispatcher.running ≡ Some p → first_of (list_at system.kernel.dispatcher.lists ready) ≡ Some p
@@ -246,25 +309,31 @@ pub quiet_steps : (n quiet : ℕ) (system : System) → n ≤ quiet
 quiet_steps n quiet system few none = λ k below. none (system.steps + k + 1) (omega (arith, few, below)) (omega arith)
 
 -- what becomes of a state in them
-pub moved_state : (n p seg : ℕ) (old new : System) (s : State) → IsWhole old → RunsOn old p seg → Moved n p seg old new → Quiet n old → s.system ≡ old
-    → after n s ≡ record s { system = new }
-moved_state n p seg old new s w on moved quiet is =
+pub moved_state : (n p seg : ℕ) (old new : System) (s : State) → IsWhole old → RunsOn old p seg → Moved n p seg old new → Quiet n old → CanPass n old.kernel.disk
+    → AreWithin old.kernel.disk.served s.files → s.system ≡ old → after n s ≡ record s { system = new }
+moved_state n p seg old new s w on moved quiet passing within is =
     let below : p < length old.kernel.dispatcher.procs.processes =
     omega (arith, w.sound.slots.processes, lives_below old.kernel.dispatcher.procs p w.sound.slots (runner_lives old.kernel p w.sound on.running)) in
     let P : System → Type 0 = λ system. (p < length system.kernel.dispatcher.procs.processes) × RunsOn system p seg
-    × ((k : ℕ) → k < n → CanMove (is_inside system.kernel.dispatcher.procs p) seg (moves k seg (view_of system p))) × Quiet n system in
-    let facts : P s.system = subst P (sym is) (below, on, moved.moves.each, quiet) in
+    × ((k : ℕ) → k < n → CanMove (is_inside system.kernel.dispatcher.procs p) seg (moves k seg (view_of system p))) × Quiet n system
+    × CanPass n system.kernel.disk × AreWithin system.kernel.disk.served s.files in
+    let facts : P s.system = subst P (sym is) (below, on, moved.moves.each, quiet, passing, within) in
     let whole : with_view s.system p (moves n seg (view_of s.system p)) n ≡ new =
     ap (λ system. with_view system p (moves n seg (view_of system p)) n) is ∙ sym (moved.is ∙ ap (λ v. with_view old p v n) moved.moves.is) in
-    after_moves n s p seg facts.0 facts.1 facts.2 facts.3 ∙ ap (λ system. record s { system = system }) whole
+    after_moves n s p seg facts.0 facts.1 facts.2 facts.3 facts.4 facts.5 ∙ ap (λ system. record s { system = system }) whole
 
 -- and they are so many steps
-pub moved_steps : (n p seg : ℕ) (old new : System) → IsWhole old → RunsOn old p seg → Moved n p seg old new → Quiet n old → AreSteps n old (silent new)
-moved_steps n p seg old new w on moved quiet =
+pub moved_steps : (n p seg : ℕ) (old new : System) → IsWhole old → RunsOn old p seg → Moved n p seg old new → Quiet n old → CanPass n old.kernel.disk → AreSteps n old (silent new)
+moved_steps n p seg old new w on moved quiet passing =
     let lives = runner_lives old.kernel p w.sound on.running in
     let below : p < length old.kernel.dispatcher.procs.processes = omega (arith, w.sound.slots.processes, lives_below old.kernel.dispatcher.procs p w.sound.slots lives) in
     subst (λ system. AreSteps n old (silent system)) (sym (moved.is ∙ ap (λ v. with_view old p v n) moved.moves.is))
-    (steps_moves n old p seg w lives below on moved.moves.each quiet)
+    (steps_moves n old p seg w lives below on moved.moves.each quiet passing)
+
+-- the disk's steps passed in them
+pub moved_disk : (n p seg : ℕ) (old new : System) → Moved n p seg old new → new.kernel.disk ≡ passed_by n old.kernel.disk
+unfolding with_view
+moved_disk n p seg old new moved = ap (λ (system : System). system.kernel.disk) moved.is
 
 -- nobody's end is due behind them
 pub moved_settled : (n p seg : ℕ) (old new : System) → IsWhole old → RunsOn old p seg → Moved n p seg old new → NobodyAborted new.kernel

@@ -8,28 +8,21 @@ use Rattle.mpm_machine.specs.declared.system.System.{System}
 use Rattle.mpm_machine.specs.declared.machine.StepFault.{StepFault}
 use Rattle.mpm_machine.specs.State.{State, Change, IsWhole, NoCompletions, silent}
 use Rattle.mpm_machine.specs.Faults.{EndsBy}
-use Rattle.mpm_machine.specs.FileCalls.{told_by, step_with, filed, stepped}
+use Rattle.mpm_machine.specs.Stepping.{step_with, telling_of, stepped}
 use Rattle.mpm_machine.specs.After.{next, after, IsStep, IsMade, IsNextOf, followed, AreSteps, HasRun, HasStepped, HasStopped, HasStoppedIn, EndsInStep}
 use Rattle.mpm_machine.proofs.StepWithLaws.{whole_with, no_completions_with}
 use Rattle.mpm_machine.proofs.FileStepLaws.{steps_with, is_step}
-use Rattle.mpm_machine.proofs.FilingLaws.{filed_of_call}
+use Rattle.mpm_machine.proofs.TellingLaws.{first_of_call, later_of_call}
 
 -- what a step that is made with files makes of the system
 
-pub stepped_change : (s : State) → (stepped s.system s.filing).change ≡ step_with (told_by (filed s.filing s.system)) s.system
-unfolding stepped
-stepped_change s = refl
+next_is : (s : State) → (next s).system ≡ (step_with (telling_of s.system s.files) s.system).system
+unfolding next stepped
+next_is s = refl
 
-next_system : (s : State) → (next s).system ≡ (stepped s.system s.filing).change.system
-unfolding next
-next_system s = refl
-
-next_outputs : (s : State) → (next s).outputs ≡ (stepped s.system s.filing).change.emitted ++ s.outputs
-unfolding next
+next_outputs : (s : State) → (next s).outputs ≡ (step_with (telling_of s.system s.files) s.system).emitted ++ s.outputs
+unfolding next stepped
 next_outputs s = refl
-
-next_is : (s : State) → (next s).system ≡ (step_with (told_by (filed s.filing s.system)) s.system).system
-next_is s = next_system s ∙ ap (λ (c : Change). c.system) (stepped_change s)
 
 -- n steps
 
@@ -52,29 +45,30 @@ pub steps_after : (n : ℕ) (s : State) → (after n s).system.steps ≡ s.syste
 unfolding after
 steps_after zero s = omega arith
 steps_after (suc n) s =
-    ap (λ (system : System). system.steps) (next_is (after n s)) ∙ steps_with (told_by (filed (after n s).filing (after n s).system)) (after n s).system
+    ap (λ (system : System). system.steps) (next_is (after n s)) ∙ steps_with (telling_of (after n s).system (after n s).files) (after n s).system
     ∙ omega (arith, steps_after n s)
 
 pub whole_after : (n : ℕ) (s : State) → IsWhole s.system → IsWhole (after n s).system
 unfolding after
 whole_after zero s w = w
 whole_after (suc n) s w =
-    subst IsWhole (sym (next_is (after n s))) (whole_with (told_by (filed (after n s).filing (after n s).system)) (after n s).system (whole_after n s w))
+    subst IsWhole (sym (next_is (after n s))) (whole_with (telling_of (after n s).system (after n s).files) (after n s).system (whole_after n s w))
 
 pub handed_after : (n : ℕ) (s : State) → NoCompletions s.system → NoCompletions (after n s).system
 unfolding after
 handed_after zero s no_completions = no_completions
 handed_after (suc n) s no_completions =
-    subst NoCompletions (sym (next_is (after n s))) (no_completions_with (told_by (filed (after n s).filing (after n s).system)) (after n s).system)
+    subst NoCompletions (sym (next_is (after n s))) (no_completions_with (telling_of (after n s).system (after n s).files) (after n s).system)
 
 -- each is a step of the system
 next_of : (s : State) → IsWhole s.system → NoCompletions s.system → IsNextOf s (next s)
 next_of s w handed =
-    let change = (stepped s.system s.filing).change in
+    let telling = telling_of s.system s.files in
+    let change = step_with telling s.system in
     let P : System → Type 0 = λ system. IsStep s.system (record { system = system; emitted = change.emitted }) in
     record {
       emitted = change.emitted;
-      is = subst P (sym (next_system s)) (is_step (told_by (filed s.filing s.system)) s.system change w handed (filed_of_call s.filing s.system) (stepped_change s));
+      is = subst P (sym (next_is s)) (is_step telling s.system change w handed (first_of_call s.files s.system) (later_of_call s.files s.system) refl);
       outputs = next_outputs s;
     }
 

@@ -33,6 +33,7 @@ record Begins (old new : Kernel) : Type 0 where
   pub live : CompletedLive old → CompletedLive new
   pub completed : new.dispatcher.completed ≡ old.dispatcher.completed
   pub consoles : length new.units.consoles ≡ length old.units.consoles
+  pub disk : new.disk ≡ old.disk
 
 -- after a process that has begun, its own process is changed
 begins_changed : (old begun : Kernel) (p : ℕ) (process : Process) → Begins old begun → Lives begun.dispatcher.procs p
@@ -53,6 +54,7 @@ begins_changed old begun p process b h console printer some few seg due procedur
       live = λ live. live_kept begun (with_changed begun p process) refl (λ q living. lives_changed begun.dispatcher.procs p q process ∙ living) (b.live live);
       completed = b.completed;
       consoles = b.consoles;
+      disk = b.disk;
     }
 
 homeless : (new : NewProcess) (seg : ℕ) (A : Type 0) → new.seg ≡ None → new.seg ≡ Some seg → A
@@ -68,10 +70,11 @@ begins_admitted kernel p new s free console none = record {
   live = λ live. live_kept kernel (dispatched (admitted p new) kernel) refl (λ q living. lives_on kernel new (Some p) q free living) live;
   completed = refl;
   consoles = refl;
+  disk = refl;
 }
 
 begins_nothing : (kernel : Kernel) → IsSound kernel → Begins kernel kernel
-begins_nothing kernel s = record { sound = s; homes = homes_stay kernel kernel refl; live = λ live. live; completed = refl; consoles = refl }
+begins_nothing kernel s = record { sound = s; homes = homes_stay kernel kernel refl; live = λ live. live; completed = refl; consoles = refl; disk = refl }
 
 lives_begun : (kernel : Kernel) (p : ℕ) (new : NewProcess) → IsSound kernel → lowest_free kernel.dispatcher.procs ≡ Some p → Lives (dispatched (admitted p new) kernel).dispatcher.procs p
 lives_begun kernel p new s free = lives_added kernel.dispatcher.procs p new (free_below kernel.dispatcher.procs p free)
@@ -95,6 +98,7 @@ begins_queue kernel s only none = record {
   live = λ live. live;
   completed = refl;
   consoles = refl;
+  disk = refl;
 }
 
 begins_both : (old middle new : Kernel) → Begins old middle → Begins middle new → Begins old new
@@ -104,6 +108,7 @@ begins_both old middle new one other = record {
   live = λ live. other.live (one.live live);
   completed = other.completed ∙ one.completed;
   consoles = other.consoles ∙ one.consoles;
+  disk = other.disk ∙ one.disk;
 }
 
 begins_first : (kernel : Kernel) → IsSound kernel → OnlySystems kernel → make_error kernel.queues command_queue 130 15 ≡ None
@@ -116,16 +121,20 @@ pub record Begun (old new : System) : Type 0 where
   pub whole : IsWhole new
   pub completed : new.kernel.dispatcher.completed ≡ old.kernel.dispatcher.completed
   pub consoles : length new.kernel.units.consoles ≡ length old.kernel.units.consoles
+  pub disk : new.kernel.disk ≡ old.kernel.disk
   pub steps : new.steps ≡ old.steps
   pub records : new.records ≡ old.records
+  pub owed : new.owed ≡ old.owed
 
 begun_kernel : (system : System) (kernel : Kernel) → IsWhole system → Begins system.kernel kernel → Begun system (record system { kernel = kernel })
 begun_kernel system kernel w b = record {
   whole = whole_kernel system kernel w b.sound (b.live w.live) b.homes;
   completed = b.completed;
   consoles = b.consoles;
+  disk = b.disk;
   steps = refl;
   records = refl;
+  owed = refl;
 }
 
 first_begun : (system : System) → IsWhole system → OnlySystems system.kernel → make_error system.kernel.queues command_queue 130 15 ≡ None
@@ -137,14 +146,14 @@ pub interpreting_begun : (consoles : ℕ) (system : System) → IsWhole system �
     → Begun system (with_interpreting consoles (begun_by_interpreter system))
 interpreting_begun consoles system w only none =
     let first = first_begun system w only none in
-    record { whole = whole_residents _ _ first.whole; completed = first.completed; consoles = first.consoles; steps = first.steps; records = first.records }
+    record { whole = whole_residents _ _ first.whole; completed = first.completed; consoles = first.consoles; disk = first.disk; steps = first.steps; records = first.records; owed = first.owed }
 
 -- a terminal message processor
 
 terminal_by : (slot : Option ℕ) (console : ℕ) (system : System) → IsWhole system → lowest_free system.kernel.dispatcher.procs ≡ slot → console < length system.kernel.units.consoles
     → Begun system (with_terminal slot console system)
 unfolding with_terminal resident_process
-terminal_by None console system w free below = record { whole = w; completed = refl; consoles = refl; steps = refl; records = refl }
+terminal_by None console system w free below = record { whole = w; completed = refl; consoles = refl; disk = refl; steps = refl; records = refl; owed = refl }
 terminal_by (Some p) console system w free below =
     let new = resident_process (terminal_name console) 198 console in
     let s = w.sound in
@@ -154,7 +163,7 @@ terminal_by (Some p) console system w free below =
     let b = begins_changed system.kernel begun p (record (process_in begun.dispatcher.procs p) { error_mode = 255 })
     (begins_admitted system.kernel p new s free below refl) lives_now refl refl fit.some fit.few refl refl refl in
     let changed = begun_kernel system _ w b in
-    record { whole = whole_residents _ _ changed.whole; completed = changed.completed; consoles = changed.consoles; steps = changed.steps; records = changed.records }
+    record { whole = whole_residents _ _ changed.whole; completed = changed.completed; consoles = changed.consoles; disk = changed.disk; steps = changed.steps; records = changed.records; owed = changed.owed }
 
 pub terminal_begun : (console : ℕ) (system : System) → IsWhole system → console < length system.kernel.units.consoles
     → Begun system (with_terminal (lowest_free system.kernel.dispatcher.procs) console system)
@@ -196,12 +205,14 @@ pub record BegunSo (start now : System) (n : ℕ) : Type 0 where
   pub whole : IsWhole now
   pub completed : now.kernel.dispatcher.completed ≡ start.kernel.dispatcher.completed
   pub consoles : length now.kernel.units.consoles ≡ length start.kernel.units.consoles
+  pub disk : now.kernel.disk ≡ start.kernel.disk
   pub steps : now.steps ≡ start.steps
   pub records : now.records ≡ start.records
   pub few : length now.residents ≤ length start.residents + n
+  pub owed : now.owed ≡ start.owed
 
 pub begun_none : (start : System) → IsWhole start → BegunSo start start 0
-begun_none start w = record { is = sym (no_terminals start); whole = w; completed = refl; consoles = refl; steps = refl; records = refl; few = omega arith }
+begun_none start w = record { is = sym (no_terminals start); whole = w; completed = refl; consoles = refl; disk = refl; steps = refl; records = refl; few = omega arith; owed = refl }
 
 pub begun_more : (start now next : System) (n : ℕ) → BegunSo start now n → n < length start.kernel.units.consoles
     → next ≡ with_terminal (lowest_free now.kernel.dispatcher.procs) n now → BegunSo start next (n + 1)
@@ -213,9 +224,11 @@ begun_more start now next n so below is =
       whole = b.whole;
       completed = b.completed ∙ so.completed;
       consoles = b.consoles ∙ so.consoles;
+      disk = b.disk ∙ so.disk;
       steps = b.steps ∙ so.steps;
       records = b.records ∙ so.records;
       few = omega (arith, so.few, few_terminal (lowest_free now.kernel.dispatcher.procs) n now, ap (λ (s : System). length s.residents) is);
+      owed = b.owed ∙ so.owed;
     }
 
 -- and it is picked who runs
@@ -227,7 +240,11 @@ whole_picked afterwards kernel w is =
 
 pub no_completions_picked : (afterwards : System) (kernel : Kernel) → kernel ≡ dispatched (picked false) afterwards.kernel → NoCompletions afterwards
     → NoCompletions (record afterwards { kernel = kernel })
-no_completions_picked afterwards kernel is none = record { answered = ap (λ (k : Kernel). k.dispatcher.completed) is ∙ none.answered; written = none.written }
+no_completions_picked afterwards kernel is none = record {
+  answered = ap (λ (k : Kernel). k.dispatcher.completed) is ∙ none.answered;
+  written = none.written;
+  paid = λ idle. none.paid (ap (λ (k : Kernel). k.disk.served) (sym is) ∙ idle);
+}
 
 -- a process that begins gets its console
 
@@ -352,7 +369,7 @@ booted_so : (file : MachineFile) (events : List Timed) → Boots file (booted fi
 unfolding booted new_kernel new_dispatcher
 booted_so file events = record {
   consoles = sym (many_new file.consoles file.printers (moment_of file));
-  queues = only_systems_new file.consoles file.printers (moment_of file);
+  queues = record { all = λ q made. (only_systems_new file.consoles file.printers (moment_of file)).all q made };
   room = may_make_new file.consoles file.printers (moment_of file) command_queue 130 15 (omega arith) (omega arith);
   nobody = refl;
 }

@@ -1,12 +1,12 @@
 -- A segment that slot 0 has reserved stays its own, whatever other processes do with theirs; and the interpreter stands in a machine
 -- as its answers come.
-use Rattle.std.proofs.Common.{◌≡◌, ◌≢◌, ◌∙◌, ℕ, suc, ◌==◌, if◌then◌else◌, Bool, true, false, List, length, Option, Some, None, inl, inr, refl, sym, ap, subst, arith, eqb-true}
+use Rattle.std.proofs.Common.{◌≡◌, ◌≢◌, ◌∙◌, ℕ, suc, ◌==◌, ◌≤◌, if◌then◌else◌, Bool, true, false, List, length, Option, Some, None, inl, inr, refl, sym, ap, subst, arith, eqb-true}
 use Rattle.std.specs.Prelude.{nat_lt}
 use Rattle.std.proofs.lemmas.Bool.{cases_eq, false≢true}
 use Rattle.std.proofs.lemmas.List.{length-set}
 use Rattle.mpm_base.proofs.Choices.{either}
 use Rattle.mpm_base.specs.Calls.{Taken, Answer}
-use Rattle.mpm_banks.specs.Memory.{Memory, HasSegment, IsMemory, SameSegments, segment_of}
+use Rattle.mpm_banks.specs.Memory.{Memory, HasSegment, SameSegments, segment_of}
 use Rattle.mpm_banks.specs.MemoryLaws.{field_stays}
 use Rattle.mpm_banks.specs.declared.segment.Segment.{Segment}
 use Rattle.mpm_banks.specs.declared.segment.Allocation.{Allocation}
@@ -31,7 +31,10 @@ use Rattle.mpm_machine.specs.declared.system.System.{System}
 use Rattle.mpm_machine.specs.State.{IsWhole}
 use Rattle.mpm_machine.specs.Serving.{reserve_reply}
 use Rattle.mpm_machine.specs.Residing.{taking}
-use Rattle.mpm_machine.specs.Interpreting.{HasReserved, Interprets}
+use Rattle.mpm_processor.specs.Gates.{IsHome}
+use Rattle.mpm_service.specs.Places.{at_disk}
+use Rattle.mpm_kernel.specs.Awaiting.{AwaitsIn}
+use Rattle.mpm_machine.specs.Interpreting.{HasReserved, awaited, Interprets}
 use Rattle.mpm_machine.proofs.HomeLaws.{freed_place, found_is_free}
 use Rattle.mpm_kernel.proofs.Beside.{StaysBeside, beside_same}
 use Rattle.mpm_machine.proofs.GoingOn.{acts_with, acts_took, acts_another_took}
@@ -160,33 +163,49 @@ still_has cli old new keeps has = record {
   spec = same_spec old new cli.seg keeps ∙ has.spec;
 }
 
-pub interprets_memory : (system : System) (memory : Memory) → IsMemory memory → KeepsOwn system.memory memory → Interprets system → Interprets (record system { memory = memory })
+pub homes_still : (old new : Memory) → KeepsOwn old new → ((seg : ℕ) → HasSegment old seg → IsHome old seg) → (seg : ℕ) → HasSegment new seg → IsHome new seg
+homes_still old new keeps homes seg there =
+    let before = homes seg (omega (arith, there, keeps.count)) in
+    record { exists = there; pages = omega (arith, before.pages, keeps.pages seg); end = omega (arith, before.end, keeps.base seg, keeps.pages seg) }
+
+-- how many answers it awaits
+abbrev pub awaits_now : (system : System) → Interprets system → ℕ
+awaits_now system i = awaited (at_disk system.kernel.disk 0) i.acting.cli.row
+
+-- another kernel, in which slot 0, its place at the disk and the number of consoles are as before and no completion more of its is
+-- left, and memory with its segments
+unfoldable pub interprets_with : (old new : System) → new.residents ≡ old.residents → StaysBeside 0 old.kernel.dispatcher.procs new.kernel.dispatcher.procs
+    → length new.kernel.units.consoles ≡ length old.kernel.units.consoles → at_disk new.kernel.disk 0 ≡ at_disk old.kernel.disk 0 → KeepsOwn old.memory new.memory
+    → (i : Interprets old) → AwaitsIn (awaits_now old i) 0 new.kernel → Interprets new
 unfolding acts_with
-interprets_memory system memory m keeps i = record {
-  acting = acts_with system (record system { memory = memory }) refl (beside_same 0 system.kernel.dispatcher.procs system.kernel.dispatcher.procs refl) refl i.acting;
-  memory = m;
-  homes = λ seg there.
-      let before = i.homes seg (omega (arith, there, keeps.count)) in
-      record { exists = there; pages = omega (arith, before.pages, keeps.pages seg); end = omega (arith, before.end, keeps.base seg, keeps.pages seg) };
-  has = λ loading. still_has i.acting.cli system.memory memory keeps (i.has loading);
+interprets_with old new residents beside count disk keeps i awaits = record {
+  acting = acts_with old new residents beside count i.acting;
+  few = omega (arith, i.few, keeps.count);
+  homes = homes_still old.memory new.memory keeps i.homes;
+  has = λ loading. still_has i.acting.cli old.memory new.memory keeps (i.has loading);
+  filed = λ some. i.filed (omega (arith, some, disk));
+  awaits = subst (λ (places : ℕ). AwaitsIn (awaited places i.acting.cli.row) 0 new.kernel) (sym disk) awaits;
 }
 
--- another kernel, in which slot 0 and the number of consoles are as before
-pub interprets_kernel : (system : System) (kernel : Kernel) → StaysBeside 0 system.kernel.dispatcher.procs kernel.dispatcher.procs
-    → length kernel.units.consoles ≡ length system.kernel.units.consoles → Interprets system → Interprets (record system { kernel = kernel })
-unfolding acts_with
-interprets_kernel system kernel beside count i = record {
-  acting = acts_with system (record system { kernel = kernel }) refl beside count i.acting;
-  memory = i.memory;
-  homes = i.homes;
-  has = i.has;
-}
+-- it awaits nothing: no held call of its is left to be answered, and none is at the disk
+abbrev pub AwaitsNothing : Kernel → Type 0
+AwaitsNothing kernel = AwaitsIn 0 0 kernel × (at_disk kernel.disk 0 ≡ 0)
 
--- the interpreter takes an answer, by which it has the segment that it goes on with
+pub awaits_less : (k : ℕ) (kernel : Kernel) → AwaitsIn 0 0 kernel → AwaitsIn k 0 kernel
+awaits_less k kernel a = record { table = a.table; few = omega (arith, a.few); at_once = λ _. a.at_once (omega arith) }
+
+-- the interpreter takes an answer, by which it has the segment that it goes on with, and awaits nothing
 pub interprets_answered : (system : System) (reply : Answer) (i : Interprets system)
-    → (is_loading (took i.acting.cli reply).row ≡ true → HasReserved (took i.acting.cli reply) system.memory) → Interprets (taking reply 0 system)
+    → (is_loading (took i.acting.cli reply).row ≡ true → HasReserved (took i.acting.cli reply) system.memory) → AwaitsNothing system.kernel → Interprets (taking reply 0 system)
 unfolding acts_took
-interprets_answered system reply i has = record { acting = acts_took system reply i.acting; memory = i.memory; homes = i.homes; has = has }
+interprets_answered system reply i has none = record {
+  acting = acts_took system reply i.acting;
+  few = i.few;
+  homes = i.homes;
+  has = has;
+  filed = λ some. absurd (omega (arith, some, none.1));
+  awaits = awaits_less (awaited (at_disk system.kernel.disk 0) (took i.acting.cli reply).row) system.kernel none.0;
+}
 
 -- in each row but the one that reserves, whatever is answered, it goes on with the segment that it has, or with none
 
@@ -265,44 +284,49 @@ has_at Give cli reply memory other has now = none_yet memory (took_at Give cli r
 has_at PlaceBasePage cli reply memory other has now = λ _. at_row Begin memory cli (has refl)
 has_at Begin cli reply memory other has now = λ _. at_row (if reply.hl == 0 then ReadCommand else Free NoProcess) memory cli (has refl)
 
-pub interprets_taken : (system : System) (reply : Answer) (i : Interprets system) → is_reserving i.acting.cli.row ≡ false → Interprets (taking reply 0 system)
+pub interprets_taken : (system : System) (reply : Answer) (i : Interprets system) → is_reserving i.acting.cli.row ≡ false → AwaitsNothing system.kernel
+    → Interprets (taking reply 0 system)
 unfolding took
-interprets_taken system reply i other =
-    interprets_answered system reply i (has_at i.acting.cli.row i.acting.cli reply system.memory other i.has i.has)
+interprets_taken system reply i other none =
+    interprets_answered system reply i (has_at i.acting.cli.row i.acting.cli reply system.memory other i.has i.has) none
 
 -- another resident takes one
 pub interprets_another : (system : System) (reply : Answer) (q : ℕ) → Interprets system → Interprets (taking reply (suc q) system)
 unfolding acts_another_took
-interprets_another system reply q i = record { acting = acts_another_took system reply q i.acting; memory = i.memory; homes = i.homes; has = i.has }
+interprets_another system reply q i = record { acting = acts_another_took system reply q i.acting; few = i.few; homes = i.homes; has = i.has; filed = i.filed; awaits = i.awaits }
 
 -- a segment that it reserved is its own
-pub has_found : (memory : Memory) (base : Option ℕ) (pages seg : ℕ) (call : Taken) (cli : Interpreter) → IsMemory memory → lowest_free memory base pages ≡ Some seg
+pub has_found : (memory : Memory) (base : Option ℕ) (pages seg : ℕ) (call : Taken) (cli : Interpreter) → length memory.segments ≤ 16
+    → ((n : ℕ) → HasSegment memory n → IsHome memory n) → lowest_free memory base pages ≡ Some seg
     → HasReserved (with_reserved pages (reserve_reply memory call (Some seg)) cli) (reserved memory 0 (Some seg))
 unfolding reserved
-has_found memory base pages seg call cli m found =
+has_found memory base pages seg call cli few homes found =
     let there = (lowest_free_fits memory base pages seg found).0 in
     let after = allocated memory seg (Reserved 0) in
     let keeps = own_allocated memory seg (Reserved 0) (λ _. refl) in
-    subst (λ c. HasReserved c after) (sym (reserves_always memory base pages seg call cli m found)) (record {
+    subst (λ c. HasReserved c after) (sym (reserves_always memory base pages seg call cli few homes found)) (record {
       there = omega (arith, there, keeps.count);
       reserved = allocation_of_allocated memory seg (Reserved 0) there;
       spec = same_spec memory after seg keeps;
     })
 
-has_by : (found : Option ℕ) (memory : Memory) (base : Option ℕ) (pages : ℕ) (call : Taken) (cli : Interpreter) → IsMemory memory → lowest_free memory base pages ≡ found
+has_by : (found : Option ℕ) (memory : Memory) (base : Option ℕ) (pages : ℕ) (call : Taken) (cli : Interpreter) → length memory.segments ≤ 16
+    → ((n : ℕ) → HasSegment memory n → IsHome memory n) → lowest_free memory base pages ≡ found
     → Has (reserved memory 0 found) (with_reserved pages (reserve_reply memory call found) cli)
-has_by None memory base pages call cli m is = none_yet (reserved memory 0 None) (with_reserved pages (reserve_reply memory call None) cli) refl
-has_by (Some seg) memory base pages call cli m is = λ _. has_found memory base pages seg call cli m is
+has_by None memory base pages call cli few homes is = none_yet (reserved memory 0 None) (with_reserved pages (reserve_reply memory call None) cli) refl
+has_by (Some seg) memory base pages call cli few homes is = λ _. has_found memory base pages seg call cli few homes is
 
 -- and so it stands as it reserves one, and where none is found
 pub interprets_reserved : (base : Option ℕ) (pages : ℕ) (relocatable : Bool) (call : Taken) (system : System) (i : Interprets system) → i.acting.cli.row ≡ Reserve relocatable pages
-    → IsMemory (reserved system.memory 0 (lowest_free system.memory base pages))
+    → AwaitsNothing system.kernel
     → Interprets (taking (reserve_reply system.memory call (lowest_free system.memory base pages)) 0 (record system { memory = reserved system.memory 0 (lowest_free system.memory base pages) }))
-unfolding took interprets_memory acts_with
-interprets_reserved base pages relocatable call system i is m =
+unfolding took interprets_with acts_with
+interprets_reserved base pages relocatable call system i is none =
     let found = lowest_free system.memory base pages in
     let memory = reserved system.memory 0 found in
     let reply = reserve_reply system.memory call found in
     let taken : took i.acting.cli reply ≡ with_reserved pages reply i.acting.cli = ap (λ row. took_at row i.acting.cli reply) is in
-    interprets_answered (record system { memory = memory }) reply (interprets_memory system memory m (own_reserved system.memory 0 base pages) i)
-    (subst (Has memory) (sym taken) (has_by found system.memory base pages call i.acting.cli i.memory refl))
+    let procs = system.kernel.dispatcher.procs in
+    interprets_answered (record system { memory = memory }) reply
+    (interprets_with system (record system { memory = memory }) refl (beside_same 0 procs procs refl) refl refl (own_reserved system.memory 0 base pages) i i.awaits)
+    (subst (Has memory) (sym taken) (has_by found system.memory base pages call i.acting.cli i.few i.homes refl)) none

@@ -20,6 +20,9 @@ use Rattle.mpm_procs.specs.declared.process.NewProcess.{NewProcess}
 use Rattle.mpm_procs.proofs.CountLaws.{living_added, full_from_none}
 use Rattle.mpm_procs.proofs.MapLaws.{nobody_lives, free_below, free_is_dead, lives_added, lives_added_other, process_added, process_added_other}
 use Rattle.std.specs.List.{AllByRecursion}
+use Rattle.mpm_service.specs.Disk.{DiskService}
+use Rattle.mpm_kernel.specs.Disk.{in_turns}
+use Rattle.mpm_kernel.proofs.DiskLaws.{sound_in_turns}
 use Rattle.mpm_kernel.specs.Kernel.{Kernel, CompletedLive, is_aborted, new_kernel, dispatched}
 use Rattle.mpm_dispatcher.specs.Dispatch.{admitted, picked, new_dispatcher}
 use Rattle.mpm_kernel.proofs.SoundLaws.{sound_new, sound_admitted, sound_picked}
@@ -37,9 +40,11 @@ use Rattle.mpm_processor.specs.Gates.{IsHome}
 use Rattle.mpm_render.specs.Completions.{Completion}
 use Rattle.mpm_machine.specs.declared.system.System.{System}
 use Rattle.mpm_interrupts.specs.declared.interrupts.Interrupts.{Interrupts}
+use Rattle.mpm_machine.specs.Owing.{nobody_owes}
 use Rattle.mpm_machine.specs.State.{IsOccupied, IsWhole}
 use Rattle.mpm_command.specs.BasePages.{base_page}
 use Rattle.mpm_machine.specs.Opening.{laid_out, placed_process, moment_of, booted, program_file, is_lived_in, is_occupied, IsBare, MayPlace, with_placed, opening_system}
+use Rattle.mpm_machine.proofs.KeepingLaws.{given_disk}
 use Rattle.mpm_machine.proofs.WholeLaws.{nobody_more}
 use Rattle.mpm_machine.proofs.HomeLaws.{KeepsHomes, keeps_same, keeps_both, keeps_occupied}
 
@@ -118,7 +123,7 @@ whole_booted file events some few printers script = record {
   live = tt;
   script = script;
   settled = λ off p. ap (λ b. b && (process_in no_processes p).abort_due) (nobody_lives p);
-  sound = sound_new file.consoles file.printers (moment_of file) some few printers;
+  sound = sound_in_turns file.disk_turn (new_kernel file.consoles file.printers (moment_of file)) (sound_new file.consoles file.printers (moment_of file) some few printers);
   homes = λ p seg living there. absurd (false≢true (sym (nobody_lives p) ∙ living));
   lived = λ p seg living there. absurd (false≢true (sym (nobody_lives p) ∙ living));
 }
@@ -200,7 +205,7 @@ bare_placed system p seg name priority console program may free =
     let more = living_added system.kernel.dispatcher.procs p new (free_below system.kernel.dispatcher.procs p free) (free_is_dead system.kernel.dispatcher.procs p free) in
     record {
       whole = whole_placed system p seg name priority console program may free;
-      no_completions = record { answered = completed_gave console None (Some p) begun ∙ may.bare.no_completions.answered; written = may.bare.no_completions.written };
+      no_completions = record { answered = completed_gave console None (Some p) begun ∙ may.bare.no_completions.answered; written = may.bare.no_completions.written; paid = λ idle. may.bare.no_completions.paid (ap (λ (d : DiskService). d.served) (sym (given_disk console None (Some p) begun)) ∙ idle) };
       start = may.bare.start;
       few = omega (arith, count_allocated memory seg Occupied, same.count, may.bare.few);
       counted = omega (arith, ap living (procs_gave console None (Some p) begun), more, count, before, may.bare.counted);
@@ -224,7 +229,7 @@ pub booted_is_bare : (file : MachineFile) (events : List Timed) → 1 ≤ file.c
 unfolding booted new_kernel new_dispatcher new_memory living no_processes
 booted_is_bare file events some few printers count script = record {
   whole = whole_booted file events some few printers script;
-  no_completions = record { answered = refl; written = refl };
+  no_completions = record { answered = refl; written = refl; paid = λ _. refl };
   start = refl;
   few = omega (arith, length-map file.segments new_segment, count);
   counted = omega (arith, nobody_counts file.segments);
@@ -283,16 +288,17 @@ pub may_place_program : (size : ℕ) → size ≤ 48512 → MayPlace (booted pro
 may_place_program size h = may_place_first [] size (All-nil IsTimed) h
 
 pub booted_parts : (file : MachineFile) (events : List Timed) (interrupts : Interrupts) (kernel : Kernel) (memory : Memory) (residents : List Native)
-    (records : List Completion) → 1 ≤ file.consoles → file.consoles ≤ 8 → file.printers ≤ 4 → length file.segments ≤ 16 → All IsTimed events
+    (records : List Completion) (owed : List Bool) → 1 ≤ file.consoles → file.consoles ≤ 8 → file.printers ≤ 4 → length file.segments ≤ 16 → All IsTimed events
     → interrupts ≡ record { tick_every = file.tick_every; ticks = 0; script = events }
-    → kernel ≡ new_kernel file.consoles file.printers (moment_of file) → memory ≡ new_memory file.segments → residents ≡ [] → records ≡ []
-    → IsBare (record { steps = 0; interrupts = interrupts; kernel = kernel; memory = memory; abort_deferred = false; residents = residents; records = records })
+    → kernel ≡ in_turns file.disk_turn (new_kernel file.consoles file.printers (moment_of file)) → memory ≡ new_memory file.segments → residents ≡ [] → records ≡ [] → owed ≡ nobody_owes
+    → IsBare (record { steps = 0; interrupts = interrupts; kernel = kernel; memory = memory; abort_deferred = false; residents = residents; records = records; owed = owed })
 unfolding booted
-booted_parts file events interrupts kernel memory residents records some few printers count script is was there none no_records =
+booted_parts file events interrupts kernel memory residents records owed some few printers count script is was there none no_records nobody =
     let booting = booted file events in
-    let whole : record { steps = 0; interrupts = interrupts; kernel = kernel; memory = memory; abort_deferred = false; residents = residents; records = records } ≡ booting =
-    ap (λ (r : List Native). record booting { interrupts = interrupts; kernel = kernel; memory = memory; residents = r; records = records }) none
-    ∙ ap (λ (r : List Completion). record booting { interrupts = interrupts; kernel = kernel; memory = memory; records = r }) no_records
+    let whole : record { steps = 0; interrupts = interrupts; kernel = kernel; memory = memory; abort_deferred = false; residents = residents; records = records; owed = owed } ≡ booting =
+    ap (λ (r : List Native). record booting { interrupts = interrupts; kernel = kernel; memory = memory; residents = r; records = records; owed = owed }) none
+    ∙ ap (λ (r : List Completion). record booting { interrupts = interrupts; kernel = kernel; memory = memory; records = r; owed = owed }) no_records
+    ∙ ap (λ (o : List Bool). record booting { interrupts = interrupts; kernel = kernel; memory = memory; owed = o }) nobody
     ∙ ap (λ (i : Interrupts). record booting { interrupts = i; kernel = kernel; memory = memory }) is
     ∙ ap (λ (k : Kernel). record booting { kernel = k; memory = memory }) was
     ∙ ap (λ (m : Memory). record booting { memory = m }) there in

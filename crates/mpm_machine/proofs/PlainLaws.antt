@@ -1,14 +1,26 @@
--- A step in which no file call is made and nobody ends leaves files and drives as they are.
-use Rattle.std.proofs.Common.{◌≡◌, ◌∙◌, ℕ, Bool, true, false, not, ◌&&◌, List, [], ◌∷◌, ◌++◌, Option, None, slice_index_or, if◌then◌else◌, refl, ap}
+-- A step in which no file call is made, nothing is given back and the disk only passes leaves files and drives as they are.
+use Rattle.std.proofs.Common.{◌≡◌, ◌∙◌, ℕ, zero, suc, Bool, true, false, List, [], ◌∷◌, ◌++◌, Option, Some, None, slice_index_or, replicate, if◌then◌else◌, refl, ap, sym, subst}
+use Rattle.std.proofs.lemmas.Bool.{false≢true}
 use Rattle.std.specs.List.{range_with_len}
-use Rattle.mpm_procs.specs.Table.{Table, lives}
+use Rattle.mpm_service.specs.Disk.{served_process, turn_answer}
+use Rattle.mpm_service.specs.declared.service.Served.{Served}
+use Rattle.mpm_service.specs.declared.service.Turn.{Turn}
+use Rattle.mpm_service.specs.declared.service.Turn.TheVariants.{Idle, Passing, Work, Starts}
 use Rattle.mpm_bdos.specs.Filing.{Filing}
 use Rattle.mpm_bdos.specs.Outcomes.{left_by, without_search}
 use Rattle.mpm_machine.specs.declared.system.System.{System}
-use Rattle.mpm_machine.specs.State.{State, Change, silent}
-use Rattle.mpm_machine.specs.Step.{step_of}
-use Rattle.mpm_machine.specs.FileCalls.{told_by, step_by, step_with, is_gone, left_each, left_behind, filed_by, filed, Stepped, stepped, file_caller}
+use Rattle.mpm_machine.specs.Owing.{nobody_owes}
+use Rattle.mpm_machine.specs.State.{State, Change, silent, NoCompletions, NobodyAborted}
+use Rattle.mpm_machine.specs.Step.{acted, coming, counted}
+use Rattle.mpm_bdos.specs.Direct.{Directly}
+use Rattle.mpm_machine.specs.Files.{Files, Between, Within, AreWithin, left_each, owes, all_left, given_back}
+use Rattle.mpm_machine.specs.FileCalls.{file_caller}
+use Rattle.mpm_machine.specs.DiskStep.{disk_served, all_paid, files_over, files_served_by, files_served, files_entered_by, files_entered_unless, files_entered, step_passed}
+use Rattle.mpm_machine.specs.Moving.{is_still}
+use Rattle.mpm_machine.specs.Stepping.{Telling, begun_as, nothing_told, told_first, files_begun_by, files_begun, before_disk, told_within, paid_after, files_paid, files_then, telling_then, telling_of, step_with, stepped, files_rest}
 use Rattle.mpm_machine.specs.After.{next}
+use Rattle.mpm_machine.proofs.QuietLaws.{begun_quiet, served_still, served_nobody}
+use Rattle.mpm_machine.proofs.PassingLaws.{paid_passed, paid_already, still_serves, ended_still}
 
 none_leaves : (gone : ℕ → Bool) (ps : List ℕ) (filing : Filing) → ((p : ℕ) → gone p ≡ false) → left_each gone ps filing ≡ filing
 unfolding left_each
@@ -16,39 +28,99 @@ none_leaves gone [] filing none = refl
 none_leaves gone (p ∷ ps) filing none =
     ap (λ b. left_each gone ps (if b then without_search (left_by filing p) p else filing)) (none p) ∙ none_leaves gone ps filing none
 
-stays_there : (b : Bool) → (b && not b) ≡ false
-stays_there true = refl
-stays_there false = refl
+-- where nobody owes anything
 
--- where the same processes live
-nobody_leaves : (before afterwards : Table) (filing : Filing) → afterwards.alive ≡ before.alive → left_behind before afterwards filing ≡ filing
-unfolding left_behind
-nobody_leaves before afterwards filing same =
-    none_leaves (is_gone before afterwards) (range_with_len 0 32) filing
-    (λ p. ap (λ alive. lives before p && not (slice_index_or alive p false)) same ∙ stays_there (lives before p))
+nowhere : (n p : ℕ) → slice_index_or (replicate n false) p false ≡ false
+nowhere zero p = refl
+nowhere (suc n) zero = refl
+nowhere (suc n) (suc p) = nowhere n p
 
-by_caller : System → Filing → Option ℕ → Stepped
-by_caller system filing caller =
-    let outcome = filed_by caller filing system in
-    let change = step_by caller (told_by outcome) system in
-    record { change = change; filing = left_behind system.kernel.dispatcher.procs change.system.kernel.dispatcher.procs outcome.filing }
+pub nobody_leaves : (owed : List Bool) (filing : Filing) → owed ≡ nobody_owes → all_left owed filing ≡ filing
+unfolding all_left
+nobody_leaves owed filing none =
+    ap (λ (slots : List Bool). left_each (owes slots) (range_with_len 0 32) filing) none
+    ∙ none_leaves (owes nobody_owes) (range_with_len 0 32) filing (nowhere 32)
 
-by_change : System → Filing → Change → Stepped
-by_change system filing change =
-    record { change = change; filing = left_behind system.kernel.dispatcher.procs change.system.kernel.dispatcher.procs filing }
+-- or where a call is in service
+pub given_nothing : (owed : List Bool) (served : Option Served) (files : Files) → AreWithin served files → (served ≡ None → owed ≡ nobody_owes) → given_back owed files ≡ files
+given_nothing owed None (Between filing) within nobody = ap Between (nobody_leaves owed filing (nobody refl))
+given_nothing owed None (Within s) within nobody = absurd within
+given_nothing owed (Some call) (Between filing) within nobody = absurd within
+given_nothing owed (Some call) (Within s) within nobody = refl
 
-pub plain_step : (system later : System) (filing : Filing) → file_caller system ≡ None → step_of system ≡ silent later
-    → later.kernel.dispatcher.procs.alive ≡ system.kernel.dispatcher.procs.alive → stepped system filing ≡ record { change = silent later; filing = filing }
-unfolding stepped step_with filed by_caller by_change
-plain_step system later filing none is same =
-    ap (by_caller system filing) none
-    ∙ ap (by_change system filing) is
-    ∙ ap (λ (f : Filing). record { change = silent later; filing = f }) (nobody_leaves system.kernel.dispatcher.procs later.kernel.dispatcher.procs filing same)
+-- a step so is the state's next
+pub plain_next : (s : State) (later : System) → ((telling : Telling) → step_with telling s.system ≡ silent later)
+    → files_rest (before_disk s.system s.files).system (files_begun s.system s.files) ≡ s.files → next s ≡ record s { system = later }
+unfolding next stepped
+plain_next s later is still =
+    ap (λ (change : Change). let t : State = record {
+      system = change.system;
+      outputs = change.emitted ++ s.outputs;
+      files = files_rest (before_disk s.system s.files).system (files_begun s.system s.files);
+    } in t) (is (telling_of s.system s.files))
+    ∙ ap (λ (files : Files). let t : State = record { system = later; outputs = s.outputs; files = files } in t) still
 
--- so one that is silent is the state's next
-pub plain_next : (s : State) (later : System) → file_caller s.system ≡ None → step_of s.system ≡ silent later
-    → later.kernel.dispatcher.procs.alive ≡ s.system.kernel.dispatcher.procs.alive → next s ≡ record s { system = later }
-unfolding next
-plain_next s later none is same =
-    ap (λ (step : Stepped). record { system = step.change.system; outputs = step.change.emitted ++ s.outputs; filing = step.filing })
-    (plain_step s.system later s.filing none is same)
+-- files in it
+
+over_still : (turn : Turn) (files : Files) → is_still turn ≡ true → files_over turn files ≡ files
+over_still Idle files still = refl
+over_still Passing files still = refl
+over_still (Work p last) files still = absurd (false≢true still)
+over_still (Starts p) files still = absurd (false≢true still)
+
+served_by_still : (whom : Option ℕ) (system : System) (files : Files) → is_still (turn_answer system.kernel.disk) ≡ true → files_served_by whom system files ≡ files
+served_by_still None system files still = refl
+served_by_still (Some p) system files still = over_still (turn_answer system.kernel.disk) files still
+
+files_served_still : (system : System) (files : Files) → is_still (turn_answer system.kernel.disk) ≡ true → files_served system files ≡ files
+unfolding files_served
+files_served_still system files still = served_by_still (served_process system.kernel.disk) system files still
+
+entered_by_still : (turn : Turn) (system : System) (files : Files) → is_still turn ≡ true → files_entered_by turn system files ≡ files
+entered_by_still Idle system files still = refl
+entered_by_still Passing system files still = refl
+entered_by_still (Work p last) system files still = absurd (false≢true still)
+entered_by_still (Starts p) system files still = absurd (false≢true still)
+
+enters_by_whom : (whom : Option ℕ) (told : Directly) (system : System) (files : Files) → NoCompletions system → served_process system.kernel.disk ≡ whom
+    → is_still (turn_answer system.kernel.disk) ≡ true → files_entered (paid_after told system) files ≡ files
+unfolding files_entered
+enters_by_whom None told system files none is still =
+    ap (λ (c : System). files_entered_unless (served_process c.kernel.disk) c files) (ap (λ (c : Change). all_paid c.system) (served_nobody told system is) ∙ paid_already system none)
+    ∙ ap (λ whom. files_entered_unless whom system files) is
+    ∙ entered_by_still (turn_answer system.kernel.disk) system files still
+enters_by_whom (Some p) told system files none is still =
+    ap (λ (c : System). files_entered_unless (served_process c.kernel.disk) c files) (ap (λ (c : Change). all_paid c.system) (served_still told p system is still) ∙ paid_passed system none still)
+    ∙ ap (λ whom. files_entered_unless whom (step_passed system) files) (still_serves system.kernel.disk p still is)
+
+owed_by_whom : (whom : Option ℕ) (told : Directly) (system : System) → served_process system.kernel.disk ≡ whom → is_still (turn_answer system.kernel.disk) ≡ true
+    → (disk_served told system).system.owed ≡ system.owed
+owed_by_whom None told system is still = ap (λ (c : Change). c.system.owed) (served_nobody told system is)
+owed_by_whom (Some p) told system is still = ap (λ (c : Change). c.system.owed) (served_still told p system is still)
+
+paid_still : (system : System) (files : Files) → NoCompletions system → is_still (turn_answer system.kernel.disk) ≡ true → AreWithin system.kernel.disk.served files
+    → files_paid system files ≡ files
+unfolding files_paid
+paid_still system files none still within =
+    ap (given_back (disk_served (told_within files system) system).system.owed) (files_served_still system files still)
+    ∙ ap (λ owed. given_back owed files) (owed_by_whom (served_process system.kernel.disk) (told_within files system) system refl still)
+    ∙ given_nothing system.owed system.kernel.disk.served files within none.paid
+
+pub rest_leaves : (system : System) (files : Files) → NoCompletions system → NobodyAborted system.kernel → system.abort_deferred ≡ false
+    → is_still (turn_answer system.kernel.disk) ≡ true → AreWithin system.kernel.disk.served files → files_rest system files ≡ files
+unfolding files_rest files_then
+rest_leaves system files none nobody off still within =
+    ap (λ owed. given_back owed (files_entered (paid_after (told_within files system) system) (files_paid system files)))
+    (ap (λ (c : System). c.owed) (ended_still (telling_then nothing_told system files) system none nobody off still))
+    ∙ ap (λ f. given_back system.owed (files_entered (paid_after (told_within files system) system) f)) (paid_still system files none still within)
+    ∙ ap (given_back system.owed) (enters_by_whom (served_process system.kernel.disk) (told_within files system) system files none refl still)
+    ∙ given_nothing system.owed system.kernel.disk.served files within none.paid
+
+pub files_still : (s : State) (later : System) → file_caller s.system ≡ None → coming (counted s.system) ≡ None → acted (counted s.system) ≡ silent later
+    → NoCompletions later → NobodyAborted later.kernel → later.abort_deferred ≡ false → is_still (turn_answer later.kernel.disk) ≡ true
+    → AreWithin later.kernel.disk.served s.files → files_rest (before_disk s.system s.files).system (files_begun s.system s.files) ≡ s.files
+unfolding before_disk files_begun
+files_still s later alone quiet acts none nobody off still within =
+    ap (λ (c : Change). files_rest c.system (files_begun_by (file_caller s.system) s.system s.files)) (begun_quiet (told_first s.system s.files) s.system later alone quiet acts none.answered)
+    ∙ ap (λ caller. files_rest later (files_begun_by caller s.system s.files)) alone
+    ∙ rest_leaves later s.files none nobody off still within

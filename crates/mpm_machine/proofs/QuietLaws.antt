@@ -1,5 +1,10 @@
 -- A step in which no event comes, and in which nobody's held call is completed.
-use Rattle.std.proofs.Common.{◌≡◌, ◌∙◌, ℕ, Bool, true, false, [], Option, None, if◌then◌else◌, refl, ap}
+use Rattle.std.proofs.Common.{◌≡◌, ◌∙◌, ℕ, Bool, true, false, [], Option, Some, None, if◌then◌else◌, refl, ap}
+use Rattle.std.proofs.lemmas.Bool.{false≢true}
+use Rattle.mpm_service.specs.Disk.{served_process, turn_answer}
+use Rattle.mpm_service.specs.declared.service.Turn.{Turn}
+use Rattle.mpm_service.specs.declared.service.Turn.TheVariants.{Idle, Passing, Work, Starts}
+use Rattle.mpm_bdos.specs.Direct.{Directly}
 use Rattle.mpm_ready.specs.Order.{first_of}
 use Rattle.mpm_ready.specs.Tables.{list_at}
 use Rattle.mpm_dispatcher.proofs.ReadyLaws.{same_runner}
@@ -8,11 +13,14 @@ use Rattle.mpm_dispatcher.specs.Dispatch.{ready, picked, first_completed}
 use Rattle.mpm_kernel.specs.Kernel.{Kernel, dispatched as with_dispatcher}
 use Rattle.mpm_interrupts.specs.Interrupts.{due}
 use Rattle.mpm_machine.specs.declared.system.System.{System}
-use Rattle.mpm_machine.specs.State.{silent, NoCompletions, NobodyAborted}
-use Rattle.mpm_machine.specs.Due.{with_ends, settled}
-use Rattle.mpm_machine.specs.Step.{acted, at_instruction, lets_in, coming, begun_by, instruction_unless, records_out, with_settled, counted, dispatched, step_of}
+use Rattle.mpm_machine.specs.State.{silent}
+use Rattle.mpm_machine.specs.Step.{acted, at_instruction, lets_in, coming, begun_by, instruction_unless, then_also, counted}
+use Rattle.mpm_machine.specs.Finishing.{all_answered}
+use Rattle.mpm_machine.specs.FileCalls.{file_caller}
+use Rattle.mpm_machine.specs.DiskStep.{step_passed, over_after, served_by, disk_served, entered_by, entered_unless, call_entered}
+use Rattle.mpm_machine.specs.Moving.{is_still}
+use Rattle.mpm_machine.specs.Stepping.{Telling, begun_with, begun_as, is_instruction, rest_of, step_with}
 use Rattle.mpm_machine.proofs.FinishLaws.{answered_nobody}
-use Rattle.mpm_machine.proofs.DueLaws.{no_ends_out}
 
 -- no interrupt comes where none is due
 
@@ -24,28 +32,60 @@ pub none_comes : (system : System) → due system.steps system.interrupts ≡ No
 unfolding coming
 none_comes system none = comes_not (lets_in system.kernel.dispatcher.running system.kernel) (due system.steps system.interrupts) none
 
--- nothing is to be finished where nobody was completed
-settled_silent : (system : System) → system.kernel.dispatcher.completed ≡ [] → with_settled (silent system) ≡ records_out (with_ends system)
-unfolding with_settled settled
-settled_silent system e = ap (λ (answered : System). records_out (with_ends answered)) (answered_nobody system (ap first_completed e))
-
--- where no event comes, and what the running process does says nothing and completes nobody, the step is that, and the ends
--- that are due
-pub step_quiet : (system afterwards : System) → coming (counted system) ≡ None → acted (counted system) ≡ silent afterwards → afterwards.kernel.dispatcher.completed ≡ []
-    → step_of system ≡ dispatched (at_instruction (counted system)) (records_out (with_ends afterwards))
-unfolding step_of
-step_quiet system afterwards quiet acts no_completions =
+-- where no event comes and no file call is made, and what the running process does says nothing and completes nobody, the step is that,
+-- and the rest of it
+pub step_quiet : (telling : Telling) (system afterwards : System) → file_caller system ≡ None → coming (counted system) ≡ None → acted (counted system) ≡ silent afterwards
+    → afterwards.kernel.dispatcher.completed ≡ [] → step_with telling system ≡ rest_of (at_instruction (counted system)) telling (silent afterwards)
+unfolding step_with begun_as
+step_quiet telling system afterwards none quiet acts no_completions =
     let begun = counted system in
-    ap (λ event. dispatched (instruction_unless event begun) (with_settled (begun_by event begun))) quiet
-    ∙ ap (λ change. dispatched (at_instruction begun) (with_settled change)) acts
-    ∙ ap (dispatched (at_instruction begun)) (settled_silent afterwards no_completions)
+    ap (λ caller. rest_of (is_instruction caller system) telling (then_also (begun_with caller telling.at_gate system) all_answered)) none
+    ∙ ap (λ event. rest_of (instruction_unless event begun) telling (then_also (begun_by event begun) all_answered)) quiet
+    ∙ ap (λ change. rest_of (at_instruction begun) telling (then_also change all_answered)) acts
+    ∙ ap (λ answered. rest_of (at_instruction begun) telling (silent answered)) (answered_nobody afterwards (ap first_completed no_completions))
 
--- where besides nobody is aborted, and no record is left, the step is that alone
-pub step_still : (system afterwards : System) → coming (counted system) ≡ None → acted (counted system) ≡ silent afterwards → NoCompletions afterwards
-    → NobodyAborted afterwards.kernel → afterwards.abort_deferred ≡ false → step_of system ≡ dispatched (at_instruction (counted system)) (silent afterwards)
-step_still system afterwards quiet acts no_completions none off =
-    step_quiet system afterwards quiet acts no_completions.answered
-    ∙ ap (dispatched (at_instruction (counted system))) (no_ends_out afterwards none off no_completions.written)
+pub begun_quiet : (told : Directly) (system afterwards : System) → file_caller system ≡ None → coming (counted system) ≡ None → acted (counted system) ≡ silent afterwards
+    → afterwards.kernel.dispatcher.completed ≡ [] → begun_as told system ≡ silent afterwards
+unfolding begun_as
+begun_quiet told system afterwards none quiet acts no_completions =
+    let begun = counted system in
+    ap (λ caller. then_also (begun_with caller told system) all_answered) none
+    ∙ ap (λ event. then_also (begun_by event begun) all_answered) quiet
+    ∙ ap (λ change. then_also change all_answered) acts
+    ∙ ap silent (answered_nobody afterwards (ap first_completed no_completions))
+
+-- the disk's step where it has nothing to do but to pass one of a turn, or no call
+passes_with : (turn : Turn) (told : Directly) (system : System) → is_still turn ≡ true → over_after turn told system ≡ silent system
+passes_with Idle told system still = refl
+passes_with Passing told system still = refl
+passes_with (Work p last) told system still = absurd (false≢true still)
+passes_with (Starts p) told system still = absurd (false≢true still)
+
+enters_nobody : (turn : Turn) (turns : ℕ) (system : System) → is_still turn ≡ true → entered_by turn turns system ≡ system
+enters_nobody Idle turns system still = refl
+enters_nobody Passing turns system still = refl
+enters_nobody (Work p last) turns system still = absurd (false≢true still)
+enters_nobody (Starts p) turns system still = absurd (false≢true still)
+
+pub served_still : (told : Directly) (p : ℕ) (system : System) → served_process system.kernel.disk ≡ Some p → is_still (turn_answer system.kernel.disk) ≡ true
+    → disk_served told system ≡ silent (step_passed system)
+unfolding disk_served
+served_still told p system serves still =
+    ap (λ served. served_by served told system) serves ∙ passes_with (turn_answer system.kernel.disk) told (step_passed system) still
+
+pub served_nobody : (told : Directly) (system : System) → served_process system.kernel.disk ≡ None → disk_served told system ≡ silent system
+unfolding disk_served
+served_nobody told system none = ap (λ served. served_by served told system) none
+
+pub entered_nobody : (turns : ℕ) (system : System) → served_process system.kernel.disk ≡ None → is_still (turn_answer system.kernel.disk) ≡ true
+    → call_entered turns system ≡ step_passed system
+unfolding call_entered
+entered_nobody turns system none still =
+    ap (λ served. entered_unless served turns system) none ∙ enters_nobody (turn_answer system.kernel.disk) turns (step_passed system) still
+
+pub entered_served : (turns p : ℕ) (system : System) → served_process system.kernel.disk ≡ Some p → call_entered turns system ≡ system
+unfolding call_entered
+entered_served turns p system serves = ap (λ served. entered_unless served turns system) serves
 
 -- who runs and is the first of the ready list is picked again, or nobody where there is none
 pub picked_same : (instruction : Bool) (kernel : Kernel) → first_of (list_at kernel.dispatcher.lists ready) ≡ kernel.dispatcher.running → with_dispatcher (picked instruction) kernel ≡ kernel

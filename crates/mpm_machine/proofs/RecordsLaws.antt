@@ -29,6 +29,14 @@ recorded_after (call ∷ calls) outputs =
     ∙ sym (append_assoc (recorded_behind calls []) (Completed call ∷ []) outputs)
     ∙ ap (λ (first : List Output). first ++ outputs) (sym (recorded_after calls (Completed call ∷ [])))
 
+pub recorded_twice : (calls : List Completion) (said before : List Output)
+    → recorded_behind calls (said ++ before) ≡ recorded_behind calls (said ++ []) ++ before
+recorded_twice calls said before =
+    recorded_after calls (said ++ before)
+    ∙ sym (append_assoc (recorded_behind calls []) said before)
+    ∙ ap (λ (first : List Output). first ++ before)
+    (ap (λ (last : List Output). recorded_behind calls [] ++ last) (sym (append-nil said)) ∙ sym (recorded_after calls (said ++ [])))
+
 recorded_both : (one two : List Completion) (outputs : List Output) → recorded_behind (one ++ two) outputs ≡ recorded_behind two (recorded_behind one outputs)
 unfolding recorded_behind
 recorded_both [] two outputs = refl

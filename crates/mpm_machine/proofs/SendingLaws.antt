@@ -54,7 +54,7 @@ whole_passed p system w =
     gave_whole system console p 0 w (grind (arith, nat_tests, parts.0)) parts.1)
     (λ _. w)
 
-procs_passed : (p : ℕ) (kernel : Kernel) → (passed p kernel).dispatcher.procs ≡ kernel.dispatcher.procs
+pub procs_passed : (p : ℕ) (kernel : Kernel) → (passed p kernel).dispatcher.procs ≡ kernel.dispatcher.procs
 procs_passed p kernel =
     either (λ (k : Kernel). k.dispatcher.procs ≡ kernel.dispatcher.procs) (may_pass p kernel) _ kernel
     (λ _. procs_gave (console_sent p kernel) (Some p) (Some 0) kernel) (λ _. refl)
@@ -72,7 +72,7 @@ whole_after Held reply p system w = w
 whole_after Retry reply p system w = w
 whole_after Ended reply p system w = w
 
-procs_after : (outcome : Outcome) (reply : Answer) (p : ℕ) (kernel : Kernel) → (passed_after outcome reply p kernel).dispatcher.procs ≡ kernel.dispatcher.procs
+pub procs_after : (outcome : Outcome) (reply : Answer) (p : ℕ) (kernel : Kernel) → (passed_after outcome reply p kernel).dispatcher.procs ≡ kernel.dispatcher.procs
 procs_after Done reply p kernel =
     either (λ (k : Kernel). k.dispatcher.procs ≡ kernel.dispatcher.procs) (reply.hl == 0) _ kernel (λ _. procs_passed p kernel) (λ _. refl)
 procs_after Held reply p kernel = refl

@@ -29,7 +29,10 @@ use Rattle.mpm_residents.specs.Natives.{native_in, interprets_if_there}
 use Rattle.mpm_residents.specs.declared.native.Native.{Native}
 use Rattle.mpm_processor.specs.declared.gate.Gate.{Gate}
 use Rattle.mpm_machine.specs.State.{Change}
-use Rattle.mpm_machine.specs.Step.{acted_at, acted_by, acted, running_segment, is_no_gate, instruction_by, at_instruction, begun_by, instruction_unless, with_settled, counted, dispatched, step_of}
+use Rattle.mpm_machine.specs.Step.{acted_at, acted_by, acted, running_segment, is_no_gate, instruction_by, at_instruction, begun_by, instruction_unless, then_also, counted}
+use Rattle.mpm_machine.specs.FileCalls.{file_caller}
+use Rattle.mpm_machine.specs.Finishing.{all_answered}
+use Rattle.mpm_machine.specs.Stepping.{Telling, begun_with, begun_as, is_instruction, rest_of, step_with}
 use Rattle.mpm_machine.specs.Contained.{DiffersInBytes, ServedAlike, Calls, ServedByValue}
 use Rattle.mpm_machine.proofs.HomeLaws.{freed_place}
 
@@ -216,16 +219,16 @@ unfolding memory_without
 without_alike one other kernel p same = vacated_alike _ _ _ _ (all_released_alike one other p same)
 
 aborted_alike : (one other : Memory) (kernel : Kernel) (p : ℕ) → SameSegments one other
-    → SameSegments (memory_after_abort one kernel p false) (memory_after_abort other kernel p false)
+    → SameSegments (memory_after_abort one kernel p) (memory_after_abort other kernel p)
 unfolding memory_after_abort
-aborted_alike one other kernel p same = same_if (is_resident kernel.dispatcher.procs p || waits_to_end kernel p false) _ _ _ _ same (without_alike one other kernel p same)
+aborted_alike one other kernel p same = same_if (is_resident kernel.dispatcher.procs p || waits_to_end kernel p) _ _ _ _ same (without_alike one other kernel p same)
 
 aborting_with : (named : Option ℕ) (p : ℕ) (one other : System) → SameSegments one.memory other.memory
     → ServedAlike (aborting_this named p one) (aborting_this named p (record other { kernel = one.kernel }))
 unfolding aborted
 aborting_with None p one other same = record { kernel = refl; segments = same; outcome = refl; reply = refl }
 aborting_with (Some q) p one other same =
-    alike_if (q == p && not (waits_to_end one.kernel p false)) _ _ _ _ (record { kernel = refl; segments = same; outcome = refl; reply = refl })
+    alike_if (q == p && not (waits_to_end one.kernel p)) _ _ _ _ (record { kernel = refl; segments = same; outcome = refl; reply = refl })
     (record { kernel = refl; segments = aborted_alike one.memory other.memory one.kernel q same; outcome = refl; reply = refl })
 
 aborting_alike : (p : ℕ) (one other : System) → DiffersInBytes one other → ServedAlike (aborting p one) (aborting p other)
@@ -333,23 +336,25 @@ no_instruction system p seg i =
     ∙ ap (λ home. instruction_by (Some p) home begun) i.home
     ∙ ap is_no_gate i.gate
 
-step_calls : (system : System) (p seg : ℕ) → Calls system p seg
-    → step_of system ≡ dispatched false (with_settled (gate_step p seg (counted system)))
-unfolding step_of
-step_calls system p seg i =
+step_calls : (telling : Telling) (system : System) (p seg : ℕ) → file_caller system ≡ None → Calls system p seg
+    → step_with telling system ≡ rest_of false telling (then_also (gate_step p seg (counted system)) all_answered)
+unfolding step_with begun_as
+step_calls telling system p seg none i =
     let begun = counted system in
-    ap (λ event. dispatched (instruction_unless event begun) (with_settled (begun_by event begun))) i.quiet
-    ∙ ap (λ b. dispatched b (with_settled (acted begun))) (no_instruction system p seg i)
-    ∙ ap (λ change. dispatched false (with_settled change)) (calls_at_gate system p seg i)
+    ap (λ caller. rest_of (is_instruction caller system) telling (then_also (begun_with caller telling.at_gate system) all_answered)) none
+    ∙ ap (λ event. rest_of (instruction_unless event begun) telling (then_also (begun_by event begun) all_answered)) i.quiet
+    ∙ ap (λ b. rest_of b telling (then_also (acted begun) all_answered)) (no_instruction system p seg i)
+    ∙ ap (λ change. rest_of false telling (then_also change all_answered)) (calls_at_gate system p seg i)
 
-pub served_by_value : (old new : System) (p seg : ℕ) → Calls old p seg → new ≡ (step_of old).system → ServedByValue p seg old new
+pub served_by_value : (telling : Telling) (old : System) (p seg : ℕ) → file_caller old ≡ None → Calls old p seg
+    → ServedByValue telling p seg old (step_with telling old).system
 unfolding gate_step
-served_by_value old new p seg i is =
+served_by_value telling old p seg none i =
     let begun = counted old in
     let call = asked p seg begun in
     let kept = keeping p call begun in
     record {
       done = served call p kept;
       by_value = λ other d. serves_alike call p kept other d;
-      is = is ∙ ap (λ (change : Change). change.system) (step_calls old p seg i);
+      is = ap (λ (change : Change). change.system) (step_calls telling old p seg none i);
     }

@@ -1,8 +1,8 @@
 -- The residents of a machine as it is run stand in their slots.
-use Rattle.std.proofs.Common.{◌≡◌, ◌≢◌, ◌∙◌, ℕ, zero, suc, ◌+◌, ◌*◌, ◌<◌, ◌≤◌, Bool, true, false, not, List, [], ◌∷◌, ◌++◌, length, Option, Some, None, if◌then◌else◌, inl, inr, codes, refl, sym, ap, subst, arith, add-one, All, get_or, get_or-set_same}
+use Rattle.std.proofs.Common.{◌≡◌, ◌≢◌, ◌∙◌, ℕ, zero, suc, ◌+◌, ◌<◌, ◌≤◌, Bool, true, false, not, List, [], ◌∷◌, ◌++◌, length, Option, Some, None, if◌then◌else◌, inl, inr, codes, refl, sym, ap, subst, arith, add-one, get_or-set_same}
 use Rattle.std.specs.Prelude.{slice_get, nat_lt}
 use Rattle.std.proofs.lemmas.Bool.{cases_lt, false≢true}
-use Rattle.std.proofs.lemmas.List.{length-map, length-replicate, get_or-map}
+use Rattle.std.proofs.lemmas.List.{length-map}
 use Rattle.std.proofs.lemmas.Bool.Decides.{nat_tests}
 use Rattle.std.proofs.lemmas.List.Sums.{position_or_len_is}
 use Rattle.mpm_ready.specs.Tables.{no_lists}
@@ -14,6 +14,7 @@ use Rattle.mpm_procs.specs.declared.process.NewProcess.{NewProcess}
 use Rattle.mpm_procs.specs.Opening.{opening as opening_process}
 use Rattle.mpm_procs.proofs.MapLaws.{call_after, call_added_other, slots_none, nobody_lives, lives_changed, lives_added, lives_added_other, process_changed, process_kept, process_added, process_added_other, slots_added}
 use Rattle.mpm_dispatcher.specs.Dispatch.{ready, picked, new_dispatcher}
+use Rattle.mpm_kernel.specs.Disk.{in_turns}
 use Rattle.mpm_kernel.specs.Kernel.{new_kernel, dispatched}
 use Rattle.mpm_kernel.specs.Queueing.{with_queue, with_system_queue}
 use Rattle.mpm_kernel.proofs.SoundLaws.{free_is_unlisted}
@@ -24,16 +25,19 @@ use Rattle.mpm_cli.specs.Interpreters.{opening as opening_interpreter}
 use Rattle.mpm_script.specs.declared.event.Timed.{Timed}
 use Rattle.mpm_machine_file.specs.declared.machine_file.MachineFile.{MachineFile}
 use Rattle.mpm_machine.specs.declared.system.System.{System}
-use Rattle.mpm_machine.specs.State.{IsWhole}
+use Rattle.mpm_kernel.specs.Awaiting.{completions}
+use Rattle.mpm_machine.specs.State.{IsWhole, NoCompletions}
 use Rattle.mpm_machine.specs.Opening.{resident_process, with_interpreter, terminal_name, with_terminal, with_terminals, with_command_queue, begun_by_interpreter, with_interpreting, with_residents, moment_of, booted, opened}
-use Rattle.mpm_banks.specs.Memory.{HasSegment, IsMemory, IsSegment as IsBanked}
+use Rattle.mpm_banks.specs.Memory.{Memory, HasSegment}
 use Rattle.mpm_banks.specs.Allocations.{new_segment, new_memory}
-use Rattle.mpm_base.specs.Lists.{zeros}
 use Rattle.mpm_base.specs.declared.segment.SegmentSpec.{SegmentSpec}
-use Rattle.mpm_machine_file.specs.MachineFiles.{IsMachine, IsSegment as FitsHome}
+use Rattle.mpm_machine_file.specs.MachineFiles.{IsMachine}
 use Rattle.mpm_residents.specs.Natives.{native_in, interprets_if_there}
 use Rattle.mpm_cli.proofs.StandingLaws.{stands_opening}
 use Rattle.mpm_processor.specs.Gates.{IsHome}
+use Rattle.mpm_service.specs.Disk.{DiskService, no_service}
+use Rattle.mpm_service.specs.Places.{at_disk}
+use Rattle.mpm_service.proofs.PlaceLaws.{at_none}
 use Rattle.mpm_machine.specs.Interpreting.{sets_or_chains, Interprets}
 use Rattle.mpm_machine.proofs.PlacedLaws.{home_bare}
 use Rattle.mpm_machine.specs.Slots.{HasInterpreter, HasTerminal, HasResidents}
@@ -190,7 +194,7 @@ record LodgesWhole (consoles n : ℕ) (start system : System) : Type 0 where
 
 all_lodge : (consoles n : ℕ) (start : System) → IsWhole start → n ≤ length start.kernel.units.consoles → Lodges consoles 0 start → LodgesWhole consoles n start (with_terminals n start)
 unfolding with_terminals
-all_lodge consoles zero start w few has = record { begun = record { whole = w; completed = refl; consoles = refl; steps = refl; records = refl }; lodges = has }
+all_lodge consoles zero start w few has = record { begun = record { whole = w; completed = refl; consoles = refl; disk = refl; steps = refl; records = refl; owed = refl }; lodges = has }
 all_lodge consoles (suc n) start w few has =
     let others = all_lodge consoles n start w (omega (arith, few)) has in
     let system = with_terminals n start in
@@ -201,8 +205,10 @@ all_lodge consoles (suc n) start w few has =
         whole = more.whole;
         completed = more.completed ∙ others.begun.completed;
         consoles = more.consoles ∙ others.begun.consoles;
+        disk = more.disk ∙ others.begun.disk;
         steps = more.steps ∙ others.begun.steps;
         records = more.records ∙ others.begun.records;
+        owed = more.owed ∙ others.begun.owed;
       };
       lodges = subst (λ k. Lodges consoles k (with_terminal (lowest_free system.kernel.dispatcher.procs) n system)) (add-one n)
           (lodges_more consoles n system whole (omega (arith, few, whole.sound.units.consoles, others.begun.consoles)) others.lodges);
@@ -212,7 +218,7 @@ all_lodge consoles (suc n) start w few has =
 
 placed : (file : MachineFile) (events : List Timed)
     → Lodges file.consoles 0 (record (booted file events) {
-      kernel = with_interpreter (Some 0) (with_command_queue (new_kernel file.consoles file.printers (moment_of file)));
+      kernel = with_interpreter (Some 0) (with_command_queue (in_turns file.disk_turn (new_kernel file.consoles file.printers (moment_of file))));
       residents = Cli (opening_interpreter file.consoles) ∷ [];
     })
 unfolding booted new_kernel new_dispatcher with_system_queue with_queue with_interpreter resident_process
@@ -239,7 +245,7 @@ interpreter_first : (file : MachineFile) (events : List Timed) → Lodges file.c
 unfolding begun_by_interpreter booted new_kernel new_dispatcher with_system_queue with_queue
 interpreter_first file events =
     let free = lowest_is no_processes 0 (omega (arith, slots_none.alive)) (λ k less. absurd (omega (arith, less))) (nobody_lives 0) in
-    let kernel = with_command_queue (new_kernel file.consoles file.printers (moment_of file)) in
+    let kernel = with_command_queue (in_turns file.disk_turn (new_kernel file.consoles file.printers (moment_of file))) in
     let P : Option ℕ → Type 0 = λ o. Lodges file.consoles 0 (record (booted file events) { kernel = with_interpreter o kernel; residents = Cli (opening_interpreter file.consoles) ∷ [] }) in
     subst P (sym free) (placed file events)
 
@@ -318,32 +324,18 @@ in_slot_zero consoles system has (suc k) acts = elim (cases_lt k consoles) [
     behind (x ∷ xs) zero less = absurd (omega (arith, less))
     behind (x ∷ xs) (suc i) less = behind xs i (omega (arith, less))
 
-zeros_size : (n : ℕ) → length (zeros n) ≡ n
-unfolding zeros
-zeros_size n = length-replicate n 0
-
-is_memory : (segments : List SegmentSpec) → All FitsHome segments → 1 ≤ length segments → length segments ≤ 16 → IsMemory (new_memory segments)
+few_segments : (segments : List SegmentSpec) → length segments ≤ 16 → length (new_memory segments).segments ≤ 16
 unfolding new_memory
-is_memory segments fit some few = record {
-  segments = λ k other less.
-      let none : SegmentSpec = record { base = 0; pages = 0 } in
-      let below : k < length segments = omega (arith, less, length-map segments new_segment) in
-      let spec = get_or segments k none in
-      let fits : FitsHome spec = fit k none below in
-      subst (λ s. IsBanked s) (sym (get_or-map new_segment segments k none other below))
-      (record { some = omega (arith, fits.pages); below = fits.end; size = zeros_size (256 * spec.pages) });
-  some = omega (arith, some, length-map segments new_segment);
-  count = omega (arith, few, length-map segments new_segment);
-  common = zeros_size 16384;
-}
+few_segments segments few = omega (arith, few, length-map segments new_segment)
 
 segment_given : (segments : List SegmentSpec) (seg : ℕ) → HasSegment (new_memory segments) seg → seg < length segments
 unfolding new_memory
 segment_given segments seg there = omega (arith, there, length-map segments new_segment)
 
-interprets_at : (file : MachineFile) (system : System) → IsMachine file → Opens file system → Interprets system
+interprets_at : (file : MachineFile) (system : System) (turn_steps : ℕ) → IsMachine file → Opens file system → IsWhole system → NoCompletions system
+    → system.kernel.disk ≡ no_service turn_steps → Interprets system
 unfolding opening_interpreter
-interprets_at file system machine opens =
+interprets_at file system turn_steps machine opens w none idle =
     let slot = opens.residents.interpreter in
     record {
       acting = record {
@@ -358,14 +350,18 @@ interprets_at file system machine opens =
         stands = stands_opening file.consoles (omega (arith, machine.some_console));
         consoles = opens.consoles;
       };
-      memory = subst IsMemory (sym opens.memory) (is_memory file.segments machine.each_segment machine.some_segment machine.segments);
+      few = subst (λ (memory : Memory). length memory.segments ≤ 16) (sym opens.memory) (few_segments file.segments machine.segments);
       homes = λ seg there.
           let bare = subst (λ m. HasSegment m seg) opens.memory there in
           subst (λ m. IsHome m seg) (sym opens.memory) (home_bare file.segments seg machine.each_segment (segment_given file.segments seg bare));
       has = λ loading. absurd (false≢true loading);
+      filed = λ some. absurd (omega (arith, some, ap (λ (disk : DiskService). at_disk disk 0) idle, at_none turn_steps 0));
+      awaits = record { table = w.sound.table; few = omega (arith, ap (completions 0) none.answered); at_once = λ _. slot.ready };
     }
 
-pub interprets_opened : (file : MachineFile) (events : List Timed) (bare afterwards : System) → IsMachine file → bare ≡ booted file events → IsWhole bare
-    → afterwards ≡ opened file events → Interprets afterwards
-interprets_opened file events bare afterwards machine is w was =
-    subst Interprets (sym was) (interprets_at file (opened file events) machine (opened_lodges file events (subst IsWhole is w)))
+pub interprets_opened : (file : MachineFile) (events : List Timed) (bare afterwards : System) (turn_steps : ℕ) → IsMachine file → bare ≡ booted file events → IsWhole bare
+    → afterwards ≡ opened file events → IsWhole afterwards → NoCompletions afterwards → afterwards.kernel.disk ≡ no_service turn_steps → Interprets afterwards
+interprets_opened file events bare afterwards turn_steps machine is w was whole none idle =
+    subst Interprets (sym was)
+    (interprets_at file (opened file events) turn_steps machine (opened_lodges file events (subst IsWhole is w)) (subst IsWhole was whole) (subst NoCompletions was none)
+    (ap (λ (s : System). s.kernel.disk) (sym was) ∙ idle))

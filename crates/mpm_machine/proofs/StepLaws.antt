@@ -1,50 +1,28 @@
--- Laws of a step.
-use Rattle.std.proofs.Common.{◌≡◌, ◌∙◌, ◌+◌, false, [], ◌++◌, Option, Some, None, Result, is_some, sym, subst}
+-- What a step begins with in which no file call is made.
+use Rattle.std.proofs.Common.{◌≡◌, ◌∙◌, ℕ, ◌+◌, ◌≤◌, Bool, true, false, List, [], Option, Some, None, Result, Ok, Err, is_some, length, refl, sym, ap, subst, arith}
 use Rattle.std.proofs.lemmas.List.{append-nil}
 use Rattle.mpm_script.specs.declared.event.Event.{Event}
 use Rattle.mpm_machine.specs.declared.system.System.{System}
-use Rattle.mpm_output.specs.Outside.{Outside, Device}
-use Rattle.mpm_output.specs.Writing.{Wrote, Fails, Emits}
-use Rattle.mpm_output.proofs.WritingLaws.{fails_before, fails_same, emits_after, emits_same}
-use Rattle.mpm_machine.specs.State.{Change}
-use Rattle.mpm_machine.specs.Due.{settled}
-use Rattle.mpm_machine.specs.Step.{acted, coming, interrupted_by, begun_by, records_out, with_settled, counted, step_of}
-use Rattle.mpm_machine.proofs.RecordsLaws.{recorded_after}
-use Rattle.mpm_machine.proofs.TallyLaws.{begun_more, settled_steps}
-
-pub step_steps : (system : System) → (step_of system).system.steps ≡ system.steps + 1
-unfolding step_of with_settled
-step_steps system =
-    let begun = counted system in
-    settled_steps (begun_by (coming begun) begun).system ∙ (begun_more (coming begun) begun).steps
-
--- its records come out behind what it begins with
-pub with_settled_emitted : (change : Change) → (with_settled change).emitted ≡ (records_out (settled change.system)).emitted ++ change.emitted
-unfolding with_settled
-with_settled_emitted change = recorded_after (settled change.system).records change.emitted
-
--- what fails there, fails in the step; and what is said behind it comes after it
-
-pub settled_fails : (device : Device) (change : Change) (o n : Outside) → Fails device o n change.emitted → Fails device o n (with_settled change).emitted
-settled_fails device change o n failed = fails_same device o n _ _ (sym (with_settled_emitted change)) (fails_before device o n _ _ failed)
-
-pub emits_settled : {A E : Type 0} (device : E → Device) (r : Result A E) (change : Change) (begun : System) (o m n : Outside)
-    → begun ≡ change.system → Wrote o m change.emitted → Emits device m n (records_out (settled begun)).emitted r → Emits device o n (with_settled change).emitted r
-emits_settled device r change begun o m n is wrote emits =
-    let P : System → Type 0 = λ s. Emits device m n (records_out (settled s)).emitted r in
-    emits_same device o n _ _ r (sym (with_settled_emitted change)) (emits_after device o m n _ _ r wrote (subst P is emits))
-
-pub begun_fails : (device : Device) (system : System) (o n : Outside) → Fails device o n (begun_by (coming (counted system)) (counted system)).emitted
-    → Fails device o n (step_of system).emitted
-unfolding step_of
-begun_fails device system o n failed = settled_fails device (begun_by (coming (counted system)) (counted system)) o n failed
-
-pub emits_step : {A E : Type 0} (device : E → Device) (r : Result A E) (system begun : System) (o m n : Outside)
-    → begun ≡ (begun_by (coming (counted system)) (counted system)).system
-    → Wrote o m (begun_by (coming (counted system)) (counted system)).emitted → Emits device m n (records_out (settled begun)).emitted r
-    → Emits device o n (step_of system).emitted r
-unfolding step_of
-emits_step device r system begun o m n is wrote emits = emits_settled device r (begun_by (coming (counted system)) (counted system)) begun o m n is wrote emits
+use Rattle.mpm_output.specs.Outside.{Outside, Device, Faults}
+use Rattle.mpm_output.specs.Writing.{Wrote, Stopped, Emits}
+use Rattle.mpm_output.proofs.WritingLaws.{emits_after, emits_same}
+use Rattle.mpm_port.specs.Disks.{Disks}
+use Rattle.mpm_render.specs.Outputs.{Output}
+use Rattle.mpm_bdos.specs.Direct.{Directly}
+use Rattle.mpm_bdos.specs.Serving.{Kept}
+use Rattle.mpm_machine.specs.declared.machine.StepFault.{StepFault}
+use Rattle.mpm_machine.specs.declared.machine.StepFault.TheVariants.{DiskFault, WriteFault}
+use Rattle.mpm_machine.specs.State.{Change, HasRoomForAll}
+use Rattle.mpm_machine.specs.Faults.{Counts, HaveCause, itself}
+use Rattle.mpm_machine.specs.Files.{Files, StandsWorked}
+use Rattle.mpm_machine.specs.Finishing.{all_answered}
+use Rattle.mpm_machine.specs.Step.{acted, interrupted_by, begun_by, coming, counted, then_also}
+use Rattle.mpm_machine.specs.FileCalls.{file_caller}
+use Rattle.mpm_machine.specs.Stepping.{begun_alone, begun_with, begun_as, is_instruction, nothing_told, files_begun_by, files_begun, before_disk}
+use Rattle.mpm_machine.specs.After.{IsOfCall, made_in, IsToldIn, StopsBy, HasBegunStep, HasBegunTo, HasBegunToStop}
+use Rattle.mpm_machine.proofs.TallyLaws.{begun_more}
+use Rattle.mpm_machine.proofs.TurnLaws.{worked_on}
+use Rattle.mpm_machine.proofs.KeepingLaws.{ServesSame}
 
 -- where no event comes, what the running process does is what the step begins with
 pub emits_acted : {A E : Type 0} (device : E → Device) (r : Result A E) (event : Option Event) (old afterwards : System) (o m n : Outside)
@@ -54,3 +32,81 @@ emits_acted device r None old afterwards o m n none is wrote emits =
     let P : System → Type 0 = λ s. Emits device m n (acted s).emitted r in
     emits_same device o n _ _ r (append-nil (acted old).emitted) (emits_after device o m n [] (acted old).emitted r wrote (subst P is emits))
 emits_acted device r (Some event) old afterwards o m n none is wrote emits = absurd (cc)
+
+-- the definitions, where none is made
+
+begun_is : (told : Directly) (old : System) → file_caller old ≡ None → begun_as told old ≡ then_also (begun_alone old) all_answered
+unfolding begun_as
+begun_is told old is = ap (λ caller. then_also (begun_with caller told old) all_answered) is
+
+before_is : (old : System) (files : Files) → file_caller old ≡ None → before_disk old files ≡ then_also (begun_alone old) all_answered
+unfolding before_disk
+before_is old files is = begun_is _ old is
+
+files_stay : (old : System) (files : Files) → file_caller old ≡ None → files_begun old files ≡ files
+unfolding files_begun
+files_stay old files is = ap (λ caller. files_begun_by caller old files) is
+
+-- by what is on the drives
+
+pub alone_begun_to : (files : Files) (o n : Outside) (old new : System) (kept : Kept) (disks : Option Disks) → file_caller old ≡ None → ServesSame old new
+    → new ≡ all_answered (begun_alone old).system → Wrote o n (begun_alone old).emitted → StandsWorked old.kernel.disk kept disks files → HasBegunTo files o n old new kept disks
+alone_begun_to files o n old new kept disks none serves is wrote stands =
+    let so = sym (before_is old files none) in
+    record {
+      system = is ∙ ap (λ (c : Change). c.system) so;
+      wrote = subst (λ (c : Change). Wrote o n c.emitted) so wrote;
+      stands = subst (StandsWorked new.kernel.disk kept disks) (sym (files_stay old files none)) (worked_on old.kernel.disk new.kernel.disk kept disks files serves.served serves.steps stands);
+    }
+
+-- and whatever is on them
+
+of_nobody : (old : System) → file_caller old ≡ None → IsOfCall (file_caller old) nothing_told (made_in (file_caller old) old)
+of_nobody old none = subst (λ (o : Option ℕ). IsOfCall o nothing_told (made_in o old)) (sym none) tt
+
+tells_nobody : (old : System) → file_caller old ≡ None → IsToldIn (file_caller old) nothing_told (made_in (file_caller old) old)
+tells_nobody old none = subst (λ (o : Option ℕ). IsToldIn o nothing_told (made_in o old)) (sym none) tt
+
+pub alone_begun : (instruction : Bool) (o n : Outside) (old new : System) → file_caller old ≡ None → instruction ≡ is_instruction None old
+    → new ≡ all_answered (begun_alone old).system → Wrote o n (begun_alone old).emitted → HasBegunStep instruction o n old new
+alone_begun instruction o n old new none i is wrote =
+    let so = sym (begun_is nothing_told old none) in
+    record {
+      told = nothing_told;
+      of_call = of_nobody old none;
+      tells = tells_nobody old none;
+      instruction_is = i ∙ ap (λ (o : Option ℕ). is_instruction o old) (sym none);
+      system = is ∙ ap (λ (c : Change). c.system) so;
+      wrote = subst (λ (c : Change). Wrote o n c.emitted) so wrote;
+    }
+
+-- where the sink failed
+
+pub alone_stops : (o n : Outside) (old : System) → file_caller old ≡ None → Stopped o n (begun_alone old).emitted → HasBegunToStop WriteFault o n old
+alone_stops o n old none stopped = record {
+  told = nothing_told;
+  of_call = of_nobody old none;
+  tells = tells_nobody old none;
+  stops = subst (λ (c : Change). Stopped o n c.emitted) (sym (begun_is nothing_told old none)) stopped;
+}
+
+pub alone_err : (files : Files) (o n : Outside) (old : System) → file_caller old ≡ None → Stopped o n (begun_alone old).emitted → StopsBy WriteFault o n (before_disk old files).emitted
+alone_err files o n old none stopped = subst (λ (c : Change). Stopped o n c.emitted) (sym (before_is old files none)) stopped
+
+pub alone_still : (old : System) (kept : Kept) (disks : Option Disks) (files : Files) → file_caller old ≡ None → StandsWorked old.kernel.disk kept disks files
+    → StandsWorked old.kernel.disk kept disks (files_begun old files)
+alone_still old kept disks files none stands = subst (StandsWorked old.kernel.disk kept disks) (sym (files_stay old files none)) stands
+
+pub alone_done : {A : Type 0} (a : A) (o n : Outside) (emitted : List Output) (drives : ℕ) → Wrote o n emitted
+    → HaveCause itself (record { sink = o.faults.sink; drives = drives }) (record { sink = n.faults.sink; drives = drives }) (Ok a)
+alone_done a o n emitted drives wrote = record { stays = ap (λ (f : Faults). let c : Counts = record { sink = f.sink; drives = drives } in c) wrote.faults; failed = tt }
+
+pub alone_failed : {A : Type 0} (o n : Outside) (emitted : List Output) (drives : ℕ) → Stopped o n emitted
+    → HaveCause {A = A} itself (record { sink = o.faults.sink; drives = drives }) (record { sink = n.faults.sink; drives = drives }) (Err WriteFault)
+alone_failed o n emitted drives stopped = record { stays = tt; failed = (stopped.rose, refl) }
+
+-- there is room for the records of its answers
+
+pub alone_room : (old begun new : System) → old.records ≡ [] → begun ≡ (begun_alone old).system → length new.records ≤ length begun.records + 65 → HasRoomForAll (length new.records + 1)
+alone_room old begun new none is few =
+    omega (arith, few, ap (λ (s : System). length s.records) is, (begun_more (coming (counted old)) (counted old)).few, ap length none)

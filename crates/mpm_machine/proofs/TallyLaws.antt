@@ -29,8 +29,8 @@ use Rattle.mpm_residents.specs.Natives.{native_act, native_call, native_in}
 use Rattle.mpm_residents.specs.declared.native.Native.{Native}
 use Rattle.mpm_machine.specs.Residing.{native_outcome, calling_step, tells, text_told, telling_step, handing_step, native_step, resided}
 use Rattle.mpm_interrupts.specs.Interrupts.{due_taken}
-use Rattle.mpm_machine.specs.Finishing.{finished, completion_dequeued, finishing, command_let_in, finished_or_ended, answered_from, all_answered}
-use Rattle.mpm_machine.specs.Due.{is_due, ended_if_due, due_terminated, with_ends, settled}
+use Rattle.mpm_machine.specs.Finishing.{finished, completion_dequeued, finishing, all_finished, command_let_in, finished_or_ended, answered_from, all_answered}
+use Rattle.mpm_machine.specs.Due.{is_due, ended_if_due, due_terminated, with_ends}
 use Rattle.mpm_machine.specs.Step.{instructed, illegal, executed, instruction_at, acted_at, gate_before, acted_by, acted, key_aborted, happened_to, event_come, interrupted, begun_by}
 
 -- the steps, and the records of this one
@@ -51,7 +51,7 @@ aborted_tally : (named : Option ℕ) (p : ℕ) (system : System) → tally (abor
 unfolding aborted
 aborted_tally None p system = refl
 aborted_tally (Some other) p system =
-    either (λ (s : Served). tally s.system ≡ tally system) (other == p && not (waits_to_end system.kernel p false)) _ _ (λ _. refl) (λ _. refl)
+    either (λ (s : Served). tally s.system ≡ tally system) (other == p && not (waits_to_end system.kernel p)) _ _ (λ _. refl) (λ _. refl)
 
 to_all_tally : (call : Taken) (p : ℕ) (system : System) → tally (served_to_all call p system).system ≡ tally system
 unfolding served_to_all reserving releasing
@@ -234,7 +234,12 @@ answered_steps (Some p) system =
     let first = command_let_in p (completion_dequeued system) in
     finishing_steps (finished_or_ended p first).kernel.dispatcher.completed (finished_or_ended p first) ∙ first_steps p first
 
-pub settled_steps : (system : System) → (settled system).steps ≡ system.steps
-unfolding settled with_ends
-settled_steps system =
-    terminated_steps (range_with_len 0 32) (all_answered system) ∙ answered_steps (first_completed system.kernel.dispatcher.completed) system
+pub all_answered_steps : (system : System) → (all_answered system).steps ≡ system.steps
+all_answered_steps system = answered_steps (first_completed system.kernel.dispatcher.completed) system
+
+pub all_finished_steps : (system : System) → (all_finished system).steps ≡ system.steps
+all_finished_steps system = finishing_steps system.kernel.dispatcher.completed system
+
+pub ends_steps : (system : System) → (with_ends system).steps ≡ system.steps
+unfolding with_ends
+ends_steps system = terminated_steps (range_with_len 0 32) system

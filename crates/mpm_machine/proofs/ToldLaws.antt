@@ -9,9 +9,12 @@ use Rattle.mpm_bdos.specs.declared.functions.DirectFunction.{DirectFunction}
 use Rattle.mpm_bdos.specs.declared.refusals.Extended.{Extended}
 use Rattle.mpm_bdos.specs.Functions.{function_of}
 use Rattle.mpm_bdos.specs.Direct.{Directly, IsToldDirectly, direct_of, direct_by}
-use Rattle.mpm_bdos.specs.Answering.{MayAnswer}
+use Rattle.mpm_bdos.specs.declared.caller.Caller.{Caller}
+use Rattle.mpm_bdos.specs.Serving.{InService}
+use Rattle.mpm_bdos.specs.Answering.{MayAnswer, HasEntered}
 use Rattle.mpm_bdos.proofs.Answerable.{nothing_granted}
 use Rattle.mpm_machine.specs.declared.system.System.{System}
+use Rattle.mpm_machine.specs.Holding.{IsOwn}
 use Rattle.mpm_machine.specs.FileCalls.{looked_at, MayTell, IsToldOf}
 use Rattle.mpm_machine.proofs.FilingLaws.{named_by}
 
@@ -71,3 +74,13 @@ unfolding IsToldOf
 something_told p system =
     let number = (call_of system.kernel.dispatcher.procs p).function in
     told_by_function (function_of number) (direct_of number) p system
+
+-- and that which was in service: it is answered by what its process is now, as when it entered
+pub own_told : (p : ℕ) (system : System) (service : Option InService) (reply : Answer) (extended : Option Extended) → IsOwn system.kernel.dispatcher.procs p service
+    → ((caller : Caller) (function : FileFunction) (call : Taken) → HasEntered caller function call service → MayAnswer caller.multi function call.dma reply extended)
+    → IsToldOf p system reply extended
+unfolding IsToldOf
+own_told p system service reply extended own may =
+    let procs = system.kernel.dispatcher.procs in
+    subst (λ f. MayTell f (direct_of (call_of procs p).function) p system reply extended) (sym own.its)
+    (subst (λ (n : ℕ). MayAnswer n own.function (call_of procs p).dma reply extended) own.multi (may own.caller own.function (call_of procs p) own.entered))

@@ -1,5 +1,5 @@
 -- A whole system stays whole through what a process does: its instruction, its call, its end.
-use Rattle.std.proofs.Common.{◌≡◌, ◌≢◌, ◌∙◌, ℕ, ◌&&◌, ◌||◌, Bool, true, false, not, List, [], Option, Some, None, ◌==◌, if◌then◌else◌, refl, sym, ap, subst, IsNone, length, arith}
+use Rattle.std.proofs.Common.{◌≡◌, ◌≢◌, ◌∙◌, ◌<◌, ℕ, ◌&&◌, ◌||◌, Bool, true, false, not, List, [], ◌∷◌, Option, Some, None, ◌==◌, if◌then◌else◌, refl, sym, ap, subst, IsNone, length, arith}
 use Rattle.std.proofs.lemmas.Bool.{false≢true, or_right, eq-eqb}
 use Rattle.std.proofs.lemmas.Bool.Decides.{nat_tests}
 use Rattle.std.proofs.lemmas.List.{set-get_or}
@@ -37,6 +37,7 @@ use Rattle.mpm_machine.specs.declared.system.System.{System}
 use Rattle.mpm_processor.specs.Gates.{IsHome}
 use Rattle.mpm_render.specs.Completions.{Completion}
 use Rattle.mpm_machine.specs.State.{HasRoom, IsWhole, NobodyAborted, speaking}
+use Rattle.mpm_machine.specs.Owing.{owing_unless}
 use Rattle.mpm_machine.specs.Ending.{ended}
 use Rattle.mpm_machine.specs.Calling.{Served, asking, calling}
 use Rattle.mpm_machine.specs.Serving.{with_regs, keeping, creating, aborted, aborting_this, aborting, string_of, said_by, popped, replied, recorded, is_entry, with_entry, reply_at_entry, fulfilling, answering_call, completing, returning}
@@ -53,6 +54,9 @@ segment_is_home system p seg w h home = w.homes p seg h home
 pub segment_is_there : (system : System) (p seg : ℕ) → IsWhole system → Lives system.kernel.dispatcher.procs p → (process_in system.kernel.dispatcher.procs p).seg ≡ Some seg
     → HasSegment system.memory seg
 segment_is_there system p seg w h home = (w.homes p seg h home).exists
+
+pub slot_is_there : (system : System) (p : ℕ) → IsWhole system → Lives system.kernel.dispatcher.procs p → p < 32
+slot_is_there system p w h = lives_below system.kernel.dispatcher.procs p w.sound.slots h
 
 -- a segment that can be reserved is nobody's home
 pub free_is_empty : (system : System) (base : Option ℕ) (pages p seg : ℕ) → IsWhole system → lowest_free system.memory base pages ≡ Some seg
@@ -101,6 +105,9 @@ whole_steps system steps w = record { sound = w.sound; live = w.live; homes = w.
 -- other records are kept
 pub whole_records : (system : System) (records : List Completion) → IsWhole system → IsWhole (record system { records = records })
 whole_records system records w = record { sound = w.sound; live = w.live; homes = w.homes; lived = w.lived; script = w.script; settled = w.settled }
+
+pub whole_owed : (system : System) (owed : List Bool) → IsWhole system → IsWhole (record system { owed = owed })
+whole_owed system owed w = record { sound = w.sound; live = w.live; homes = w.homes; lived = w.lived; script = w.script; settled = w.settled }
 
 pub whole_written : (answered written : System) → IsWhole answered → written ≡ (records_out answered).system → IsWhole written
 whole_written answered written w is = subst IsWhole (sym is) (whole_records answered [] w)
@@ -344,13 +351,14 @@ aborted_by stays waits p system = record system {
   kernel = if stays then system.kernel else (if waits then with_abort_due system.kernel p else (discharged system.kernel p));
   memory = if stays || waits then system.memory else (memory_without system.memory system.kernel p);
   abort_deferred = system.abort_deferred || waits;
+  owed = owing_unless (stays || waits) p system.owed;
 }
 
-pub aborted_is : (stays waits : Bool) (p : ℕ) (system : System) → is_resident system.kernel.dispatcher.procs p ≡ stays → waits_to_end system.kernel p false ≡ waits
+pub aborted_is : (stays waits : Bool) (p : ℕ) (system : System) → is_resident system.kernel.dispatcher.procs p ≡ stays → waits_to_end system.kernel p ≡ waits
     → aborted p system ≡ aborted_by stays waits p system
 unfolding aborted abort_done memory_after_abort
 aborted_is stays waits p system resident e =
-    ap (λ b. aborted_by b (waits_to_end system.kernel p false) p system) resident ∙ ap (λ b. aborted_by stays b p system) e
+    ap (λ b. aborted_by b (waits_to_end system.kernel p) p system) resident ∙ ap (λ b. aborted_by stays b p system) e
 
 pub ends_at_once : (p : ℕ) (system : System) → aborted_by false false p system ≡ ended p system
 unfolding ended
@@ -416,17 +424,17 @@ whole_aborting_this : (named : Option ℕ) (p : ℕ) (system : System) → IsWho
 whole_aborting_this None p system w h living none = record { whole = w; lives = h; call = refl }
 whole_aborting_this (Some other) p system w h living none =
     let stays = is_resident system.kernel.dispatcher.procs other in
-    let waits = waits_to_end system.kernel other false in
-    either (λ (s : Served). StaysWhole p system s.system) (other == p && not (waits_to_end system.kernel p false)) _ _
+    let waits = waits_to_end system.kernel other in
+    either (λ (s : Served). StaysWhole p system s.system) (other == p && not (waits_to_end system.kernel p)) _ _
     (λ _. record { whole = w; lives = h; call = refl }) (λ e.
     subst (StaysWhole p system) (sym (aborted_is stays waits other system refl refl))
     (stays_aborted stays waits other p system w h (living other refl) (apart other p system e) none))
   where
-    apart : (other p : ℕ) (system : System) → (other == p && not (waits_to_end system.kernel p false)) ≡ false
-        → waits_to_end system.kernel other false ≡ false → p ≢ other
+    apart : (other p : ℕ) (system : System) → (other == p && not (waits_to_end system.kernel p)) ≡ false
+        → waits_to_end system.kernel other ≡ false → p ≢ other
     apart other p system e off = λ same.
-        let there : waits_to_end system.kernel p false ≡ false = ap (λ n. waits_to_end system.kernel n false) same ∙ off in
-        another (waits_to_end system.kernel p false) other p e there same
+        let there : waits_to_end system.kernel p ≡ false = ap (λ n. waits_to_end system.kernel n) same ∙ off in
+        another (waits_to_end system.kernel p) other p e there same
 
 pub whole_aborting : (p : ℕ) (system : System) → IsWhole system → Lives system.kernel.dispatcher.procs p → IsReady system.kernel.dispatcher p
     → StaysWhole p system (aborting p system).system

@@ -18,7 +18,7 @@ use Rattle.mpm_kernel.proofs.SoundLaws.{sound_picked, sound_happened, live_happe
 use Rattle.mpm_kernel.proofs.HomeLaws.{homes_stay, homes_happened, homes_handed_out, lives_handed_out}
 use Rattle.mpm_xdos.specs.Aborting.{waits_to_end}
 use Rattle.mpm_machine.specs.declared.system.System.{System}
-use Rattle.mpm_machine.specs.State.{Change, IsWhole, NoCompletions, NobodyAborted}
+use Rattle.mpm_machine.specs.State.{IsWhole, NobodyAborted}
 use Rattle.mpm_machine.specs.Ending.{ended}
 use Rattle.mpm_kernel.specs.Consoling.{abort_taken}
 use Rattle.mpm_kernel.proofs.AbortLaws.{abort_lives, sound_abort_taken}
@@ -26,19 +26,18 @@ use Rattle.mpm_interrupts.specs.Interrupts.{due, due_taken}
 use Rattle.mpm_interrupts.specs.declared.interrupts.Interrupts.{Interrupts}
 use Rattle.mpm_machine.specs.Finishing.{finished, completion_dequeued, finishing, all_finished, command_let_in, finished_or_ended, answered_from, all_answered}
 use Rattle.mpm_machine.specs.Sending.{chains}
-use Rattle.mpm_machine.specs.Due.{is_due, ended_if_due, due_terminated, is_any_aborted, noted, with_ends, settled}
-use Rattle.mpm_machine.specs.Step.{counted, lets_in, coming, unhalted, key_aborted, happened_to, event_come, interrupted, begun_by, instruction_unless, records_out, with_settled, dispatched as step_dispatched, step_of}
+use Rattle.mpm_machine.specs.Due.{is_due, ended_if_due, due_terminated, is_any_aborted, noted, with_ends}
+use Rattle.mpm_machine.specs.Step.{counted, lets_in, coming, unhalted, key_aborted, happened_to, event_come, interrupted, begun_by}
 use Rattle.mpm_machine.proofs.InterruptLaws.{due_may}
 use Rattle.mpm_interrupts.proofs.InterruptLaws.{script_after_due}
 use Rattle.mpm_machine.proofs.FinishLaws.{first_finished, left_completed}
-use Rattle.mpm_machine.proofs.DueLaws.{no_completions_settled}
 use Rattle.mpm_machine.proofs.WholeLaws.{whole_kernel, whole_steps, whole_records, whole_regs, whole_ended, aborted_by, aborted_is, ends_at_once, abort_deferred_is, whole_abort_deferred, whole_resident, whole_residents, whole_fulfilling}
 use Rattle.mpm_machine.proofs.SendingLaws.{LetsIn, lets_in as lets_command_in, lives_let_in}
 use Rattle.mpm_machine.proofs.ActedLaws.{whole_acted}
 
 -- an event comes
 
-whole_unhalted : (running : Option ℕ) (system : System) → IsWhole system → system.kernel.dispatcher.running ≡ running
+pub whole_unhalted : (running : Option ℕ) (system : System) → IsWhole system → system.kernel.dispatcher.running ≡ running
     → IsWhole (record system { kernel = unhalted running system.kernel })
 whole_unhalted None system w e = w
 whole_unhalted (Some p) system w e =
@@ -99,7 +98,7 @@ whole_key_aborted None system w lives = w
 whole_key_aborted (Some p) system w lives =
     let taken = record system { kernel = abort_taken system.kernel } in
     let stays = is_resident taken.kernel.dispatcher.procs p in
-    let waits = waits_to_end taken.kernel p false in
+    let waits = waits_to_end taken.kernel p in
     subst IsWhole (sym (aborted_is stays waits p taken refl refl)) (whole_aborted_by stays waits p taken (whole_abort_taken system w) lives)
 
 whole_event_come : (event : Event) (system : System) → MayCome event → IsWhole system → IsWhole (event_come event system).system
@@ -250,20 +249,15 @@ whole_noted system w = record {
   ];
 }
 
-whole_with_ends : (system : System) → IsWhole system → IsWhole (with_ends system)
+pub whole_with_ends : (system : System) → IsWhole system → IsWhole (with_ends system)
 unfolding with_ends
 whole_with_ends system w = whole_noted _ (whole_due_terminated (range_with_len 0 32) system w)
 
-pub whole_settled : (system : System) → IsWhole system → IsWhole (settled system)
-unfolding settled
-whole_settled system w = whole_with_ends _ (whole_all_answered system (all_answered system) w refl)
-
--- so a step ends
-pub whole_dispatched : (instruction : Bool) (change : Change) → IsWhole change.system → IsWhole (step_dispatched instruction (with_settled change)).system
-unfolding with_settled
-whole_dispatched instruction change w =
-    let afterwards = whole_records _ [] (whole_settled change.system w) in
-    whole_kernel _ _ afterwards (sound_picked _ instruction afterwards.sound) afterwards.live (homes_stay _ _ refl)
+-- it is picked who runs
+pub whole_when_picked : (instruction : Bool) (system : System) → IsWhole system
+    → IsWhole (record system { kernel = dispatched (picked instruction) system.kernel })
+whole_when_picked instruction system w =
+    whole_kernel system _ w (sound_picked _ instruction w.sound) w.live (homes_stay _ _ refl)
 
 -- a step
 pub whole_counted : (system : System) → IsWhole system → IsWhole (counted system)
@@ -280,25 +274,3 @@ coming_may system w =
 
 pub whole_after_begun : (system afterwards : System) → IsWhole system → afterwards ≡ (begun_by (coming system) system).system → IsWhole afterwards
 whole_after_begun system afterwards w is = subst IsWhole (sym is) (whole_begun (coming system) system (coming_may system w) w)
-
-pub sound_settled : (system begun afterwards : System) → IsWhole system → begun ≡ (begun_by (coming system) system).system
-    → afterwards ≡ (records_out (settled begun)).system → IsSound afterwards.kernel
-sound_settled system begun afterwards w is was =
-    let P : System → Type 0 = λ s. IsSound s.kernel in
-    subst P (sym was) (whole_settled begun (whole_after_begun system begun w is)).sound
-
--- no completion is left after a step
-pub no_completions_step : (begun afterwards : System) (kernel : Kernel) (instruction : Bool) → afterwards ≡ (records_out (settled begun)).system
-    → kernel ≡ dispatched (picked instruction) afterwards.kernel → NoCompletions (record afterwards { kernel = kernel })
-no_completions_step begun afterwards kernel instruction is was = record {
-  answered = ap (λ (k : Kernel). k.dispatcher.completed) was ∙ ap (λ (s : System). s.kernel.dispatcher.completed) is ∙ no_completions_settled begun;
-  written = ap (λ (s : System). s.records) is;
-}
-
-pub whole_step : (system : System) → IsWhole system → IsWhole (step_of system).system
-unfolding step_of
-whole_step system w =
-    let begun = counted system in
-    let event = coming begun in
-    let counts = whole_counted system w in
-    whole_dispatched (instruction_unless event begun) (begun_by event begun) (whole_begun event begun (coming_may begun counts) counts)

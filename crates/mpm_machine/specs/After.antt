@@ -1,5 +1,5 @@
 -- One step, and n steps, of system, files and drives.
-use Rattle.std.specs.Prelude.{◌≡◌, ℕ, zero, suc, ◌+◌, ◌-◌, ◌<◌, ◌≤◌, Bool, List, ◌++◌, Option, Some, None, IsSome, ⊤}
+use Rattle.std.specs.Prelude.{◌≡◌, ℕ, zero, suc, ◌+◌, ◌-◌, ◌<◌, ◌≤◌, Bool, true, List, ◌++◌, Option, Some, None, ⊤}
 use Rattle.mpm_port.specs.Disks.{Disks}
 use Rattle.mpm_procs.specs.Table.{call_of}
 use Rattle.mpm_render.specs.Outputs.{Output, rendered}
@@ -7,67 +7,94 @@ use Rattle.mpm_render.specs.Shown.{Kept, Shows}
 use Rattle.mpm_output.specs.Outside.{Outside}
 use Rattle.mpm_output.specs.Writing.{Wrote, Stopped}
 use Rattle.mpm_bdos.specs.Direct.{Directly}
-use Rattle.mpm_bdos.specs.Filing.{Filing}
 use Rattle.mpm_bdos.specs.Serving.{Kept as Filed}
 use Rattle.mpm_machine.specs.declared.system.System.{System}
 use Rattle.mpm_machine.specs.declared.machine.StepFault.{StepFault}
 use Rattle.mpm_machine.specs.declared.machine.StepFault.TheVariants.{DiskFault, WriteFault}
-use Rattle.mpm_machine.specs.State.{State, Change, StandsForFiles, silent}
+use Rattle.mpm_machine.specs.Files.{Files, StandsWorked, StandsForFiles}
+use Rattle.mpm_machine.specs.State.{State, Change, silent}
 use Rattle.mpm_machine.specs.Faults.{EndsBy, OnDiskFault}
-use Rattle.mpm_machine.specs.FileCalls.{file_caller, call_made, IsToldOf, change_of, step_with, step_concluded, outcome_in, filed, Stepped, stepped}
-use Rattle.mpm_machine.specs.Contained.{IsContainedBy, Instructs, OnlyInstructed, DiffersInBytes, Calls, ServedByValue}
+use Rattle.mpm_bdos.specs.declared.functions.FileFunction.{FileFunction}
+use Rattle.mpm_bdos.specs.Filing.{Filing, Situation}
+use Rattle.mpm_machine.specs.FileCalls.{file_caller, call_made, situation_of, outcome_in, IsToldOf, change_of}
+use Rattle.mpm_machine.specs.DiskStep.{process_over, file_called, call_over, call_entered, disk_served, told_of_call, turns_within}
+use Rattle.mpm_machine.specs.Stepping.{Telling, begun_as, is_instruction, rest_of, step_with, nothing_told, before_disk, files_begun, told_within, paid_after, entered_after, files_then, telling_then, files_rest, Stepped, stepped}
+use Rattle.mpm_machine.specs.Failing.{does_work}
+use Rattle.mpm_machine.specs.Contained.{IsContainedBy, Instructs, OnlyInstructed, Calls, DiffersInBytes, ServedByValue}
 
 -- what a step that was made of a state leaves
 abbrev pub having : Stepped → List Output → State
-having step outputs = record { system = step.change.system; outputs = step.change.emitted ++ outputs; filing = step.filing }
+having step outputs = record { system = step.change.system; outputs = step.change.emitted ++ outputs; files = step.files }
 
 -- one step
 unfoldable pub next : State → State
-next s = having (stepped s.system s.filing) s.outputs
+next s = having (stepped s.system s.files) s.outputs
 
 -- n steps
 unfoldable pub after : ℕ → State → State
 after zero s = s
 after (suc n) s = next (after n s)
 
--- what a process is told of the file call that it makes is of that call: its caller changes as the function says, and by the extended
--- error
+-- what a process is told of a file call is of the call that it keeps: its caller changes as the function says, and by the extended error
 abbrev pub IsOfCall : Option ℕ → Directly → System → Type 0
-IsOfCall None told old = ⊤
-IsOfCall (Some p) told old = told.caller ≡ change_of (call_of (call_made p old).kernel.dispatcher.procs p) told.extended
+IsOfCall None told system = ⊤
+IsOfCall (Some p) told system = told.caller ≡ change_of (call_of system.kernel.dispatcher.procs p) told.extended
 
--- whatever is on the drives: a step, by what a file call comes to, if one is made in it. Each byte that it changes is one that
--- it writes or answers; an instruction leaves what is its own; and a call that is no file call is served by what it took
+abbrev pub made_in : Option ℕ → System → System
+made_in None old = old
+made_in (Some p) old = call_made p old
+
+-- whatever is on the drives: a step, by what file calls come to, if there are such in it. Each byte that it changes is one that it writes
+-- or answers; an instruction leaves what is its own; and a call that is no file call is served by what it took
 pub record IsStep (old : System) (change : Change) : Type 0 where
-  pub told : Directly
-  pub of_call : IsOfCall (file_caller old) told old
-  pub is : change ≡ step_with told old
-  pub contained : IsContainedBy told old change.system
-  pub instruction : (p seg : ℕ) → Instructs old p seg → OnlyInstructed p old change.system
-  pub calls : (p seg : ℕ) → Calls old p seg → file_caller old ≡ None → ServedByValue p seg old change.system
+  pub telling : Telling
+  pub at_gate : IsOfCall (file_caller old) telling.at_gate (made_in (file_caller old) old)
+  pub at_disk : IsOfCall (process_over (begun_as telling.at_gate old).system) telling.at_disk (begun_as telling.at_gate old).system
+  pub is : change ≡ step_with telling old
+  pub contained : IsContainedBy telling old change.system
+  pub instruction : (p seg : ℕ) → Instructs old p seg → OnlyInstructed telling p old change.system
+  pub calls : (p seg : ℕ) → Calls old p seg → file_caller old ≡ None → ServedByValue telling p seg old change.system
 
 -- a change behind another
 abbrev pub followed : Change → Change → Change
 followed first last = record { system = last.system; emitted = last.emitted ++ first.emitted }
 
--- a machine's step is one by what its file call, if one is made in it, may tell, whatever is on the drives
+-- a machine's step is one by what its file calls may tell, whatever is on the drives
 abbrev pub IsToldIn : Option ℕ → Directly → System → Type 0
-IsToldIn None told old = ⊤
-IsToldIn (Some p) told old = IsToldOf p (call_made p old) told.answer told.extended
+IsToldIn None told system = ⊤
+IsToldIn (Some p) told system = IsToldOf p system told.answer told.extended
 
--- that call is served by what it took: whatever bytes had stood in memory then, it would come to the same, and might be answered so
+-- a file call is served by what it took: whatever bytes had stood in memory as it was made, it would come to the same, and might be
+-- answered so
 pub record FiledByValue (told : Directly) (p : ℕ) (made : System) : Type 0 where
   pub outcome : (filing : Filing) (other : System) → DiffersInBytes made other → outcome_in filing p other ≡ outcome_in filing p made
   pub tells : (other : System) → DiffersInBytes made other → IsToldOf p other told.answer told.extended
 
 abbrev pub IsFiledByValue : Option ℕ → Directly → System → Type 0
-IsFiledByValue None told old = ⊤
-IsFiledByValue (Some p) told old = FiledByValue told p (call_made p old)
+IsFiledByValue None told system = ⊤
+IsFiledByValue (Some p) told system = FiledByValue told p system
+
+-- so is one that the disk served: the situation in which it enters service goes by what it took, and so does what it then comes to
+pub record OverByValue (told : Directly) (p : ℕ) (begun : System) : Type 0 where
+  pub outcome : (s : Situation) (other : System) → DiffersInBytes begun other → told_of_call s p other ≡ told_of_call s p begun
+  pub tells : (other : System) → DiffersInBytes begun other → IsToldOf p other told.answer told.extended
+
+abbrev pub IsOverByValue : Option ℕ → Directly → System → Type 0
+IsOverByValue None told system = ⊤
+IsOverByValue (Some p) told system = OverByValue told p system
+
+abbrev pub EntersByValue : System → Type 0
+EntersByValue system =
+    (filing : Filing) (function : FileFunction) (p : ℕ) (other : System) → DiffersInBytes system other
+    → situation_of filing function p other ≡ situation_of filing function p system
 
 pub record IsMade (old : System) (change : Change) : Type 0 where
   pub step : IsStep old change
-  pub tells : IsToldIn (file_caller old) step.told old
-  pub files : IsFiledByValue (file_caller old) step.told old
+  pub at_gate : IsToldIn (file_caller old) step.telling.at_gate (made_in (file_caller old) old)
+  pub at_disk : IsToldIn (process_over (begun_as step.telling.at_gate old).system) step.telling.at_disk (begun_as step.telling.at_gate old).system
+  pub filed : IsFiledByValue (file_caller old) step.telling.at_gate (made_in (file_caller old) old)
+  pub over : IsOverByValue (process_over (begun_as step.telling.at_gate old).system) step.telling.at_disk (begun_as step.telling.at_gate old).system
+  pub enters : EntersByValue (paid_after step.telling.at_disk (begun_as step.telling.at_gate old).system)
 
 -- one state's is the other's
 pub record IsNextOf (s t : State) : Type 0 where
@@ -92,29 +119,135 @@ pub record HasStepped (before behind : Outside) (old new : System) : Type 0 wher
   pub is : IsMade old (record { system = new; emitted = emitted })
   pub wrote : Wrote before behind emitted
 
--- one was, by what is on the drives; the open files and marks of those who ended in it are still there
-pub record HasFiled (filing : Filing) (before behind : Outside) (old new : System) (kept : Filed) (disks : Option Disks) : Type 0 where
-  pub system : new ≡ (stepped old filing).change.system
-  pub wrote : Wrote before behind (stepped old filing).change.emitted
-  pub files : StandsForFiles kept disks (filed filing old).filing
+-- what a step begins with was done, which was an instruction or not, by what its file call may tell
+pub record HasBegunStep (instruction : Bool) (before behind : Outside) (old new : System) : Type 0 where
+  pub told : Directly
+  pub of_call : IsOfCall (file_caller old) told (made_in (file_caller old) old)
+  pub tells : IsToldIn (file_caller old) told (made_in (file_caller old) old)
+  pub instruction_is : instruction ≡ is_instruction (file_caller old) old
+  pub system : new ≡ (begun_as told old).system
+  pub wrote : Wrote before behind (begun_as told old).emitted
 
--- a step in which a process made its file call came to its end
-pub record HasConcluded (told : Directly) (p : ℕ) (before behind : Outside) (old new : System) : Type 0 where
-  pub system : new ≡ (step_concluded told p old).system
-  pub wrote : Wrote before behind (step_concluded told p old).emitted
+-- by what is on the drives
+pub record HasBegunTo (files : Files) (before behind : Outside) (old new : System) (kept : Filed) (disks : Option Disks) : Type 0 where
+  pub system : new ≡ (before_disk old files).system
+  pub wrote : Wrote before behind (before_disk old files).emitted
+  pub stands : StandsWorked new.kernel.disk kept disks (files_begun old files)
+
+-- the rest of a step was done, by what the call may tell that is over
+pub record HasEndedStep (instruction : Bool) (before behind : Outside) (old new : System) : Type 0 where
+  pub telling : Telling
+  pub of_call : IsOfCall (process_over old) telling.at_disk old
+  pub tells : IsToldIn (process_over old) telling.at_disk old
+  pub system : new ≡ (rest_of instruction telling (silent old)).system
+  pub wrote : Wrote before behind (rest_of instruction telling (silent old)).emitted
+
+-- by what is on the drives
+pub record HasEndedTo (instruction : Bool) (files : Files) (before behind : Outside) (old new : System) (kept : Filed) (disks : Option Disks) : Type 0 where
+  pub system : new ≡ (rest_of instruction (telling_then nothing_told old files) (silent old)).system
+  pub wrote : Wrote before behind (rest_of instruction (telling_then nothing_told old files) (silent old)).emitted
+  pub stands : StandsForFiles new.kernel.disk kept disks (files_rest old files)
+
+-- one was, by what is on the drives
+pub record HasSteppedTo (files : Files) (before behind : Outside) (old new : System) (kept : Filed) (disks : Option Disks) : Type 0 where
+  pub system : new ≡ (stepped old files).change.system
+  pub wrote : Wrote before behind (stepped old files).change.emitted
+  pub stands : StandsForFiles new.kernel.disk kept disks (stepped old files).files
 
 -- a step stopped: where a drive failed nothing of it was written
 abbrev pub StopsBy : StepFault → Outside → Outside → List Output → Type 0
 StopsBy WriteFault before behind emitted = Stopped before behind emitted
 StopsBy DiskFault before behind emitted = behind ≡ before
 
--- so did one, whatever the images are: it writes what a step of the system writes, by what its file call may be answered, if one is
--- made in it; and a drive fails only where one is
+-- so did one, whatever the images are: it writes what a step of the system writes, by what file calls come to; and a drive fails only
+-- where the step works on one
 pub record HasStopped (fault : StepFault) (before behind : Outside) (old : System) : Type 0 where
   pub change : Change
   pub is : IsMade old change
   pub stops : StopsBy fault before behind change.emitted
-  pub calls : OnDiskFault fault (IsSome (file_caller old))
+  pub works : OnDiskFault fault (does_work old ≡ true)
+
+-- what a step begins with stopped: so did the step
+pub record HasBegunToStop (fault : StepFault) (before behind : Outside) (old : System) : Type 0 where
+  pub told : Directly
+  pub of_call : IsOfCall (file_caller old) told (made_in (file_caller old) old)
+  pub tells : IsToldIn (file_caller old) told (made_in (file_caller old) old)
+  pub stops : StopsBy fault before behind (begun_as told old).emitted
+
+-- the rest of a step did
+pub record HasEndedToStop (instruction : Bool) (before behind : Outside) (old : System) : Type 0 where
+  pub telling : Telling
+  pub of_call : IsOfCall (process_over old) telling.at_disk old
+  pub tells : IsToldIn (process_over old) telling.at_disk old
+  pub stops : Stopped before behind (rest_of instruction telling (silent old)).emitted
+
+-- a file call that a process made was done at once, or waits: by what it came to, and by what it may tell
+pub record HasCalled (told : Directly) (p : ℕ) (before behind : Outside) (old new : System) : Type 0 where
+  pub system : new ≡ (file_called told p old).system
+  pub wrote : Wrote before behind (file_called told p old).emitted
+
+pub record HasToldAtGate (p : ℕ) (before behind : Outside) (old new : System) : Type 0 where
+  pub told : Directly
+  pub of_call : IsOfCall (Some p) told old
+  pub tells : IsToldIn (Some p) told old
+  pub called : HasCalled told p before behind old new
+
+pub record HasStoppedAtGate (fault : StepFault) (p : ℕ) (before behind : Outside) (old : System) : Type 0 where
+  pub told : Directly
+  pub of_call : IsOfCall (Some p) told old
+  pub tells : IsToldIn (Some p) told old
+  pub stops : StopsBy fault before behind (file_called told p old).emitted
+
+-- the disk made its step: by what is on the drives, and by what the call may tell that is over
+pub record HasServedTo (files : Files) (before behind : Outside) (old new : System) (kept : Filed) (disks : Option Disks) : Type 0 where
+  pub system : new ≡ call_entered (turns_within (files_then old files)) (paid_after (told_within files old) old)
+  pub wrote : Wrote before behind (disk_served (told_within files old) old).emitted
+  pub stands : StandsForFiles new.kernel.disk kept disks (files_then old files)
+
+pub record HasPassed (before behind : Outside) (old new : System) : Type 0 where
+  pub told : Directly
+  pub of_call : IsOfCall (process_over old) told old
+  pub tells : IsToldIn (process_over old) told old
+  pub system : new ≡ (disk_served told old).system
+  pub wrote : Wrote before behind (disk_served told old).emitted
+
+-- or that stopped
+pub record HasStoppedServing (before behind : Outside) (old : System) : Type 0 where
+  pub told : Directly
+  pub of_call : IsOfCall (process_over old) told old
+  pub tells : IsToldIn (process_over old) told old
+  pub stops : Stopped before behind (disk_served told old).emitted
+
+pub record HasServed (before behind : Outside) (old new : System) : Type 0 where
+  pub telling : Telling
+  pub of_call : IsOfCall (process_over old) telling.at_disk old
+  pub tells : IsToldIn (process_over old) telling.at_disk old
+  pub system : new ≡ entered_after telling old
+  pub wrote : Wrote before behind (disk_served telling.at_disk old).emitted
+
+-- the call of a process was answered, whose turns were served
+pub record HasAnswered (p : ℕ) (before behind : Outside) (old new : System) : Type 0 where
+  pub told : Directly
+  pub of_call : IsOfCall (Some p) told old
+  pub tells : IsToldIn (Some p) told old
+  pub system : new ≡ (call_over told p old).system
+  pub wrote : Wrote before behind (call_over told p old).emitted
+
+-- or that stopped
+pub record HasStoppedAnswering (p : ℕ) (before behind : Outside) (old : System) : Type 0 where
+  pub told : Directly
+  pub of_call : IsOfCall (Some p) told old
+  pub tells : IsToldIn (Some p) told old
+  pub stops : Stopped before behind (call_over told p old).emitted
+
+-- the first call that waited entered service, if one did, for some number of turns
+pub record HasEnteredCall (old new : System) : Type 0 where
+  pub turns : ℕ
+  pub is : new ≡ call_entered turns old
+
+-- of what is kept of file calls, the rest of a step leaves the directories and what is cached
+abbrev pub EndKeeps : Filed → Filed → Type 0
+EndKeeps old new = new ≡ record new { mounted = old.mounted; cached = old.cached }
 
 -- a run of n steps stopped in that step, whatever the images are: the steps before it were made, and what they say was written
 pub record HasStoppedIn (n : ℕ) (fault : StepFault) (step : ℕ) (before behind : Outside) (old : System) : Type 0 where

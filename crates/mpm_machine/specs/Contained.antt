@@ -25,11 +25,14 @@ use Rattle.mpm_cli.specs.declared.act.Act.{Act}
 use Rattle.mpm_cli.specs.declared.act.Act.TheVariants.{Ask, Place, Patch, Begin, Give}
 use Rattle.mpm_residents.specs.Natives.{native_act, native_call, native_in}
 use Rattle.mpm_residents.specs.declared.native.Native.{Native}
-use Rattle.mpm_machine.specs.Due.{is_due, ended_if_due, with_ends}
-use Rattle.mpm_machine.specs.Step.{instruction_at, gate_before, coming, begun_by, records_out, with_settled, counted, dispatched}
+use Rattle.mpm_machine.specs.Due.{is_due, ended_if_due}
+use Rattle.mpm_machine.specs.State.{silent}
+use Rattle.mpm_machine.specs.Step.{instruction_at, gate_before, coming, counted, then_also}
 use Rattle.mpm_bdos.specs.declared.refusals.Extended.{Extended}
 use Rattle.mpm_bdos.specs.Direct.{Directly}
 use Rattle.mpm_machine.specs.FileCalls.{file_caller, call_made, concluded}
+use Rattle.mpm_machine.specs.DiskStep.{is_done_at_once, process_over, ready_again, step_passed}
+use Rattle.mpm_machine.specs.Stepping.{Telling, begun_with, begun_as, entered_after, rest_of}
 
 -- the reply that is placed where a call is done: for one that enters a resident procedure the gate that it pushes
 abbrev pub placed_reply : Answer → Taken → ℕ → ℕ → System → Answer
@@ -84,11 +87,6 @@ pub record IsHanded (system : System) (seg at : ℕ) : Type 0 where
   pub acts : native_in system.residents who ≡ Some native
   pub hands : HandsAt (native_act native) (length (native_call native).bytes) seg at
 
--- the system after what a step begins with, an event or what the running process does, as the held calls that were
--- completed are to be answered
-abbrev pub after_begun : System → System
-after_begun system = let begun = counted system in (begun_by (coming begun) begun).system
-
 -- a process lives in that segment, and the reply to its call that is completed is placed at the address
 pub record Answers (p : ℕ) (system : System) (seg at : ℕ) : Type 0 where
   pub lives : Lives system.kernel.dispatcher.procs p
@@ -121,47 +119,43 @@ unfoldable pub AnswersAtEnds : List ℕ → System → ℕ → ℕ → Type 0
 AnswersAtEnds [] system seg at = ⊥
 AnswersAtEnds (p ∷ ps) system seg at = AnswersAtEnd p system seg at ⊎ AnswersAtEnds ps (ended_if_due p system) seg at
 
--- such a call is completed by what a step begins with, which left this system, or by an end that is due
-unfoldable pub IsAnsweredAfter : System → ℕ → ℕ → Type 0
-IsAnsweredAfter begun seg at =
-    AnswersFrom (first_completed begun.kernel.dispatcher.completed) begun seg at ⊎ AnswersAtEnds (range_with_len 0 32) (all_answered begun) seg at
-
-abbrev pub IsAnswered : System → ℕ → ℕ → Type 0
-IsAnswered system seg at = IsAnsweredAfter (after_begun system) seg at
-
--- a byte of a segment stays unless a process that lives there writes it or has its call's reply placed there, or a resident
--- hands over what is written there, and a byte of common memory, whoever reads it, unless some process does
-pub record IsContained (old new : System) : Type 0 where
-  pub segments : (seg at : ℕ) → at < 49152 → (IsWritten old seg at → ⊥) → (IsHanded old seg at → ⊥) → (IsAnswered old seg at → ⊥)
-      → byte_at new.memory seg at ≡ byte_at old.memory seg at
-  pub common : (seg at : ℕ) → 49152 ≤ at → ((home : ℕ) → IsWritten old home at → ⊥) → ((home : ℕ) → IsHanded old home at → ⊥)
-      → ((home : ℕ) → IsAnswered old home at → ⊥) → byte_at new.memory seg at ≡ byte_at old.memory seg at
-
 -- a file call is answered, unless its extended error ends its process
 abbrev pub is_answered : Option Extended → ℕ → Bool
 is_answered None mode = true
 is_answered (Some error) mode = mode == 255 || mode == 254
 
--- a process that lives in that segment makes a file call in this step, whose reply is placed at the address
+-- the reply to the file call of a process that lives in that segment is placed at the address
 pub record IsFiled (told : Directly) (p : ℕ) (system : System) (seg at : ℕ) : Type 0 where
   pub home : (process_in system.kernel.dispatcher.procs p).seg ≡ Some seg
   pub answers : is_answered told.extended (process_in system.kernel.dispatcher.procs p).error_mode ≡ true
   pub places : IsPlacedAt told.answer (call_of system.kernel.dispatcher.procs p).word at
 
--- the same of a step by what a file call comes to, if one is made in it
-abbrev pub after_begun_by : Option ℕ → Directly → System → System
-after_begun_by None told system = after_begun system
-after_begun_by (Some p) told system = (concluded told p (call_made p system)).system
-
+-- what a step begins with writes there; a file call does that is done at once
 abbrev pub IsWrittenBy : Option ℕ → Directly → System → ℕ → ℕ → Type 0
 IsWrittenBy None told system seg at = IsWritten system seg at ⊎ IsHanded system seg at
-IsWrittenBy (Some p) told system seg at = IsFiled told p (call_made p system) seg at
+IsWrittenBy (Some p) told system seg at = (is_done_at_once p (call_made p system) ≡ true) × IsFiled told p (call_made p system) seg at
 
-pub record IsContainedBy (told : Directly) (old new : System) : Type 0 where
-  pub segments : (seg at : ℕ) → at < 49152 → (IsWrittenBy (file_caller old) told old seg at → ⊥)
-      → (IsAnsweredAfter (after_begun_by (file_caller old) told old) seg at → ⊥) → byte_at new.memory seg at ≡ byte_at old.memory seg at
-  pub common : (seg at : ℕ) → 49152 ≤ at → ((home : ℕ) → IsWrittenBy (file_caller old) told old home at → ⊥)
-      → ((home : ℕ) → IsAnsweredAfter (after_begun_by (file_caller old) told old) home at → ⊥) → byte_at new.memory seg at ≡ byte_at old.memory seg at
+-- a call is over whose reply is placed there, or whose process ends, and that completes a call whose reply is
+abbrev pub IsOverBy : Option ℕ → Directly → System → ℕ → ℕ → Type 0
+IsOverBy None told system seg at = ⊥
+IsOverBy (Some p) told system seg at =
+    let passed = ready_again p (step_passed system) in IsFiled told p passed seg at ⊎ AnswersOne (concluded told p passed).system seg at
+
+-- a held call is completed by what a step begins with, or a file call is over, or a held call is completed by an end that is due
+unfoldable pub IsAnsweredIn : Telling → System → ℕ → ℕ → Type 0
+IsAnsweredIn telling old seg at =
+    let begun = (begun_with (file_caller old) telling.at_gate old).system in
+    let answered = begun_as telling.at_gate old in
+    AnswersFrom (first_completed begun.kernel.dispatcher.completed) begun seg at
+    ⊎ (IsOverBy (process_over answered.system) telling.at_disk answered.system seg at ⊎ AnswersAtEnds (range_with_len 0 32) (entered_after telling answered.system) seg at)
+
+-- a byte of a segment stays unless a process that lives there writes it or has its call's reply placed there, or a resident
+-- hands over what is written there, and a byte of common memory, whoever reads it, unless some process does
+pub record IsContainedBy (telling : Telling) (old new : System) : Type 0 where
+  pub segments : (seg at : ℕ) → at < 49152 → (IsWrittenBy (file_caller old) telling.at_gate old seg at → ⊥)
+      → (IsAnsweredIn telling old seg at → ⊥) → byte_at new.memory seg at ≡ byte_at old.memory seg at
+  pub common : (seg at : ℕ) → 49152 ≤ at → ((home : ℕ) → IsWrittenBy (file_caller old) telling.at_gate old home at → ⊥)
+      → ((home : ℕ) → IsAnsweredIn telling old home at → ⊥) → byte_at new.memory seg at ≡ byte_at old.memory seg at
 
 -- no event comes in this step, and the process that runs lives in that segment, and a listed instruction stands at its PC,
 -- and no gate
@@ -173,18 +167,18 @@ pub record Instructs (system : System) (p seg : ℕ) : Type 0 where
   pub listed : IsSome (instruction_at p seg system)
 
 -- one step was counted, and nothing else changed but a process's registers, bytes of memory, and that devices are no longer
--- ready; then the ends came that were due, and it was picked who runs
-pub record OnlyInstructed (p : ℕ) (old new : System) : Type 0 where
+-- ready; then came the rest of the step
+pub record OnlyInstructed (telling : Telling) (p : ℕ) (old new : System) : Type 0 where
   pub regs : Regs
   pub ready : List Bool
   pub memory : Memory
   pub clears : (device : ℕ) → slice_index_or ready device false ≡ true → slice_index_or old.kernel.devices.ready device false ≡ true
   pub bytes : SameSegments old.memory memory
-  pub is : new ≡ (dispatched true (records_out (with_ends (record old {
+  pub is : new ≡ (rest_of true telling (silent (record old {
     steps = old.steps + 1;
     kernel = with_regs (record old.kernel { devices = record old.kernel.devices { ready = ready } }) p regs;
     memory = memory;
-  })))).system
+  }))).system
 
 -- two systems have the same kernel, the same residents, and the same segments in the same hands: their memories differ in bytes
 -- alone
@@ -208,11 +202,11 @@ pub record Calls (system : System) (p seg : ℕ) : Type 0 where
   pub gate : gate_before p seg system ≡ Some Call
 
 -- the call that a process asked was served by what it took: whatever bytes had stood in memory then, the kernel, the hands that
--- have the segments, the outcome and the reply would be the same; its outcome followed, then what was completed was answered
--- and the ends came that were due, and it was picked who runs
-pub record ServedByValue (p seg : ℕ) (old new : System) : Type 0 where
+-- have the segments, the outcome and the reply would be the same; its outcome followed, then what was completed was answered, and then
+-- came the rest of the step
+pub record ServedByValue (telling : Telling) (p seg : ℕ) (old new : System) : Type 0 where
   pub done : Served
   pub by_value : (other : System) → DiffersInBytes (keeping p (asked p seg (counted old)) (counted old)) other
       → ServedAlike done (served (asked p seg (counted old)) p other)
-  pub is : new ≡ (dispatched false (with_settled (after_echo (asked p seg (counted old)) p done.system
-      (outcome_of done.outcome done.reply (asked p seg (counted old)) p seg done.system)))).system
+  pub is : new ≡ (rest_of false telling (then_also (after_echo (asked p seg (counted old)) p done.system
+      (outcome_of done.outcome done.reply (asked p seg (counted old)) p seg done.system)) all_answered)).system

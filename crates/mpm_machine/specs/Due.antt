@@ -1,5 +1,5 @@
--- Ends by an abort that were put off: a process that was aborted while it held the message of a mutual exclusion queue ends in
--- the first step after which it holds none. (MP/M II Programmer's Guide, "Function 157: Abort Specified Process".)
+-- Ends by an abort that were put off: a process that was aborted while it held the message of a mutual exclusion queue, or while
+-- its call was in service, ends in the first step after which neither is so. (MP/M II Programmer's Guide, "Function 157: Abort Specified Process".)
 use Rattle.std.specs.Prelude.{◌≡◌, ℕ, Bool, false, not, ◌&&◌, if◌then◌else◌, List, [], ◌∷◌, is_some}
 use Rattle.std.specs.List.{range_with_len}
 use Rattle.mpm_procs.specs.Table.{Table}
@@ -8,13 +8,13 @@ use Rattle.mpm_kernel.specs.Kernel.{Kernel, is_aborted}
 use Rattle.mpm_xdos.specs.Aborting.{waits_to_end}
 use Rattle.mpm_machine.specs.declared.system.System.{System}
 use Rattle.mpm_machine.specs.Ending.{ended}
-use Rattle.mpm_machine.specs.Finishing.{all_finished, all_answered}
+use Rattle.mpm_machine.specs.Finishing.{all_finished}
 
 -- the end of a process is due: it was aborted, and needn't wait
 abbrev pub is_due : Kernel → ℕ → Bool
-is_due kernel p = is_aborted kernel.dispatcher.procs p && not (waits_to_end kernel p false)
+is_due kernel p = is_aborted kernel.dispatcher.procs p && not (waits_to_end kernel p)
 
--- nobody's end is due: whose end is put off still holds the message of a mutual exclusion queue
+-- nobody's end is due: whose end is put off still holds the message of a mutual exclusion queue, or his call is in service
 unfoldable pub NobodyDue : Kernel → Type 0
 NobodyDue kernel = (p : ℕ) → is_due kernel p ≡ false
 
@@ -42,7 +42,3 @@ noted system = record system { abort_deferred = system.abort_deferred && is_any_
 -- the ends that are due come
 unfoldable pub with_ends : System → System
 with_ends system = noted (all_due_terminated system)
-
--- the end of a step: the held calls that were completed are answered, and then the ends that are due come
-unfoldable pub settled : System → System
-settled system = with_ends (all_answered system)

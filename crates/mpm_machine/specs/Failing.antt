@@ -1,6 +1,6 @@
 -- What the images stand for where a step stopped. (A drive that fails in a call on files leaves it within a turn: MP/M II
 -- Programmer's Guide, "BDOS Error Handling".)
-use Rattle.std.specs.Prelude.{◌≡◌, ℕ, List, Option, Some, None, option_map, slice_set}
+use Rattle.std.specs.Prelude.{◌≡◌, ℕ, ◌≤◌, ◌&&◌, ◌||◌, Bool, true, false, List, Option, Some, None, is_some, option_map, slice_set, if◌then◌else◌}
 use Rattle.mpm_port.specs.Disks.{Disks}
 use Rattle.mpm_procs.specs.Table.{call_of}
 use Rattle.mpm_mount.specs.Drives.{Drive}
@@ -20,24 +20,71 @@ use Rattle.mpm_machine.specs.declared.system.System.{System}
 use Rattle.mpm_machine.specs.declared.machine.StepFault.{StepFault}
 use Rattle.mpm_machine.specs.declared.machine.StepFault.TheVariants.{DiskFault, WriteFault}
 use Rattle.mpm_machine.specs.State.{State}
-use Rattle.mpm_machine.specs.FileCalls.{file_caller, call_made, situation_of, stepped}
+use Rattle.mpm_machine.specs.Files.{Files, Between, Within, turns_ended, drives_in}
+use Rattle.mpm_machine.specs.FileCalls.{file_caller, call_made, situation_of}
+use Rattle.mpm_machine.specs.DiskStep.{is_done_at_once}
+use Rattle.mpm_machine.specs.Stepping.{stepped}
+use Rattle.mpm_service.specs.Disk.{turn_answer}
+use Rattle.mpm_service.specs.declared.service.Served.{Served}
+use Rattle.mpm_service.specs.declared.service.Turn.{Turn}
+use Rattle.mpm_service.specs.declared.service.Turn.TheVariants.{Idle, Passing, Work, Starts}
 
--- what the call that a process keeps finds, where it is one that the disk serves; and the one that is made in a step
-unfoldable pub call_found : Filing → ℕ → System → Option Situation
-call_found filing p system =
-    option_map (λ function. situation_of filing function p system) (function_of (call_of system.kernel.dispatcher.procs p).function)
+-- the call on whose drive a step works: how many of its turns ended before, and how many end in the step
+pub record Working : Type 0 where
+  pub call : Situation
+  pub ended : ℕ
+  pub most : ℕ
 
-abbrev pub call_by : Option ℕ → Filing → System → Option Situation
-call_by None filing system = None
-call_by (Some p) filing system = call_found filing p (call_made p system)
+-- one that is done at once does all its turns in its gate step
+abbrev pub working_at_once : Situation → Working
+working_at_once call = record { call = call; ended = 0; most = call_turns call }
 
-unfoldable pub call_in : Filing → System → Option Situation
-call_in filing system = call_by (file_caller system) filing system
+abbrev pub working_if : Bool → Filing → ℕ → System → Option Working
+working_if at_once filing p system =
+    if at_once then option_map (λ function. working_at_once (situation_of filing function p system)) (function_of (call_of system.kernel.dispatcher.procs p).function) else None
 
--- how many turns of the disk it takes
-abbrev pub turns_of : Option Situation → ℕ
-turns_of None = 0
-turns_of (Some call) = call_turns call
+abbrev pub working_by : Option ℕ → Filing → System → Option Working
+working_by None filing system = None
+working_by (Some p) filing system = let made = call_made p system in working_if (is_done_at_once p made) filing p made
+
+-- the one in service does one turn, in the turn's last step
+abbrev pub working_turn : Option Served → Turn → Situation → Option Working
+working_turn None turn s = None
+working_turn (Some call) Idle s = None
+working_turn (Some call) Passing s = None
+working_turn (Some call) (Starts p) s = None
+working_turn (Some call) (Work p last) s = Some (record { call = s; ended = turns_ended call s; most = 1 })
+
+abbrev pub working_turn_of : System → Files → Option Working
+working_turn_of system (Between filing) = None
+working_turn_of system (Within s) = working_turn system.kernel.disk.served (turn_answer system.kernel.disk) s
+
+unfoldable pub working_in : System → Files → Option Working
+working_in system (Between filing) = working_by (file_caller system) filing system
+working_in system (Within s) = working_turn_of system (Within s)
+
+-- how many turns of a call a step does
+abbrev pub turns_done : Option Working → ℕ
+turns_done None = 0
+turns_done (Some working) = working.most
+
+-- whether it works on a drive, whatever files there are
+abbrev pub works_at_once : Option ℕ → System → Bool
+works_at_once None system = false
+works_at_once (Some p) system =
+    let made = call_made p system in is_some (function_of (call_of made.kernel.dispatcher.procs p).function) && is_done_at_once p made
+
+abbrev pub is_work : Turn → Bool
+is_work Idle = false
+is_work Passing = false
+is_work (Starts p) = false
+is_work (Work p last) = true
+
+abbrev pub works_in_turn : System → Bool
+works_in_turn system = is_some system.kernel.disk.served && is_work (turn_answer system.kernel.disk)
+
+unfoldable pub does_work : System → Bool
+does_work system = works_at_once (file_caller system) system || works_in_turn system
 
 -- each image stands, with a directory of the drive and the kind of the one that is mounted, for what is on its drive
 pub record HaveImages (disks : Option Disks) (mounted : List (Option Directory)) (drives : List (Option Drive)) : Type 0 where
@@ -51,26 +98,28 @@ pub record HaveImagesOf (Are : List (Option Drive) → Type 0) (disks : Option D
   pub are : Are drives
   pub images : HaveImages disks mounted drives
 
--- what is on the drive of a call within a turn: what there was before the turn, or one of those that its unit goes through
-pub record IsWithin (call : Situation) (files : Drive) : Type 0 where
+-- what is on the drive of a call within a turn, from some turn on: what there was before it, or one of those that its unit goes through
+pub record IsWithin (call : Situation) (ended : ℕ) (files : Drive) : Type 0 where
   pub job : Job
   pub its : job_of call ≡ Some job
   pub turn : ℕ
+  pub since : ended ≤ turn
   pub among : IsAmong (units_done (drive_at call) job turn) (stages (unit_at (drive_at call) job turn) (units_done (drive_at call) job turn)) files
 
--- a drive failed in a call: the call's drive is within a turn, and each other one as the call found it
-pub record FailsWithin (call : Option Situation) (drives : List (Option Drive)) : Type 0 where
-  pub found : Situation
-  pub is : call ≡ Some found
+-- a drive failed as a step worked on the drive of a call: that is within a turn that had not ended before, and each other one as the call
+-- found it
+pub record FailsWithin (working : Option Working) (drives : List (Option Drive)) : Type 0 where
+  pub found : Working
+  pub is : working ≡ Some found
   pub files : Drive
-  pub within : IsWithin found files
-  pub drives_are : drives ≡ slice_set found.filing.drives (drive_number found) (Some files)
+  pub within : IsWithin found.call found.ended files
+  pub drives_are : drives ≡ slice_set found.call.filing.drives (drive_number found.call) (Some files)
 
--- what is on the drives where a step stopped: where the sink failed the call on files, if one was made, is done
-abbrev pub StopsOn : StepFault → System → Filing → List (Option Drive) → Type 0
-StopsOn WriteFault system filing drives = drives ≡ (stepped system filing).filing.drives
-StopsOn DiskFault system filing drives = FailsWithin (call_in filing system) drives
+-- what is on the drives where a step stopped: where the sink failed, what the images stand for behind it
+abbrev pub StopsOn : StepFault → System → Files → List (Option Drive) → Type 0
+StopsOn WriteFault system files drives = let step = stepped system files in drives ≡ drives_in step.change.system.kernel.disk.served step.files
+StopsOn DiskFault system files drives = FailsWithin (working_in system files) drives
 
 -- a step of a state stopped: each image stands for what is then on its drive
 abbrev pub StopsWithImages : StepFault → Option Disks → List (Option Directory) → State → Type 0
-StopsWithImages fault disks mounted s = HaveImagesOf (StopsOn fault s.system s.filing) disks mounted
+StopsWithImages fault disks mounted s = HaveImagesOf (StopsOn fault s.system s.files) disks mounted

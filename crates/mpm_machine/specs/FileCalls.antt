@@ -1,12 +1,11 @@
 -- File calls: which process makes one in a step, what it comes to, and how it is answered. (MP/M II Programmer's Guide, "BDOS
 -- Function Calls", "BDOS Error Handling"; functions 13, "Reset Disk System", and 14, "Select Disk".)
-use Rattle.std.specs.Prelude.{◌≡◌, ℕ, ◌%◌, Bool, false, not, List, [], ◌∷◌, Option, Some, None, is_some, is_none, option_map, ◌==◌, ◌&&◌, ◌||◌, if◌then◌else◌}
-use Rattle.std.specs.List.{range_with_len}
+use Rattle.std.specs.Prelude.{◌≡◌, ℕ, ◌%◌, Bool, true, false, not, List, [], ◌∷◌, Option, Some, None, is_some, is_none, option_map, slice_index_or, ◌==◌, ◌&&◌, ◌||◌, if◌then◌else◌}
 use Rattle.z80_regs.specs.Words.{word_of}
 use Rattle.mpm_base.specs.Calls.{Taken, Answer, answering}
 use Rattle.mpm_base.specs.declared.functions.TheConstants.{RESET_DISK_SYSTEM, SELECT_DISK}
 use Rattle.mpm_banks.specs.Memory.{Memory, segment_of}
-use Rattle.mpm_procs.specs.Table.{Table, lives, process_in, call_of}
+use Rattle.mpm_procs.specs.Table.{process_in, call_of}
 use Rattle.mpm_procs.specs.declared.process.Process.{Process}
 use Rattle.mpm_clock.specs.declared.moment.Moment.{Moment}
 use Rattle.mpm_clock.specs.Times.{moment_of}
@@ -24,7 +23,7 @@ use Rattle.mpm_bdos.specs.declared.refusals.Extended.{Extended}
 use Rattle.mpm_bdos.specs.Functions.{function_of}
 use Rattle.mpm_bdos.specs.Filing.{Filing, Situation}
 use Rattle.mpm_bdos.specs.Starting.{caller_of}
-use Rattle.mpm_bdos.specs.Outcomes.{CallerChange, Stays, Selects, Resets, Outcome, file_call, left_by, without_search}
+use Rattle.mpm_bdos.specs.Outcomes.{CallerChange, Stays, Selects, Resets, Outcome, file_call}
 use Rattle.mpm_bdos.specs.Direct.{Directly, IsToldDirectly, direct_of, direct}
 use Rattle.mpm_bdos.specs.Answering.{MayAnswer}
 use Rattle.mpm_machine.specs.declared.system.System.{System}
@@ -32,7 +31,7 @@ use Rattle.mpm_machine.specs.State.{Change, silent, speaking}
 use Rattle.mpm_machine.specs.Ending.{ended}
 use Rattle.mpm_machine.specs.Serving.{asked, keeping, popped, answering_call}
 use Rattle.mpm_machine.specs.Residing.{asked_by, taking}
-use Rattle.mpm_machine.specs.Step.{gate_before, coming, then_also, with_settled, counted, dispatched, step_of}
+use Rattle.mpm_machine.specs.Step.{gate_before, coming, then_also, counted}
 
 -- a number is that of a call on files and drives
 unfoldable pub is_of_files : ℕ → Bool
@@ -65,9 +64,9 @@ file_caller_by comes (Some p) system = if calls_files p system && not comes then
 unfoldable pub file_caller : System → Option ℕ
 file_caller system = file_caller_by (is_some (coming (counted system))) system.kernel.dispatcher.running system
 
--- the call is made, and kept: what it reads is taken
+-- the call is made, and kept: what it reads is taken, and the return address from the stack
 abbrev pub made_by : Option ℕ → ℕ → System → System
-made_by (Some seg) p system = keeping p (asked p seg system) system
+made_by (Some seg) p system = popped p seg (keeping p (asked p seg system) system)
 made_by None p system = asked_by (native_in system.residents p) p system
 
 unfoldable pub call_made : ℕ → System → System
@@ -143,9 +142,9 @@ IsToldOf p system answer extended =
     let number = (call_of system.kernel.dispatcher.procs p).function in
     MayTell (function_of number) (direct_of number) p system answer extended
 
--- the call is answered: its reply is placed behind the return address, and its record joins the others; a resident takes the answer
+-- the call is answered: its reply is placed, and its record joins the others; a resident takes the answer
 abbrev pub reply_by : Option ℕ → Answer → ℕ → System → System
-reply_by (Some seg) reply p system = answering_call reply (call_of system.kernel.dispatcher.procs p) p seg (popped p seg system)
+reply_by (Some seg) reply p system = answering_call reply (call_of system.kernel.dispatcher.procs p) p seg system
 reply_by None reply p system = taking reply p system
 
 unfoldable pub file_replied : Answer → ℕ → System → System
@@ -173,45 +172,3 @@ answered_by (Some error) reply p system = error_met error reply p system
 
 unfoldable pub concluded : Directly → ℕ → System → Change
 concluded told p system = answered_by told.extended told.answer p (with_caller told.caller p system)
-
--- what a step makes of a system in which a process made its file call, which comes to this
-unfoldable pub step_concluded : Directly → ℕ → System → Change
-step_concluded told p system = dispatched false (with_settled (concluded told p system))
-
--- a step by what a file call comes to, if one is made in it
-abbrev pub step_by : Option ℕ → Directly → System → Change
-step_by None told system = step_of system
-step_by (Some p) told system = step_concluded told p (call_made p system)
-
-unfoldable pub step_with : Directly → System → Change
-step_with told system = step_by (file_caller system) told system
-
--- the processes of slots that lived and live no more: they give back what they had open and marked, and their searches end
-abbrev pub is_gone : Table → Table → ℕ → Bool
-is_gone before afterwards p = lives before p && not (lives afterwards p)
-
-unfoldable pub left_each : (ℕ → Bool) → List ℕ → Filing → Filing
-left_each gone [] filing = filing
-left_each gone (p ∷ ps) filing = left_each gone ps (if gone p then without_search (left_by filing p) p else filing)
-
-unfoldable pub left_behind : Table → Table → Filing → Filing
-left_behind before afterwards filing = left_each (is_gone before afterwards) (range_with_len 0 32) filing
-
--- the outcome of the file call that is made in a step; where none is, all stays
-abbrev pub filed_by : Option ℕ → Filing → System → Outcome
-filed_by None filing system = outcome_by None None filing 0 system
-filed_by (Some p) filing system = outcome_in filing p (call_made p system)
-
-unfoldable pub filed : Filing → System → Outcome
-filed filing system = filed_by (file_caller system) filing system
-
--- what a step makes of a system, and of files and drives
-pub record Stepped : Type 0 where
-  pub change : Change
-  pub filing : Filing
-
-unfoldable pub stepped : System → Filing → Stepped
-stepped system filing =
-    let outcome = filed filing system in
-    let change = step_with (told_by outcome) system in
-    record { change = change; filing = left_behind system.kernel.dispatcher.procs change.system.kernel.dispatcher.procs outcome.filing }

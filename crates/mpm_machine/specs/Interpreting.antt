@@ -1,18 +1,23 @@
 -- The command line interpreter of a machine in every step: it acts in slot 0 alone, lives there in no segment, and the segment
 -- that it names is the one that it has reserved. (MP/M II User's Guide, "Command Line Interpreter"; Programmer's Guide,
 -- functions 128 to 130; System Guide, "Resident System Processes".)
-use Rattle.std.specs.Prelude.{◌≡◌, ℕ, ◌+◌, ◌*◌, ◌<◌, ◌≤◌, ◌==◌, ◌||◌, Bool, true, false, length, Some, None}
-use Rattle.mpm_banks.specs.Memory.{Memory, HasSegment, IsMemory, segment_of}
+use Rattle.std.specs.Prelude.{◌≡◌, ℕ, ◌+◌, ◌*◌, ◌<◌, ◌≤◌, ◌==◌, ◌||◌, if◌then◌else◌, Bool, true, false, length, Some, None}
+use Rattle.mpm_banks.specs.Memory.{Memory, HasSegment, segment_of}
 use Rattle.mpm_banks.specs.Allocations.{spec_of}
 use Rattle.mpm_banks.specs.declared.segment.Allocation.TheVariants.{Reserved}
 use Rattle.mpm_base.specs.declared.functions.TheConstants.{SET_BDOS_ERROR_MODE, CHAIN_TO_PROGRAM}
+use Rattle.mpm_kernel.specs.Awaiting.{AwaitsIn}
 use Rattle.mpm_procs.specs.Table.{Lives, process_in, call_of}
 use Rattle.mpm_processor.specs.Gates.{IsHome}
-use Rattle.mpm_cli.specs.Interpreters.{Interpreter}
+use Rattle.mpm_service.specs.Places.{at_disk}
+use Rattle.mpm_cli.specs.Interpreters.{Interpreter, next_call}
+use Rattle.mpm_cli.specs.declared.table.Row.{Row}
+use Rattle.mpm_cli.specs.declared.table.Row.TheVariants.{ReadCommand}
 use Rattle.mpm_cli.specs.Standing.{is_loading, Stands}
 use Rattle.mpm_residents.specs.Natives.{native_in, interprets_if_there}
 use Rattle.mpm_residents.specs.declared.native.Native.TheVariants.{Cli}
 use Rattle.mpm_machine.specs.declared.system.System.{System}
+use Rattle.mpm_machine.specs.FileCalls.{is_of_files}
 
 -- the segment that an interpreter names is there, slot 0 has reserved it, and it lies where the interpreter has it
 pub record HasReserved (cli : Interpreter) (memory : Memory) : Type 0 where
@@ -38,12 +43,25 @@ pub record IsActing (system : System) : Type 0 where
   pub stands : Stands cli
   pub consoles : cli.consoles ≡ length system.kernel.units.consoles
 
--- and a process may live in each segment; where the interpreter has a segment, it is the one that it has reserved
+-- an interpreter awaits a command as it reads one, and the answer to its file call while that is at the disk, at which it stands at so
+-- many places; else it awaits nothing, is ready, and each answer comes at once
+abbrev pub is_reading : Row → Bool
+is_reading ReadCommand = true
+is_reading _ = false
+
+abbrev pub awaited : ℕ → Row → ℕ
+awaited places of_row = if is_reading of_row then 1 else places
+
+-- and there are sixteen segments at most, in each of which a process may live; where the interpreter has a segment, it is the one
+-- that it has reserved; where its call is at the disk, its row makes one on files; and no held call of slot 0 is completed but the one
+-- that reads a command
 pub record Interprets (system : System) : Type 0 where
   pub acting : IsActing system
-  pub memory : IsMemory system.memory
+  pub few : length system.memory.segments ≤ 16
   pub homes : (seg : ℕ) → HasSegment system.memory seg → IsHome system.memory seg
   pub has : is_loading acting.cli.row ≡ true → HasReserved acting.cli system.memory
+  pub filed : 0 < at_disk system.kernel.disk 0 → is_of_files (next_call acting.cli).function ≡ true
+  pub awaits : AwaitsIn (awaited (at_disk system.kernel.disk 0) acting.cli.row) 0 system.kernel
 
 -- an address of a segment that slot 0 has reserved, within the segment's pages
 pub record IsOwn (memory : Memory) (seg at : ℕ) : Type 0 where

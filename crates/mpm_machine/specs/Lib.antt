@@ -1,4 +1,6 @@
 pub mod Gates
+pub mod Owing
+pub mod Files
 pub mod State
 pub mod Faults
 pub mod Mounting
@@ -15,8 +17,12 @@ pub mod Finishing
 pub mod Due
 pub mod Step
 pub mod FileCalls
+pub mod Holding
+pub mod DiskStep
+pub mod Stepping
 pub mod Moving
 pub mod Filed
 pub mod Failing
 pub mod Contained
 pub mod After
+pub mod Settling

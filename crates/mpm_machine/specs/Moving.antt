@@ -1,9 +1,14 @@
 -- Steps that are instructions of the running process, and steps in which nothing is done.
-use Rattle.std.specs.Prelude.{◌≡◌, ℕ, ◌+◌, ◌<◌, false, Some, None}
+use Rattle.std.specs.Prelude.{◌≡◌, ℕ, ◌+◌, ◌<◌, Bool, true, false, Some, None, IfSome}
 use Rattle.mpm_ready.specs.Order.{first_of}
 use Rattle.mpm_ready.specs.Tables.{list_at}
 use Rattle.mpm_procs.specs.Table.{process_in}
 use Rattle.mpm_dispatcher.specs.Dispatch.{ready}
+use Rattle.mpm_service.specs.declared.service.Turn.{Turn}
+use Rattle.mpm_service.specs.declared.service.Turn.TheVariants.{Idle, Passing, Work, Starts}
+use Rattle.mpm_service.specs.Disk.{DiskService}
+use Rattle.mpm_service.specs.Ahead.{passed_by}
+use Rattle.mpm_kernel.specs.Disk.{with_disk}
 use Rattle.mpm_processor.specs.Moving.{View, Moves}
 use Rattle.mpm_machine.specs.declared.system.System.{System}
 use Rattle.mpm_machine.specs.State.{NoCompletions, NobodyAborted}
@@ -20,13 +25,25 @@ view_of system p =
 unfoldable pub with_view : System → ℕ → View → ℕ → System
 with_view system p view n = record system {
   steps = system.steps + n;
-  kernel = with_regs (record system.kernel { devices = view.devices }) p view.regs;
+  kernel = with_regs (record system.kernel { devices = view.devices; disk = passed_by n system.kernel.disk }) p view.regs;
   memory = view.memory;
 }
 
 -- in the next n steps no interrupt is due
 abbrev pub Quiet : ℕ → System → Type 0
 Quiet n system = (k : ℕ) → k < n → due (system.steps + k + 1) system.interrupts ≡ None
+
+-- a step of the disk that only passes, or in which it has no call
+abbrev pub is_still : Turn → Bool
+is_still Idle = true
+is_still Passing = true
+is_still (Work p last) = false
+is_still (Starts p) = false
+
+-- and so many of the disk's are such, one after another
+pub record CanPass (n : ℕ) (disk : DiskService) : Type 0 where
+  pub within : IfSome disk.served (λ call. call.passed + n < disk.turn_steps)
+  pub nobody : 0 < n → disk.served ≡ None → first_of disk.waiting ≡ None
 
 -- the running process, of that segment, is the first of the ready list, so that it runs on after each instruction, no completion is
 -- left, and no end by an abort is put off
@@ -51,4 +68,4 @@ pub record IsIdle (system : System) : Type 0 where
 
 -- the system so many steps later, in which nothing else changed
 abbrev pub later : System → ℕ → System
-later system n = record system { steps = system.steps + n }
+later system n = record system { steps = system.steps + n; kernel = with_disk (passed_by n) system.kernel }

@@ -14,6 +14,7 @@ use Rattle.mpm_procs.specs.Table.{living, process_in, lowest_free}
 use Rattle.mpm_procs.specs.declared.process.NewProcess.{NewProcess}
 use Rattle.mpm_kernel.specs.Kernel.{Kernel, with_changed, new_kernel, dispatched}
 use Rattle.mpm_dispatcher.specs.Dispatch.{admitted, picked}
+use Rattle.mpm_kernel.specs.Disk.{in_turns}
 use Rattle.mpm_kernel.specs.Queueing.{with_system_queue}
 use Rattle.mpm_kernel.specs.Consoling.{given}
 use Rattle.mpm_residents.specs.Terminals.{opening}
@@ -24,6 +25,7 @@ use Rattle.mpm_script.specs.declared.event.Timed.{Timed}
 use Rattle.mpm_machine_file.specs.declared.machine_file.MachineFile.{MachineFile}
 use Rattle.mpm_processor.specs.Gates.{IsHome}
 use Rattle.mpm_machine.specs.declared.system.System.{System}
+use Rattle.mpm_machine.specs.Owing.{nobody_owes}
 use Rattle.mpm_machine.specs.State.{IsWhole, NoCompletions}
 
 -- a segment with a program: its base page, with an empty command tail, the program behind it, and below the last page the word
@@ -57,11 +59,12 @@ unfoldable pub booted : MachineFile → List Timed → System
 booted file events = record {
   steps = 0;
   interrupts = record { tick_every = file.tick_every; ticks = 0; script = events };
-  kernel = new_kernel file.consoles file.printers (moment_of file);
+  kernel = in_turns file.disk_turn (new_kernel file.consoles file.printers (moment_of file));
   memory = new_memory file.segments;
   abort_deferred = false;
   residents = [];
   records = [];
+  owed = nobody_owes;
 }
 
 -- a process lives in the segment

@@ -20,7 +20,7 @@ use Rattle.mpm_names.specs.Spellings.{parsed}
 use Rattle.mpm_names.specs.declared.file_name.Parsed.{Parsed}
 use Rattle.mpm_command.specs.FileBlocks.{file_block}
 use Rattle.mpm_procs.specs.Table.{process_in}
-use Rattle.mpm_kernel.specs.Kernel.{Kernel, with_changed}
+use Rattle.mpm_kernel.specs.Kernel.{Kernel, is_resident, with_changed}
 use Rattle.mpm_kernel.specs.Calls.{does_echo, failure_code}
 use Rattle.mpm_kernel.specs.Columns.{column_of, expanded, tab_text}
 use Rattle.mpm_kernel.specs.Called.{low_parameter}
@@ -35,6 +35,7 @@ use Rattle.mpm_render.specs.Completions.{Completion}
 use Rattle.mpm_machine.specs.declared.system.System.{System}
 use Rattle.mpm_output.specs.Writing.{spoken}
 use Rattle.mpm_machine.specs.State.{Change, silent, speaking}
+use Rattle.mpm_machine.specs.Owing.{owing_unless}
 use Rattle.mpm_machine.specs.Ending.{ended}
 use Rattle.mpm_machine.specs.Calling.{Served, served_by, with_kept, calling}
 use Rattle.mpm_machine.specs.Sending.{has_interpreter, sending, chaining}
@@ -95,19 +96,20 @@ creating p system =
       reply = answering (create_answer system.kernel p base);
     }
 
--- a process is aborted: it ends, or its end is put off
+-- a process is aborted: it ends, or its end is put off; a resident stays
 unfoldable pub aborted : ℕ → System → System
 aborted p system = record system {
-  kernel = abort_done system.kernel p false;
-  memory = memory_after_abort system.memory system.kernel p false;
-  abort_deferred = system.abort_deferred || waits_to_end system.kernel p false;
+  kernel = abort_done system.kernel p;
+  memory = memory_after_abort system.memory system.kernel p;
+  abort_deferred = system.abort_deferred || waits_to_end system.kernel p;
+  owed = owing_unless (is_resident system.kernel.dispatcher.procs p || waits_to_end system.kernel p) p system.owed;
 }
 
 -- the process that a call names is aborted; one that aborts itself ends as by function 143, unless its end is put off
 abbrev pub aborting_this : Option ℕ → ℕ → System → Served
 aborting_this None p system = record { system = system; outcome = Done; reply = answering failure_code }
 aborting_this (Some other) p system =
-    if other == p && not (waits_to_end system.kernel p false) then record { system = system; outcome = Ended; reply = answering 0 }
+    if other == p && not (waits_to_end system.kernel p) then record { system = system; outcome = Ended; reply = answering 0 }
     else (record { system = aborted other system; outcome = Done; reply = answering 0 })
 
 unfoldable pub aborting : ℕ → System → Served

@@ -10,18 +10,17 @@ use Rattle.mpm_kernel.specs.Columns.{spoke}
 use Rattle.mpm_render.specs.Outputs.{Output}
 use Rattle.mpm_render.specs.Shown.{Kept, Shows}
 use Rattle.mpm_port.specs.Disks.{Disks}
-use Rattle.mpm_bdos.specs.Filing.{Filing}
-use Rattle.mpm_bdos.specs.Serving.{Kept as Filed, StandEach, filing_of}
-use Rattle.mpm_bdos.specs.Turns.{FitsDrives, told_images}
 use Rattle.mpm_machine.specs.declared.system.System.{System}
+use Rattle.mpm_machine.specs.Owing.{nobody_owes}
+use Rattle.mpm_machine.specs.Files.{Files, StandsForFiles}
 use Rattle.mpm_machine.specs.declared.machine.Machine.{Machine}
 use Rattle.mpm_output.specs.Writing.{spoken}
 
--- the system, all outputs so far, newest first, and what file calls find and leave, the drives by what is on them
+-- the system, all outputs so far, newest first, and files and drives as file calls find them
 pub record State : Type 0 where
   pub system : System
   pub outputs : List Output
-  pub filing : Filing
+  pub files : Files
 
 -- what a part of a step makes of the system, and the outputs that it adds, newest first
 pub record Change : Type 0 where
@@ -42,27 +41,21 @@ pub record StandsFor (system : System) (kept : Kept) (written : Option (List ℕ
   pub parts : system ≡ s.system
   pub shown : Shows kept written s.outputs first
 
--- what is kept of file calls, the directory in memory of each mounted drive, and its image, as it is told, stand for what file
--- calls find
-pub record StandsForFiles (kept : Filed) (disks : Option Disks) (filing : Filing) : Type 0 where
-  pub filing_is : filing_of kept filing.drives ≡ filing
-  pub stand : StandEach (told_images disks) kept.mounted filing.drives
-
 -- a machine, its renderer, its sink and its drives stand for a state
 pub record StandsWithDrives (machine : Machine) (kept : Kept) (written : Option (List ℕ)) (disks : Option Disks) (s : State) (first : Option (List ℕ)) : Type 0 where
   pub system : StandsFor machine.system kept written s first
-  pub files : StandsForFiles machine.bdos disks s.filing
+  pub files : StandsForFiles machine.system.kernel.disk machine.bdos disks s.files
 
--- between steps no call is in service; and each mounted drive is attached to an image of its kind's size, and what is cached is
--- what the images have
-pub record HoldsDrives {D : Type 0} (attached : D → ℕ → Option ℕ) (disks : D → Option Disks) (kept : Filed) (drives : D) : Type 0 where
-  pub idle : kept.service ≡ None
-  pub fits : FitsDrives attached disks kept.mounted kept.cached drives
+-- those who owed something have given it back
+abbrev pub paid : System → System
+paid system = record system { owed = nobody_owes }
 
--- between steps no completion is left: no held call that was completed is to be answered, and no record to be written
+-- between steps nothing is left to be done: no held call that was completed is to be answered, no record to be written, and, where no
+-- call is in service, nothing to be given back
 pub record NoCompletions (system : System) : Type 0 where
   pub answered : system.kernel.dispatcher.completed ≡ []
   pub written : system.records ≡ []
+  pub paid : system.kernel.disk.served ≡ None → system.owed ≡ nobody_owes
 
 -- so many records there may be at once: one of what a step begins with, 65 of those whose held calls it completes, one of the call
 -- whose last turn is over, and 64 of those whose held calls an end completes

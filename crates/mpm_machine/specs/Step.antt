@@ -1,5 +1,5 @@
--- What a step makes of a system in which no file call is made.
-use Rattle.std.specs.Prelude.{ℕ, ◌+◌, Bool, true, false, not, ◌&&◌, ◌||◌, if◌then◌else◌, List, [], ◌∷◌, Option, Some, None, is_none}
+-- What a step begins with in which no file call is made, and its parts.
+use Rattle.std.specs.Prelude.{ℕ, ◌+◌, Bool, true, false, not, ◌&&◌, ◌||◌, if◌then◌else◌, List, [], ◌∷◌, ◌++◌, Option, Some, None, is_none}
 use Rattle.z80_regs.specs.Outcome.{Outcome}
 use Rattle.z80_ext.specs.Instruction.{instruction, registers_after, actions_of}
 use Rattle.mpm_banks.specs.Memory.{byte_at}
@@ -26,7 +26,6 @@ use Rattle.mpm_machine.specs.Ending.{ended}
 use Rattle.mpm_machine.specs.Serving.{with_regs, aborted, gate_step, returning}
 use Rattle.mpm_residents.specs.Natives.{native_in}
 use Rattle.mpm_machine.specs.Residing.{resided}
-use Rattle.mpm_machine.specs.Due.{settled}
 use Rattle.mpm_interrupts.specs.Interrupts.{due, due_taken}
 
 -- a process comes to an unlisted opcode: a text on its console, and its end
@@ -158,6 +157,12 @@ instruction_unless (Some event) system = false
 abbrev pub then_also : Change → (System → System) → Change
 then_also change next = record change { system = next change.system }
 
+-- and so it does where something is said
+abbrev pub then_so : Change → (System → Change) → Change
+then_so first next =
+    let afterwards = next first.system in
+    record { system = afterwards.system; emitted = afterwards.emitted ++ first.emitted }
+
 -- the records of completed calls come out, in order, behind all else that the step says
 unfoldable pub recorded_behind : List Completion → List Output → List Output
 recorded_behind [] outputs = outputs
@@ -173,11 +178,6 @@ with_records change = record {
 abbrev pub records_out : System → Change
 records_out system = with_records (silent system)
 
--- then the held calls that it completed are answered, and the ends that are due come; and then the records of all calls that the
--- step completed come out
-unfoldable pub with_settled : Change → Change
-with_settled change = with_records (then_also change settled)
-
 -- one more step counted
 abbrev pub counted : System → System
 counted system = record system { steps = system.steps + 1 }
@@ -186,9 +186,3 @@ counted system = record system { steps = system.steps + 1 }
 abbrev pub dispatched : Bool → Change → Change
 dispatched instruction change =
     record change { system = record change.system { kernel = with_dispatcher (picked instruction) change.system.kernel } }
-
--- what a step makes of a system
-unfoldable pub step_of : System → Change
-step_of system =
-    let begun = counted system in
-    dispatched (instruction_unless (coming begun) begun) (with_settled (begun_by (coming begun) begun))

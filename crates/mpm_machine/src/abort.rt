@@ -23,22 +23,27 @@ impl System {
             return Outcome::Done;
         };
         reply.answer(0);
-        if other == p && !self.kernel.holds(p) {
+        if other == p && !mpm_xdos::waits_to_end(&self.kernel, p) {
             return Outcome::Ended;
         }
         self.abort_process(other);
         Outcome::Done
     }
 
-    /// A process is aborted: it ends, or its end is put off while it holds the message of a mutual exclusion queue.
-    #[tactic(auto, using(crate::proofs::WholeLaws::segment_is_there), unfolding(crate::specs::Serving::aborted))]
+    /// A process is aborted: it ends, or its end is put off while it holds the message of a mutual exclusion queue, and
+    /// while a call of it is in service.
+    #[tactic(auto, using(crate::proofs::WholeLaws::segment_is_there, crate::proofs::WholeLaws::slot_is_there), unfolding(crate::specs::Serving::aborted))]
     pub fn abort_process(&mut self, p: Pid)
         requires whole { IsWhole self.old }
         requires lives { Lives self.old.kernel.dispatcher.procs p }
         ensures { self.new ≡ aborted p self.old }
     {
-        let waits = self.kernel.holds(p);
-        mpm_xdos::abort(&mut self.kernel, &mut self.memory, p, false);
+        let waits = mpm_xdos::waits_to_end(&self.kernel, p);
+        let stays = self.kernel.segment(p).is_none() || waits;
+        mpm_xdos::abort(&mut self.kernel, &mut self.memory, p);
         self.abort_deferred = self.abort_deferred || waits;
+        if !stays {
+            self.owed.add(p);
+        }
     }
 }

@@ -404,12 +404,13 @@ impl System {
     }
 
     /// A process ends, and gives back what it had.
-    #[tactic(auto, using(crate::proofs::WholeLaws::segment_is_there), unfolding(crate::specs::Ending::ended))]
+    #[tactic(auto, using(crate::proofs::WholeLaws::segment_is_there, crate::proofs::WholeLaws::slot_is_there), unfolding(crate::specs::Ending::ended))]
     pub fn end(&mut self, p: Pid)
         requires whole { IsWhole self.old }
         requires lives { Lives self.old.kernel.dispatcher.procs p }
         ensures { self.new ≡ ended p self.old }
     {
         mpm_xdos::end(&mut self.kernel, &mut self.memory, p);
+        self.owed.add(p);
     }
 }

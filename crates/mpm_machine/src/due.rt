@@ -1,4 +1,4 @@
-ghost use Rattle.std.specs.Prelude.{◌≡◌, ◌+◌, [], OnOk, length};
+ghost use Rattle.std.specs.Prelude.{◌≡◌, [], OnOk};
 ghost use Rattle.mpm_output.specs.Writing.{Writes};
 
 use crate::system::System;
@@ -8,25 +8,22 @@ use mpm_render::Render;
 
 impl System {
     ghost use Rattle.mpm_kernel.specs.Kernel.{is_aborted};
-    ghost use Rattle.mpm_machine.specs.State.{IsWhole, HasRoomForAll};
+    ghost use Rattle.mpm_machine.specs.State.{IsWhole};
     ghost use Rattle.mpm_machine.specs.Step.{records_out};
-    ghost use Rattle.mpm_machine.specs.Due.{is_due, is_any_aborted, noted, ended_if_due, all_due_terminated, with_ends, settled};
+    ghost use Rattle.mpm_machine.specs.Due.{is_due, is_any_aborted, noted, ended_if_due, all_due_terminated, with_ends};
 
-    /// The end of a step: the held calls that were completed are answered, and then the ends that are due come; the records of the
-    /// step's calls come out. Nothing else is said from here on, so that those of each part come out as it is over.
-    #[tactic(auto, using(crate::proofs::WholeStepLaws::whole_all_answered), unfolding(crate::specs::Due::settled))]
-    pub fn settle<S: Sink>(
+    /// The ends by an abort that were put off and are due come, and the records of the step's calls come out. Nothing else is said from
+    /// here on, so that those of each part come out as it is over.
+    pub fn end_all<S: Sink>(
         &mut self,
         reply: &mut Reply,
         render: &mut Render,
         sink: &mut S,
     ) -> Result<(), Failed>
         requires whole { IsWhole self.old }
-        requires room { HasRoomForAll (length self.old.records + 1) }
-        ensures system { OnOk result (self.new ≡ (records_out (settled self.old)).system) }
-        ensures wrote { Writes S.written S.faults render.old sink.old render.new sink.new (records_out (settled self.old)).emitted result }
+        ensures system { OnOk result (self.new ≡ (records_out (with_ends self.old)).system) }
+        ensures wrote { Writes S.written S.faults render.old sink.old render.new sink.new (records_out (with_ends self.old)).emitted result }
     {
-        self.answer_all(reply);
         self.write_records(render, sink)?;
         self.end_due(reply, render, sink)
     }
@@ -124,11 +121,11 @@ impl System {
         Ok(())
     }
 
-    /// Whether the end of a process is due: it was aborted, and holds no message of a mutual exclusion queue.
+    /// Whether the end of a process is due: it was aborted, and needn't wait.
     fn is_due(&self, p: Pid) -> bool
         ensures { result ≡ is_due self.now.kernel p }
     {
-        self.is_aborted(p) && !self.kernel.holds(p)
+        self.is_aborted(p) && !mpm_xdos::waits_to_end(&self.kernel, p)
     }
 
     /// Whether a process lives, and its end by an abort is put off.

@@ -27,7 +27,7 @@ impl System {
     ghost use Rattle.std.specs.Prelude.{is_none};
     ghost use Rattle.mpm_bdos.specs.declared.refusals.Extended.{Extended};
     ghost use Rattle.mpm_bdos.specs.Outcomes.{Resets};
-    ghost use Rattle.mpm_machine.specs.FileCalls.{at_gate, first_dma, reply_by, called_next, calls_files, file_caller, call_made, told_of, change_of, with_caller, file_replied, error_told, answered_or_ended, told_then, error_met, concluded, step_concluded};
+    ghost use Rattle.mpm_machine.specs.FileCalls.{at_gate, first_dma, called_next, made_by, calls_files, file_caller, call_made, told_of, change_of, with_caller, file_replied, error_told, answered_or_ended, told_then, error_met, concluded};
 
     /// The process that makes a file call in the next step, if one does.
     #[tactic(auto, using(mpm_kernel::proofs::SoundLaws::runner_lives), unfolding(crate::specs::FileCalls::file_caller))]
@@ -108,37 +108,26 @@ impl System {
     {
         self.steps += 1;
         match self.kernel.segment(p) {
-            Some(seg) => self.take_call(p, seg),
+            Some(seg) => self.take_file_call(p, seg),
             None => self.ask_next(p),
         }
     }
 
-    /// A step ends in which a process made its file call, to which this is the reply and this its extended error.
-    #[tactic(auto, unfolding(crate::specs::FileCalls::step_concluded, crate::specs::Step::with_settled))]
-    pub fn conclude_file_step<S: Sink>(
-        &mut self,
-        p: Pid,
-        error: Option<Extended>,
-        reply: &mut Reply,
-        render: &mut Render,
-        sink: &mut S,
-    ) -> Result<(), Failed>
+    /// The same of a process of a segment: its return address is taken from its stack.
+    fn take_file_call(&mut self, p: Pid, seg: Seg)
         requires whole { IsWhole self.old }
         requires lives { Lives self.old.kernel.dispatcher.procs p }
-        requires none { self.old.records ≡ [] }
-        ensures system { OnOk result (self.new ≡ (step_concluded (told_of (call_of self.old.kernel.dispatcher.procs p) reply.old error) p self.old).system) }
-        ensures wrote { Writes S.written S.faults render.old sink.old render.new sink.new (step_concluded (told_of (call_of self.old.kernel.dispatcher.procs p) reply.old error) p self.old).emitted result }
+        requires home { IsHome self.old.memory seg }
+        ensures { self.new ≡ made_by (Some seg) p self.old }
     {
-        self.conclude_file_call(p, error, reply, render, sink)?;
-        self.settle(reply, render, sink)?;
-        self.kernel.pick(false);
-        Ok(())
+        self.take_call(p, seg);
+        self.pop(p, seg);
     }
 
     /// The file call that a process keeps is concluded: its caller's drive and DMA address change, and it is answered, or its
     /// extended error is met.
     #[tactic(auto, unfolding(crate::specs::FileCalls::concluded))]
-    fn conclude_file_call<S: Sink>(
+    pub fn conclude_file_call<S: Sink>(
         &mut self,
         p: Pid,
         error: Option<Extended>,
@@ -214,19 +203,9 @@ impl System {
         ensures { self.new ≡ file_replied reply.now p self.old }
     {
         match self.kernel.segment(p) {
-            Some(seg) => self.put_reply_at(p, seg, reply),
+            Some(seg) => self.answer(p, seg, reply),
             None => self.take_answer(p, reply),
         }
-    }
-
-    /// The same of a process of a segment.
-    fn put_reply_at(&mut self, p: Pid, seg: Seg, reply: &Reply)
-        requires lives { Lives self.old.kernel.dispatcher.procs p }
-        requires room { HasRoom self.old }
-        ensures { self.new ≡ reply_by (Some seg) reply.now p self.old }
-    {
-        self.pop(p, seg);
-        self.answer(p, seg, reply);
     }
 
     /// An extended error is met by the error mode of its process.

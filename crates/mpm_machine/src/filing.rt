@@ -1,78 +1,54 @@
-ghost use Rattle.std.specs.Prelude.{◌≡◌, ◌<◌, ◌≤◌, ◌+◌, ◌*◌, ◌&&◌, not, false, ℕ, List, Option, None, IsSome, IfOk, OnErr, slice_index_or};
+ghost use Rattle.std.specs.Prelude.{◌≡◌, ◌<◌, ◌≤◌, ◌+◌, ◌*◌, ℕ, true, false, List, Option, Some, None, IsSome, IsOk, IfOk, OnOk, OnErr, if◌then◌else◌};
 ghost use Rattle.mpm_port.specs.Causes.{HasCause};
-ghost use Rattle.mpm_procs.specs.Table.{Table, Lives, lives, call_of};
+ghost use Rattle.mpm_procs.specs.Table.{Lives, process_in, call_of};
 ghost use Rattle.mpm_port.specs.Disks.{Disks};
 ghost use Rattle.mpm_mount.specs.Drives.{Drive};
+ghost use Rattle.mpm_bdos.specs.declared.functions.FileFunction.{FileFunction};
 ghost use Rattle.mpm_bdos.specs.Functions.{function_of};
-ghost use Rattle.mpm_bdos.specs.Filing.{Filing};
-ghost use Rattle.mpm_bdos.specs.Serving.{IsCaller, filing_of};
+ghost use Rattle.mpm_bdos.specs.Filing.{Filing, Situation};
+ghost use Rattle.mpm_bdos.specs.Jobs.{call_turns};
+ghost use Rattle.mpm_bdos.specs.Serving.{IsCaller, Serves, filing_of};
 ghost use Rattle.mpm_bdos.specs.Starting.{caller_of};
-ghost use Rattle.mpm_machine.specs.State.{StandsForFiles, HoldsDrives, IsWhole};
-ghost use Rattle.mpm_machine.specs.FileCalls.{IsToldOf, outcome_in, left_behind, looked_at as as_looked_at};
+ghost use Rattle.mpm_bdos.specs.Answering.{HasEntered};
+ghost use Rattle.mpm_bdos.specs.Turns.{FitsDrives, has_work, told_images};
+ghost use Rattle.mpm_machine.specs.State.{IsWhole};
+ghost use Rattle.mpm_machine.specs.Files.{Files, StandsBetween, StandsForFiles, StandsWorked, all_left};
+ghost use Rattle.mpm_machine.specs.Holding.{HoldsDrives};
+ghost use Rattle.mpm_machine.specs.FileCalls.{IsToldOf, outcome_in, situation_of, looked_at as as_looked_at};
 ghost use Rattle.mpm_machine.specs.Mounting.{HasNoDrive, KeepsMounted};
-ghost use Rattle.mpm_machine.specs.Failing.{call_found, turns_of, HaveImagesOf, FailsWithin};
-ghost use Rattle.mpm_machine.specs.Filed.{IsOutcome, AreLiving, HasStayed, left_if};
+ghost use Rattle.mpm_machine.specs.Failing.{HaveImagesOf, FailsWithin, working_if, working_turn_of, works_in_turn, turns_done};
+ghost use Rattle.mpm_machine.specs.Filed.{IsOutcome, left_if};
 
+use crate::owed::Owed;
 use crate::system::System;
 use mpm_base::{Pid, Reply, Steps};
 use mpm_bdos::{Bdos, Extended, FileFunction};
-use mpm_kernel::Kernel;
 use mpm_port::{Drives, Failed};
 use mpm_procs::Process;
+use mpm_service::Turn;
 use std::sync::ledger::Ledger;
 
-/// Of each slot whether a process lives there.
-pub(crate) fn living(kernel: &Kernel) -> [bool; 32]
-    ensures { AreLiving kernel.now.dispatcher.procs result }
-{
-    let mut slots = [false; 32];
-    for number in 0..32 {
-        slots[usize::from(number)] = kernel.lives(Pid(number));
-    }
-    slots
-}
-
-/// Gives back what those have open and marked who lived in these slots and live no more.
-pub(crate) fn leave_files(bdos: &mut Bdos, before: &[bool; 32], kernel: &Kernel)
-    ensures filing { (procs : Table) (drives : List (Option Drive)) → AreLiving procs before.now
-        → filing_of bdos.new drives ≡ left_behind procs kernel.now.dispatcher.procs (filing_of bdos.old drives) }
+/// Gives back what those had open and marked who ended and owe it: mostly nobody does.
+#[inline(always)]
+pub(crate) fn give_back(bdos: &mut Bdos, owed: &Owed)
+    ensures filing { (drives : List (Option Drive)) → filing_of bdos.new drives ≡ all_left owed.now (filing_of bdos.old drives) }
     ensures rest { bdos.new ≡ record bdos.old { opens = bdos.new.opens; marks = bdos.new.marks; searches = bdos.new.searches } }
 {
-    if is_anybody_gone(before, kernel) {
-        leave_each(bdos, before, kernel);
+    if owed.has_some() {
+        give_back_each(bdos, owed);
     }
 }
 
-/// Whether anybody lived in one of these slots and lives there no more. Each step asks this: it goes through all slots, whatever
-/// it finds, so that they are compared many at a time.
-fn is_anybody_gone(before: &[bool; 32], kernel: &Kernel) -> bool
-    ensures { result ≡ false → (slot : ℕ) → slot < 32 → HasStayed kernel.now.dispatcher.procs before.now slot }
-{
-    let mut gone = false;
-    for slot in 0..32 {
-        gone |= is_gone(before, kernel, slot);
-    }
-    gone
-}
-
-/// Gives back what those have open and marked who are gone, slot by slot.
-fn leave_each(bdos: &mut Bdos, before: &[bool; 32], kernel: &Kernel)
-    ensures filing { (procs : Table) (drives : List (Option Drive)) → AreLiving procs before.now
-        → filing_of bdos.new drives ≡ left_behind procs kernel.now.dispatcher.procs (filing_of bdos.old drives) }
+/// The same where some do, slot by slot.
+#[inline(never)]
+fn give_back_each(bdos: &mut Bdos, owed: &Owed)
+    ensures filing { (drives : List (Option Drive)) → filing_of bdos.new drives ≡ all_left owed.now (filing_of bdos.old drives) }
     ensures rest { bdos.new ≡ record bdos.old { opens = bdos.new.opens; marks = bdos.new.marks; searches = bdos.new.searches } }
 {
     for number in 0..32 {
-        let gone = is_gone(before, kernel, number);
+        let gone = owed.owes(number);
         leave_if(bdos, Pid(number), gone);
     }
-}
-
-/// Whether a process lived in a slot and lives there no more.
-fn is_gone(before: &[bool; 32], kernel: &Kernel, slot: u8) -> bool
-    requires { slot < 32 }
-    ensures { result ≡ (slice_index_or before.now slot false && not (lives kernel.now.dispatcher.procs slot)) }
-{
-    before[usize::from(slot)] & !kernel.lives(Pid(slot))
 }
 
 /// Gives back what a process has open and marked, if it is gone.
@@ -98,7 +74,8 @@ fn looked_at(process: &Process) -> Process
     }
 }
 
-/// Does the call on files that a process keeps, but for what becomes of the process: with its extended error, if it has one.
+/// Does the call on files that a process keeps, but for what becomes of the process: with its extended error, if it has one. Where a
+/// call is in service, it is one that no disk serves.
 pub(crate) fn call_files<D: Drives, L: Ledger>(
     system: &System,
     bdos: &mut Bdos,
@@ -109,21 +86,26 @@ pub(crate) fn call_files<D: Drives, L: Ledger>(
 ) -> Result<Option<Extended>, Failed>
     requires whole { IsWhole system.now }
     requires lives { Lives system.now.kernel.dispatcher.procs p }
-    requires holds { HoldsDrives D.attached D.disks bdos.old drives.old }
-    ensures ok { (filing : Filing) → StandsForFiles bdos.old (D.disks drives.old) filing
+    requires fits { FitsDrives D.attached D.disks bdos.old.mounted bdos.old.cached drives.old }
+    ensures ok { (filing : Filing) → StandsBetween bdos.old (D.disks drives.old) filing
         → IfOk result (IsOutcome (D.disks drives.new) (outcome_in filing p system.now) bdos.new reply.new) }
     ensures told { IfOk result (IsToldOf p system.now reply.new) }
-    ensures err { (filing : Filing) → StandsForFiles bdos.old (D.disks drives.old) filing
-        → OnErr result (HaveImagesOf (FailsWithin (call_found filing p system.now)) (D.disks drives.new) bdos.new.mounted) }
-    ensures calls { (filing : Filing) → StandsForFiles bdos.old (D.disks drives.old) filing → steps.new ≤ steps.old + 20 * turns_of (call_found filing p system.now) }
+    ensures err { (filing : Filing) → StandsBetween bdos.old (D.disks drives.old) filing
+        → OnErr result (HaveImagesOf (FailsWithin (working_if true filing p system.now)) (D.disks drives.new) bdos.new.mounted) }
+    ensures calls { (filing : Filing) → StandsBetween bdos.old (D.disks drives.old) filing → steps.new ≤ steps.old + 20 * turns_done (working_if true filing p system.now) }
     ensures keeps { KeepsMounted (D.disks drives.old) (D.disks drives.new) bdos.old.mounted bdos.new.mounted }
-    ensures holds { HoldsDrives D.attached D.disks bdos.new drives.new }
+    ensures fits { FitsDrives D.attached D.disks bdos.new.mounted bdos.new.cached drives.new }
     ensures names { D.failed_names drives.new ≡ D.failed_names drives.old }
     ensures attached { (number : ℕ) → D.attached drives.new number ≡ D.attached drives.old number }
     ensures bare { HasNoDrive bdos.old.mounted → HasNoDrive bdos.new.mounted }
     ensures none { HasNoDrive bdos.old.mounted → drives.new ≡ drives.old }
     ensures unfailing { HasNoDrive bdos.old.mounted → OnErr result ⊥ }
     ensures cause { HasCause (D.faults drives.old) (D.faults drives.new) result }
+    ensures within { (images : ℕ → List ℕ) (s : Situation) (j : ℕ) → function_of (call_of system.now.kernel.dispatcher.procs p).function ≡ None → Serves images bdos.old s j
+        → IfOk result (λ extended. (reply.new ≡ (outcome_in s.filing p system.now).answer) × (extended ≡ (outcome_in s.filing p system.now).extended)) }
+    ensures direct { function_of (call_of system.now.kernel.dispatcher.procs p).function ≡ None
+        → IsOk result × (bdos.new ≡ bdos.old) × (drives.new ≡ drives.old) × (steps.new ≡ steps.old) }
+    ensures service { IsSome (function_of (call_of system.now.kernel.dispatcher.procs p).function) → bdos.new.service ≡ None }
 {
     let call = system.kernel.kept_call(p);
     match FileFunction::of(call.function) {
@@ -143,22 +125,23 @@ fn call_disk<D: Drives, L: Ledger>(
 ) -> Result<Option<Extended>, Failed>
     requires whole { IsWhole system.now }
     requires lives { Lives system.now.kernel.dispatcher.procs p }
-    requires holds { HoldsDrives D.attached D.disks bdos.old drives.old }
+    requires fits { FitsDrives D.attached D.disks bdos.old.mounted bdos.old.cached drives.old }
     requires function { IsSome (function_of (call_of system.now.kernel.dispatcher.procs p).function) }
-    ensures told { IfOk result (IsToldOf p system.now reply.new) }
-    ensures ok { (filing : Filing) → StandsForFiles bdos.old (D.disks drives.old) filing
+    ensures ok { (filing : Filing) → StandsBetween bdos.old (D.disks drives.old) filing
         → IfOk result (IsOutcome (D.disks drives.new) (outcome_in filing p system.now) bdos.new reply.new) }
-    ensures err { (filing : Filing) → StandsForFiles bdos.old (D.disks drives.old) filing
-        → OnErr result (HaveImagesOf (FailsWithin (call_found filing p system.now)) (D.disks drives.new) bdos.new.mounted) }
-    ensures calls { (filing : Filing) → StandsForFiles bdos.old (D.disks drives.old) filing → steps.new ≤ steps.old + 20 * turns_of (call_found filing p system.now) }
+    ensures told { IfOk result (IsToldOf p system.now reply.new) }
+    ensures err { (filing : Filing) → StandsBetween bdos.old (D.disks drives.old) filing
+        → OnErr result (HaveImagesOf (FailsWithin (working_if true filing p system.now)) (D.disks drives.new) bdos.new.mounted) }
+    ensures calls { (filing : Filing) → StandsBetween bdos.old (D.disks drives.old) filing → steps.new ≤ steps.old + 20 * turns_done (working_if true filing p system.now) }
     ensures keeps { KeepsMounted (D.disks drives.old) (D.disks drives.new) bdos.old.mounted bdos.new.mounted }
-    ensures holds { HoldsDrives D.attached D.disks bdos.new drives.new }
+    ensures fits { FitsDrives D.attached D.disks bdos.new.mounted bdos.new.cached drives.new }
     ensures names { D.failed_names drives.new ≡ D.failed_names drives.old }
     ensures attached { (number : ℕ) → D.attached drives.new number ≡ D.attached drives.old number }
     ensures bare { HasNoDrive bdos.old.mounted → HasNoDrive bdos.new.mounted }
     ensures none { HasNoDrive bdos.old.mounted → drives.new ≡ drives.old }
     ensures unfailing { HasNoDrive bdos.old.mounted → OnErr result ⊥ }
     ensures cause { HasCause (D.faults drives.old) (D.faults drives.new) result }
+    ensures service { bdos.new.service ≡ None }
 {
     let caller = looked_at(system.kernel.living(p));
     let now = system.kernel.now();
@@ -178,9 +161,61 @@ fn call_directly(system: &System, bdos: &Bdos, p: Pid, reply: &mut Reply) -> Opt
     requires lives { Lives system.now.kernel.dispatcher.procs p }
     requires function { function_of (call_of system.now.kernel.dispatcher.procs p).function ≡ None }
     ensures told { IsToldOf p system.now reply.new result }
-    ensures outcome { (disks : Option Disks) (filing : Filing) → StandsForFiles bdos.now disks filing
+    ensures outcome { (disks : Option Disks) (filing : Filing) → StandsBetween bdos.now disks filing
         → IsOutcome disks (outcome_in filing p system.now) bdos.now reply.new result }
+    ensures within { (images : ℕ → List ℕ) (s : Situation) (j : ℕ) → Serves images bdos.now s j
+        → (reply.new ≡ (outcome_in s.filing p system.now).answer) × (result ≡ (outcome_in s.filing p system.now).extended) }
 {
     reply.answer(0);
     bdos.direct(system.kernel.kept_call(p), system.kernel.living(p), reply)
+}
+
+/// The call of a process enters service, in the situation of this moment: how many turns it takes.
+pub(crate) fn start_call(system: &System, bdos: &mut Bdos, p: Pid) -> u32
+    requires whole { IsWhole system.now }
+    requires lives { Lives system.now.kernel.dispatcher.procs p }
+    requires function { IsSome (function_of (call_of system.now.kernel.dispatcher.procs p).function) }
+    ensures turns { (disks : Option Disks) (filing : Filing) (function : FileFunction) → function_of (call_of system.now.kernel.dispatcher.procs p).function ≡ Some function
+        → StandsBetween bdos.old disks filing → result ≡ call_turns (situation_of filing function p system.now) }
+    ensures serves { (disks : Option Disks) (filing : Filing) (function : FileFunction) → function_of (call_of system.now.kernel.dispatcher.procs p).function ≡ Some function
+        → StandsBetween bdos.old disks filing → Serves (told_images disks) bdos.new (situation_of filing function p system.now) 0 }
+    ensures entered { (function : FileFunction) → function_of (call_of system.now.kernel.dispatcher.procs p).function ≡ Some function
+        → HasEntered (caller_of p (as_looked_at (process_in system.now.kernel.dispatcher.procs p))) function (call_of system.now.kernel.dispatcher.procs p) bdos.new.service }
+    ensures some { 0 < result }
+    ensures workless { HasNoDrive bdos.old.mounted → has_work bdos.new.service ≡ false }
+    ensures kept { bdos.new ≡ record bdos.old { service = bdos.new.service } }
+{
+    let caller = looked_at(system.kernel.living(p));
+    bdos.start(p, system.kernel.kept_call(p), &caller, system.kernel.now())
+}
+
+/// The disk's work in a step: where this is the last one of a turn, that turn of the call in service is done on its drive.
+pub(crate) fn work<D: Drives, L: Ledger>(
+    system: &System,
+    bdos: &mut Bdos,
+    drives: &mut D,
+    steps: &mut Steps<L>,
+) -> Result<(), Failed>
+    requires holds { HoldsDrives D.attached D.disks system.now.kernel bdos.old drives.old }
+    ensures ok { (files : Files) → StandsForFiles system.now.kernel.disk bdos.old (D.disks drives.old) files
+        → OnOk result (StandsWorked system.now.kernel.disk bdos.new (D.disks drives.new) files) }
+    ensures err { (files : Files) → StandsForFiles system.now.kernel.disk bdos.old (D.disks drives.old) files
+        → OnErr result (HaveImagesOf (FailsWithin (working_turn_of system.now files)) (D.disks drives.new) bdos.new.mounted) }
+    ensures keeps { KeepsMounted (D.disks drives.old) (D.disks drives.new) bdos.old.mounted bdos.new.mounted }
+    ensures names { D.failed_names drives.new ≡ D.failed_names drives.old }
+    ensures attached { (number : ℕ) → D.attached drives.new number ≡ D.attached drives.old number }
+    ensures bare { HasNoDrive bdos.old.mounted → HasNoDrive bdos.new.mounted }
+    ensures none { HasNoDrive bdos.old.mounted → drives.new ≡ drives.old }
+    ensures holds { HoldsDrives D.attached D.disks system.now.kernel bdos.new drives.new }
+    ensures unfailing { HasNoDrive bdos.old.mounted → IsOk result }
+    ensures idle { works_in_turn system.now ≡ false → IsOk result × (drives.new ≡ drives.old) × (steps.new ≡ steps.old) × (bdos.new ≡ bdos.old) }
+    ensures few { steps.new ≤ steps.old + 20 }
+    ensures cause { HasCause (D.faults drives.old) (D.faults drives.new) result }
+{
+    if let Turn::Work { .. } = system.kernel.disk().ahead() {
+        if let Err(Failed) = bdos.turn(drives, steps) {
+            return Err(Failed);
+        }
+    }
+    Ok(())
 }

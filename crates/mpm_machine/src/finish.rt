@@ -18,7 +18,8 @@ impl System {
     pub fn answer_all(&mut self, reply: &mut Reply)
         requires whole { IsWhole self.old }
         requires room { HasRoomForAll (length self.old.records + 1) }
-        ensures { self.new ≡ all_answered self.old }
+        ensures system { self.new ≡ all_answered self.old }
+        ensures few { length self.new.records ≤ length self.old.records + 65 }
     {
         if self.kernel.has_completed() {
             self.answer_each(reply);
@@ -30,7 +31,8 @@ impl System {
     fn answer_each(&mut self, reply: &mut Reply)
         requires whole { IsWhole self.old }
         requires room { HasRoomForAll (length self.old.records + 1) }
-        ensures { self.new ≡ all_answered self.old }
+        ensures system { self.new ≡ all_answered self.old }
+        ensures few { length self.new.records ≤ length self.old.records + 65 }
     {
         if let Some(p) = self.next_completed(reply) {
             self.finish_first(p, reply);
@@ -59,7 +61,8 @@ impl System {
     pub fn finish_all(&mut self, reply: &mut Reply)
         requires whole { IsWhole self.old }
         requires room { HasRoomForAll (length self.old.records) }
-        ensures { self.new ≡ all_finished self.old }
+        ensures system { self.new ≡ all_finished self.old }
+        ensures few { length self.new.records ≤ length self.old.records + 64 }
     {
         if self.kernel.has_completed() {
             self.finish_each(reply);

@@ -3,6 +3,7 @@
 
 mod abort;
 mod call;
+mod disk;
 mod due;
 mod file_calls;
 mod filing;
@@ -11,11 +12,14 @@ mod interrupts;
 mod loading;
 mod machine;
 mod opening;
+mod owed;
 mod parsing;
 mod procedures;
 mod records;
 mod residing;
 mod sending;
+mod settling;
+mod stepping;
 mod system;
 
 pub use machine::{Machine, RunFault, StepFault};

@@ -1,14 +1,15 @@
-ghost use Rattle.std.specs.Prelude.{◌≡◌, ℕ, ◌+◌, ◌-◌, ◌*◌, ◌<◌, ◌≤◌, List, [], Option, Some, None, IfOk, OnOk, IfErr, MatchOption, length, option_map};
+ghost use Rattle.std.specs.Prelude.{◌≡◌, ℕ, ◌+◌, ◌-◌, ◌*◌, ◌<◌, ◌≤◌, ◌&&◌, false, List, [], Option, Some, None, IfOk, OnOk, IfErr, MatchOption, length, option_map};
 ghost use Rattle.mpm_script.specs.declared.line.TheConstants.{GREATEST_STEP};
 ghost use Rattle.mpm_port.specs.Texts.{appended};
 
-use crate::filing::{call_files, leave_files, living};
+use crate::filing::work;
 use crate::opening::{bdos_of, moment_of, program_file};
+use crate::owed::Owed;
 use crate::records::Records;
 use crate::system::System;
 use mpm_banks::Banks;
 use mpm_base::{Name8, Pid, Reply, Seg, Steps};
-use mpm_bdos::{Bdos, Extended};
+use mpm_bdos::Bdos;
 use mpm_drives::{BootError, MountedDrives};
 use mpm_interrupts::Schedule;
 use mpm_kernel::Kernel;
@@ -42,42 +43,43 @@ pub struct RunFault {
 /// drives.
 #[derive(Drop)]
 pub struct Machine {
-    system: System,
-    bdos: Bdos,
-    reply: Reply,
+    pub(crate) system: System,
+    pub(crate) bdos: Bdos,
+    pub(crate) reply: Reply,
 }
 
 impl Machine {
     ghost use Rattle.std.specs.Option.{option_copied};
     ghost use Rattle.mpm_banks.specs.Memory.{byte_at};
-    ghost use Rattle.mpm_procs.specs.Table.{Lives, process_at, lowest_free, call_of};
+    ghost use Rattle.mpm_procs.specs.Table.{process_at, lowest_free};
     ghost use Rattle.mpm_kernel.specs.Kernel.{HasConsole};
     ghost use Rattle.mpm_consoles.specs.Consoles.{console_at};
     ghost use Rattle.mpm_render.specs.Outputs.{Output, rendered, closed};
     ghost use Rattle.mpm_render.specs.Shown.{Shows};
     ghost use Rattle.mpm_machine_file.specs.MachineFiles.{IsMachine};
-    ghost use Rattle.mpm_mount.specs.Mounting.{SameDrives};
     ghost use Rattle.mpm_drives.specs.Images.{image_named};
     ghost use Rattle.mpm_drives.specs.Mounted.{SameBeside};
     ghost use Rattle.mpm_drives.specs.Stopping.{Stops};
     ghost use Rattle.mpm_opens.specs.Opens.{AreOpen};
-    ghost use Rattle.mpm_bdos.specs.Filing.{Filing};
     ghost use Rattle.mpm_bdos.specs.Serving.{directory_at, nothing_kept, in_places};
     ghost use Rattle.mpm_bdos.specs.Syncing.{mounted_count};
     ghost use Rattle.mpm_output.specs.Outside.{seen};
-    ghost use Rattle.mpm_output.specs.Writing.{Stopped};
-    ghost use Rattle.mpm_machine.specs.State.{State, silent, StandsForFiles, StandsWithDrives, HoldsDrives, IsWhole, NoCompletions};
-    ghost use Rattle.mpm_machine.specs.Faults.{counts, HaveCause, itself, of_run, EndsBy, OnDiskFault, OnWriteFault};
+    ghost use Rattle.mpm_machine.specs.State.{State, silent, StandsWithDrives, IsWhole, NoCompletions};
+    ghost use Rattle.mpm_machine.specs.Files.{Files, AreWithin, StandsForFiles};
+    ghost use Rattle.mpm_machine.specs.Holding.{HoldsDrives, CallsAlike};
+    ghost use Rattle.mpm_machine.specs.Stepping.{stepped};
+    ghost use Rattle.mpm_service.specs.Disk.{no_service};
+    ghost use Rattle.mpm_service.specs.Ahead.{passed_by, turns_left};
+    ghost use Rattle.mpm_machine.specs.Faults.{counts, HaveCause, itself, of_run, EndsBy};
     ghost use Rattle.mpm_machine.specs.Due.{NobodyDue};
     ghost use Rattle.mpm_machine.specs.Slots.{HasResidents};
-    ghost use Rattle.mpm_machine.specs.Interpreting.{IsActing, Interprets};
+    ghost use Rattle.mpm_machine.specs.Interpreting.{Interprets};
     ghost use Rattle.mpm_machine.specs.Opening.{booted, opened, IsBare, MayPlace, with_placed, opening_system, command_queue, with_residents};
     ghost use Rattle.mpm_kernel.specs.Queueing.{OnlySystems};
     ghost use Rattle.mpm_queues.specs.Queues.{make_error};
-    ghost use Rattle.mpm_machine.specs.FileCalls.{file_caller, told_of, step_concluded, stepped};
-    ghost use Rattle.mpm_machine.specs.After.{next, after, IsNextOf, AreSteps, HasRun, HasStepped, HasStopped, HasStoppedIn, HasConcluded, HasFiled, StopsBy, ShowsBefore, EndsInStep};
+    ghost use Rattle.mpm_machine.specs.After.{next, after, IsNextOf, AreSteps, HasRun, HasStepped, HasSteppedTo, HasStopped, HasStoppedIn, StopsBy, ShowsBefore, EndsInStep};
     ghost use Rattle.mpm_machine.specs.Mounting.{HasMounted, HasNoDrive, HasDrives, KeepsMounted};
-    ghost use Rattle.mpm_machine.specs.Failing.{call_in, turns_of, HaveImagesOf, StopsOn, StopsWithImages};
+    ghost use Rattle.mpm_machine.specs.Failing.{HaveImagesOf, StopsOn, StopsWithImages, does_work, turns_done, working_in};
 
     /// The machine of a machine file, and of its script's events, as it is run: the command queue, the command line
     /// interpreter, and a terminal message processor for each console. Its drives are attached to their images and mounted,
@@ -99,9 +101,10 @@ impl Machine {
         ensures start { IfOk result (λ machine. machine.system.steps ≡ 0) }
         ensures whole { IfOk result (λ machine. IsWhole machine.system) }
         ensures no_completions { IfOk result (λ machine. NoCompletions machine.system) }
+        ensures disk { IfOk result (λ machine. machine.system.kernel.disk ≡ no_service file.now.disk_turn) }
         ensures mounted { IfOk result (λ machine. HasMounted (D.attached drives.new) (D.disks drives.new) (image_named (D.disks drives.old)) file.now.drives machine.bdos) }
         ensures drives { IfOk result (λ machine. HasDrives (D.disks drives.new) file.now.drives machine.bdos.mounted) }
-        ensures holds { IfOk result (λ machine. HoldsDrives D.attached D.disks machine.bdos drives.new) }
+        ensures holds { IfOk result (λ machine. HoldsDrives D.attached D.disks machine.system.kernel machine.bdos drives.new) }
         ensures count { OnOk result (D.faults drives.new ≡ D.faults drives.old) }
         ensures names { OnOk result (D.failed_names drives.new ≡ D.failed_names drives.old) }
         ensures err { IfErr result (λ error. Stops (image_named (D.disks drives.old)) file.now.drives
@@ -130,6 +133,7 @@ impl Machine {
         ensures system { self.new.system ≡ with_residents consoles self.old.system }
         ensures whole { IsWhole self.new.system }
         ensures no_completions { NoCompletions self.new.system }
+        ensures disk { self.new.system.kernel.disk ≡ self.old.system.kernel.disk }
         ensures steps { self.new.system.steps ≡ self.old.system.steps }
         ensures bdos { self.new.bdos ≡ self.old.bdos }
     {
@@ -150,9 +154,10 @@ impl Machine {
         requires { IsMachine file.now }
         ensures booted { IfOk result (λ machine. machine.system ≡ booted file.now script) }
         ensures bare { IfOk result (λ machine. IsBare machine.system) }
+        ensures disk { IfOk result (λ machine. machine.system.kernel.disk ≡ no_service file.now.disk_turn) }
         ensures mounted { IfOk result (λ machine. HasMounted (D.attached drives.new) (D.disks drives.new) (image_named (D.disks drives.old)) file.now.drives machine.bdos) }
         ensures drives { IfOk result (λ machine. HasDrives (D.disks drives.new) file.now.drives machine.bdos.mounted) }
-        ensures holds { IfOk result (λ machine. HoldsDrives D.attached D.disks machine.bdos drives.new) }
+        ensures holds { IfOk result (λ machine. HoldsDrives D.attached D.disks machine.system.kernel machine.bdos drives.new) }
         ensures count { OnOk result (D.faults drives.new ≡ D.faults drives.old) }
         ensures names { OnOk result (D.failed_names drives.new ≡ D.failed_names drives.old) }
         ensures err { IfErr result (λ error. Stops (image_named (D.disks drives.old)) file.now.drives
@@ -187,9 +192,11 @@ impl Machine {
         requires { IsMachine file.now }
         ensures booted { IfOk result (λ machine. machine.system ≡ booted file.now script) }
         ensures bare { IfOk result (λ machine. IsBare machine.system) }
+        ensures disk { IfOk result (λ machine. machine.system.kernel.disk ≡ no_service file.now.disk_turn) }
         ensures bdos { IfOk result (λ machine. machine.bdos ≡ nothing_kept (in_places mounted.items)) }
     {
-        let kernel = Kernel::new(alloc, file.consoles, file.printers, moment_of(file))?;
+        let mut kernel = Kernel::new(alloc, file.consoles, file.printers, moment_of(file))?;
+        kernel.set_disk_turn(file.disk_turn);
         let memory = Banks::new(alloc, file.segments.as_slice())?;
         let bdos = bdos_of(alloc, mounted)?;
         Ok(Machine {
@@ -201,6 +208,7 @@ impl Machine {
                 abort_deferred: false,
                 residents: Residents::none(),
                 records: Records::new(),
+                owed: Owed::new(),
             },
             bdos,
             reply: Reply::new(),
@@ -219,6 +227,7 @@ impl Machine {
         ensures start { IfOk result (λ machine. machine.system.steps ≡ 0) }
         ensures whole { IfOk result (λ machine. IsWhole machine.system) }
         ensures no_completions { IfOk result (λ machine. NoCompletions machine.system) }
+        ensures disk { IfOk result (λ machine. machine.system.kernel.disk ≡ no_service 0) }
         ensures bdos { IfOk result (λ machine. machine.bdos ≡ nothing_kept (in_places [])) }
         ensures memory { IfErr result (λ error. error ≡ BootError.OutOfMemory) }
     {
@@ -243,6 +252,7 @@ impl Machine {
         ensures slot { lowest_free self.old.system.kernel.dispatcher.procs ≡ Some result }
         ensures system { self.new.system ≡ with_placed self.old.system result seg name priority console program.now }
         ensures bare { IsBare self.new.system }
+        ensures disk { self.new.system.kernel.disk ≡ self.old.system.kernel.disk }
         ensures bdos { self.new.bdos ≡ self.old.bdos }
     {
         self.system.place(seg, name, priority, console, program)
@@ -286,7 +296,8 @@ impl Machine {
         self.system.kernel.lost(console)
     }
 
-    /// One step. After an error the machine isn't stepped again. A function on files is done in the step in which it is called.
+    /// One step. After an error the machine isn't stepped again. A function on files is done in the step in which it is called where
+    /// turns have no steps; else it waits for the disk, which serves one at a time in turns, and is done behind its last one.
     /// What the images hold is told by `ok`; the other clauses are so whether they are told or not.
     pub fn step<D: Drives, S: Sink, L: Ledger>(
         &mut self,
@@ -298,7 +309,7 @@ impl Machine {
         requires most { self.old.system.steps < GREATEST_STEP }
         requires whole { IsWhole self.old.system }
         requires no_completions { NoCompletions self.old.system }
-        requires holds { HoldsDrives D.attached D.disks self.old.bdos drives.old }
+        requires holds { HoldsDrives D.attached D.disks self.old.system.kernel self.old.bdos drives.old }
         ensures ok { (s : State) (first : Option (List ℕ)) → StandsWithDrives self.old render.old (S.written sink.old) (D.disks drives.old) s first
             → OnOk result (StandsWithDrives self.new render.new (S.written sink.new) (D.disks drives.new) (next s) first) }
         ensures err { (s : State) (first : Option (List ℕ)) → StandsWithDrives self.old render.old (S.written sink.old) (D.disks drives.old) s first
@@ -310,7 +321,7 @@ impl Machine {
         ensures step { OnOk result (HasStepped (seen S.written S.faults render.old sink.old) (seen S.written S.faults render.new sink.new) self.old.system self.new.system) }
         ensures stops { IfErr result (λ fault. HasStopped fault (seen S.written S.faults render.old sink.old) (seen S.written S.faults render.new sink.new) self.old.system) }
         ensures due { OnOk result (NobodyDue self.new.system.kernel) }
-        ensures interprets { IsActing self.old.system → OnOk result (IsActing self.new.system) }
+        ensures interprets { Interprets self.old.system → OnOk result (Interprets self.new.system) }
         ensures locks { OnOk result (AreOpen self.new.bdos.opens) }
         ensures whole { OnOk result (IsWhole self.new.system) }
         ensures no_completions { OnOk result (NoCompletions self.new.system) }
@@ -318,26 +329,26 @@ impl Machine {
         ensures trace { render.new.trace ≡ render.old.trace }
         ensures cause { HaveCause itself (counts S.faults D.faults sink.old drives.old) (counts S.faults D.faults sink.new drives.new) result }
         ensures keeps { KeepsMounted (D.disks drives.old) (D.disks drives.new) self.old.bdos.mounted self.new.bdos.mounted }
-        ensures holds { HoldsDrives D.attached D.disks self.new.bdos drives.new }
+        ensures holds { OnOk result (HoldsDrives D.attached D.disks self.new.system.kernel self.new.bdos drives.new) }
         ensures names { D.failed_names drives.new ≡ D.failed_names drives.old }
         ensures attached { (number : ℕ) → D.attached drives.new number ≡ D.attached drives.old number }
         ensures bare { HasNoDrive self.old.bdos.mounted → HasNoDrive self.new.bdos.mounted }
         ensures none { HasNoDrive self.old.bdos.mounted → drives.new ≡ drives.old }
         ensures unfailing { HasNoDrive self.old.bdos.mounted → IfErr result (λ fault. fault ≡ StepFault.WriteFault) }
 
-        // A step without a call on files calls no drive.
-        ensures sink { file_caller self.old.system ≡ None → IfErr result (λ fault. fault ≡ StepFault.WriteFault) }
-        ensures drives { file_caller self.old.system ≡ None → drives.new ≡ drives.old }
-        ensures device_calls { file_caller self.old.system ≡ None → steps.new ≡ steps.old }
+        // A step that works on no drive calls none.
+        ensures sink { does_work self.old.system ≡ false → IfErr result (λ fault. fault ≡ StepFault.WriteFault) }
+        ensures drives { does_work self.old.system ≡ false → drives.new ≡ drives.old }
+        ensures device_calls { does_work self.old.system ≡ false → steps.new ≡ steps.old }
 
-        // One with a call on files calls its drive at most 20 times a turn of the disk.
-        ensures calls { (filing : Filing) → StandsForFiles self.old.bdos (D.disks drives.old) filing
-            → steps.new ≤ steps.old + 20 * turns_of (call_in filing self.old.system) }
+        // One that does calls it at most 20 times a turn: where turns have steps, one turn is done in a step.
+        ensures calls { (files : Files) → StandsForFiles self.old.system.kernel.disk self.old.bdos (D.disks drives.old) files
+            → steps.new ≤ steps.old + 20 * turns_done (working_in self.old.system files) }
+        ensures few { 0 < self.old.system.kernel.disk.turn_steps → steps.new ≤ steps.old + 20 }
+        ensures turn_steps { OnOk result (self.new.system.kernel.disk.turn_steps ≡ self.old.system.kernel.disk.turn_steps) }
     {
-        let before = living(&self.system.kernel);
         match self.take_step(drives, render, sink, steps) {
             Ok(()) => {
-                leave_files(&mut self.bdos, &before, &self.system.kernel);
                 self.bdos.tell_sound();
                 Ok(())
             }
@@ -345,7 +356,7 @@ impl Machine {
         }
     }
 
-    /// One step but for what those leave who end in it: their open files and marks are still theirs.
+    /// One step: first what it does on drives, then all else, in which alone something is written.
     fn take_step<D: Drives, S: Sink, L: Ledger>(
         &mut self,
         drives: &mut D,
@@ -356,137 +367,40 @@ impl Machine {
         requires most { self.old.system.steps < GREATEST_STEP }
         requires whole { IsWhole self.old.system }
         requires no_completions { NoCompletions self.old.system }
-        requires holds { HoldsDrives D.attached D.disks self.old.bdos drives.old }
-        ensures ok { (filing : Filing) → StandsForFiles self.old.bdos (D.disks drives.old) filing
-            → OnOk result (HasFiled filing (seen S.written S.faults render.old sink.old) (seen S.written S.faults render.new sink.new) self.old.system self.new.system self.new.bdos (D.disks drives.new)) }
-        ensures err { (filing : Filing) → StandsForFiles self.old.bdos (D.disks drives.old) filing
-            → IfErr result (λ fault. StopsBy fault (seen S.written S.faults render.old sink.old) (seen S.written S.faults render.new sink.new) (stepped self.old.system filing).change.emitted) }
-        ensures images { (filing : Filing) → StandsForFiles self.old.bdos (D.disks drives.old) filing
-            → IfErr result (λ fault. HaveImagesOf (StopsOn fault self.old.system filing) (D.disks drives.new) self.new.bdos.mounted) }
+        requires holds { HoldsDrives D.attached D.disks self.old.system.kernel self.old.bdos drives.old }
+        ensures ok { (files : Files) → StandsForFiles self.old.system.kernel.disk self.old.bdos (D.disks drives.old) files
+            → OnOk result (HasSteppedTo files (seen S.written S.faults render.old sink.old) (seen S.written S.faults render.new sink.new) self.old.system self.new.system self.new.bdos (D.disks drives.new)) }
+        ensures err { (files : Files) → StandsForFiles self.old.system.kernel.disk self.old.bdos (D.disks drives.old) files
+            → IfErr result (λ fault. StopsBy fault (seen S.written S.faults render.old sink.old) (seen S.written S.faults render.new sink.new) (stepped self.old.system files).change.emitted) }
+        ensures images { (files : Files) → StandsForFiles self.old.system.kernel.disk self.old.bdos (D.disks drives.old) files
+            → IfErr result (λ fault. HaveImagesOf (StopsOn fault self.old.system files) (D.disks drives.new) self.new.bdos.mounted) }
         ensures step { OnOk result (HasStepped (seen S.written S.faults render.old sink.old) (seen S.written S.faults render.new sink.new) self.old.system self.new.system) }
         ensures stops { IfErr result (λ fault. HasStopped fault (seen S.written S.faults render.old sink.old) (seen S.written S.faults render.new sink.new) self.old.system) }
         ensures trace { render.new.trace ≡ render.old.trace }
         ensures cause { HaveCause itself (counts S.faults D.faults sink.old drives.old) (counts S.faults D.faults sink.new drives.new) result }
         ensures keeps { KeepsMounted (D.disks drives.old) (D.disks drives.new) self.old.bdos.mounted self.new.bdos.mounted }
-        ensures holds { HoldsDrives D.attached D.disks self.new.bdos drives.new }
+        ensures holds { OnOk result (HoldsDrives D.attached D.disks self.new.system.kernel self.new.bdos drives.new) }
         ensures names { D.failed_names drives.new ≡ D.failed_names drives.old }
         ensures attached { (number : ℕ) → D.attached drives.new number ≡ D.attached drives.old number }
         ensures bare { HasNoDrive self.old.bdos.mounted → HasNoDrive self.new.bdos.mounted }
         ensures none { HasNoDrive self.old.bdos.mounted → drives.new ≡ drives.old }
         ensures unfailing { HasNoDrive self.old.bdos.mounted → IfErr result (λ fault. fault ≡ StepFault.WriteFault) }
-        ensures sink { file_caller self.old.system ≡ None → IfErr result (λ fault. fault ≡ StepFault.WriteFault) }
-        ensures drives { file_caller self.old.system ≡ None → drives.new ≡ drives.old }
-        ensures device_calls { file_caller self.old.system ≡ None → steps.new ≡ steps.old }
-        ensures calls { (filing : Filing) → StandsForFiles self.old.bdos (D.disks drives.old) filing
-            → steps.new ≤ steps.old + 20 * turns_of (call_in filing self.old.system) }
+        ensures sink { does_work self.old.system ≡ false → IfErr result (λ fault. fault ≡ StepFault.WriteFault) }
+        ensures drives { does_work self.old.system ≡ false → drives.new ≡ drives.old }
+        ensures device_calls { does_work self.old.system ≡ false → steps.new ≡ steps.old }
+        ensures calls { (files : Files) → StandsForFiles self.old.system.kernel.disk self.old.bdos (D.disks drives.old) files
+            → steps.new ≤ steps.old + 20 * turns_done (working_in self.old.system files) }
+        ensures few { 0 < self.old.system.kernel.disk.turn_steps → steps.new ≤ steps.old + 20 }
+        ensures turn_steps { OnOk result (self.new.system.kernel.disk.turn_steps ≡ self.old.system.kernel.disk.turn_steps) }
     {
-        match self.system.file_caller() {
-            Some(p) => self.step_with_files(p, drives, render, sink, steps),
-            None => self.step_alone(drives, render, sink),
+        if let Err(Failed) = work(&self.system, &mut self.bdos, drives, steps) {
+            return Err(StepFault::DiskFault);
         }
-    }
-
-    /// A step in which no function on files is called.
-    fn step_alone<D: Drives, S: Sink>(
-        &mut self,
-        drives: &D,
-        render: &mut Render,
-        sink: &mut S,
-    ) -> Result<(), StepFault>
-        requires most { self.old.system.steps < GREATEST_STEP }
-        requires whole { IsWhole self.old.system }
-        requires no_completions { NoCompletions self.old.system }
-        requires none { file_caller self.old.system ≡ None }
-        ensures ok { (filing : Filing) → StandsForFiles self.old.bdos (D.disks drives.now) filing
-            → OnOk result (HasFiled filing (seen S.written S.faults render.old sink.old) (seen S.written S.faults render.new sink.new) self.old.system self.new.system self.new.bdos (D.disks drives.now)) }
-        ensures err { (filing : Filing)
-            → IfErr result (λ fault. StopsBy fault (seen S.written S.faults render.old sink.old) (seen S.written S.faults render.new sink.new) (stepped self.old.system filing).change.emitted) }
-        ensures images { (filing : Filing) → StandsForFiles self.old.bdos (D.disks drives.now) filing
-            → IfErr result (λ fault. HaveImagesOf (StopsOn fault self.old.system filing) (D.disks drives.now) self.new.bdos.mounted) }
-        ensures step { OnOk result (HasStepped (seen S.written S.faults render.old sink.old) (seen S.written S.faults render.new sink.new) self.old.system self.new.system) }
-        ensures stops { IfErr result (λ fault. HasStopped fault (seen S.written S.faults render.old sink.old) (seen S.written S.faults render.new sink.new) self.old.system) }
-        ensures trace { render.new.trace ≡ render.old.trace }
-        ensures cause { HaveCause itself (counts S.faults D.faults sink.old drives.now) (counts S.faults D.faults sink.new drives.now) result }
-        ensures sink { IfErr result (λ fault. fault ≡ StepFault.WriteFault) }
-        ensures bdos { self.new.bdos ≡ self.old.bdos }
-    {
-        let _ = drives;
-        match self.system.step(&mut self.reply, render, sink) {
-            Ok(()) => Ok(()),
-            Err(Failed) => Err(StepFault::WriteFault),
-        }
-    }
-
-    /// A step in which a process calls a function on files: the call is done, and then the step ends by what it came to.
-    fn step_with_files<D: Drives, S: Sink, L: Ledger>(
-        &mut self,
-        p: Pid,
-        drives: &mut D,
-        render: &mut Render,
-        sink: &mut S,
-        steps: &mut Steps<L>,
-    ) -> Result<(), StepFault>
-        requires most { self.old.system.steps < GREATEST_STEP }
-        requires whole { IsWhole self.old.system }
-        requires no_completions { NoCompletions self.old.system }
-        requires holds { HoldsDrives D.attached D.disks self.old.bdos drives.old }
-        requires caller { file_caller self.old.system ≡ Some p }
-        requires lives { Lives self.old.system.kernel.dispatcher.procs p }
-        ensures ok { (filing : Filing) → StandsForFiles self.old.bdos (D.disks drives.old) filing
-            → OnOk result (HasFiled filing (seen S.written S.faults render.old sink.old) (seen S.written S.faults render.new sink.new) self.old.system self.new.system self.new.bdos (D.disks drives.new)) }
-        ensures err { (filing : Filing) → StandsForFiles self.old.bdos (D.disks drives.old) filing
-            → IfErr result (λ fault. StopsBy fault (seen S.written S.faults render.old sink.old) (seen S.written S.faults render.new sink.new) (stepped self.old.system filing).change.emitted) }
-        ensures images { (filing : Filing) → StandsForFiles self.old.bdos (D.disks drives.old) filing
-            → IfErr result (λ fault. HaveImagesOf (StopsOn fault self.old.system filing) (D.disks drives.new) self.new.bdos.mounted) }
-        ensures step { OnOk result (HasStepped (seen S.written S.faults render.old sink.old) (seen S.written S.faults render.new sink.new) self.old.system self.new.system) }
-        ensures stops { IfErr result (λ fault. HasStopped fault (seen S.written S.faults render.old sink.old) (seen S.written S.faults render.new sink.new) self.old.system) }
-        ensures trace { render.new.trace ≡ render.old.trace }
-        ensures cause { HaveCause itself (counts S.faults D.faults sink.old drives.old) (counts S.faults D.faults sink.new drives.new) result }
-        ensures keeps { KeepsMounted (D.disks drives.old) (D.disks drives.new) self.old.bdos.mounted self.new.bdos.mounted }
-        ensures holds { HoldsDrives D.attached D.disks self.new.bdos drives.new }
-        ensures names { D.failed_names drives.new ≡ D.failed_names drives.old }
-        ensures attached { (number : ℕ) → D.attached drives.new number ≡ D.attached drives.old number }
-        ensures bare { HasNoDrive self.old.bdos.mounted → HasNoDrive self.new.bdos.mounted }
-        ensures none { HasNoDrive self.old.bdos.mounted → drives.new ≡ drives.old }
-        ensures unfailing { HasNoDrive self.old.bdos.mounted → IfErr result (λ fault. fault ≡ StepFault.WriteFault) }
-        ensures calls { (filing : Filing) → StandsForFiles self.old.bdos (D.disks drives.old) filing
-            → steps.new ≤ steps.old + 20 * turns_of (call_in filing self.old.system) }
-    {
-        self.system.make_file_call(p);
-        match call_files(
-            &self.system,
-            &mut self.bdos,
-            p,
-            &mut self.reply,
-            drives,
-            steps,
-        ) {
-            Ok(extended) => self.conclude(p, extended, render, sink),
-            Err(Failed) => Err(StepFault::DiskFault),
-        }
-    }
-
-    /// The end of a step in which a process called a function on files, by what that came to.
-    fn conclude<S: Sink>(
-        &mut self,
-        p: Pid,
-        extended: Option<Extended>,
-        render: &mut Render,
-        sink: &mut S,
-    ) -> Result<(), StepFault>
-        requires whole { IsWhole self.old.system }
-        requires lives { Lives self.old.system.kernel.dispatcher.procs p }
-        requires none { self.old.system.records ≡ [] }
-        ensures ok { OnOk result (HasConcluded (told_of (call_of self.old.system.kernel.dispatcher.procs p) self.old.reply extended) p
-            (seen S.written S.faults render.old sink.old) (seen S.written S.faults render.new sink.new) self.old.system self.new.system) }
-        ensures err { IfErr result (λ fault. (fault ≡ StepFault.WriteFault) × Stopped (seen S.written S.faults render.old sink.old) (seen S.written S.faults render.new sink.new)
-            (step_concluded (told_of (call_of self.old.system.kernel.dispatcher.procs p) self.old.reply extended) p self.old.system).emitted) }
-        ensures bdos { self.new.bdos ≡ self.old.bdos }
-    {
-        match self
-            .system
-            .conclude_file_step(p, extended, &mut self.reply, render, sink)
-        {
+        let instruction = match self.begin_step(drives, render, sink, steps) {
+            Ok(instruction) => instruction,
+            Err(fault) => return Err(fault),
+        };
+        match self.end_step(instruction, render, sink) {
             Ok(()) => Ok(()),
             Err(Failed) => Err(StepFault::WriteFault),
         }
@@ -505,7 +419,7 @@ impl Machine {
         requires most { self.old.system.steps + n ≤ GREATEST_STEP }
         requires whole { IsWhole self.old.system }
         requires no_completions { NoCompletions self.old.system }
-        requires holds { HoldsDrives D.attached D.disks self.old.bdos drives.old }
+        requires holds { HoldsDrives D.attached D.disks self.old.system.kernel self.old.bdos drives.old }
         ensures ok { (s : State) (first : Option (List ℕ)) → StandsWithDrives self.old render.old (S.written sink.old) (D.disks drives.old) s first
             → OnOk result (StandsWithDrives self.new render.new (S.written sink.new) (D.disks drives.new) (after n s) first) }
         ensures err { (s : State) (first : Option (List ℕ)) → StandsWithDrives self.old render.old (S.written sink.old) (D.disks drives.old) s first
@@ -518,7 +432,7 @@ impl Machine {
         ensures stops { IfErr result (λ error. HasStoppedIn n error.fault error.step (seen S.written S.faults render.old sink.old) (seen S.written S.faults render.new sink.new) self.old.system) }
         ensures each { (s : State) → s.system ≡ self.old.system → (k : ℕ) → k < n → IsNextOf (after k s) (after (k + 1) s) }
         ensures due { 0 < n → OnOk result (NobodyDue self.new.system.kernel) }
-        ensures interprets { IsActing self.old.system → OnOk result (IsActing self.new.system) }
+        ensures interprets { Interprets self.old.system → OnOk result (Interprets self.new.system) }
         ensures locks { OnOk result (AreOpen self.new.bdos.opens) }
         ensures whole { OnOk result (IsWhole self.new.system) }
         ensures no_completions { OnOk result (NoCompletions self.new.system) }
@@ -526,7 +440,7 @@ impl Machine {
         ensures trace { render.new.trace ≡ render.old.trace }
         ensures cause { HaveCause of_run (counts S.faults D.faults sink.old drives.old) (counts S.faults D.faults sink.new drives.new) result }
         ensures keeps { KeepsMounted (D.disks drives.old) (D.disks drives.new) self.old.bdos.mounted self.new.bdos.mounted }
-        ensures holds { HoldsDrives D.attached D.disks self.new.bdos drives.new }
+        ensures holds { OnOk result (HoldsDrives D.attached D.disks self.new.system.kernel self.new.bdos drives.new) }
         ensures names { D.failed_names drives.new ≡ D.failed_names drives.old }
         ensures attached { (number : ℕ) → D.attached drives.new number ≡ D.attached drives.old number }
         ensures bare { HasNoDrive self.old.bdos.mounted → HasNoDrive self.new.bdos.mounted }
@@ -558,7 +472,7 @@ impl Machine {
         requires room { self.old.system.steps + most ≤ GREATEST_STEP }
         requires whole { IsWhole self.old.system }
         requires no_completions { NoCompletions self.old.system }
-        requires holds { HoldsDrives D.attached D.disks self.old.bdos drives.old }
+        requires holds { HoldsDrives D.attached D.disks self.old.system.kernel self.old.bdos drives.old }
         ensures ok { (s : State) (first : Option (List ℕ)) → StandsWithDrives self.old render.old (S.written sink.old) (D.disks drives.old) s first
             → IfOk result (λ more. StandsWithDrives self.new render.new (S.written sink.new) (D.disks drives.new) (after more s) first) }
         ensures err { (s : State) (first : Option (List ℕ)) → StandsWithDrives self.old render.old (S.written sink.old) (D.disks drives.old) s first
@@ -578,7 +492,7 @@ impl Machine {
         ensures trace { render.new.trace ≡ render.old.trace }
         ensures cause { HaveCause of_run (counts S.faults D.faults sink.old drives.old) (counts S.faults D.faults sink.new drives.new) result }
         ensures keeps { KeepsMounted (D.disks drives.old) (D.disks drives.new) self.old.bdos.mounted self.new.bdos.mounted }
-        ensures holds { HoldsDrives D.attached D.disks self.new.bdos drives.new }
+        ensures holds { OnOk result (HoldsDrives D.attached D.disks self.new.system.kernel self.new.bdos drives.new) }
         ensures names { D.failed_names drives.new ≡ D.failed_names drives.old }
         ensures attached { (number : ℕ) → D.attached drives.new number ≡ D.attached drives.old number }
         ensures bare { HasNoDrive self.old.bdos.mounted → HasNoDrive self.new.bdos.mounted }
@@ -602,7 +516,9 @@ impl Machine {
         requires no_completions { NoCompletions self.old.system }
         requires room { self.old.system.steps + most ≤ GREATEST_STEP }
         ensures count { result ≤ most }
-        ensures states { (s : State) → s.system ≡ self.old.system → after result s ≡ record s { system = self.new.system } }
+        ensures states { (s : State) → s.system ≡ self.old.system → AreWithin self.old.system.kernel.disk.served s.files → after result s ≡ record s { system = self.new.system } }
+        ensures disk { self.new.system.kernel.disk ≡ passed_by result self.old.system.kernel.disk }
+        ensures calls { CallsAlike self.old.system.kernel.dispatcher.procs self.new.system.kernel.dispatcher.procs }
         ensures steps { AreSteps result self.old.system (silent self.new.system) }
         ensures due { 0 < result → NobodyDue self.new.system.kernel }
         ensures whole { IsWhole self.new.system }
@@ -611,43 +527,5 @@ impl Machine {
         ensures bdos { self.new.bdos ≡ self.old.bdos }
     {
         self.system.run_on(most)
-    }
-
-    /// The end of a run: each drive is synced, in order of the letters, and unfinished lines are closed. Where a drive fails
-    /// nothing is written, and the lines are left to `Render::finish`.
-    pub fn settle<D: Drives, S: Sink, L: Ledger>(
-        &mut self,
-        drives: &mut D,
-        render: &mut Render,
-        sink: &mut S,
-        steps: &mut Steps<L>,
-    ) -> Result<(), StepFault>
-        requires { HoldsDrives D.attached D.disks self.old.bdos drives.old }
-        ensures ok { (outputs : List Output) (first : Option (List ℕ)) → Shows render.old (S.written sink.old) outputs first
-            → OnOk result (S.written sink.new ≡ appended first (closed render.old.trace outputs)) }
-        ensures err { (outputs : List Output) (first : Option (List ℕ)) → Shows render.old (S.written sink.old) outputs first
-            → IfErr result (λ fault. EndsBy fault (S.written sink.new) first (rendered render.old.trace outputs) (closed render.old.trace outputs)) }
-        ensures machine { self.new ≡ self.old }
-        ensures trace { render.new.trace ≡ render.old.trace }
-        ensures cause { HaveCause itself (counts S.faults D.faults sink.old drives.old) (counts S.faults D.faults sink.new drives.new) result }
-
-        // A drive that failed leaves what was written and what is kept to be written.
-        ensures unwritten { IfErr result (λ fault. OnDiskFault fault ((render.new ≡ render.old) × (sink.new ≡ sink.old))) }
-        ensures some { IfErr result (λ fault. OnDiskFault fault (0 < mounted_count self.old.bdos.mounted)) }
-
-        // Each drive is called once, or up to the first that fails, and its image stays as it was.
-        ensures device_calls { steps.new ≤ steps.old + mounted_count self.old.bdos.mounted }
-        ensures synced { OnOk result (steps.new ≡ steps.old + mounted_count self.old.bdos.mounted) }
-        ensures synced_first { IfErr result (λ fault. OnWriteFault fault (steps.new ≡ steps.old + mounted_count self.old.bdos.mounted)) }
-        ensures drives { SameDrives D.attached D.disks D.failed_names drives.old drives.new }
-        ensures none { mounted_count self.old.bdos.mounted ≡ 0 → drives.new ≡ drives.old }
-    {
-        if let Err(Failed) = self.bdos.sync(drives, steps) {
-            return Err(StepFault::DiskFault);
-        }
-        match render.finish(sink) {
-            Ok(()) => Ok(()),
-            Err(Failed) => Err(StepFault::WriteFault),
-        }
     }
 }

@@ -31,6 +31,7 @@ impl System {
         ensures slot { lowest_free self.old.kernel.dispatcher.procs ≡ Some result }
         ensures system { self.new ≡ with_placed self.old result seg name priority console program.now }
         ensures bare { IsBare self.new }
+        ensures disk { self.new.kernel.disk ≡ self.old.kernel.disk }
     {
         let spec = self.memory.spec(seg);
         lay_out(&mut self.memory, seg, program);
@@ -51,6 +52,7 @@ impl System {
         ensures system { self.new ≡ with_residents consoles self.old }
         ensures whole { IsWhole self.new }
         ensures no_completions { NoCompletions self.new }
+        ensures disk { self.new.kernel.disk ≡ self.old.kernel.disk }
         ensures steps { self.new.steps ≡ self.old.steps }
     {
         self.begin_interpreting(consoles);
@@ -97,6 +99,8 @@ impl System {
         ensures whole { IsWhole self.new }
         ensures completed { self.new.kernel.dispatcher.completed ≡ self.old.kernel.dispatcher.completed }
         ensures records { self.new.records ≡ self.old.records }
+        ensures disk { self.new.kernel.disk ≡ self.old.kernel.disk }
+        ensures owed { self.new.owed ≡ self.old.owed }
         ensures steps { self.new.steps ≡ self.old.steps }
     {
         for console in 0..consoles {

@@ -1,9 +1,10 @@
-ghost use Rattle.std.specs.Prelude.{◌≡◌, ◌<◌, ◌≤◌, ◌+◌, ℕ, true, List, [], Option, Some, None, is_some, IfSome, IfOk, OnOk};
+ghost use Rattle.std.specs.Prelude.{◌≡◌, ◌<◌, ◌≤◌, ◌+◌, ℕ, true, List, [], Option, Some, None, is_some, IfSome, IfOk, OnOk, length};
 ghost use Rattle.mpm_script.specs.declared.line.TheConstants.{GREATEST_STEP};
 ghost use Rattle.mpm_procs.specs.Table.{Lives, process_in};
 ghost use Rattle.mpm_dispatcher.specs.Dispatch.{IsReady};
 ghost use Rattle.mpm_output.specs.Writing.{Writes};
 
+use crate::owed::Owed;
 use crate::records::Records;
 use mpm_banks::Banks;
 use mpm_base::{Pid, Reply, Seg};
@@ -28,21 +29,29 @@ pub(crate) struct System {
     pub residents: Residents,
     /// The records of the calls that this step completed.
     pub records: Records,
+    /// Those who ended in this step owe what they had open and marked.
+    pub owed: Owed,
 }
 
 impl System {
     ghost use Rattle.mpm_processor.specs.Gates.{IsHome};
     ghost use Rattle.mpm_machine.specs.Gates.{is_inside};
-    ghost use Rattle.mpm_machine.specs.State.{State, silent, IsWhole, NoCompletions, HasRoom};
+    ghost use Rattle.mpm_machine.specs.State.{State, silent, IsWhole, NoCompletions, HasRoom, HasRoomForAll};
     ghost use Rattle.mpm_machine.specs.Due.{NobodyDue};
     ghost use Rattle.mpm_machine.specs.After.{after, AreSteps};
     ghost use Rattle.mpm_ready.specs.Order.{first_of};
     ghost use Rattle.mpm_ready.specs.Tables.{list_at};
     ghost use Rattle.mpm_dispatcher.specs.Dispatch.{ready};
-    ghost use Rattle.mpm_machine.specs.Moving.{Moved, IsIdle, later};
+    ghost use Rattle.mpm_machine.specs.Moving.{Moved, IsIdle, later, CanPass};
     ghost use Rattle.mpm_interrupts.specs.Interrupts.{due};
     ghost use Rattle.mpm_processor.specs.declared.gate.Gate.TheVariants.{Return};
-    ghost use Rattle.mpm_machine.specs.Step.{acted, acted_at, at_instruction, gate_before, is_no_gate, coming, begun_by, instruction_unless, step_of, instruction_at, instructed, executed, illegal};
+    ghost use Rattle.mpm_machine.specs.Step.{acted, acted_at, at_instruction, gate_before, is_no_gate, coming, begun_by, instruction_unless, instruction_at, instructed, executed, illegal};
+    ghost use Rattle.mpm_machine.specs.Finishing.{all_answered};
+    ghost use Rattle.mpm_machine.specs.Stepping.{begun_alone, is_instruction};
+    ghost use Rattle.mpm_service.specs.Ahead.{passed_by};
+    ghost use Rattle.mpm_machine.specs.Files.{AreWithin};
+    ghost use Rattle.mpm_machine.specs.Holding.{CallsAlike};
+    ghost use Rattle.mpm_kernel.specs.Kernel.{IsSound};
 
     /// Steps at most so many, that need no look at anything between them. Answers how many were done. They are instructions of
     /// the running process, up to a gate or an unlisted opcode, as long as it runs on; where no process runs and none is
@@ -52,7 +61,9 @@ impl System {
         requires no_completions { NoCompletions self.old }
         requires room { self.old.steps + most ≤ GREATEST_STEP }
         ensures count { result ≤ most }
-        ensures states { (s : State) → s.system ≡ self.old → after result s ≡ record s { system = self.new } }
+        ensures states { (s : State) → s.system ≡ self.old → AreWithin self.old.kernel.disk.served s.files → after result s ≡ record s { system = self.new } }
+        ensures disk { self.new.kernel.disk ≡ passed_by result self.old.kernel.disk }
+        ensures calls { CallsAlike self.old.kernel.dispatcher.procs self.new.kernel.dispatcher.procs }
         ensures steps { AreSteps result self.old (silent self.new) }
         ensures due { 0 < result → NobodyDue self.new.kernel }
         ensures whole { IsWhole self.new }
@@ -62,7 +73,7 @@ impl System {
         if self.abort_deferred {
             return 0;
         }
-        let most = most.min(self.quiet());
+        let most = self.quiet_for(most);
         let Some(p) = self.runner() else {
             return self.idle(most);
         };
@@ -72,9 +83,24 @@ impl System {
         self.run_process(p, seg, most)
     }
 
+    /// So many steps, at most, in which no interrupt is due and the disk's only pass.
+    #[tactic(auto, using(crate::proofs::PassingLaws::fewer_can))]
+    fn quiet_for(&self, most: u64) -> u64
+        ensures few { result ≤ most }
+        ensures short { result ≤ 4294967295 }
+        ensures quiet { (step : ℕ) → step ≤ self.now.steps + result → self.now.steps < step → due step self.now.interrupts ≡ None }
+        ensures passing { CanPass result self.now.kernel.disk }
+    {
+        most.min(self.quiet()).min(u64::from(self.disk_quiet()))
+    }
+
     /// Steps in which nothing is done, at most so many: where no process runs and none is ready. Answers how many.
+    #[tactic(auto, using(crate::proofs::PassedLaws::later_none))]
     fn idle(&mut self, most: u64) -> u64
+        requires sound { IsSound self.old.kernel }
         requires room { self.old.steps + most ≤ GREATEST_STEP }
+        requires short { most ≤ 4294967295 }
+        requires passing { CanPass most self.old.kernel.disk }
         ensures count { result ≤ most }
         ensures idle { 0 < result → IsIdle self.old }
         ensures system { self.new ≡ later self.old result }
@@ -82,8 +108,31 @@ impl System {
         if self.kernel.running().is_some() || self.kernel.first_ready().is_some() {
             return 0;
         }
-        self.steps += most;
+        self.pass(most);
         most
+    }
+
+    /// So many steps at least in which the disk's only pass.
+    fn disk_quiet(&self) -> u32
+        ensures { (n : ℕ) → n ≤ result → CanPass n self.now.kernel.disk }
+    {
+        match self.kernel.disk().quiet() {
+            Some(steps) => steps,
+            None => u32::MAX,
+        }
+    }
+
+    /// So many steps are done, in which the disk's pass.
+    #[tactic(auto, using(crate::proofs::PassedLaws::passes_within))]
+    fn pass(&mut self, steps: u64)
+        requires sound { IsSound self.old.kernel }
+        requires room { self.old.steps + steps ≤ GREATEST_STEP }
+        requires short { steps ≤ 4294967295 }
+        requires passing { CanPass steps self.old.kernel.disk }
+        ensures { self.new ≡ later self.old steps }
+    {
+        self.steps += steps;
+        self.kernel.pass_disk(steps as u32);
     }
 
     /// So many steps at least in which no interrupt is due.
@@ -109,6 +158,9 @@ impl System {
     /// Instructions of a process of a segment, at most so many.
     #[tactic(auto, unfolding(crate::specs::Moving::with_view))]
     fn run_process(&mut self, p: Pid, seg: Seg, most: u64) -> u64
+        requires sound { IsSound self.old.kernel }
+        requires short { most ≤ 4294967295 }
+        requires passing { CanPass most self.old.kernel.disk }
         requires lives { Lives self.old.kernel.dispatcher.procs p }
         requires home { IsHome self.old.memory seg }
         requires room { self.old.steps + most ≤ GREATEST_STEP }
@@ -120,33 +172,30 @@ impl System {
         let regs = self.kernel.regs_mut(p);
         let done = run_instructions(inside, regs, &mut self.memory, seg, &mut devices, most);
         *self.kernel.devices_mut() = devices;
-        self.steps += done;
+        self.pass(done);
         done
     }
 
-    /// One step: an event or what the running process does, the held calls that this completed, the ends that are due, and
-    /// then the dispatcher.
-    #[tactic(auto, using(crate::proofs::WholeStepLaws::whole_counted, crate::proofs::WholeStepLaws::whole_step, crate::proofs::StepLaws::step_steps), unfolding(crate::specs::Step::step_of, crate::specs::Step::with_settled))]
-    pub fn step<S: Sink>(
+    /// What a step begins with in which no process makes a file call: an event, or what the running process does; and the held calls
+    /// that this completed. Answers whether that was an instruction.
+    pub fn begin_alone<S: Sink>(
         &mut self,
         reply: &mut Reply,
         render: &mut Render,
         sink: &mut S,
-    ) -> Result<(), Failed>
+    ) -> Result<bool, Failed>
         requires most { self.old.steps < GREATEST_STEP }
         requires whole { IsWhole self.old }
         requires no_completions { NoCompletions self.old }
-        ensures system { OnOk result (self.new ≡ (step_of self.old).system) }
-        ensures wrote { Writes S.written S.faults render.old sink.old render.new sink.new (step_of self.old).emitted result }
-        ensures whole { OnOk result (IsWhole self.new) }
-        ensures no_completions { OnOk result (NoCompletions self.new) }
-        ensures count { OnOk result (self.new.steps ≡ self.old.steps + 1) }
+        ensures system { OnOk result (self.new ≡ all_answered (begun_alone self.old).system) }
+        ensures room { OnOk result (HasRoomForAll (length self.new.records + 1)) }
+        ensures instruction { IfOk result (λ instruction. instruction ≡ is_instruction None self.old) }
+        ensures wrote { Writes S.written S.faults render.old sink.old render.new sink.new (begun_alone self.old).emitted result }
     {
         self.steps += 1;
         let instruction = self.begin(reply, render, sink)?;
-        self.settle(reply, render, sink)?;
-        self.kernel.pick(instruction);
-        Ok(())
+        self.answer_all(reply);
+        Ok(instruction)
     }
 
     /// What a step begins with: the event that comes, or else what the running process does. Answers whether that was an

@@ -65,9 +65,9 @@ document_of text = if is_utf8 text then parse_document text else None
 unfoldable pub whole_file_of : List ℕ → Option MachineFile
 whole_file_of text = document_of text >>= machine_of
 
--- no part is asked for that isn't built yet: no turns of a disk, no spooler and no scheduler
+-- no part is asked for that isn't built yet: no spooler and no scheduler
 unfoldable pub is_built : MachineFile → Bool
-is_built file = file.disk_turn == 0 && (not file.spool && not file.sched)
+is_built file = not file.spool && not file.sched
 
 -- the machine file that a text is, of parts that are built
 unfoldable pub machine_of_text : List ℕ → Option MachineFile

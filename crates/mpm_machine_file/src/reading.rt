@@ -18,7 +18,7 @@ use std::alloc::Global;
 use toml::Table;
 
 /// Reads a machine file: a TOML document in UTF-8. It is a fault exactly where the text isn't one, or asks for a part that
-/// isn't built yet: a disk's turns, the spooler or the scheduler.
+/// isn't built yet: the spooler or the scheduler.
 ///
 /// These are its keys, and no others may stand in it. Those marked * must be there.
 ///
@@ -54,7 +54,7 @@ pub fn read_machine(alloc: Global, text: &[u8]) -> Result<MachineFile, MachineEr
 fn is_built(file: &MachineFile) -> bool
     ensures { result ≡ spec.is_built file.now }
 {
-    file.disk_turn == 0 && !file.spool && !file.sched
+    !file.spool && !file.sched
 }
 
 /// Reads a machine file, whichever parts it asks for.

@@ -8,3 +8,4 @@ mod opening;
 mod procedures;
 mod residents;
 mod scene;
+mod turns;

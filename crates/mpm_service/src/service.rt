@@ -234,6 +234,13 @@ impl Service {
         left
     }
 
+    /// How many steps a turn has; where it is 0 no call may wait.
+    pub fn turn_steps(&self) -> u32
+        ensures { result ≡ self.now.turn_steps }
+    {
+        self.turn_steps
+    }
+
     /// The process whose call is in service, none exactly where none is.
     #[tactic(auto, unfolding(crate::specs::Disk::served_process))]
     pub fn serving(&self) -> Option<Pid>

@@ -12,7 +12,7 @@ second = 59
 minute = 58
 hour = 23
 date = 65535
-disk_turn = 0
+disk_turn = 1000
 tick_every = 1000000
 printers = 4
 consoles = 8
@@ -78,7 +78,7 @@ fn has_most(file: &MachineFile) -> bool {
     let Some(script) = &file.script else {
         return false;
     };
-    has_numbers(file, [8, 4, 1_000_000, 0, 65_535, 23, 58, 59])
+    has_numbers(file, [8, 4, 1_000_000, 1000, 65_535, 23, 58, 59])
         && has_segments(file, &[(64, 8), (188, 4)])
         && has_drives(file, &drives)
         && script.as_str() == "keys.txt"

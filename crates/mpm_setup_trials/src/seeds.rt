@@ -163,12 +163,12 @@ fn has_image(generated: &mut Generated) -> bool {
     generated.drives.attach(0, "a").is_ok() && generated.drives.size(0) == Ok(4194304)
 }
 
-/// Whether a machine has two consoles and no printer, ticks, no turns of the disk, two segments and a drive.
+/// Whether a machine has two consoles and no printer, ticks, turns of the disk, two segments and a drive.
 fn has_its_parts(machine: &MachineFile) -> bool {
     machine.consoles == 2
         && machine.printers == 0
         && machine.tick_every == 1000
-        && machine.disk_turn == 0
+        && machine.disk_turn == 20
         && machine.segments.as_slice().len() == 2
         && machine.drives.as_slice().len() == 1
 }

@@ -20,10 +20,12 @@ use Rattle.mpm_drives.specs.Images.{Images}
 use Rattle.mpm_drives.specs.Mounted.{NumberedDrive, AreDrivesOf, AreTold, drives_on, placed}
 use Rattle.mpm_drives.proofs.Opening.{drives_are}
 use Rattle.mpm_bdos.specs.Serving.{Kept as Filed, nothing_kept, in_places}
-use Rattle.mpm_machine.specs.State.{State, StandsForFiles}
+use Rattle.mpm_machine.specs.State.{State}
+use Rattle.mpm_machine.specs.Files.{StandsBetween}
 use Rattle.mpm_machine.specs.Mounting.{HasMounted, HasDrives, HasNoDrive, untouched}
 use Rattle.mpm_machine.proofs.MountedLaws.{none_mounted}
 use Rattle.mpm_machine.proofs.DriveLaws.{nothing_mounted}
+use Rattle.mpm_machine.proofs.SettlingLaws.{stands_idle}
 use Rattle.mpm_top.proofs.Placing.{mounted_stand, none_on, none_stand}
 use Rattle.mpm_drives.specs.Stopping.{Failures, StopsAt, IsFirst, Stops}
 use Rattle.mpm_top.specs.Runs.{Host, Failed, system_of, script_name, drives_listed, begun, input_of, Holds, Scripted, Starts, StartsOf, Begins, BeginsOf, Unread, LacksScript, LacksDrive, Ends, EndsAfter, IsNoMachine, IsRefusal, IsEarly, status_of, UnlessDiskFault}
@@ -67,16 +69,16 @@ begins_of_file host bytes file events system drives is scripted was are = record
   is = system_of_file bytes events file is ∙ ap Some (sym was);
   on = drives;
   drives = subst (λ (specs : List DriveSpec). AreDrivesOf host.images specs drives) (sym (drives_of_file bytes file is)) are;
-  filing = refl;
+  files = refl;
   outputs = refl;
 }
 
 -- its machine, with its drives mounted
 pub starts_of_file : (host : Host) (bytes : List ℕ) (file : MachineFile) (events : List Timed) (system : System) (a : ℕ → Option ℕ) (x : Option Disks) (kept : Filed)
     → machine_of_text bytes ≡ Some file → Scripted host.contents file.script events → system ≡ opened file events → HasMounted a x host.images file.drives kept → HasDrives x file.drives kept.mounted
-    → StartsOf host Run (λ content. content ≡ bytes) system kept x
+    → system.kernel.disk.served ≡ None → StartsOf host Run (λ content. content ≡ bytes) system kept x
 unfolding drives_on begins_of_file
-starts_of_file host bytes file events system a x kept is scripted was has listed =
+starts_of_file host bytes file events system a x kept is scripted was has listed idle =
     let ds = has.directories in
     let drives = drives_on x ds in
     record {
@@ -85,9 +87,11 @@ starts_of_file host bytes file events system a x kept is scripted was has listed
       same = refl;
       files = λ told.
           let stand = mounted_stand a x host.images file.drives ds has.mounted (subst (AreTold host.images) (drives_of_file bytes file is) told) in
-          subst (λ (k : Filed). StandsForFiles k x (untouched (placed drives))) (sym has.is) (record { filing_is = refl; stand = stand });
+          stands_idle system.kernel.disk kept x (untouched (placed drives)) idle
+          (subst (λ (k : Filed). StandsBetween k x (untouched (placed drives))) (sym has.is) (record { idle = refl; filing_is = refl; stand = stand }));
       listed = subst (λ specs. HasDrives x specs kept.mounted) (sym (drives_of_file bytes file is)) listed;
       bare = λ none. subst (λ (k : Filed). HasNoDrive k.mounted) (sym has.is) (none_on x ds none);
+      idle = idle;
     }
 
 -- the script that a machine file names wasn't read
@@ -191,13 +195,14 @@ starts_of_contents host form name bytes system kept disks from_file starts = rec
     is = starts.begins.is;
     on = starts.begins.on;
     drives = starts.begins.drives;
-    filing = starts.begins.filing;
+    files = starts.begins.files;
     outputs = starts.begins.outputs;
   };
   same = starts.same;
   files = starts.files;
   listed = starts.listed;
   bare = starts.bare;
+  idle = starts.idle;
 }
 
 pub starts_with_contents : (host : Host) (form which : Form) (name bytes : List ℕ) (disks : Option Disks) (result : Result Machine Status) → form ≡ which
@@ -221,7 +226,7 @@ begins_of_contents host form name bytes s from_file begins = record {
   is = begins.is;
   on = begins.on;
   drives = begins.drives;
-  filing = begins.filing;
+  files = begins.files;
   outputs = begins.outputs;
 }
 
@@ -279,9 +284,9 @@ ends_with_contents host form which name bytes old new (Err status) is from_file 
 
 -- a program's machine has no drive
 pub program_starts : (host : Host) (bytes : List ℕ) (disks : Option Disks) (system : System) (kept : Filed) → system ≡ opening_system bytes → kept ≡ nothing_kept (in_places [])
-    → StartsOf host Program (λ content. content ≡ bytes) system kept disks
+    → system.kernel.disk.served ≡ None → StartsOf host Program (λ content. content ≡ bytes) system kept disks
 unfolding system_of script_name drives_listed
-program_starts host bytes disks system kept is none = record {
+program_starts host bytes disks system kept is none idle = record {
   drives = [];
   begins = record {
     bytes = bytes;
@@ -291,13 +296,16 @@ program_starts host bytes disks system kept is none = record {
     is = ap Some (sym is);
     on = [];
     drives = tt;
-    filing = refl;
+    files = refl;
     outputs = refl;
   };
   same = refl;
-  files = λ told. subst (λ (k : Filed). StandsForFiles k disks (untouched (placed []))) (sym none) (record { filing_is = refl; stand = none_stand disks });
+  files = λ told.
+      stands_idle system.kernel.disk kept disks (untouched (placed [])) idle
+      (subst (λ (k : Filed). StandsBetween k disks (untouched (placed []))) (sym none) (record { idle = refl; filing_is = refl; stand = none_stand disks }));
   listed = nothing_mounted disks kept none;
   bare = λ nothing. subst (λ (k : Filed). HasNoDrive k.mounted) (sym none) none_mounted;
+  idle = idle;
 }
 
 -- where no drive was called, that is so of each ending

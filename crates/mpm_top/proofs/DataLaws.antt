@@ -10,10 +10,9 @@ use Rattle.std.proofs.lemmas.List.Quantifiers.{position-Some}
 use Rattle.std.proofs.lemmas.List.Sums.{sum_by_more}
 use Rattle.std.proofs.lemmas.List.FromFn.{length-range_with_len, get_or-range_with_len}
 use Rattle.mpm_base.specs.declared.kind.Kind.TheVariants.{Hd4}
-use Rattle.mpm_port.specs.Disks.{Disks, SameDisks, Told, sector_of}
+use Rattle.mpm_port.specs.Disks.{Disks, sector_of}
 use Rattle.mpm_blocks.specs.Geometries.{geometry_of}
 use Rattle.mpm_blocks.specs.Sectors.{Sectors, sectors_of}
-use Rattle.mpm_blocks.proofs.ToldImages.{told_image_same}
 use Rattle.mpm_dirent.specs.declared.kinds.Entry.{Entry}
 use Rattle.mpm_dirent.specs.declared.kinds.Entry.TheVariants.{Free, File, Xfcb, Label, Kept}
 use Rattle.mpm_dirent.specs.declared.kinds.FileEntry.{FileEntry}
@@ -30,7 +29,7 @@ use Rattle.mpm_bdos.specs.Turns.{labelled, told_images}
 use Rattle.mpm_top.specs.Data.{data_file, data_of, data_on, sector_in, HasDriveA}
 use Rattle.mpm_top.proofs.Naming.{none_some, told_there, kind_labelled}
 
--- drive A behind steps
+-- drive A behind a run
 
 drive_by_directory : (x : Option Disks) (drives : List (Option Drive)) (directory : Option Directory) (drive : Option Drive) → option_map labelled directory ≡ Some (0, Hd4)
     → StandsWhere 0 (told_images x 0) directory drive → slice_index_or drives 0 None ≡ drive → HasDriveA x directory drives
@@ -44,12 +43,9 @@ drive_by_directory x drives (Some d) (Some files) label stands here = record {
   here = here;
 }
 
--- also where the drives were synced
-pub has_drive_a : (x y : Option Disks) (mounted : List (Option Directory)) (drives : List (Option Drive)) → option_map labelled (directory_at mounted 0) ≡ Some (0, Hd4)
-    → StandEach (told_images x) mounted drives → Told SameDisks x y → HasDriveA y (directory_at mounted 0) drives
-has_drive_a x y mounted drives label stand same =
-    let has = drive_by_directory x drives (directory_at mounted 0) (slice_index_or drives 0 None) label (stand.each 0) refl in
-    record { image = has.image; files = has.files; told = told_image_same x y 0 same ∙ has.told; stands = has.stands; here = has.here }
+pub has_drive_a : (x : Option Disks) (mounted : List (Option Directory)) (drives : List (Option Drive)) → option_map labelled (directory_at mounted 0) ≡ Some (0, Hd4)
+    → StandEach (told_images x) mounted drives → HasDriveA x (directory_at mounted 0) drives
+has_drive_a x mounted drives label stand = drive_by_directory x drives (directory_at mounted 0) (slice_index_or drives 0 None) label (stand.each 0) refl
 
 -- the directory of the drive is of its kind
 pub kind_there : (directory : Option Directory) (d : Directory) → Some d ≡ directory → option_map labelled directory ≡ Some (0, Hd4) → d.kind ≡ Hd4

@@ -1,12 +1,11 @@
 -- The images by the names that a machine file lists, and what they stand for.
 use Rattle.std.proofs.Common.{◌≡◌, ◌≢◌, ◌∙◌, ◌<◌, ℕ, true, List, [], ◌∷◌, Option, Some, None, length, inl, inr, refl, sym, ap, subst, arith}
-use Rattle.std.proofs.Math.Path.{fun_ext}
 use Rattle.std.specs.Prelude.{◌⊎◌, Ok, is_some, option_map, option_and_then, slice_index_or, unwrap_or}
 use Rattle.std.specs.List.{AllByRecursion}
 use Rattle.std.proofs.lemmas.Bool.{false≢true, cases_eq}
 use Rattle.mpm_base.specs.declared.kind.Kind.{Kind}
 use Rattle.mpm_base.specs.declared.kind.Kind.TheVariants.{Ibm3740, Hd4, Hd8}
-use Rattle.mpm_port.specs.Disks.{Disks, SameDisks, Told}
+use Rattle.mpm_port.specs.Disks.{Disks}
 use Rattle.mpm_blocks.specs.Geometries.{geometry_of}
 use Rattle.mpm_blocks.specs.Sectors.{told_image}
 use Rattle.mpm_machine_file.specs.declared.lists.DriveSpec.{DriveSpec}
@@ -16,13 +15,12 @@ use Rattle.mpm_mount.specs.Images.{files_of}
 use Rattle.mpm_mount.proofs.Mounts.{mounts}
 use Rattle.mpm_drives.specs.Images.{Bytes, found, image_named, HasFiles}
 use Rattle.mpm_drives.specs.Mounted.{NumberedDrive, IsNamed, IsDriveOf, AreDrivesOf, number_of}
-use Rattle.mpm_drives.proofs.Telling.{images_same}
 use Rattle.mpm_bdos.specs.Serving.{StandsWhere, StandEach, directory_at}
 use Rattle.mpm_bdos.specs.Turns.{has_directory, labelled, told_images}
 use Rattle.mpm_machine.specs.Mounting.{IsInPlace, HasDrives, KeepsMounted}
 use Rattle.mpm_machine.specs.Failing.{HaveImages}
 use Rattle.mpm_machine.proofs.FilingLaws.{label_none}
-use Rattle.mpm_machine.proofs.DriveLaws.{still_has_drives}
+use Rattle.mpm_machine.proofs.DriveLaws.{keeps_both, still_has_drives}
 use Rattle.mpm_machine.specs.declared.system.System.{System}
 use Rattle.mpm_bdos.specs.Serving.{Kept as Filed}
 use Rattle.mpm_top.specs.declared.words.Form.{Form}
@@ -128,20 +126,16 @@ stand_by_name x specs mounted drives has images =
           (images.stand.each number);
     }
 
--- so it is behind steps, and where the drives were synced
+-- so it is behind steps, and behind the end of a run
 
 pub stand_behind : (x y : Option Disks) (one other : List (Option Directory)) (specs : List DriveSpec) (drives : List (Option Drive)) → HasDrives x specs one → KeepsMounted x y one other
     → HaveImages y other drives → StandFor (image_named y) specs drives
 stand_behind x y one other specs drives has keeps images = stand_by_name y specs other drives (still_has_drives x y one other specs keeps has) images
 
-same_by_name : (x y : Option Disks) → Told SameDisks x y → image_named y ≡ image_named x
-same_by_name x y same = fun_ext (λ name. images_same x y name same)
-
-pub stand_synced : (x y z : Option Disks) (one other : List (Option Directory)) (specs : List DriveSpec) (drives : List (Option Drive)) → HasDrives x specs one → KeepsMounted x y one other
-    → StandEach (told_images y) other drives → Told SameDisks y z → StandFor (image_named z) specs drives
-stand_synced x y z one other specs drives has keeps stand same =
-    subst (λ images. StandFor images specs drives) (sym (same_by_name y z same))
-    (stand_behind x y one other specs drives has keeps (record { directories = other; labels = λ number. refl; stand = stand }))
+pub stand_settled : (x y z : Option Disks) (one other last : List (Option Directory)) (specs : List DriveSpec) (drives : List (Option Drive)) → HasDrives x specs one → KeepsMounted x y one other
+    → KeepsMounted y z other last → HaveImages z last drives → StandFor (image_named z) specs drives
+stand_settled x y z one other last specs drives has keeps settled images =
+    stand_behind x z one last specs drives has (keeps_both x y z one other last keeps settled) images
 
 -- an image that the machine file doesn't list is as it was
 
@@ -177,9 +171,9 @@ others_behind (Some disks) None one other specs name has keeps apart = absurd ke
 others_behind (Some disks) (Some now) one other specs name has keeps apart =
     ap found (keeps.beside.others name (λ number there. not_named disks one specs number name has apart there))
 
-pub others_synced : (x y z : Option Disks) (one other : List (Option Directory)) (specs : List DriveSpec) (name : List ℕ) → HasDrives x specs one → KeepsMounted x y one other
-    → Told SameDisks y z → AllByRecursion (λ spec. spec.image ≢ name) specs → image_named z name ≡ image_named x name
-others_synced x y z one other specs name has keeps same apart = images_same y z name same ∙ others_behind x y one other specs name has keeps apart
+pub others_settled : (x y z : Option Disks) (one other last : List (Option Directory)) (specs : List DriveSpec) (name : List ℕ) → HasDrives x specs one → KeepsMounted x y one other
+    → KeepsMounted y z other last → AllByRecursion (λ spec. spec.image ≢ name) specs → image_named z name ≡ image_named x name
+others_settled x y z one other last specs name has keeps settled apart = others_behind x z one last specs name has (keeps_both x y z one other last keeps settled) apart
 
 pub others_told : (host : Host) (form : Form) (name bytes : List ℕ) (system : System) (kept : Filed) (disks : Option Disks) (image : List ℕ) (starts : Starts host form name system kept disks)
     → host.contents name ≡ Some bytes → AllByRecursion (λ spec. spec.image ≢ image) (drives_listed form bytes)

@@ -1,26 +1,27 @@
 -- Laws of a run from its beginning to its end.
-use Rattle.std.proofs.Common.{◌≡◌, ◌∙◌, ◌<◌, ◌≤◌, ◌-◌, ℕ, suc, Bool, List, [], ◌∷◌, ◌++◌, length, Option, Some, None, Result, Ok, Err, refl, sym, ap, subst, inl, inr, arith}
+use Rattle.std.proofs.Common.{◌≡◌, ◌∙◌, ◌<◌, ◌≤◌, ◌-◌, ℕ, zero, suc, Bool, List, [], ◌∷◌, ◌++◌, length, Option, Some, None, Result, Ok, Err, refl, sym, ap, subst, inl, inr, arith}
 use Rattle.std.specs.Prelude.{OnOk, OnErr}
 use Rattle.std.proofs.lemmas.List.{append-nil}
 use Rattle.mpm_port.specs.Causes.{Rose, HasCause}
 use Rattle.mpm_port.specs.Disks.{Disks}
 use Rattle.mpm_mount.specs.Drives.{Drive}
+use Rattle.mpm_mount.specs.Directories.{Directory}
 use Rattle.mpm_port.specs.Texts.{appended}
 use Rattle.mpm_render.specs.Shown.{Kept, Shows, EndsBetween}
 use Rattle.mpm_render.specs.Outputs.{Output, rendered, closed}
-use Rattle.mpm_mount.specs.Directories.{Directory}
 use Rattle.mpm_drives.specs.Images.{Images}
 use Rattle.mpm_drives.specs.Mounted.{NumberedDrive, AreTold, placed}
-use Rattle.mpm_bdos.specs.Syncing.{mounted_count}
 use Rattle.mpm_machine.specs.declared.system.System.{System}
 use Rattle.mpm_machine.specs.declared.machine.Machine.{Machine}
 use Rattle.mpm_machine.specs.declared.machine.StepFault.{StepFault}
 use Rattle.mpm_machine.specs.declared.machine.StepFault.TheVariants.{WriteFault as SinkFailed, DiskFault as SyncFailed}
-use Rattle.mpm_machine.specs.Faults.{Counts, HasFailed, EndsBy, OnDiskFault}
-use Rattle.mpm_machine.specs.State.{State, StandsForFiles, StandsWithDrives}
-use Rattle.mpm_machine.specs.Mounting.{HasNoDrive, untouched}
-use Rattle.mpm_machine.specs.FileCalls.{stepped}
-use Rattle.mpm_machine.specs.Failing.{StopsOn}
+use Rattle.mpm_machine.specs.Faults.{Counts, HasFailed}
+use Rattle.mpm_machine.specs.State.{State, Change, StandsWithDrives, silent}
+use Rattle.mpm_machine.specs.Files.{Between, StandsForFiles, drives_in}
+use Rattle.mpm_machine.specs.Mounting.{untouched}
+use Rattle.mpm_machine.specs.Stepping.{stepped}
+use Rattle.mpm_machine.specs.Failing.{HaveImages, StopsOn}
+use Rattle.mpm_machine.specs.Settling.{carried, StopsAtEnd, ClosesEnd, StopsSettling}
 use Rattle.mpm_machine.specs.After.{next, after, AreSteps, HasStoppedIn, ShowsBefore, EndsInStep}
 use Rattle.mpm_output.specs.Outside.{Outside}
 use Rattle.mpm_machine.proofs.NextLaws.{after_more}
@@ -28,54 +29,53 @@ use Rattle.mpm_top.specs.declared.words.Form.{Form}
 use Rattle.mpm_top.specs.declared.status.Status.{Status}
 use Rattle.mpm_top.specs.declared.status.Status.TheVariants.{DiskFault, WriteFault}
 use Rattle.mpm_top.specs.Words.{Command}
-use Rattle.mpm_top.specs.Runs.{Host, Failed, begun, drives_listed, Begins, Ends, StopsAt, StopsRun, Closes, ClosesAfter, ClosesAt, Causes, ended_by, StandFor, WritesSteps, StopsWriting, ClosesSteps, StopsSteps, WritesPart, WritesClosed, IsEarly}
+use Rattle.mpm_top.specs.Runs.{Host, Failed, begun, drives_of, drives_left, drives_listed, Begins, Ends, StopsAt, StopsRun, Closes, ClosesAfter, ClosesAt, Causes, ended_by, StandFor, WritesSteps, StopsWriting, ClosesSteps, StopsSteps, WritesPart, WritesClosed, IsEarly}
 
 -- a machine that begins, and a renderer that shows nothing yet, stand for its beginning
 pub stands_begun : (machine : Machine) (on : List NumberedDrive) (kept : Kept) (written : Option (List ℕ)) (disks : Option Disks) → Shows kept written [] written
-    → StandsForFiles machine.bdos disks (untouched (placed on)) → StandsWithDrives machine kept written disks (begun machine.system on) written
+    → StandsForFiles machine.system.kernel.disk machine.bdos disks (Between (untouched (placed on))) → StandsWithDrives machine kept written disks (begun machine.system on) written
 stands_begun machine on kept written disks shows stand = record { system = record { parts = refl; shown = shows }; files = stand }
 
 -- what is on the drives after a step, where the sink failed in it
 stopped_drives : (s : State) (step : ℕ) → s.system.steps < step
-    → (stepped (after (step - 1 - s.system.steps) s).system (after (step - 1 - s.system.steps) s).filing).filing.drives ≡ (after (step - s.system.steps) s).filing.drives
-unfolding next
+    → drives_of (next (after (step - 1 - s.system.steps) s)) ≡ drives_of (after (step - s.system.steps) s)
 stopped_drives s step later =
-    ap (λ (t : State). t.filing.drives) (sym (after_more (step - 1 - s.system.steps) s)) ∙ ap (λ n. (after n s).filing.drives) (omega (arith, later))
+    ap drives_of (sym (after_more (step - 1 - s.system.steps) s)) ∙ ap (λ (n : ℕ). drives_of (after n s)) (omega (arith, later))
+
+stops_next : (s : State) (drives : List (Option Drive)) → StopsOn SinkFailed s.system s.files drives → drives ≡ drives_of (next s)
+unfolding next
+stops_next s drives on = on
 
 -- a run stops in a step, where the sink failed or a drive, and some drives are as they are then, of which something is so
 pub stops_in_step : (Stand : List (Option Drive) → Type 0) (fault : StepFault) (trace trace' : Bool) (s : State) (steps : ℕ) (first written written' : Option (List ℕ)) (before now step : ℕ) (drives : List (Option Drive))
     → (fault ≡ SinkFailed → written' ≡ written) → trace ≡ trace' → EndsInStep fault trace' written first s steps step
     → ClosesAfter fault trace (after (step - 1 - s.system.steps) s) first written' before now
-    → StopsOn fault (after (step - 1 - s.system.steps) s).system (after (step - 1 - s.system.steps) s).filing drives → Stand drives
+    → StopsOn fault (after (step - 1 - s.system.steps) s).system (after (step - 1 - s.system.steps) s).files drives → Stand drives
     → StopsRun Stand fault trace s steps first written' before now step
 stops_in_step Stand SinkFailed trace trace' s steps first written written' before now step drives same traces ends closes on stand =
     let P : Option (List ℕ) → Type 0 = λ w. EndsInStep SinkFailed trace w first s steps step in
     let Q : Bool → Type 0 = λ t. EndsInStep SinkFailed t written first s steps step in
-    (inl (subst P (sym (same refl)) (subst Q (sym traces) ends)), subst Stand (on ∙ stopped_drives s step ends.later) stand)
+    inl (subst P (sym (same refl)) (subst Q (sym traces) ends), subst Stand (stops_next (after (step - 1 - s.system.steps) s) drives on ∙ stopped_drives s step ends.later) stand)
 stops_in_step Stand SyncFailed trace trace' s steps first written written' before now step drives same traces ends closes on stand =
     inl (record { later = ends.later; within = ends.within; text = closes; left = record { drives = drives; fails = on; stand = stand } })
 
--- or at the end, as drives were synced or lines closed
-pub stops_at_end : (Stand : List (Option Drive) → Type 0) (fault : StepFault) (trace : Bool) (s : State) (steps : ℕ) (first written written' : Option (List ℕ)) (before now : ℕ) → s.system.steps ≡ 0
-    → (fault ≡ SinkFailed → written' ≡ written) → EndsBy fault written first (rendered trace (after steps s).outputs) (closed trace (after steps s).outputs)
-    → ClosesAfter fault trace (after steps s) first written' before now → Stand (after steps s).filing.drives
+-- or at the end: as the sink failed, or a drive in a turn of the call in service, or as it was synced
+pub stops_at_end : (Stand : List (Option Drive) → Type 0) (fault : StepFault) (trace : Bool) (s : State) (steps : ℕ) (first written written' : Option (List ℕ)) (before now : ℕ) (kept : Kept) (disks : Option Disks) (mounted : List (Option Directory))
+    → (fault ≡ SinkFailed → written' ≡ written) → kept.trace ≡ trace → ((t : State) → ShowsBefore fault kept written t first → ClosesAfter fault trace t first written' before now)
+    → ((drives : List (Option Drive)) → HaveImages disks mounted drives → Stand drives) → StopsAtEnd fault kept written disks mounted (after steps s) first
     → StopsRun Stand fault trace s steps first written' before now steps
-stops_at_end Stand SinkFailed trace s steps first written written' before now start same ends closes stand =
-    let P : Option (List ℕ) → Type 0 = λ w. EndsBetween w first (rendered trace (after steps s).outputs) (closed trace (after steps s).outputs) in
-    let all : steps ≡ steps - s.system.steps = omega (arith, start) in
-    (inr (refl, subst P (sym (same refl)) ends), subst (λ n. Stand (after n s).filing.drives) all stand)
-stops_at_end Stand SyncFailed trace s steps first written written' before now start same ends closes stand = inr (refl, closes, stand)
-
--- what is kept to be written stays where a drive couldn't be synced
-pub still_shows : (fault : StepFault) (kept kept' : Kept) (written written' : Option (List ℕ)) (s : State) (first : Option (List ℕ))
-    → OnDiskFault fault ((kept' ≡ kept) × (written' ≡ written)) → Shows kept written s.outputs first → ShowsBefore fault kept' written' s first
-still_shows SinkFailed kept kept' written written' s first same shows = tt
-still_shows SyncFailed kept kept' written written' s first same shows =
-    subst (λ (k : Kept). Shows k written' s.outputs first) (sym same.0) (subst (λ (w : Option (List ℕ)). Shows kept w s.outputs first) (sym same.1) shows)
-
-pub on_both : (fault : StepFault) (P Q : Type 0) → (P → Q) → OnDiskFault fault P → OnDiskFault fault Q
-on_both SinkFailed P Q so p = tt
-on_both SyncFailed P Q so p = so p
+stops_at_end Stand SinkFailed trace s steps first written written' before now kept disks mounted same traces closes stand stops =
+    let P : Option (List ℕ) → Type 0 = λ w. EndsBetween w first (rendered trace (after steps s).outputs) (closed trace (carried (after steps s)).outputs) in
+    let Q : Bool → Type 0 = λ t. EndsBetween written first (rendered t (after steps s).outputs) (closed t (carried (after steps s)).outputs) in
+    inr (record { is = refl; text = subst P (sym (same refl)) (subst Q traces stops.0); stand = stand (drives_left (after steps s)) stops.1 })
+stops_at_end Stand SyncFailed trace s steps first written written' before now kept disks mounted same traces closes stand (inl turn) =
+    inr (inl (record {
+      is = refl;
+      text = closes (after steps s) turn.shown;
+      left = record { drives = turn.images.drives; fails = turn.images.are; stand = stand turn.images.drives turn.images.images };
+    }))
+stops_at_end Stand SyncFailed trace s steps first written written' before now kept disks mounted same traces closes stand (inr sync) =
+    inr (inr (record { is = refl; text = closes (carried (after steps s)) sync.shown; stand = stand (drives_left (after steps s)) sync.images }))
 
 -- a drive failed: the unfinished lines are closed, or the sink fails too
 
@@ -179,9 +179,8 @@ writes_part host left command s SinkFailed step said status first written before
       begins = begins;
       within = subst (λ k. k ≤ command.steps) its bound;
       steps = subst (λ k. StopsWriting command.trace command.steps s.system first written k) its steps;
-      text = λ told. subst (λ k. StopsAt command.trace s command.steps first written k) its (stops told).0;
-      images = λ told.
-          subst (λ k. StandFor left (drives_listed command.form begins.bytes) (after (k - s.system.steps) s).filing.drives) its (stops told).1;
+      text = λ told.
+          subst (λ k. StopsAt (StandFor left (drives_listed command.form begins.bytes)) command.trace s command.steps first written k) its (stops told);
     }
 
 -- it ends early only as its drives are synced, where no step is to be done
@@ -193,35 +192,25 @@ early_by SyncFailed step early = early
 pub stopped_early : (fault : StepFault) (step : ℕ) (status : Status) → status ≡ ended_by fault step → IsEarly status → step ≡ 0
 stopped_early fault step status is early = early_by fault step (subst IsEarly is early)
 
--- where no drive is mounted none fails as drives are synced
-
-none_counted : (places : List (Option Directory)) → HasNoDrive places → mounted_count places ≡ 0
-none_counted [] none = refl
-none_counted (None ∷ places) none = none_counted places (λ number. none (suc number))
-none_counted (Some d ∷ places) none = absurd (never (none 0))
-  where
-    never : Some d ≡ None → ⊥
-    never e = cc
-
-pub none_synced : (places : List (Option Directory)) → HasNoDrive places → mounted_count places ≡ 0
-none_synced places none = none_counted places none
-
-pub sink_alone : (fault : StepFault) (places : List (Option Directory)) → OnDiskFault fault (0 < mounted_count places) → HasNoDrive places → fault ≡ SinkFailed
-sink_alone SinkFailed places some none = refl
-sink_alone SyncFailed places some none = absurd (omega (arith, some, none_counted places none))
-
 -- what was written, by the steps of the system alone
 
-pub writes_steps : (trace : Bool) (steps : ℕ) (old new : System) (emitted : List Output) (kept : Kept) (text first written : Option (List ℕ)) → kept.trace ≡ trace
-    → AreSteps steps old (record { system = new; emitted = emitted }) → Shows kept text (emitted ++ []) first
-    → ((outputs : List Output) (before : Option (List ℕ)) → Shows kept text outputs before → written ≡ appended before (closed kept.trace outputs))
+pub writes_steps : (trace : Bool) (steps : ℕ) (o : Outside) (old new : System) (emitted : List Output) (first written : Option (List ℕ)) → o.kept.trace ≡ trace
+    → AreSteps steps old (record { system = new; emitted = emitted }) → Shows o.kept o.written (emitted ++ []) first → ClosesEnd o written new
     → WritesSteps trace steps old first written
-writes_steps trace steps old new emitted kept text first written traces are shows closes = record {
+writes_steps trace steps o old new emitted first written traces are shows end = record {
   change = record { system = new; emitted = emitted };
   are = are;
-  text = subst (λ t. written ≡ appended first (closed t emitted)) traces
-      (closes emitted first (subst (λ outputs. Shows kept text outputs first) (append-nil emitted) shows));
+  end = end.change;
+  ends = end.is;
+  text = subst (λ (t : Bool). written ≡ appended first (closed t (end.change.emitted ++ emitted))) traces
+      (end.closes emitted first (subst (λ (outputs : List Output). Shows o.kept o.written outputs first) (append-nil emitted) shows));
 }
+
+-- no step was made
+pub none_run : (steps : ℕ) (old : System) (change : Change) → steps ≡ 0 → AreSteps steps old change → change.system ≡ old
+unfolding AreSteps
+none_run zero old change none are = ap (λ (c : Change). c.system) are
+none_run (suc n) old change none are = absurd (omega (arith, none))
 
 -- and where it stopped, in a step
 
@@ -246,6 +235,7 @@ stopped_inside SinkFailed steps step trace o q old first written before now stop
       made = stops.stops.is;
       text = subst (λ w. EndsBetween w first (rendered trace ran.emitted) (rendered trace (more ++ ran.emitted))) (sym (same refl))
           (subst (λ t. EndsBetween q.written first (rendered t ran.emitted) (rendered t (more ++ ran.emitted))) (ran.wrote.trace ∙ traces) text);
+      works = tt;
     })
 stopped_inside SyncFailed steps step trace o q old first written before now stops traces shows same closes =
     let ran = stops.ran in
@@ -260,21 +250,43 @@ stopped_inside SyncFailed steps step trace o q old first written before now stop
       made = stops.stops.is;
       text = closes (record (begun stops.middle []) { outputs = ran.emitted })
           (subst (λ (seen : Outside). Shows seen.kept seen.written ran.emitted first) (sym stops.stops.stops) there);
+      works = stops.stops.works;
     })
 
--- or behind all of them
+-- or at the end, behind all of them
 
-pub stopped_behind : (fault : StepFault) (steps : ℕ) (trace : Bool) (old new : System) (emitted : List Output) (first written written' : Option (List ℕ)) (before now : ℕ)
-    → AreSteps steps old (record { system = new; emitted = emitted }) → (fault ≡ SinkFailed → written' ≡ written)
-    → EndsBy fault written first (rendered trace emitted) (closed trace emitted)
-    → ClosesAfter fault trace (record (begun new []) { outputs = emitted }) first written' before now
-    → StopsSteps fault trace steps old first written' before now steps
-stopped_behind SinkFailed steps trace old new emitted first written written' before now are same ends closes =
+pub stopped_behind : (fault : StepFault) (steps : ℕ) (trace : Bool) (o n : Outside) (old new : System) (emitted : List Output) (first written : Option (List ℕ)) (before now : ℕ)
+    → AreSteps steps old (record { system = new; emitted = emitted }) → o.kept.trace ≡ trace → Shows o.kept o.written emitted first → (fault ≡ SinkFailed → written ≡ n.written)
+    → ((s : State) → ShowsBefore fault n.kept n.written s first → ClosesAfter fault trace s first written before now) → StopsSettling fault o n new
+    → StopsSteps fault trace steps old first written before now steps
+stopped_behind SinkFailed steps trace o n old new emitted first written before now are traces shows same closes stops =
+    let all : List Output = stops.change.emitted ++ emitted in
     inr (record {
       is = refl;
       change = record { system = new; emitted = emitted };
       are = are;
-      text = subst (λ w. EndsBetween w first (rendered trace emitted) (closed trace emitted)) (sym (same refl)) ends;
+      text = record {
+        end = stops.change;
+        ends = stops.is;
+        text = subst (λ (w : Option (List ℕ)). EndsBetween w first (rendered trace emitted) (closed trace all)) (sym (same refl))
+            (subst (λ (t : Bool). EndsBetween n.written first (rendered t emitted) (closed t all)) traces (stops.stops emitted first shows));
+      };
     })
-stopped_behind SyncFailed steps trace old new emitted first written written' before now are same ends closes =
-    inr (record { is = refl; change = record { system = new; emitted = emitted }; are = are; text = closes })
+stopped_behind SyncFailed steps trace o n old new emitted first written before now are traces shows same closes (inl still) =
+    inr (record {
+      is = refl;
+      change = record { system = new; emitted = emitted };
+      are = are;
+      text = inl (closes (record (begun new []) { outputs = emitted }) (subst (λ (seen : Outside). Shows seen.kept seen.written emitted first) (sym still) shows));
+    })
+stopped_behind SyncFailed steps trace o n old new emitted first written before now are traces shows same closes (inr end) =
+    inr (record {
+      is = refl;
+      change = record { system = new; emitted = emitted };
+      are = are;
+      text = inr (record {
+        end = end.change;
+        ends = end.is;
+        text = closes (record (begun new []) { outputs = end.change.emitted ++ emitted }) (end.wrote.shown emitted first shows);
+      });
+    })

@@ -30,7 +30,7 @@ use Rattle.mpm_machine.specs.declared.machine.StepFault.TheVariants.{WriteFault 
 use Rattle.mpm_machine.specs.Faults.{HasFailed}
 use Rattle.mpm_machine.specs.declared.system.System.{System}
 use Rattle.mpm_machine.specs.Opening.{opened}
-use Rattle.mpm_machine.specs.State.{StandsForFiles}
+use Rattle.mpm_machine.specs.Files.{StandsBetween}
 use Rattle.mpm_machine.specs.Mounting.{HasMounted, HasDrives, untouched}
 use Rattle.mpm_top.specs.declared.status.Status.{Status}
 use Rattle.mpm_top.specs.declared.status.Status.TheVariants.{Ran, Usage, MachineFault, ScriptFault, ImageFault, TooLong, ReadFault, DiskFault, WriteFault, OutOfMemory}
@@ -97,7 +97,7 @@ only_one P x (y ∷ z ∷ ys) all = absurd all.1
 pub record BeginsSeeded (seed : ℕ) (attached : ℕ → Option ℕ) (disks : Option Disks) (kept : Filed) : Type 0 where
   pub files : Drive
   pub are : files_of (image_of seed) Hd4 ≡ Ok files
-  pub stand : StandsForFiles kept disks (untouched (placed (drive_a files)))
+  pub stand : StandsBetween kept disks (untouched (placed (drive_a files)))
   pub size : attached 0 ≡ Some 4194304
 
 abbrev its_drive : DriveSpec
@@ -126,12 +126,12 @@ begins_seeded seed attached disks kept has =
     let one = one_drive images (image_of seed) (drives_on disks ds) there (drives_are attached disks images machine.drives ds has.mounted) in
     let told : AreTold images machine.drives = (is_told (images name_of_image) (image_of seed) there, tt) in
     let stand = mounted_stand attached disks images machine.drives ds has.mounted told in
-    let on_drives : StandsForFiles kept disks (untouched (placed (drives_on disks ds))) =
-    subst (λ (k : Filed). StandsForFiles k disks (untouched (placed (drives_on disks ds)))) (sym has.is) (record { filing_is = refl; stand = stand }) in
+    let on_drives : StandsBetween kept disks (untouched (placed (drives_on disks ds))) =
+    subst (λ (k : Filed). StandsBetween k disks (untouched (placed (drives_on disks ds)))) (sym has.is) (record { idle = refl; filing_is = refl; stand = stand }) in
     record {
       files = one.0;
       are = one.2;
-      stand = subst (λ (on : List NumberedDrive). StandsForFiles kept disks (untouched (placed on))) one.1 on_drives;
+      stand = subst (λ (on : List NumberedDrive). StandsBetween kept disks (untouched (placed on))) one.1 on_drives;
       size = one_size attached disks images ds has.mounted;
     }
 

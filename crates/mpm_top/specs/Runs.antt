@@ -1,5 +1,5 @@
 -- With what a command begins, and what it writes, by the machine's model.
-use Rattle.std.specs.Prelude.{◌≡◌, ◌≢◌, ℕ, ◌+◌, ◌-◌, ◌<◌, ◌≤◌, ◌⊎◌, Bool, List, [], ◌∷◌, ◌++◌, Option, Some, None, Result, Ok, Err, length, MatchOption, ⊤, option_map, option_and_then, slice_index_or, nat_lt, if◌then◌else◌}
+use Rattle.std.specs.Prelude.{◌≡◌, ◌≢◌, ℕ, ◌+◌, ◌-◌, ◌<◌, ◌≤◌, ◌⊎◌, Bool, true, List, [], ◌∷◌, ◌++◌, Option, Some, None, Result, Ok, Err, length, MatchOption, ⊤, option_map, option_and_then, slice_index_or, nat_lt, if◌then◌else◌}
 use Rattle.std.specs.List.{AllByRecursion}
 use Rattle.std.specs.Option.{option_map_or}
 use Rattle.mpm_port.specs.Causes.{Rose}
@@ -21,15 +21,17 @@ use Rattle.mpm_drives.specs.Mounted.{NumberedDrive, AreDrivesOf, AreTold, number
 use Rattle.mpm_drives.specs.Stopping.{Failures, Stops}
 use Rattle.mpm_machine.specs.declared.system.System.{System}
 use Rattle.mpm_bdos.specs.Serving.{Kept as Filed}
-use Rattle.mpm_machine.specs.State.{State, Change, StandsForFiles}
+use Rattle.mpm_machine.specs.State.{State, Change}
+use Rattle.mpm_machine.specs.Files.{Files, Between, StandsForFiles, drives_in, filing_in}
 use Rattle.mpm_machine.specs.Mounting.{HasDrives, HasNoDrive, untouched}
 use Rattle.mpm_machine.specs.Opening.{opening_system, opened}
 use Rattle.mpm_machine.specs.After.{after, AreSteps, IsMade, EndsInStep}
-use Rattle.mpm_machine.specs.Failing.{StopsOn}
+use Rattle.mpm_machine.specs.Failing.{does_work, FailsWithin, StopsOn}
+use Rattle.mpm_machine.specs.Settling.{IsEnd, carried, left_of}
 use Rattle.mpm_machine.specs.declared.machine.StepFault.{StepFault}
 use Rattle.mpm_machine.specs.declared.machine.StepFault.TheVariants.{WriteFault as SinkFailed, DiskFault as SyncFailed}
 use Rattle.mpm_machine.specs.declared.machine.RunFault.{RunFault}
-use Rattle.mpm_machine.specs.Faults.{Counts}
+use Rattle.mpm_machine.specs.Faults.{Counts, OnDiskFault}
 use Rattle.mpm_top.specs.declared.words.Form.{Form}
 use Rattle.mpm_top.specs.declared.words.Form.TheVariants.{Program, Run}
 use Rattle.mpm_top.specs.declared.words.Asked.{Asked}
@@ -92,7 +94,7 @@ drives_listed Run bytes = option_map_or (λ file. file.drives) (machine_of_text 
 
 -- the state of a system that begins with drives: nothing is said yet, and nothing open
 abbrev pub begun : System → List NumberedDrive → State
-begun system drives = record { system = system; outputs = []; filing = untouched (placed drives) }
+begun system drives = record { system = system; outputs = []; files = Between (untouched (placed drives)) }
 
 -- a file holds these bytes, or, where it isn't told, it may have held them, and it isn't too long as that input
 pub record Holds (contents : Contents) (input : Input) (name bytes : List ℕ) : Type 0 where
@@ -120,7 +122,7 @@ pub record BeginsOf (host : Host) (form : Form) (Of : List ℕ → Type 0) (s : 
   pub is : system_of form bytes events ≡ Some s.system
   pub on : List NumberedDrive
   pub drives : AreDrivesOf host.images (drives_listed form bytes) on
-  pub filing : s.filing ≡ untouched (placed on)
+  pub files : s.files ≡ Between (untouched (placed on))
   pub outputs : s.outputs ≡ []
 
 -- a command of a form and a file begins with that state
@@ -128,14 +130,15 @@ abbrev pub Begins : Host → Form → List ℕ → State → Type 0
 Begins host form name s = BeginsOf host form (Holds host.contents (input_of form) name) s
 
 -- with that a machine begins: where its images are told, what is kept of files, and the images, stand for what is on the
--- drives
+-- drives; and no call is in service
 pub record StartsOf (host : Host) (form : Form) (Of : List ℕ → Type 0) (system : System) (kept : Filed) (disks : Option Disks) : Type 0 where
   pub drives : List NumberedDrive
   pub begins : BeginsOf host form Of (begun system drives)
   pub same : begins.on ≡ drives
-  pub files : AreTold host.images (drives_listed form begins.bytes) → StandsForFiles kept disks (untouched (placed drives))
+  pub files : AreTold host.images (drives_listed form begins.bytes) → StandsForFiles system.kernel.disk kept disks (Between (untouched (placed drives)))
   pub listed : HasDrives disks (drives_listed form begins.bytes) kept.mounted
   pub bare : drives ≡ [] → HasNoDrive kept.mounted
+  pub idle : system.kernel.disk.served ≡ None
 
 abbrev pub Starts : Host → Form → List ℕ → System → Filed → Option Disks → Type 0
 Starts host form name system kept disks = StartsOf host form (Holds host.contents (input_of form) name) system kept disks
@@ -152,16 +155,26 @@ pub record StandFor (images : Images) (specs : List DriveSpec) (drives : List (O
   pub each : AllByRecursion (λ drive. slice_index_or drives drive.number None ≡ Some drive.files) on
   pub others : (number : ℕ) → AllByRecursion (λ drive. drive.number ≢ number) on → slice_index_or drives number None ≡ None
 
--- after the first text stands the closed text of what so many steps of a system say, each by what its call on files may be answered,
--- if one is made in it, and nothing else
+-- what is on the drives of a state: where a call is in service, what its first turns have made of them; and behind the end of a run,
+-- where none is any more
+abbrev pub drives_of : State → List (Option Drive)
+drives_of s = drives_in s.system.kernel.disk.served s.files
+
+abbrev pub drives_left : State → List (Option Drive)
+drives_left s = (filing_in (carried s).files).drives
+
+-- after the first text stands the closed text of what so many steps of a system say, each by what its calls on files may be answered,
+-- if such are answered in it, then of what the end of the run says, by what the call in service may be, and nothing else
 pub record WritesSteps (trace : Bool) (steps : ℕ) (old : System) (first written : Option (List ℕ)) : Type 0 where
   pub change : Change
   pub are : AreSteps steps old change
-  pub text : written ≡ appended first (closed trace change.emitted)
+  pub end : Change
+  pub ends : IsEnd change.system end
+  pub text : written ≡ appended first (closed trace (end.emitted ++ change.emitted))
 
--- some steps of a system were made, each by what its call on files may be answered, and the run stopped in the next one, with this
--- text, by what they said and what that one says
-pub record StopsInside (Text : List Output → List Output → Type 0) (steps step : ℕ) (old : System) : Type 0 where
+-- some steps of a system were made, each by what its calls on files may be answered, and the run stopped in the next one, with this
+-- text, by what they said and what that one says; where a drive failed, that one works on a drive
+pub record StopsInside (fault : StepFault) (Text : List Output → List Output → Type 0) (steps step : ℕ) (old : System) : Type 0 where
   pub done : ℕ
   pub few : done < steps
   pub is : step ≡ old.steps + done + 1
@@ -170,35 +183,51 @@ pub record StopsInside (Text : List Output → List Output → Type 0) (steps st
   pub change : Change
   pub made : IsMade before.system change
   pub text : Text before.emitted change.emitted
+  pub works : OnDiskFault fault (does_work before.system ≡ true)
 
--- or all of them were made, and it stopped behind them
-pub record StopsBehind (Text : List Output → Type 0) (steps step : ℕ) (old : System) : Type 0 where
+-- or all of them were made, and it stopped at its end, with this text, by what they said
+pub record StopsBehind (Text : System → List Output → Type 0) (steps step : ℕ) (old : System) : Type 0 where
   pub is : step ≡ steps
   pub change : Change
   pub are : AreSteps steps old change
-  pub text : Text change.emitted
+  pub text : Text change.system change.emitted
 
--- writing stopped in the text of a step, or as the unfinished lines were closed
+-- by what they said and what the end says
+pub record BehindEnd (Text : List Output → Type 0) (system : System) (said : List Output) : Type 0 where
+  pub end : Change
+  pub ends : IsEnd system end
+  pub text : Text (end.emitted ++ said)
+
+-- writing stopped in the text of a step, or in that of the end
 abbrev pub StopsWriting : Bool → ℕ → System → Option (List ℕ) → Option (List ℕ) → ℕ → Type 0
 StopsWriting trace steps old first written step =
-    StopsInside (λ said more. EndsBetween written first (rendered trace said) (rendered trace (more ++ said))) steps step old
-    ⊎ StopsBehind (λ said. EndsBetween written first (rendered trace said) (closed trace said)) steps step old
+    StopsInside SinkFailed (λ said more. EndsBetween written first (rendered trace said) (rendered trace (more ++ said))) steps step old
+    ⊎ StopsBehind (λ system said. BehindEnd (λ all. EndsBetween written first (rendered trace said) (closed trace all)) system said) steps step old
 
 -- what was written is the text of steps of the first system; where the images of its drives are told, it is the closed text of the
--- outputs of all steps, and the images that are left stand for what is on the drives after these
+-- outputs of all steps and of the end, and the images that are left stand for what is on the drives behind it
 pub record WritesAll (host : Host) (left : Images) (command : Command) (first written : Option (List ℕ)) : Type 0 where
   pub start : State
   pub begins : Begins host command.form command.name start
   pub steps : WritesSteps command.trace command.steps start.system first written
-  pub text : AreTold host.images (drives_listed command.form begins.bytes) → written ≡ appended first (closed command.trace (after command.steps start).outputs)
+  pub text : AreTold host.images (drives_listed command.form begins.bytes) → written ≡ appended first (closed command.trace (carried (after command.steps start)).outputs)
   pub images : AreTold host.images (drives_listed command.form begins.bytes)
-      → StandFor left (drives_listed command.form begins.bytes) (after command.steps start).filing.drives
+      → StandFor left (drives_listed command.form begins.bytes) (drives_left (after command.steps start))
 
--- writing stopped at a step of so many after a state, in the text of that step, or as the unfinished lines were closed
-abbrev pub StopsAt : Bool → State → ℕ → Option (List ℕ) → Option (List ℕ) → ℕ → Type 0
-StopsAt trace s steps first written step =
-    EndsInStep SinkFailed trace written first s steps step
-    ⊎ ((step ≡ steps) × EndsBetween written first (rendered trace (after steps s).outputs) (closed trace (after steps s).outputs))
+-- writing stopped in a step of so many after a state, in the text of that step, and what is then on the drives stands
+abbrev pub StopsInText : (List (Option Drive) → Type 0) → Bool → State → ℕ → Option (List ℕ) → Option (List ℕ) → ℕ → Type 0
+StopsInText Stand trace s steps first written step =
+    EndsInStep SinkFailed trace written first s steps step × Stand (drives_of (after (step - s.system.steps) s))
+
+-- or behind them, in the text of the end
+pub record StopsInEnd (Stand : List (Option Drive) → Type 0) (trace : Bool) (s : State) (steps : ℕ) (first written : Option (List ℕ)) (step : ℕ) : Type 0 where
+  pub is : step ≡ steps
+  pub text : EndsBetween written first (rendered trace (after steps s).outputs) (closed trace (carried (after steps s)).outputs)
+  pub stand : Stand (drives_left (after steps s))
+
+abbrev pub StopsAt : (List (Option Drive) → Type 0) → Bool → State → ℕ → Option (List ℕ) → Option (List ℕ) → ℕ → Type 0
+StopsAt Stand trace s steps first written step =
+    StopsInText Stand trace s steps first written step ⊎ StopsInEnd Stand trace s steps first written step
 
 -- writing stopped at a step, in the text of steps of the first system; where the images of its drives are told, it is the model's, and
 -- the images that are left stand for what is on the drives after it
@@ -207,11 +236,10 @@ pub record WritesPart (host : Host) (left : Images) (command : Command) (first w
   pub begins : Begins host command.form command.name start
   pub within : step ≤ command.steps
   pub steps : StopsWriting command.trace command.steps start.system first written step
-  pub text : AreTold host.images (drives_listed command.form begins.bytes) → StopsAt command.trace start command.steps first written step
-  pub images : AreTold host.images (drives_listed command.form begins.bytes)
-      → StandFor left (drives_listed command.form begins.bytes) (after (step - start.system.steps) start).filing.drives
+  pub text : AreTold host.images (drives_listed command.form begins.bytes)
+      → StopsAt (StandFor left (drives_listed command.form begins.bytes)) command.trace start command.steps first written step
 
--- all steps are done, and the unfinished lines were closed; or the sink failed besides, and a first part of that was written
+-- the unfinished lines were closed behind outputs; or the sink failed besides, and a first part of that was written
 abbrev pub ClosesText : Bool → List Output → Option (List ℕ) → Option (List ℕ) → ℕ → ℕ → Type 0
 ClosesText trace outputs first written before now =
     (written ≡ appended first (closed trace outputs))
@@ -220,11 +248,16 @@ ClosesText trace outputs first written before now =
 abbrev pub Closes : Bool → State → Option (List ℕ) → Option (List ℕ) → ℕ → ℕ → Type 0
 Closes trace s first written before now = ClosesText trace s.outputs first written before now
 
--- a drive failed in a step, and the lines that those before it left unfinished were closed, or as it was synced
+-- a drive failed in a step, and the lines that those before it left unfinished were closed; or at the end, in a turn of the call in
+-- service, or as it was synced, behind what the call brings about
+abbrev pub ClosesEither : Bool → Option (List ℕ) → Option (List ℕ) → ℕ → ℕ → System → List Output → Type 0
+ClosesEither trace first written before now system said =
+    ClosesText trace said first written before now ⊎ BehindEnd (λ all. ClosesText trace all first written before now) system said
+
 abbrev pub ClosesSteps : Bool → ℕ → System → Option (List ℕ) → Option (List ℕ) → ℕ → ℕ → ℕ → Type 0
 ClosesSteps trace steps old first written before now step =
-    StopsInside (λ said more. ClosesText trace said first written before now) steps step old
-    ⊎ StopsBehind (λ said. ClosesText trace said first written before now) steps step old
+    StopsInside SyncFailed (λ said more. ClosesText trace said first written before now) steps step old
+    ⊎ StopsBehind (ClosesEither trace first written before now) steps step old
 
 -- either, whatever is on the drives
 abbrev pub StopsSteps : StepFault → Bool → ℕ → System → Option (List ℕ) → Option (List ℕ) → ℕ → ℕ → ℕ → Type 0
@@ -239,7 +272,7 @@ ClosesAfter SyncFailed trace s first written before now = Closes trace s first w
 -- a drive failed in the step behind a state, and what that left on the drives stands
 pub record LeftBefore (Stand : List (Option Drive) → Type 0) (s : State) : Type 0 where
   pub drives : List (Option Drive)
-  pub fails : StopsOn SyncFailed s.system s.filing drives
+  pub fails : StopsOn SyncFailed s.system s.files drives
   pub stand : Stand drives
 
 -- in that step, and the unfinished lines of the steps before it were closed
@@ -249,11 +282,27 @@ pub record ClosesBefore (Stand : List (Option Drive) → Type 0) (trace : Bool) 
   pub text : Closes trace (after (step - 1 - s.system.steps) s) first written before now
   pub left : LeftBefore Stand (after (step - 1 - s.system.steps) s)
 
--- or as it was synced, after all steps
+-- or behind all steps, in a turn of the call in service: the unfinished lines of the steps were closed
+pub record LeftInTurn (Stand : List (Option Drive) → Type 0) (s : State) : Type 0 where
+  pub drives : List (Option Drive)
+  pub fails : FailsWithin (left_of s.files s.system.kernel.disk.served) drives
+  pub stand : Stand drives
+
+pub record ClosesInTurn (Stand : List (Option Drive) → Type 0) (trace : Bool) (s : State) (steps : ℕ) (first written : Option (List ℕ)) (before now step : ℕ) : Type 0 where
+  pub is : step ≡ steps
+  pub text : Closes trace (after steps s) first written before now
+  pub left : LeftInTurn Stand (after steps s)
+
+-- or as it was synced: those of the end were too
+pub record ClosesInSync (Stand : List (Option Drive) → Type 0) (trace : Bool) (s : State) (steps : ℕ) (first written : Option (List ℕ)) (before now step : ℕ) : Type 0 where
+  pub is : step ≡ steps
+  pub text : Closes trace (carried (after steps s)) first written before now
+  pub stand : Stand (drives_left (after steps s))
+
 abbrev pub ClosesAt : (List (Option Drive) → Type 0) → Bool → State → ℕ → Option (List ℕ) → Option (List ℕ) → ℕ → ℕ → ℕ → Type 0
 ClosesAt Stand trace s steps first written before now step =
     ClosesBefore Stand trace s steps first written before now step
-    ⊎ ((step ≡ steps) × Closes trace (after steps s) first written before now × Stand (after steps s).filing.drives)
+    ⊎ (ClosesInTurn Stand trace s steps first written before now step ⊎ ClosesInSync Stand trace s steps first written before now step)
 
 -- a drive failed later, behind the text of steps of the first system; where the images of its drives are told, it is the model's, and the
 -- images that are left stand for what is then on the drives
@@ -435,8 +484,7 @@ stopped_by error = ended_by error.fault error.step
 
 -- what was written where a run stopped, and what then stands of the drives
 abbrev pub StopsRun : (List (Option Drive) → Type 0) → StepFault → Bool → State → ℕ → Option (List ℕ) → Option (List ℕ) → ℕ → ℕ → ℕ → Type 0
-StopsRun Stand SinkFailed trace s steps first written before now step =
-    StopsAt trace s steps first written step × Stand (after (step - s.system.steps) s).filing.drives
+StopsRun Stand SinkFailed trace s steps first written before now step = StopsAt Stand trace s steps first written step
 StopsRun Stand SyncFailed trace s steps first written before now step = ClosesAt Stand trace s steps first written before now step
 
 -- which count rose where a run stopped

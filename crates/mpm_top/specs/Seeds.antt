@@ -15,7 +15,8 @@ use Rattle.mpm_render.specs.Outputs.{closed}
 use Rattle.mpm_machine.specs.State.{State}
 use Rattle.mpm_machine.specs.Opening.{opened}
 use Rattle.mpm_machine.specs.After.{after}
-use Rattle.mpm_top.specs.Runs.{begun}
+use Rattle.mpm_machine.specs.Settling.{carried}
+use Rattle.mpm_top.specs.Runs.{begun, drives_left}
 use Rattle.mpm_top.specs.Data.{data_on}
 use Rattle.mpm_top.specs.Words.{steps_of}
 use Rattle.mpm_top.specs.declared.status.Status.{Status}
@@ -53,12 +54,12 @@ drive_a files = record { number = 0; files = files } ∷ []
 abbrev pub seeded_start : Drive → State
 seeded_start files = begun (opened machine script) (drive_a files)
 
--- the lines that begin with `c` and those that begin with `t`, of the text of some steps behind a state; and what is summed of the
--- file on drive A after them
+-- the lines that begin with `c` and those that begin with `t`, of the text of some steps behind a state and of the end; and what is
+-- summed of the file on drive A behind it
 pub record AreOf (steps : ℕ) (s : State) (found : Found) : Type 0 where
-  pub lines : found.lines ≡ counted 99 (closed true (after steps s).outputs)
-  pub calls : found.calls ≡ counted 116 (closed true (after steps s).outputs)
-  pub records : found.data ≡ data_on (after steps s).filing.drives
+  pub lines : found.lines ≡ counted 99 (closed true (carried (after steps s)).outputs)
+  pub calls : found.calls ≡ counted 116 (closed true (carried (after steps s)).outputs)
+  pub records : found.data ≡ data_on (drives_left (after steps s))
 
 -- so it is of the machine of a seed, whose image stands for some files
 pub record AreFound (seed steps : ℕ) (found : Found) : Type 0 where

@@ -1,6 +1,7 @@
 ghost use Rattle.std.specs.Prelude.{[], ◌≡◌, ◌≤◌, ◌↔◌, ℕ, List, Some, IsSome, IfSome, IfOk, IfErr, MatchResult, length};
 ghost use Rattle.mpm_drives.specs.Images.{image_named};
-ghost use Rattle.mpm_machine.specs.State.{HoldsDrives, IsWhole, NoCompletions};
+ghost use Rattle.mpm_machine.specs.State.{IsWhole, NoCompletions};
+ghost use Rattle.mpm_machine.specs.Holding.{HoldsDrives};
 ghost use Rattle.mpm_machine.specs.Mounting.{HasNoDrive};
 ghost use Rattle.mpm_top.specs.Runs.{input_of as input_said, room_for, script_name, Host, host, failed, status_of, Holds, HoldsEvents, Starts, StartsOf, Scripted, Unfetched, Unread, Ends, EndsAfter, IsRefusal, IsEarly, UnlessReadFault, UnlessDiskFault, EndsAs};
 
@@ -33,7 +34,7 @@ pub(crate) fn boot<F: Files, D: Drives>(
     drives: &mut D,
 ) -> Result<Machine, Status>
     ensures starts { IfOk result (λ machine. Starts (host F.contents D.disks files.old drives.old) form name.now machine.system machine.bdos (D.disks drives.new)) }
-    ensures holds { IfOk result (λ machine. HoldsDrives D.attached D.disks machine.bdos drives.new) }
+    ensures holds { IfOk result (λ machine. HoldsDrives D.attached D.disks machine.system.kernel machine.bdos drives.new) }
     ensures whole { IfOk result (λ machine. IsWhole machine.system) }
     ensures no_completions { IfOk result (λ machine. NoCompletions machine.system) }
     ensures start { IfOk result (λ machine. machine.system.steps ≡ 0) }
@@ -93,7 +94,7 @@ fn fetch<F: Files>(
 fn boot_program<D: Drives>(alloc: Global, bytes: &[u8], drives: &D) -> Result<Machine, Status>
     requires { length bytes.now ≤ 48512 }
     ensures starts { (host : Host) → IfOk result (λ machine. StartsOf host Form.Program (λ content. content ≡ bytes.now) machine.system machine.bdos (D.disks drives.now)) }
-    ensures holds { IfOk result (λ machine. HoldsDrives D.attached D.disks machine.bdos drives.now) }
+    ensures holds { IfOk result (λ machine. HoldsDrives D.attached D.disks machine.system.kernel machine.bdos drives.now) }
     ensures no_drive { IfOk result (λ machine. HasNoDrive machine.bdos.mounted) }
     ensures whole { IfOk result (λ machine. IsWhole machine.system) }
     ensures no_completions { IfOk result (λ machine. NoCompletions machine.system) }
@@ -116,7 +117,7 @@ fn boot_machine<F: Files, D: Drives>(
 ) -> Result<Machine, Status>
     ensures starts { IfOk result (λ machine. StartsOf (host F.contents D.disks files.old drives.old) Form.Run (λ content. content ≡ bytes.now)
         machine.system machine.bdos (D.disks drives.new)) }
-    ensures holds { IfOk result (λ machine. HoldsDrives D.attached D.disks machine.bdos drives.new) }
+    ensures holds { IfOk result (λ machine. HoldsDrives D.attached D.disks machine.system.kernel machine.bdos drives.new) }
     ensures whole { IfOk result (λ machine. IsWhole machine.system) }
     ensures no_completions { IfOk result (λ machine. NoCompletions machine.system) }
     ensures start { IfOk result (λ machine. machine.system.steps ≡ 0) }

@@ -7,12 +7,15 @@ ghost use Rattle.mpm_render.specs.Outputs.{closed};
 ghost use Rattle.mpm_machine_file.specs.declared.lists.DriveSpec.{DriveSpec};
 ghost use Rattle.mpm_drives.specs.Images.{image_named};
 ghost use Rattle.mpm_drives.specs.Mounted.{NumberedDrive, placed};
-ghost use Rattle.mpm_machine.specs.State.{State, StandsForFiles, HoldsDrives, IsWhole, NoCompletions};
+ghost use Rattle.mpm_machine.specs.State.{State, IsWhole, NoCompletions};
+ghost use Rattle.mpm_machine.specs.Files.{Between, StandsForFiles};
+ghost use Rattle.mpm_machine.specs.Holding.{HoldsDrives};
 ghost use Rattle.mpm_machine.specs.Faults.{counts};
 ghost use Rattle.mpm_machine.specs.Mounting.{HasDrives, HasNoDrive, untouched};
 ghost use Rattle.mpm_machine.specs.After.{after, ShowsBefore};
+ghost use Rattle.mpm_machine.specs.Settling.{carried};
 ghost use Rattle.mpm_top.specs.Words.{Command, texts, command_of};
-ghost use Rattle.mpm_top.specs.Runs.{command_on, input_of as input_said, room_for, script_name, drives_listed, host, failed, begun, SameImages, StandFor, StopsRun, ClosesAfter, Causes, stopped_by, WritesAll, WritesSteps, StopsSteps, WritesPart, WritesClosed, Ends, EndsAs, ending, IsRefusal, IsEarly, UnlessWriteFault, UnlessReadFault, UnlessDiskFault};
+ghost use Rattle.mpm_top.specs.Runs.{command_on, input_of as input_said, room_for, script_name, drives_listed, host, failed, begun, drives_left, SameImages, StandFor, StopsRun, ClosesAfter, Causes, stopped_by, WritesAll, WritesSteps, StopsSteps, WritesPart, WritesClosed, Ends, EndsAs, ending, IsRefusal, IsEarly, UnlessWriteFault, UnlessReadFault, UnlessDiskFault};
 ghost use Rattle.mpm_top.specs.Seeds.{seeded_of, EndsSeeded};
 
 use crate::boot::boot;
@@ -42,8 +45,8 @@ pub fn run_words<F: Files, D: Drives, S: Sink>(
     ensures usage_files { result ≡ Status.Usage → files.new ≡ files.old }
     ensures usage_drives { result ≡ Status.Usage → drives.new ≡ drives.old }
 
-    // Ran: what the sink was given is exactly the text of the outputs after those steps, the images of the names that the machine
-    // file lists stand for what is on its drives after them, and nothing failed.
+    // Ran: what the sink was given is exactly the text of the outputs after those steps and the end, to which the call in service is
+    // carried, the images of the names that the machine file lists stand for what is on its drives then, and nothing failed.
     ensures ran { (command : Command) → command_of (texts words.now) ≡ Some command → result ≡ Status.Ran
         → WritesAll (host F.contents D.disks files.old drives.old) (image_named (D.disks drives.new)) command (S.written sink.old) (S.written sink.new) }
 
@@ -73,15 +76,15 @@ pub fn run_words<F: Files, D: Drives, S: Sink>(
         → F.failed_names files.new ≡ F.failed_names files.old → EndsAs (Status.DiskFault 0) result }
 
     // WriteFault comes only where the sink's count rose, in the step and after the text that it says; the images stand for what is
-    // on the drives after that step.
+    // on the drives after that step, or behind the end.
     ensures write { (step : ℕ) → result ≡ Status.WriteFault step → Rose (S.faults sink.old) (S.faults sink.new) }
     ensures write_text { (command : Command) → command_of (texts words.now) ≡ Some command → (step : ℕ) → result ≡ Status.WriteFault step
         → WritesPart (host F.contents D.disks files.old drives.old) (image_named (D.disks drives.new)) command (S.written sink.old) (S.written sink.new) step }
     ensures count { UnlessWriteFault result (S.faults sink.new ≡ S.faults sink.old) }
 
-    // DiskFault comes as the drives are mounted, with nothing written, or in the step that it says, or as they are synced, after
-    // all steps. Each image stands for what was on its drive before that step, or, of the drive of the call that failed, for that
-    // within a turn of the call; or for what is on the drives after all steps.
+    // DiskFault comes as the drives are mounted, with nothing written, or in the step that it says, or after all steps, as the call in
+    // service is carried to its end or as they are synced. Each image stands for what was on its drive before that, or, of the drive
+    // of the call that failed, for that within a turn of the call; or for what is on the drives behind the end.
     ensures disk_text { (command : Command) → command_of (texts words.now) ≡ Some command → (step : ℕ) → result ≡ Status.DiskFault step
         → ((step ≡ 0) × (sink.new ≡ sink.old)) ⊎ WritesClosed (host F.contents D.disks files.old drives.old) (image_named (D.disks drives.new)) command (S.written sink.old) (S.written sink.new)
         (S.faults sink.old) (S.faults sink.new) step }
@@ -188,8 +191,8 @@ fn close<S: Sink>(fault: StepFault, render: &mut Render, sink: &mut S)
     }
 }
 
-/// Runs a machine that begins for so many steps, syncs its drives, and closes the unfinished lines. Where a drive fails these
-/// are closed too.
+/// Runs a machine that begins for so many steps, carries the call in service to its end, syncs the drives, and closes the unfinished
+/// lines. Where a drive fails these are closed too.
 fn run_to_end<D: Drives, S: Sink, L: Ledger>(
     machine: &mut Machine,
     asked: Asked,
@@ -200,21 +203,22 @@ fn run_to_end<D: Drives, S: Sink, L: Ledger>(
     requires whole { IsWhole machine.old.system }
     requires no_completions { NoCompletions machine.old.system }
     requires start { machine.old.system.steps ≡ 0 }
-    requires holds { HoldsDrives D.attached D.disks machine.old.bdos drives.old }
+    requires idle { machine.old.system.kernel.disk.served ≡ None }
+    requires holds { HoldsDrives D.attached D.disks machine.old.system.kernel machine.old.bdos drives.old }
     requires limit { asked.steps ≤ GREATEST_STEP }
     requires name { blank.name ≡ L.name }
     requires parts { blank.parts ≡ L.parts }
     requires some_part { 0 < L.parts }
-    ensures ok { (on : List NumberedDrive) → StandsForFiles machine.old.bdos (D.disks drives.old) (untouched (placed on))
-        → OnOk result (S.written sink.new ≡ appended (S.written sink.old) (closed asked.trace (after asked.steps (begun machine.old.system on)).outputs)) }
+    ensures ok { (on : List NumberedDrive) → StandsForFiles machine.old.system.kernel.disk machine.old.bdos (D.disks drives.old) (Between (untouched (placed on)))
+        → OnOk result (S.written sink.new ≡ appended (S.written sink.old) (closed asked.trace (carried (after asked.steps (begun machine.old.system on))).outputs)) }
     ensures steps { OnOk result (WritesSteps asked.trace asked.steps machine.old.system (S.written sink.old) (S.written sink.new)) }
     ensures stops { IfErr result (λ error. StopsSteps error.fault asked.trace asked.steps machine.old.system (S.written sink.old) (S.written sink.new)
         (S.faults sink.old) (S.faults sink.new) error.step) }
     ensures images { (specs : List DriveSpec) (on : List NumberedDrive) → HasDrives (D.disks drives.old) specs machine.old.bdos.mounted
-        → StandsForFiles machine.old.bdos (D.disks drives.old) (untouched (placed on))
-        → OnOk result (StandFor (image_named (D.disks drives.new)) specs (after asked.steps (begun machine.old.system on)).filing.drives) }
+        → StandsForFiles machine.old.system.kernel.disk machine.old.bdos (D.disks drives.old) (Between (untouched (placed on)))
+        → OnOk result (StandFor (image_named (D.disks drives.new)) specs (drives_left (after asked.steps (begun machine.old.system on)))) }
     ensures err { (specs : List DriveSpec) (on : List NumberedDrive) → HasDrives (D.disks drives.old) specs machine.old.bdos.mounted
-        → StandsForFiles machine.old.bdos (D.disks drives.old) (untouched (placed on))
+        → StandsForFiles machine.old.system.kernel.disk machine.old.bdos (D.disks drives.old) (Between (untouched (placed on)))
         → IfErr result (λ error. StopsRun (StandFor (image_named (D.disks drives.new)) specs) error.fault asked.trace (begun machine.old.system on) asked.steps
         (S.written sink.old) (S.written sink.new) (S.faults sink.old) (S.faults sink.new) error.step) }
     ensures others { (specs : List DriveSpec) → HasDrives (D.disks drives.old) specs machine.old.bdos.mounted

@@ -8,11 +8,14 @@ ghost use Rattle.mpm_generator.specs.Machines.{machine as machine_said, script a
 ghost use Rattle.mpm_drives.specs.Mounted.{NumberedDrive, placed};
 ghost use Rattle.mpm_bdos.specs.Serving.{directory_at};
 ghost use Rattle.mpm_bdos.specs.Turns.{labelled};
-ghost use Rattle.mpm_machine.specs.State.{StandsForFiles, HoldsDrives, IsWhole, NoCompletions};
+ghost use Rattle.mpm_machine.specs.State.{IsWhole, NoCompletions};
+ghost use Rattle.mpm_machine.specs.Files.{Between, StandsForFiles};
+ghost use Rattle.mpm_machine.specs.Holding.{HoldsDrives};
 ghost use Rattle.mpm_machine.specs.Mounting.{untouched};
 ghost use Rattle.mpm_machine.specs.After.{after};
+ghost use Rattle.mpm_machine.specs.Settling.{carried};
 ghost use Rattle.mpm_top.specs.Words.{texts};
-ghost use Rattle.mpm_top.specs.Runs.{begun, IsRefusal, UnlessWriteFault};
+ghost use Rattle.mpm_top.specs.Runs.{begun, drives_left, IsRefusal, UnlessWriteFault};
 ghost use Rattle.mpm_top.specs.Data.{HasDriveA};
 ghost use Rattle.mpm_top.specs.Seeds.{seeded_of, AreOf, AreFound, EndsSeeded};
 
@@ -132,11 +135,11 @@ fn find_of(
     requires whole { IsWhole machine.old.system }
     requires no_completions { NoCompletions machine.old.system }
     requires start { machine.old.system.steps ≡ 0 }
-    requires holds { HoldsDrives size_of (λ d. Some (disks_of d)) machine.old.bdos drives.old }
+    requires holds { HoldsDrives size_of (λ d. Some (disks_of d)) machine.old.system.kernel machine.old.bdos drives.old }
     requires limit { steps ≤ GREATEST_STEP }
     requires size { size_of drives.old 0 ≡ Some 4194304 }
     requires drive { option_map labelled (directory_at machine.old.bdos.mounted 0) ≡ Some (0, Hd4) }
-    ensures { (on : List NumberedDrive) → StandsForFiles machine.old.bdos (Some (disks_of drives.old)) (untouched (placed on))
+    ensures { (on : List NumberedDrive) → StandsForFiles machine.old.system.kernel.disk machine.old.bdos (Some (disks_of drives.old)) (Between (untouched (placed on)))
         → IfOk result (λ found. AreOf steps (begun machine.old.system on) found) }
 {
     match LineCounts::new(alloc) {
@@ -152,7 +155,7 @@ fn find_of(
     }
 }
 
-/// Runs a machine that begins for so many steps, with records of completed calls, counts the lines, and syncs its drives.
+/// Runs a machine that begins for so many steps, with records of completed calls, and to its end, counts the lines, and syncs its drives.
 /// Neither these nor the count fails.
 fn run_counted<L: Ledger>(
     machine: &mut Machine,
@@ -164,16 +167,16 @@ fn run_counted<L: Ledger>(
     requires whole { IsWhole machine.old.system }
     requires no_completions { NoCompletions machine.old.system }
     requires start { machine.old.system.steps ≡ 0 }
-    requires holds { HoldsDrives size_of (λ d. Some (disks_of d)) machine.old.bdos drives.old }
+    requires holds { HoldsDrives size_of (λ d. Some (disks_of d)) machine.old.system.kernel machine.old.bdos drives.old }
     requires limit { steps ≤ GREATEST_STEP }
     requires drive { option_map labelled (directory_at machine.old.bdos.mounted 0) ≡ Some (0, Hd4) }
     requires name { blank.name ≡ L.name }
     requires parts { blank.parts ≡ L.parts }
     requires some_part { 0 < L.parts }
-    ensures text { (on : List NumberedDrive) → StandsForFiles machine.old.bdos (Some (disks_of drives.old)) (untouched (placed on))
-        → counts.new ≡ counts.old ++ closed true (after steps (begun machine.old.system on)).outputs }
-    ensures files { (on : List NumberedDrive) → StandsForFiles machine.old.bdos (Some (disks_of drives.old)) (untouched (placed on))
-        → HasDriveA (Some (disks_of drives.new)) (directory_at machine.new.bdos.mounted 0) (after steps (begun machine.old.system on)).filing.drives }
+    ensures text { (on : List NumberedDrive) → StandsForFiles machine.old.system.kernel.disk machine.old.bdos (Some (disks_of drives.old)) (Between (untouched (placed on)))
+        → counts.new ≡ counts.old ++ closed true (carried (after steps (begun machine.old.system on))).outputs }
+    ensures files { (on : List NumberedDrive) → StandsForFiles machine.old.system.kernel.disk machine.old.bdos (Some (disks_of drives.old)) (Between (untouched (placed on)))
+        → HasDriveA (Some (disks_of drives.new)) (directory_at machine.new.bdos.mounted 0) (drives_left (after steps (begun machine.old.system on))) }
     ensures drive { option_map labelled (directory_at machine.new.bdos.mounted 0) ≡ Some (0, Hd4) }
     ensures attached { (number : ℕ) → size_of drives.new number ≡ size_of drives.old number }
 {

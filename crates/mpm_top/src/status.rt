@@ -30,7 +30,7 @@ pub enum Status {
     /// A drive couldn't be attached to its image, or failed, in this step: 0 as the drives were mounted, the last one as they
     /// were synced.
     DiskFault { step: u64 },
-    /// The output failed in this step, or after the last one as the unfinished lines were closed.
+    /// The output failed in this step, or after the last one, at the end of the run.
     WriteFault { step: u64 },
     /// There was no memory to read and boot.
     OutOfMemory,

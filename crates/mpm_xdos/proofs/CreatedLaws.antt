@@ -8,8 +8,10 @@ use Rattle.std.proofs.lemmas.List.Sums.{AllPass-from_list_all}
 use Rattle.mpm_base.proofs.Choices.{either}
 use Rattle.mpm_procs.specs.Table.{Lives, process_in, call_of, lowest_free}
 use Rattle.mpm_procs.specs.declared.process.NewProcess.{NewProcess}
+use Rattle.mpm_kernel.specs.Awaiting.{AwaitsIn}
 use Rattle.mpm_kernel.specs.Kernel.{Kernel, IsSound, dispatched}
 use Rattle.mpm_dispatcher.specs.Dispatch.{in_slot}
+use Rattle.mpm_kernel.proofs.AwaitingEnds.{awaits_in_slot}
 use Rattle.mpm_kernel.proofs.SoundLaws.{sound_in_slot, completed_in_slot}
 use Rattle.mpm_kernel.proofs.HomeLaws.{SameHomes, homes_stay, homes_both, homes_in_slot, lives_on, keeps_call, keeps_process}
 use Rattle.mpm_xdos.specs.Creating.{descriptor_count, child_of, child_at, children_of, has_console, may_create, all_admitted, created}
@@ -23,6 +25,7 @@ pub record Made (old new : Kernel) : Type 0 where
   pub lives : (q : ℕ) → Lives old.dispatcher.procs q → Lives new.dispatcher.procs q
   pub call : (q : ℕ) → Lives old.dispatcher.procs q → call_of new.dispatcher.procs q ≡ call_of old.dispatcher.procs q
   pub process : (q : ℕ) → Lives old.dispatcher.procs q → process_in new.dispatcher.procs q ≡ process_in old.dispatcher.procs q
+  pub awaits : (k q : ℕ) → AwaitsIn k q old → AwaitsIn k q new
 
 made_none : (kernel : Kernel) → IsSound kernel → Made kernel kernel
 made_none kernel s = record {
@@ -33,6 +36,7 @@ made_none kernel s = record {
   lives = λ q h. h;
   call = λ q h. refl;
   process = λ q h. refl;
+  awaits = λ k q a. a;
 }
 
 made_both : (old middle new : Kernel) → Made old middle → Made middle new → Made old new
@@ -44,6 +48,7 @@ made_both old middle new a b = record {
   lives = λ q h. b.lives q (a.lives q h);
   call = λ q h. b.call q (a.lives q h) ∙ a.call q h;
   process = λ q h. b.process q (a.lives q h) ∙ a.process q h;
+  awaits = λ k q x. b.awaits k q (a.awaits k q x);
 }
 
 -- one more, in the segment of a process that lives
@@ -59,6 +64,7 @@ made_one kernel p new s h same console =
       lives = λ q living. lives_on kernel new slot q refl living;
       call = λ q living. keeps_call kernel new slot q refl living;
       process = λ q living. keeps_process kernel new slot q refl living;
+      awaits = λ k q a. awaits_in_slot k q kernel new slot s refl a;
     }
 
 -- several, each in that segment

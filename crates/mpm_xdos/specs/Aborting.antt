@@ -6,6 +6,7 @@ use Rattle.mpm_procs.specs.Table.{Table, lives, process_in, call_of}
 use Rattle.mpm_procs.specs.declared.process.Process.{Process}
 use Rattle.mpm_queues.specs.Queues.{lowest, lowest_held}
 use Rattle.mpm_kernel.specs.Kernel.{Kernel, is_resident, with_changed}
+use Rattle.mpm_kernel.specs.Disk.{is_served}
 use Rattle.mpm_kernel.specs.Ending.{discharged}
 use Rattle.mpm_banks.specs.Memory.{Memory}
 use Rattle.mpm_xdos.specs.Ending.{memory_without}
@@ -49,19 +50,19 @@ target procs p = unless_resident procs (described (call_of procs p) procs)
 
 -- the end of a process by an abort is put off while it holds the message of a mutual exclusion queue, and while a call of it is
 -- in service
-abbrev pub waits_to_end : Kernel → ℕ → Bool → Bool
-waits_to_end kernel p in_service = in_service || is_some (lowest_held kernel.queues p)
+abbrev pub waits_to_end : Kernel → ℕ → Bool
+waits_to_end kernel p = is_served kernel p || is_some (lowest_held kernel.queues p)
 
 -- the end of a process is put off
 abbrev pub with_abort_due : Kernel → ℕ → Kernel
 with_abort_due kernel p = with_changed kernel p (record (process_in kernel.dispatcher.procs p) { abort_due = true })
 
 -- the kernel and memory after an abort: a resident stays, another process ends, or its end is put off
-unfoldable pub abort_done : Kernel → ℕ → Bool → Kernel
-abort_done kernel p in_service =
+unfoldable pub abort_done : Kernel → ℕ → Kernel
+abort_done kernel p =
     if is_resident kernel.dispatcher.procs p then kernel
-    else (if waits_to_end kernel p in_service then with_abort_due kernel p else (discharged kernel p))
+    else (if waits_to_end kernel p then with_abort_due kernel p else (discharged kernel p))
 
-unfoldable pub memory_after_abort : Memory → Kernel → ℕ → Bool → Memory
-memory_after_abort memory kernel p in_service =
-    if is_resident kernel.dispatcher.procs p || waits_to_end kernel p in_service then memory else (memory_without memory kernel p)
+unfoldable pub memory_after_abort : Memory → Kernel → ℕ → Memory
+memory_after_abort memory kernel p =
+    if is_resident kernel.dispatcher.procs p || waits_to_end kernel p then memory else (memory_without memory kernel p)

@@ -2,7 +2,7 @@ ghost use Rattle.std.specs.Prelude.{◌≡◌, ◌&&◌, ℕ, Some, IfSome};
 ghost use Rattle.mpm_banks.specs.Memory.{HasSegment};
 ghost use Rattle.mpm_procs.specs.Table.{Lives, lives, process_in};
 ghost use Rattle.mpm_kernel.specs.Kernel.{IsSound};
-ghost use Rattle.mpm_xdos.specs.Aborting.{copy_address as address_of_copy, has_name as has_name_of, is_described as is_described_by, described as described_by, target as target_of, abort_done, memory_after_abort};
+ghost use Rattle.mpm_xdos.specs.Aborting.{copy_address as address_of_copy, has_name as has_name_of, is_described as is_described_by, described as described_by, target as target_of, waits_to_end as waits_to_end_of, abort_done, memory_after_abort};
 
 use crate::ending::end;
 use mpm_banks::Banks;
@@ -32,30 +32,38 @@ pub fn target(kernel: &Kernel, p: Pid) -> Option<Pid>
 /// Aborts a living process: it ends, as by `end`; a resident, which has no segment, isn't aborted. While it holds the message
 /// of a mutual exclusion queue, and while a call of it is in service, its end is put off: only `abort_due` becomes true. (MP/M
 /// II Programmer's Guide, "Function 157: Abort Specified Process".)
-pub fn abort(kernel: &mut Kernel, banks: &mut Banks, p: Pid, in_service: bool)
+pub fn abort(kernel: &mut Kernel, banks: &mut Banks, p: Pid)
     requires sound { IsSound kernel.old }
     requires lives { Lives kernel.old.dispatcher.procs p }
     requires segment { (seg : ℕ) → (process_in kernel.old.dispatcher.procs p).seg ≡ Some seg → HasSegment banks.old seg }
-    ensures kernel { kernel.new ≡ abort_done kernel.old p in_service }
-    ensures memory { banks.new ≡ memory_after_abort banks.old kernel.old p in_service }
+    ensures kernel { kernel.new ≡ abort_done kernel.old p }
+    ensures memory { banks.new ≡ memory_after_abort banks.old kernel.old p }
     ensures sound { IsSound kernel.new }
 {
-    end_or_put_off(kernel, banks, p, in_service);
+    end_or_put_off(kernel, banks, p);
+}
+
+/// Whether the end of a process by an abort is put off: while a call of it is in service, and while it holds the message of a
+/// mutual exclusion queue.
+pub fn waits_to_end(kernel: &Kernel, p: Pid) -> bool
+    ensures { result ≡ waits_to_end_of kernel.now p }
+{
+    kernel.is_served(p) || kernel.holds(p)
 }
 
 /// A process that isn't a resident ends, or its end is put off.
 #[tactic(auto, unfolding(crate::specs::Aborting::abort_done, crate::specs::Aborting::memory_after_abort))]
-fn end_or_put_off(kernel: &mut Kernel, banks: &mut Banks, p: Pid, in_service: bool)
+fn end_or_put_off(kernel: &mut Kernel, banks: &mut Banks, p: Pid)
     requires sound { IsSound kernel.old }
     requires lives { Lives kernel.old.dispatcher.procs p }
     requires segment { (seg : ℕ) → (process_in kernel.old.dispatcher.procs p).seg ≡ Some seg → HasSegment banks.old seg }
-    ensures kernel { kernel.new ≡ abort_done kernel.old p in_service }
-    ensures memory { banks.new ≡ memory_after_abort banks.old kernel.old p in_service }
+    ensures kernel { kernel.new ≡ abort_done kernel.old p }
+    ensures memory { banks.new ≡ memory_after_abort banks.old kernel.old p }
 {
     if kernel.segment(p).is_none() {
         return;
     }
-    if in_service || kernel.holds(p) {
+    if waits_to_end(kernel, p) {
         kernel.process_mut(p).abort_due = true;
     } else {
         end(kernel, banks, p);

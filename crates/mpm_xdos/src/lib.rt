@@ -7,7 +7,7 @@ mod creating;
 mod ending;
 mod procedures;
 
-pub use aborting::{abort, target};
+pub use aborting::{abort, target, waits_to_end};
 pub use copies::{tell_descriptor, tell_system};
 pub use creating::create;
 pub use ending::end;

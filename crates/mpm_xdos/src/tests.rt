@@ -4,12 +4,12 @@ ghost use Rattle.mpm_kernel.specs.Kernel.{IsSound};
 use super::*;
 use crate::tests::Line::{
     Abort, Begin, BeginResident, Create, End, FreeSlots, IsChild, IsDue, Lives, Next, Occupy,
-    Reserve, Targets,
+    Reserve, Serve, Targets,
 };
 use mpm_banks::Banks;
 use mpm_base::{Call, Name8, Pid, Reply, Seg, SegmentSpec, functions};
 use mpm_clock::Moment;
-use mpm_kernel::Kernel;
+use mpm_kernel::{Kernel, Turn};
 use mpm_procs::{NewProcess, Process};
 use std::alloc::{AllocError, Global};
 use std::test::Fail;
@@ -149,14 +149,29 @@ fn begin(kernel: &mut Kernel, new: NewProcess) -> bool
     false
 }
 
+/// The call of the process that runs waits for the disk and enters service, where it serves nobody else.
+#[tactic(auto, using(mpm_kernel::proofs::DiskLaws::sound_in_turns, mpm_kernel::proofs::SoundLaws::runner_lives), unfolding(mpm_kernel::specs::Disk::waiting_for_disk, mpm_service::specs::Disk::entered, mpm_service::specs::Disk::no_service))]
+fn enter_service(kernel: &mut Kernel) -> bool
+    requires { IsSound kernel.old }
+    ensures { IsSound kernel.new }
+{
+    kernel.pick(false);
+    let Some(p) = kernel.running() else {
+        return false;
+    };
+    kernel.set_disk_turn(20);
+    kernel.wait_for_disk(p);
+    kernel.turn_disk() == Turn::Starts { p }
+}
+
 /// Aborts the process of a number, which lives in the first segment; answers whether it lives on.
 #[tactic(auto, using(crate::proofs::AbortLaws::sound_aborted))]
-fn lives_after_abort(kernel: &mut Kernel, banks: &mut Banks, p: Pid, in_service: bool) -> bool
+fn lives_after_abort(kernel: &mut Kernel, banks: &mut Banks, p: Pid) -> bool
     requires { IsSound kernel.old }
     ensures { IsSound kernel.new }
 {
     if 1 <= banks.segments() && kernel.lives(p) && kernel.segment(p) == Some(Seg(0)) {
-        abort(kernel, banks, p, in_service);
+        abort(kernel, banks, p);
     }
     kernel.lives(p)
 }
@@ -178,8 +193,10 @@ enum Line<'a> {
     Occupy,
     /// Whom the first process is to abort, by the address of a descriptor, a name and a console.
     Targets(u16, &'a [u8; 8], u8, Option<u8>),
-    /// A process that lives in the first segment is aborted, while a call of it is in service or not; it lives on or not.
-    Abort(u8, bool, bool),
+    /// A process that lives in the first segment is aborted; it lives on or not.
+    Abort(u8, bool),
+    /// The call of the process that runs next enters service.
+    Serve,
     /// Whether the end of a process is put off.
     IsDue(u8, bool),
     /// Whether a process lives.
@@ -240,9 +257,8 @@ fn passes(kernel: &mut Kernel, banks: &mut Banks, line: Line) -> bool
         Line::End(p) => finish(kernel, banks, Pid(p % 32)),
         Line::Reserve(p, base, pages, seg) => reserve(banks, Pid(p % 32), base, pages) == seg,
         Line::Occupy => occupy(banks),
-        Line::Abort(p, in_service, lives) => {
-            lives_after_abort(kernel, banks, Pid(p % 32), in_service) == lives
-        }
+        Line::Abort(p, lives) => lives_after_abort(kernel, banks, Pid(p % 32)) == lives,
+        Line::Serve => enter_service(kernel),
         Line::Next(p) => next(kernel) == Some(p),
         Line::Targets(address, name, console, p) => {
             slot(aborted_by_first(kernel, address, name, console)) == p
@@ -400,10 +416,12 @@ fn an_abort_waits_for_a_call_in_service(rt: HostRuntime) -> Result<(), Fail> {
         &[
             Begin(b"PROGRAM ", 0),
             Begin(b"PROGRAM ", 1),
-            Abort(1, true, true),
-            IsDue(1, true),
-            Abort(2, false, false),
-            Abort(1, false, false),
+            Next(0),
+            Serve,
+            Abort(0, true),
+            IsDue(0, true),
+            Abort(2, false),
+            Abort(1, false),
         ],
     )
 }

@@ -1,4 +1,5 @@
-//! File calls of programs: what they answer, what comes to the console, and what they leave.
+//! File calls of programs: what they answer, what comes to the console, and what they leave. Where nobody else has the disk, a
+//! program is answered alike and leaves the same whether each of its calls is done at once or in turns.
 use super::scene::Sight::{Byte, Lives, Word};
 use super::scene::{Behind, Scene, Sight};
 use mpm_base::Kind;
@@ -20,7 +21,23 @@ kind = \"ibm3740\"
 image = \"a.img\"
 ";
 
-/// The same with one segment, of all pages below common memory.
+/// The same, whose disk serves file calls in turns.
+pub(super) const IN_TURNS: &[u8] = b"version = 1
+consoles = 1
+disk_turn = 20
+[[segment]]
+base = 64
+pages = 16
+[[segment]]
+base = 64
+pages = 16
+[[drive]]
+letter = \"A\"
+kind = \"ibm3740\"
+image = \"a.img\"
+";
+
+/// With one segment, of all pages below common memory.
 const WHOLE_MEMORY: &[u8] = b"version = 1
 consoles = 1
 [[segment]]
@@ -34,7 +51,7 @@ image = \"a.img\"
 
 /// What a program does.
 #[derive(Clone, Copy)]
-enum Act {
+pub(super) enum Act {
     /// Calls a function with a parameter, and keeps the word that it answers behind those of its calls before, which must be
     /// that one: six instructions, of which the fifth is the call.
     Calls(u8, u16, u16),
@@ -46,10 +63,10 @@ use Act::{Calls, Puts};
 
 /// A part of a program's data: it stands so many bytes behind the program's first.
 #[derive(Clone, Copy)]
-struct Data<'a>(usize, &'a [u8]);
+pub(super) struct Data<'a>(pub usize, pub &'a [u8]);
 
 /// A program of that length, which stands behind its base page.
-type Program = [u8; 3072];
+pub(super) type Program = [u8; 3072];
 
 /// Where the words stand that a program's calls answered, behind the program's first byte.
 const ANSWERS: u16 = 0x0180;
@@ -72,7 +89,7 @@ fn first_answer(base: u8) -> u16 {
 
 /// The program that does that, one after another, with its data; it stands in a segment with that base page. Behind all it does
 /// there is a HALT.
-fn program(base: u8, acts: &[Act], data: &[Data]) -> Program {
+pub(super) fn program(base: u8, acts: &[Act], data: &[Data]) -> Program {
     let mut program = [0; 3072];
     let mut place = 0_usize;
     let mut answer = first_answer(base);
@@ -147,7 +164,23 @@ fn on_a_disk<'a>(first: &'a [u8], second: &'a [u8], disk: &'a [Entry]) -> Scene<
     }
 }
 
-/// A program that does that on a drive with these entries is answered as it says, writes nothing, and that is seen behind it.
+/// The same where the disk serves calls in turns.
+fn in_turns<'a>(first: &'a [u8], disk: &'a [Entry]) -> Scene<'a> {
+    Scene {
+        machine: IN_TURNS,
+        script: b"",
+        first,
+        second: b"",
+        trace: false,
+        disk: Some(disk),
+    }
+}
+
+/// In how many steps more the disk has served all calls of a program here, of which each turn takes twenty.
+const TURNS: u64 = 2000;
+
+/// A program that does that on a drive with these entries is answered as it says, writes nothing, and that is seen behind it; so it
+/// is where the disk serves its calls in turns.
 fn plays(
     rt: &HostRuntime,
     disk: &[Entry],
@@ -157,7 +190,31 @@ fn plays(
 ) -> Result<(), Fail> {
     let first = program(0x40, acts, data);
     let all = seen(0x40, acts, sights);
-    on_a_disk(&first, b"", disk).shows(rt.alloc(), &[Behind(steps_of(acts), b"", &all)])
+    let steps = steps_of(acts);
+    plays_at_once(rt, &first, disk, steps, &all)?;
+    plays_in_turns(rt, &first, disk, steps.saturating_add(TURNS), &all)
+}
+
+/// That is seen of a program so many steps on, where each call is done at once.
+fn plays_at_once(
+    rt: &HostRuntime,
+    first: &[u8],
+    disk: &[Entry],
+    steps: u64,
+    sights: &[Sight],
+) -> Result<(), Fail> {
+    on_a_disk(first, b"", disk).shows(rt.alloc(), &[Behind(steps, b"", sights)])
+}
+
+/// The same where the disk serves calls in turns.
+fn plays_in_turns(
+    rt: &HostRuntime,
+    first: &[u8],
+    disk: &[Entry],
+    steps: u64,
+    sights: &[Sight],
+) -> Result<(), Fail> {
+    in_turns(first, disk).shows(rt.alloc(), &[Behind(steps, b"", sights)])
 }
 
 /// The same of a program in a segment of all pages below common memory, on a drive without files.
@@ -182,7 +239,7 @@ fn plays_below(
 }
 
 /// The entry of a file of one record.
-fn one_record(letter: u8) -> Entry {
+pub(super) fn one_record(letter: u8) -> Entry {
     held(Kind::Ibm3740, file(letter, 0, 1), 0, 2)
 }
 

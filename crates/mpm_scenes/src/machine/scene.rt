@@ -3,14 +3,15 @@ ghost use Rattle.std.specs.Prelude.{ℕ, ◌≡◌, ◌<◌, ◌≤◌, ◌+◌,
 ghost use Rattle.std.specs.Bool.{OnTrue};
 ghost use Rattle.mpm_machine_file.specs.MachineFiles.{IsMachine};
 ghost use Rattle.mpm_port.specs.MemoryDisks.{size_of, disks_of};
-ghost use Rattle.mpm_machine.specs.State.{IsWhole, NoCompletions, HoldsDrives};
+ghost use Rattle.mpm_machine.specs.State.{IsWhole, NoCompletions};
+ghost use Rattle.mpm_machine.specs.Holding.{HoldsDrives};
 ghost use Rattle.mpm_machine.specs.Opening.{IsBare, MayPlace};
 
 use mpm_base::{Kind, Name8, Pid, Seg, Steps};
-use mpm_images::{Entry, image};
+use mpm_images::{Entry, image, place};
 use mpm_machine::Machine;
 use mpm_machine_file::{MachineFile, read_machine};
-use mpm_port::{MemoryDrives, MemorySink};
+use mpm_port::{Drives, MemoryDrives, MemorySink};
 use mpm_render::Render;
 use mpm_script::read_script;
 use std::alloc::Global;
@@ -72,6 +73,11 @@ pub(super) enum Sight {
     Word(u8, u16, u16),
     /// How many keys of console 0 were lost.
     Lost(u64),
+    /// With which byte a record begins, below 128, of the file whose entry stands in a slot of the disk's directory; none where the
+    /// slot is free, or the file hasn't that record.
+    Record(u8, u8, Option<u8>),
+    /// With which byte a slot's entry begins, below 128.
+    Entry(u8, u8),
 }
 
 /// What is seen after so many steps, in which just that text was written.
@@ -177,7 +183,7 @@ impl Scene<'_> {
         requires whole { IsWhole machine.old.system }
         requires no_completions { NoCompletions machine.old.system }
         requires start { machine.old.system.steps ≡ 0 }
-        requires holds { HoldsDrives size_of (λ d. Some (disks_of d)) machine.old.bdos drives.old }
+        requires holds { HoldsDrives size_of (λ d. Some (disks_of d)) machine.old.system.kernel machine.old.bdos drives.old }
         requires name { blank.name ≡ L.name }
         requires parts { blank.parts ≡ L.parts }
         requires some { 0 < L.parts }
@@ -195,14 +201,33 @@ impl Scene<'_> {
             &mut sink,
             &mut calls,
         )?;
+        let is_so = has_all(machine, sights);
         machine.settle(drives, &mut render, &mut sink, &mut calls)?;
-        for sight in sights {
-            if !sees(machine, *sight) {
-                return Ok(false);
-            }
-        }
-        Ok(placed && machine.steps_done() == steps && sink.written() == text)
+        let is_left = leaves_all(machine, drives, sights);
+        Ok(placed && is_so && is_left && machine.steps_done() == steps && sink.written() == text)
     }
+}
+
+/// Whether all that is seen of a machine is so.
+fn has_all(machine: &Machine, sights: &[Sight]) -> bool
+    requires { IsWhole machine.now.system }
+{
+    for sight in sights {
+        if !sees(machine, *sight) {
+            return false;
+        }
+    }
+    true
+}
+
+/// Whether all that is seen at the end of the run is so.
+fn leaves_all(machine: &Machine, drives: &mut MemoryDrives, sights: &[Sight]) -> bool {
+    for sight in sights {
+        if !leaves(machine, drives, *sight) {
+            return false;
+        }
+    }
+    true
 }
 
 /// Whether a segment is there with room for a program.
@@ -226,6 +251,7 @@ fn place_both(machine: &mut Machine, file: &MachineFile, first: &[u8], second: &
     requires free { (seg size : ℕ) → seg < length file.now.segments → size + 640 ≤ 256 * (get_or file.now.segments seg (record { base = 0; pages = 0 })).pages
         → MayPlace machine.old.system seg 0 size }
     ensures bare { IsBare machine.new.system }
+    ensures disk { machine.new.system.kernel.disk ≡ machine.old.system.kernel.disk }
     ensures bdos { machine.new.bdos ≡ machine.old.bdos }
 {
     if first.is_empty() {
@@ -259,9 +285,10 @@ fn go<L: Ledger>(
     requires whole { IsWhole machine.old.system }
     requires no_completions { NoCompletions machine.old.system }
     requires start { machine.old.system.steps ≡ 0 }
-    requires holds { HoldsDrives size_of (λ d. Some (disks_of d)) machine.old.bdos drives.old }
+    requires holds { HoldsDrives size_of (λ d. Some (disks_of d)) machine.old.system.kernel machine.old.bdos drives.old }
     ensures whole { OnOk result (IsWhole machine.new.system) }
-    ensures holds { OnOk result (HoldsDrives size_of (λ d. Some (disks_of d)) machine.new.bdos drives.new) }
+    ensures no_completions { OnOk result (NoCompletions machine.new.system) }
+    ensures holds { OnOk result (HoldsDrives size_of (λ d. Some (disks_of d)) machine.new.system.kernel machine.new.bdos drives.new) }
 {
     if 10000 < steps {
         return Err(Fail::from("there are too many steps"));
@@ -275,13 +302,12 @@ fn go<L: Ledger>(
     Ok(())
 }
 
-/// Whether that is seen of a machine.
+/// Whether that is seen of a machine, as its steps are done.
 #[tactic(auto, using(mpm_kernel::proofs::UnitLaws::has_first_console))]
 fn sees(machine: &Machine, sight: Sight) -> bool
     requires { IsWhole machine.now.system }
 {
     match sight {
-        Sight::Lives(p, lives) => p < 32 && machine.regs(Pid(p)).is_some() == lives,
         Sight::Has(p, register, value) => {
             if 32 <= p {
                 return false;
@@ -294,7 +320,62 @@ fn sees(machine: &Machine, sight: Sight) -> bool
         Sight::Byte(seg, address, byte) => seg < 16 && machine.byte(Seg(seg), address) == byte,
         Sight::Word(seg, address, word) => seg < 16 && word_at(machine, Seg(seg), address) == word,
         Sight::Lost(count) => machine.lost(0) == count,
+        Sight::Lives(_, _) | Sight::Record(_, _, _) | Sight::Entry(_, _) => true,
     }
+}
+
+/// Whether that is seen at the end of the run, to which the call in service was carried out: who lives, and what is on the disk.
+fn leaves(machine: &Machine, drives: &mut MemoryDrives, sight: Sight) -> bool {
+    match sight {
+        Sight::Lives(p, lives) => p < 32 && machine.regs(Pid(p)).is_some() == lives,
+        Sight::Record(slot, record, byte) => first_byte(drives, slot, record) == byte,
+        Sight::Entry(slot, byte) => entry_of(drives, slot)[0] == byte,
+        _ => true,
+    }
+}
+
+/// A sector of the floppy disk, counted behind the system's tracks.
+fn sector(drives: &mut MemoryDrives, number: u32) -> [u8; 128] {
+    let mut bytes = [0; 128];
+    if is_read(drives, place(Kind::Ibm3740, number), &mut bytes) {
+        bytes
+    } else {
+        [0xE5; 128]
+    }
+}
+
+/// Reads a sector of the floppy disk's image: whether it has that sector.
+fn is_read(drives: &mut MemoryDrives, place: u32, bytes: &mut [u8; 128]) -> bool {
+    if drives.attach(0, "a.img") != Ok(()) {
+        return false;
+    }
+    let Ok(size) = drives.size(0) else {
+        return false;
+    };
+    if size < 128 * u64::from(place) + 128 {
+        return false;
+    }
+    drives.read(0, place, bytes) == Ok(())
+}
+
+/// The entry of a slot.
+fn entry_of(drives: &mut MemoryDrives, slot: u8) -> Entry {
+    let entries = sector(drives, u32::from(slot / 4));
+    let mut entry = [0; 32];
+    let first = usize::from(slot % 4) * 32;
+    entry.copy_from_slice(&entries[first..first + 32]);
+    entry
+}
+
+/// With which byte a record begins of the file of a slot, if it has that record.
+fn first_byte(drives: &mut MemoryDrives, slot: u8, record: u8) -> Option<u8> {
+    let entry = entry_of(drives, slot);
+    let block = entry[16 + usize::from(record / 8 % 16)];
+    if entry[0] == 0xE5 || entry[15] <= record || block == 0 {
+        return None;
+    }
+    let bytes = sector(drives, u32::from(block) * 8 + u32::from(record % 8));
+    Some(bytes[0])
 }
 
 /// The word that an address and the next one name in a segment.

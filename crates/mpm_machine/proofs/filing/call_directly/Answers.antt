@@ -1,4 +1,4 @@
-use Rattle.mpm_machine.proofs.FilingLaws.{directly_is}
+use Rattle.mpm_machine.proofs.FilingLaws.{directly_is, directly_answered}
 use Rattle.mpm_machine.proofs.ToldLaws.{directly_told}
 use Rattle.mpm_machine.proofs.filing.call_directly.Goals as goal
 
@@ -13,3 +13,9 @@ returns-clause-told c =
     directly_told c.args.p c.args.system.now c.kept_call.result.now c.living.result.now c.answer.new.self c.direct.new.reply c.direct.result
     c.kept_call.ensures c.living.ensures c.requires.function c.answer.ensures
     c.direct.ensures.told c.direct.ensures.other c.direct.ensures.unanswered
+
+pub returns-clause-within : goal.returns-clause-within
+returns-clause-within c images s j serves =
+    directly_answered s.filing c.args.p c.args.system.now c.kept_call.result.now c.living.result.now c.answer.new.self c.direct.new.reply c.direct.result
+    c.kept_call.ensures c.living.ensures c.requires.function c.answer.ensures
+    (c.direct.ensures.served images s j serves) (c.direct.ensures.served_extended images s j serves) c.direct.ensures.other c.direct.ensures.unanswered

@@ -1,6 +1,6 @@
 use Rattle.std.proofs.Common.{◌≤◌, sym, subst}
 use Rattle.mpm_procs.specs.declared.process.Process.{Process}
-use Rattle.mpm_machine.proofs.FilingLaws.{disk_is, bare_still}
+use Rattle.mpm_machine.proofs.FilingLaws.{disk_is, at_once_idle, bare_still}
 use Rattle.mpm_machine.proofs.ToldLaws.{disk_told}
 use Rattle.mpm_machine.proofs.FailingLaws.{disk_fails, disk_calls}
 use Rattle.mpm_machine.proofs.filing.call_disk.Goals as goal
@@ -17,7 +17,7 @@ pub returns-clause-ok : goal.returns-clause-ok
 returns-clause-ok g c filing stands =
     disk_is (g.D.Drives.disks c.args.drives.now) (g.D.Drives.disks c.call_at_once.new.drives) filing c.args.p c.args.system.now c.args.bdos.now c.call_at_once.new.self
     c.looked_at-caller.result c.living.result.now c.kept_call.result.now c.now-now.result c.call_at_once.new.reply c.call_at_once.result
-    c.looked_at-caller.ensures.process c.living.ensures c.kept_call.ensures c.now-now.ensures.moment c.requires.function stands c.call_at_once.ensures.ok
+    c.looked_at-caller.ensures.process c.living.ensures c.kept_call.ensures c.now-now.ensures.moment c.requires.function stands c.call_at_once.ensures.service c.call_at_once.ensures.ok
 
 pub returns-clause-bare : goal.returns-clause-bare
 returns-clause-bare g c none = bare_still c.args.bdos.now.mounted c.call_at_once.new.self.mounted c.call_at_once.ensures.labels none
@@ -38,3 +38,6 @@ pub returns-clause-told : goal.returns-clause-told
 returns-clause-told g c =
     disk_told c.args.p c.args.system.now c.looked_at-caller.result c.living.result.now c.kept_call.result.now c.call_at_once.new.reply c.call_at_once.result
     c.looked_at-caller.ensures.process c.living.ensures c.kept_call.ensures c.requires.function c.call_at_once.ensures.may
+
+pub returns-clause-service : goal.returns-clause-service
+returns-clause-service g c = at_once_idle _ _ c.kept_call.ensures c.requires.function c.call_at_once.ensures.service

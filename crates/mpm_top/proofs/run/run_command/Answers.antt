@@ -8,6 +8,9 @@ use Rattle.mpm_top.proofs.run.run_command.Goals as goal
 
 -- all is done
 
+pub run_to_end-requires-clause-idle : goal.run_to_end-requires-clause-idle
+run_to_end-requires-clause-idle g c = c.in-Ok.ensures.starts.idle
+
 pub returns-in-Ok-run_to_end-clause-ran : goal.returns-in-Ok-run_to_end-clause-ran
 returns-in-Ok-run_to_end-clause-ran g c is =
     let starts = c.in-Ok.ensures.starts in

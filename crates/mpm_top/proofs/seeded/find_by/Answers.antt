@@ -1,5 +1,9 @@
 use Rattle.std.proofs.Common.{Some}
 use Rattle.mpm_port.specs.MemoryDisks.{disks_of, size_of}
+use Rattle.mpm_machine.specs.Mounting.{untouched}
+use Rattle.mpm_drives.specs.Mounted.{placed}
+use Rattle.mpm_top.specs.Seeds.{drive_a}
+use Rattle.mpm_machine.proofs.SettlingLaws.{nobody_yet, stands_idle}
 use Rattle.mpm_top.proofs.SeedLaws.{BeginsSeeded, begins_booted, no_image_fault, first_drive, opened_as, are_found}
 use Rattle.mpm_top.proofs.seeded.find_by.Goals as goal
 
@@ -23,4 +27,5 @@ returns-in-Ok c =
     c.requires.drives c.in-Ok.ensures.mounted in
     are_found c.args.asked.seed c.args.asked.steps c.in-Ok.machine.system begins.files c.find_of.result begins.are
     (opened_as c.in-Ok.machine.system c.args.file.now c.args.script c.in-Ok.ensures.opening c.requires.machine c.requires.script)
-    (c.find_of.ensures _ begins.stand)
+    (c.find_of.ensures (drive_a begins.files)
+    (stands_idle c.in-Ok.machine.system.kernel.disk c.in-Ok.machine.bdos (Some (disks_of c.boot.new.drives)) (untouched (placed (drive_a begins.files))) (nobody_yet c.in-Ok.machine.system.kernel.disk c.args.file.now.disk_turn c.in-Ok.ensures.disk) begins.stand))

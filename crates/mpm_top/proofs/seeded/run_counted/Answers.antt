@@ -1,13 +1,10 @@
-use Rattle.std.proofs.Common.{◌≡◌, ◌∙◌, ◌++◌, ℕ, Bool, List, Option, Some, sym, ap, subst}
+use Rattle.std.proofs.Common.{◌≡◌, ◌∙◌, ◌++◌, ℕ, Bool, List, Option, Some, refl, sym, ap, subst}
 use Rattle.mpm_port.specs.MemoryDisks.{disks_of}
 use Rattle.mpm_render.specs.Outputs.{closed}
-use Rattle.std.specs.Prelude.{option_map}
-use Rattle.mpm_bdos.specs.Serving.{directory_at}
-use Rattle.mpm_bdos.specs.Turns.{labelled}
-use Rattle.mpm_machine.specs.declared.machine.Machine.{Machine}
 use Rattle.mpm_machine.specs.After.{after}
-use Rattle.mpm_top.specs.Data.{HasDriveA}
-use Rattle.mpm_top.specs.Runs.{begun}
+use Rattle.mpm_machine.specs.Settling.{carried}
+use Rattle.mpm_machine.proofs.SettlingLaws.{settled_stand}
+use Rattle.mpm_top.specs.Runs.{begun, drives_left}
 use Rattle.mpm_top.proofs.RunLaws.{stands_begun}
 use Rattle.mpm_top.proofs.DataLaws.{has_drive_a}
 use Rattle.mpm_top.proofs.SeedLaws.{none_failed, same_some}
@@ -24,15 +21,16 @@ returns-clause-text g c on stand =
     let first : Option (List ℕ) = Some c.args.counts.now in
     let s = begun c.args.machine.now.system on in
     let stands = stands_begun c.args.machine.now on c.new-render.result first (Some (disks_of c.args.drives.now)) (c.new-render.ensures.fresh first) stand in
-    let shows = (c.in-Ok.ensures.ok s first stands).system.shown in
+    let there = after c.args.steps s in
     let traces = c.in-Ok.ensures.trace ∙ c.new-render.ensures.trace in
-    let P : Bool → Type 0 = λ trace. Some c.settle.new.sink ≡ Some (c.args.counts.now ++ closed trace (after c.args.steps s).outputs) in
-    same_some _ _ (subst P traces (c.in-Ok-settle.ensures.ok (after c.args.steps s).outputs first shows))
+    let P : Bool → Type 0 = λ trace. Some c.settle.new.sink ≡ Some (c.args.counts.now ++ closed trace (carried there).outputs) in
+    same_some _ _ (subst P traces (c.in-Ok-settle.ensures.ok there first (c.in-Ok.ensures.ok s first stands)))
 
 pub returns-clause-drive : goal.returns-clause-drive
-returns-clause-drive g c =
-    ap (λ (machine : Machine). option_map labelled (directory_at machine.bdos.mounted 0)) c.in-Ok-settle.ensures.machine
-    ∙ c.in-Ok.ensures.keeps.labels 0 ∙ c.requires.drive
+returns-clause-drive g c = c.in-Ok-settle.ensures.keeps.labels 0 ∙ c.in-Ok.ensures.keeps.labels 0 ∙ c.requires.drive
+
+pub returns-clause-attached : goal.returns-clause-attached
+returns-clause-attached g c number = c.in-Ok-settle.ensures.attached number ∙ c.in-Ok.ensures.attached number
 
 pub returns-clause-files : goal.returns-clause-files
 returns-clause-files g c on stand =
@@ -40,7 +38,7 @@ returns-clause-files g c on stand =
     let s = begun c.args.machine.now.system on in
     let disks = Some (disks_of c.settle.new.drives) in
     let stands = stands_begun c.args.machine.now on c.new-render.result first (Some (disks_of c.args.drives.now)) (c.new-render.ensures.fresh first) stand in
-    let P : Machine → Type 0 = λ machine. HasDriveA disks (directory_at machine.bdos.mounted 0) (after c.args.steps s).filing.drives in
-    subst P (sym c.in-Ok-settle.ensures.machine)
-    (has_drive_a (Some (disks_of c.run.new.drives)) disks c.run.new.self.bdos.mounted (after c.args.steps s).filing.drives
-    (c.in-Ok.ensures.keeps.labels 0 ∙ c.requires.drive) (c.in-Ok.ensures.ok s first stands).files.stand c.in-Ok-settle.ensures.drives.images)
+    let there = after c.args.steps s in
+    has_drive_a disks c.settle.new.self.bdos.mounted (drives_left there)
+    (c.in-Ok-settle.ensures.keeps.labels 0 ∙ c.in-Ok.ensures.keeps.labels 0 ∙ c.requires.drive)
+    (settled_stand there c.settle.new.self.system.kernel.disk c.settle.new.self.bdos disks (c.in-Ok-settle.ensures.files there first (c.in-Ok.ensures.ok s first stands)))

@@ -5,4 +5,4 @@ use Rattle.mpm_xdos.proofs.aborting.abort.Goals as goal
 
 pub returns-clause-sound : goal.returns-clause-sound
 returns-clause-sound c =
-    subst IsSound (sym c.end_or_put_off.ensures.kernel) (sound_aborted c.args.kernel.now c.args.p c.args.in_service c.requires.sound c.requires.lives)
+    subst IsSound (sym c.end_or_put_off.ensures.kernel) (sound_aborted c.args.kernel.now c.args.p c.requires.sound c.requires.lives)

@@ -1,4 +1,7 @@
-use Rattle.std.proofs.Common.{◌∙◌}
+use Rattle.std.proofs.Common.{◌∙◌, sym, subst}
+use Rattle.mpm_bdos.specs.Serving.{Kept}
+use Rattle.mpm_machine.specs.Holding.{HoldsDrives}
+use Rattle.mpm_machine.proofs.MountedLaws.{holds_again}
 use Rattle.mpm_machine.proofs.OpeningLaws.{boots, opened_here}
 use Rattle.mpm_machine.proofs.SlotLaws.{has_residents, interprets_opened}
 use Rattle.mpm_machine.proofs.machine.Machine.boot.Goals as goal
@@ -29,5 +32,15 @@ returns-clause-residents g c =
 
 pub returns-clause-interprets : goal.returns-clause-interprets
 returns-clause-interprets g c =
-    interprets_opened c.args.file.now c.args.script c.in-Ok.machine.system c.begin_residents.new.self.system c.requires c.in-Ok.ensures.booted c.in-Ok.ensures.bare.whole
+    interprets_opened c.args.file.now c.args.script c.in-Ok.machine.system c.begin_residents.new.self.system c.args.file.now.disk_turn c.requires c.in-Ok.ensures.booted c.in-Ok.ensures.bare.whole
     (opened_here c.args.file.now c.args.script c.in-Ok.machine.system c.begin_residents.new.self.system c.in-Ok.ensures.booted c.begin_residents.ensures.system)
+    c.begin_residents.ensures.whole c.begin_residents.ensures.no_completions (c.begin_residents.ensures.disk ∙ c.in-Ok.ensures.disk)
+
+pub returns-clause-disk : goal.returns-clause-disk
+returns-clause-disk g c = c.begin_residents.ensures.disk ∙ c.in-Ok.ensures.disk
+
+pub returns-clause-holds : goal.returns-clause-holds
+returns-clause-holds g c =
+    subst (λ (k : Kept). HoldsDrives g.D.Drives.attached g.D.Drives.disks c.begin_residents.new.self.system.kernel k c.boot_bare.new.drives) (sym c.begin_residents.ensures.bdos)
+    (holds_again g.D.Drives.attached g.D.Drives.disks c.in-Ok.machine.system.kernel c.begin_residents.new.self.system.kernel c.args.file.now.disk_turn c.in-Ok.machine.bdos c.boot_bare.new.drives
+    (c.begin_residents.ensures.disk ∙ c.in-Ok.ensures.disk) c.in-Ok.ensures.holds)

@@ -8,7 +8,8 @@ returns-in-Ok-bare-clause-mounted g c =
 
 pub returns-in-Ok-bare-clause-holds : goal.returns-in-Ok-bare-clause-holds
 returns-in-Ok-bare-clause-holds g c =
-    holds_mounted g.D.Drives.attached g.D.Drives.disks _ c.args.file.now.drives c.in-Ok-bare.machine.bdos c.mount.new.drives c.requires.images
+    holds_mounted g.D.Drives.attached g.D.Drives.disks _ c.args.file.now.drives c.in-Ok-bare.machine.system.kernel c.args.file.now.disk_turn c.in-Ok-bare.machine.bdos c.mount.new.drives c.requires.images
+    c.in-Ok-bare.ensures.disk
     (mounted_here _ _ _ _ c.in-Ok.mounted c.into_mounted.result.items c.in-Ok-bare.machine.bdos c.as_slice.ensures c.in-Ok.ensures.mounted c.into_mounted.ensures c.in-Ok-bare.ensures.bdos)
 
 pub returns-in-Ok-bare-clause-drives : goal.returns-in-Ok-bare-clause-drives

@@ -1,4 +1,6 @@
 use Rattle.std.proofs.Common.{◌∙◌, ap, sym, subst, length}
+use Rattle.mpm_service.specs.Disk.{no_service}
+use Rattle.mpm_machine_file.specs.declared.machine_file.MachineFile.{MachineFile}
 use Rattle.mpm_machine.specs.declared.system.System.{System}
 use Rattle.mpm_bdos.specs.Serving.{nothing_kept, in_places}
 use Rattle.mpm_machine.specs.Opening.{MayPlace}
@@ -15,6 +17,9 @@ pub returns-clause-opening : goal.returns-clause-opening
 returns-clause-opening c =
     let is = booted_program c.in-Ok.file c.empty.result c.in-Ok-bare.machine.system c.in-Ok-bare.ensures.booted c.in-Ok.ensures c.empty.ensures in
     opening_is c.args.program.now c.place-p.result c.place-p.new.self.system c.in-Ok-bare.machine.system is c.place-p.ensures.slot c.place-p.ensures.system
+
+pub returns-clause-disk : goal.returns-clause-disk
+returns-clause-disk c = c.place-p.ensures.disk ∙ c.in-Ok-bare.ensures.disk ∙ ap (λ (file : MachineFile). no_service file.disk_turn) c.in-Ok.ensures
 
 pub returns-clause-bdos : goal.returns-clause-bdos
 returns-clause-bdos c = c.place-p.ensures.bdos ∙ c.in-Ok-bare.ensures.bdos ∙ ap (λ items. nothing_kept (in_places items)) c.new.ensures.items

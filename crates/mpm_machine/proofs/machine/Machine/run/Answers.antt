@@ -4,7 +4,7 @@ use Rattle.mpm_machine.specs.Failing.{StopsWithImages}
 use Rattle.mpm_machine.specs.Faults.{Counts, counts, HasFailed}
 use Rattle.mpm_machine.specs.After.{after, EndsInStep, ShowsBefore}
 use Rattle.mpm_machine.proofs.NextLaws.{after_nothing, after_both, ends_later, run_nothing, run_both, next_in_run, stopped_later, so_later}
-use Rattle.mpm_machine.proofs.GoingSteps.{acts_run}
+use Rattle.mpm_machine.proofs.GoingSteps.{interprets_run}
 use Rattle.mpm_machine.proofs.DriveLaws.{keeps_still, keeps_both}
 use Rattle.mpm_machine.proofs.machine.Machine.run.Goals as goal
 
@@ -116,4 +116,4 @@ returns-in-Err-clause-keeps g c =
     keeps_both _ _ _ c.args.self.now.bdos.mounted c.loop-done.self.bdos.mounted c.advance.new.self.bdos.mounted c.loop-done.invariant.keeps c.in-Err.ensures.keeps
 
 pub returns-clause-interprets : goal.returns-clause-interprets
-returns-clause-interprets g c = acts_run c.loop-done.done _ _ c.args.self.now.system c.loop-done.self.system c.requires.whole c.loop-done.invariant.ran
+returns-clause-interprets g c = interprets_run c.loop-done.done _ _ c.args.self.now.system c.loop-done.self.system c.requires.whole c.loop-done.invariant.ran

@@ -1,6 +1,7 @@
 use Rattle.std.proofs.Common.{◌≡◌, ◌≤◌, ◌<◌, ◌+◌, ◌-◌, ℕ, List, Option}
 use Rattle.mpm_output.specs.Outside.{seen}
-use Rattle.mpm_machine.specs.State.{State, IsWhole, NoCompletions, StandsWithDrives, HoldsDrives}
+use Rattle.mpm_machine.specs.State.{State, IsWhole, NoCompletions, StandsWithDrives}
+use Rattle.mpm_machine.specs.Holding.{HoldsDrives}
 use Rattle.mpm_machine.specs.Due.{NobodyDue}
 use Rattle.mpm_machine.specs.Mounting.{HasNoDrive, KeepsMounted}
 use Rattle.mpm_machine.specs.Faults.{counts}
@@ -20,7 +21,7 @@ invariant-loop-done g l = record {
   steps : l.self.system.steps ≡ l.initial.self.system.steps + l.done;
   faults : counts g.S.Sink.faults g.D.Drives.faults l.sink l.drives ≡ counts g.S.Sink.faults g.D.Drives.faults l.initial.sink l.initial.drives;
   trace : l.render.trace ≡ l.initial.render.trace;
-  holds : HoldsDrives g.D.Drives.attached g.D.Drives.disks l.self.bdos l.drives;
+  holds : HoldsDrives g.D.Drives.attached g.D.Drives.disks l.self.system.kernel l.self.bdos l.drives;
   names : g.D.Drives.failed_names l.drives ≡ g.D.Drives.failed_names l.initial.drives;
   keeps : KeepsMounted (g.D.Drives.disks l.initial.drives) (g.D.Drives.disks l.drives) l.initial.self.bdos.mounted l.self.bdos.mounted;
   bare : HasNoDrive l.initial.self.bdos.mounted → HasNoDrive l.self.bdos.mounted;

@@ -1,5 +1,6 @@
-use Rattle.std.proofs.Common.{◌∙◌, sym}
-use Rattle.mpm_machine.proofs.FinishLaws.{answered_system, answered_nobody, first_has_room, rest_have_room}
+use Rattle.std.proofs.Common.{◌∙◌, length, sym, ap, arith}
+use Rattle.mpm_machine.specs.declared.system.System.{System}
+use Rattle.mpm_machine.proofs.FinishLaws.{answered_system, answered_nobody, answered_few, first_has_room, rest_have_room}
 use Rattle.mpm_machine.proofs.WholeStepLaws.{whole_first_so}
 use Rattle.mpm_machine.proofs.system.System.answer_each.Goals as goal
 
@@ -13,10 +14,18 @@ finish_all-requires c = record {
   room = rest_have_room c.in-Some.p c.args.self.now c.next_completed.new.self c.finish_first.new.self c.requires.room c.in-Some.ensures.system c.finish_first.ensures;
 }
 
-pub returns-in-Some : goal.returns-in-Some
-returns-in-Some c =
+pub returns-in-Some-clause-system : goal.returns-in-Some-clause-system
+returns-in-Some-clause-system c =
     answered_system c.in-Some.p c.args.self.now c.next_completed.new.self c.finish_first.new.self _ (sym c.in-Some.ensures.process) c.in-Some.ensures.system
-    c.finish_first.ensures c.finish_all.ensures
+    c.finish_first.ensures c.finish_all.ensures.system
 
-pub returns-in_default : goal.returns-in_default
-returns-in_default c = c.in_default.ensures.nothing ∙ sym (answered_nobody c.args.self.now (sym c.in_default.ensures.process))
+pub returns-in-Some-clause-few : goal.returns-in-Some-clause-few
+returns-in-Some-clause-few c =
+    answered_few c.in-Some.p c.args.self.now c.next_completed.new.self c.finish_first.new.self c.finish_all.new.self c.in-Some.ensures.system c.finish_first.ensures
+    c.finish_all.ensures.few
+
+pub returns-in_default-clause-few : goal.returns-in_default-clause-few
+returns-in_default-clause-few c = omega (arith, ap (λ (s : System). length s.records) c.in_default.ensures.nothing)
+
+pub returns-in_default-clause-system : goal.returns-in_default-clause-system
+returns-in_default-clause-system c = c.in_default.ensures.nothing ∙ sym (answered_nobody c.args.self.now (sym c.in_default.ensures.process))

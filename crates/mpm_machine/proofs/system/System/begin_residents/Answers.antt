@@ -1,4 +1,6 @@
-use Rattle.std.proofs.Common.{◌∙◌, sym, arith}
+use Rattle.std.proofs.Common.{◌∙◌, sym, ap, arith}
+use Rattle.mpm_service.specs.Disk.{DiskService}
+use Rattle.mpm_kernel.specs.Kernel.{Kernel}
 use Rattle.mpm_machine.proofs.OpeningLaws.{one_begun, first_here, residents_here, whole_picked, no_completions_picked}
 use Rattle.mpm_machine.proofs.system.System.begin_residents.Goals as goal
 
@@ -35,9 +37,16 @@ returns-clause-no_completions c =
     no_completions_picked c.begin_terminals.new.self c.pick.new.self c.pick.ensures.kernel (record {
       answered = c.begin_terminals.ensures.completed ∙ first.completed ∙ c.requires.no_completions.answered;
       written = c.begin_terminals.ensures.records ∙ first.records ∙ c.requires.no_completions.written;
+      paid = λ idle. c.begin_terminals.ensures.owed ∙ first.owed
+          ∙ c.requires.no_completions.paid (ap (λ (d : DiskService). d.served) (sym (c.begin_terminals.ensures.disk ∙ first.disk)) ∙ idle);
     })
 
 pub returns-clause-steps : goal.returns-clause-steps
 returns-clause-steps c =
     c.begin_terminals.ensures.steps
     ∙ (first_here c.args.self.now c.begin_interpreting.new.self c.args.consoles c.requires.whole c.requires.queues c.requires.room c.begin_interpreting.ensures).steps
+
+pub returns-clause-disk : goal.returns-clause-disk
+returns-clause-disk c =
+    let first = first_here c.args.self.now c.begin_interpreting.new.self c.args.consoles c.requires.whole c.requires.queues c.requires.room c.begin_interpreting.ensures in
+    ap (λ (k : Kernel). k.disk) c.pick.ensures.kernel ∙ c.begin_terminals.ensures.disk ∙ first.disk

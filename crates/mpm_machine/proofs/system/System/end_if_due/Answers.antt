@@ -15,7 +15,7 @@ finish_all-requires-clause-room g c = room_at_end c.args.p c.args.self.now c.end
 
 pub returns-then-is_due : goal.returns-then-is_due
 returns-then-is_due g c =
-    let same = end_out c.args.p c.args.self.now c.finish_all.new.self (sym c.is_due.ensures ∙ c.if-is_due.true) (c.finish_all.ensures ∙ ap all_finished c.end.ensures) in
+    let same = end_out c.args.p c.args.self.now c.finish_all.new.self (sym c.is_due.ensures ∙ c.if-is_due.true) (c.finish_all.ensures.system ∙ ap all_finished c.end.ensures) in
     let P : Change → Type 0 = λ change. OnOk c.write_records.result (c.write_records.new.self ≡ change.system) in
     record { system = subst P same c.write_records.ensures.system; wrote = emits_as by_sink _ _ _ _ _ same c.write_records.ensures.wrote }
 

@@ -1,5 +1,8 @@
-use Rattle.std.proofs.Common.{◌∙◌, ap}
+use Rattle.std.proofs.Common.{◌∙◌, None, Some, ap}
+use Rattle.mpm_dispatcher.specs.Dispatch.{admitted}
+use Rattle.mpm_kernel.specs.Kernel.{Kernel, dispatched}
 use Rattle.mpm_machine.specs.Opening.{placed_process}
+use Rattle.mpm_machine.proofs.KeepingLaws.{given_disk}
 use Rattle.mpm_machine.proofs.PlacedLaws.{slot_is_free, placed_is_bare}
 use Rattle.mpm_machine.proofs.system.System.place.Goals as goal
 
@@ -12,3 +15,8 @@ returns-clause-bare c =
     c.args.priority c.args.console c.args.program.now c.requires c.begin.ensures.slot
     (c.placed_process-new.ensures.process ∙ ap (λ spec. placed_process spec c.args.seg c.args.name c.args.priority c.args.console) c.spec-spec.ensures.value)
     c.begin.ensures.kernel c.lay_out.ensures c.occupy.ensures
+
+pub returns-clause-disk : goal.returns-clause-disk
+returns-clause-disk c =
+    ap (λ (k : Kernel). k.disk) c.begin.ensures.kernel
+    ∙ given_disk c.placed_process-new.result.console None (Some c.begin.result) (dispatched (admitted c.begin.result c.placed_process-new.result) c.args.self.now.kernel)

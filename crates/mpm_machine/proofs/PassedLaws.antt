@@ -1,0 +1,130 @@
+-- So many steps of a run in which the disk's only pass: how many there may be, and what they leave of those at the disk and of calls.
+use Rattle.std.proofs.Common.{◌≡◌, ◌∙◌, ℕ, ◌+◌, ◌<◌, ◌≤◌, Bool, true, Option, Some, None, IfSome, option_map, is_some, unwrap_or, refl, sym, ap, subst, arith}
+use Rattle.z80_regs.specs.declared.regs.Regs.{Regs}
+use Rattle.mpm_base.specs.Calls.{Taken}
+use Rattle.mpm_base.specs.declared.devices.Devices.{Devices}
+use Rattle.mpm_port.specs.Disks.{Disks}
+use Rattle.mpm_ready.specs.Order.{first_of}
+use Rattle.mpm_procs.specs.Table.{Table, Lives, process_in, call_of, with_process}
+use Rattle.mpm_procs.specs.declared.process.Process.{Process}
+use Rattle.mpm_procs.proofs.MapLaws.{call_after}
+use Rattle.mpm_service.specs.Disk.{DiskService, HasBegun}
+use Rattle.mpm_service.specs.Ahead.{quiet_by, quiet_steps, passed_on, passed_by}
+use Rattle.mpm_service.specs.Places.{at_disk}
+use Rattle.mpm_service.specs.declared.service.Served.{Served}
+use Rattle.mpm_service.proofs.PlaceLaws.{at_passed}
+use Rattle.mpm_kernel.specs.Kernel.{Kernel, IsSound}
+use Rattle.mpm_kernel.specs.Disk.{with_disk}
+use Rattle.mpm_machine.proofs.PassingLaws.{passes_nothing}
+use Rattle.mpm_kernel.proofs.SoundLaws.{sound_devices, sound_process}
+use Rattle.mpm_kernel.proofs.Beside.{field_kept}
+use Rattle.mpm_bdos.specs.Answering.{HasEntered}
+use Rattle.mpm_bdos.specs.Functions.{function_of}
+use Rattle.mpm_bdos.specs.Serving.{Kept, InService}
+use Rattle.mpm_machine.specs.declared.system.System.{System}
+use Rattle.mpm_machine.specs.Serving.{with_regs}
+use Rattle.mpm_machine.specs.Holding.{IsOwn, HoldsDrives, CallsAlike}
+use Rattle.mpm_machine.specs.Moving.{CanPass, Moved, with_view, later}
+
+-- the disk tells how many
+none_waits : (turn_steps n : ℕ) (served : Option Served) (first : Option ℕ) → 0 < n → n ≤ unwrap_or (quiet_by turn_steps served first) n → served ≡ None → first ≡ None
+none_waits turn_steps n None None some few none = refl
+none_waits turn_steps n None (Some p) some few none = absurd (omega (arith, some, few))
+none_waits turn_steps n (Some call) first some few none = absurd (cc)
+
+pub quiet_passes : (disk : DiskService) (result : Option ℕ) (n : ℕ) → result ≡ quiet_steps disk
+    → ((k : ℕ) → k ≤ unwrap_or result k → IfSome disk.served (λ call. call.passed + k < disk.turn_steps)) → n ≤ unwrap_or result n → CanPass n disk
+unfolding quiet_steps
+quiet_passes disk result n is turn few = record {
+  within = turn n few;
+  nobody = λ some. none_waits disk.turn_steps n disk.served (first_of disk.waiting) some (subst (λ (o : Option ℕ). n ≤ unwrap_or o n) is few);
+}
+
+pub passes_within : (n : ℕ) (disk : DiskService) → CanPass n disk → IfSome disk.served (λ call. call.passed + n < disk.turn_steps)
+passes_within n disk can = can.within
+
+-- none of them
+pub later_none : (system : System) → system ≡ later system 0
+later_none system =
+    ap (λ (disk : DiskService). record system { kernel = record system.kernel { disk = disk } }) (sym (passes_nothing system.kernel.disk))
+    ∙ ap (λ (steps : ℕ). record system { steps = steps; kernel = with_disk (passed_by 0) system.kernel }) (omega arith)
+
+-- the kernel is sound within them, as its steps aren't counted yet
+pub sound_within : (kernel : Kernel) (devices : Devices) (p : ℕ) (regs : Regs) → IsSound kernel → Lives kernel.dispatcher.procs p
+    → IsSound (with_regs (record kernel { devices = devices }) p regs)
+sound_within kernel devices p regs s h =
+    sound_process (record kernel { devices = devices }) p (record (process_in kernel.dispatcher.procs p) { regs = regs }) (sound_devices kernel devices s) h refl refl refl refl
+
+-- each process keeps its call, and its multi-sector count
+
+pub alike_itself : (procs : Table) → CallsAlike procs procs
+alike_itself procs = record { calls = λ q. refl; multi = λ q. refl }
+
+alike_with_regs : (procs : Table) (p : ℕ) (regs : Regs) → CallsAlike procs (with_process procs p (record (process_in procs p) { regs = regs }))
+alike_with_regs procs p regs =
+    let process = record (process_in procs p) { regs = regs } in
+    record { calls = λ q. call_after procs p q process; multi = λ q. field_kept (λ (x : Process). x.multi) procs p q process refl }
+
+pub calls_moved : (n p seg : ℕ) (old new : System) → Moved n p seg old new → CallsAlike old.kernel.dispatcher.procs new.kernel.dispatcher.procs
+unfolding with_view
+calls_moved n p seg old new moved =
+    let procs = old.kernel.dispatcher.procs in
+    subst (λ (system : System). CallsAlike procs system.kernel.dispatcher.procs) (sym moved.is)
+    (alike_with_regs procs p moved.view.regs)
+
+pub calls_idle : (n : ℕ) (old new : System) → new ≡ later old n → CallsAlike old.kernel.dispatcher.procs new.kernel.dispatcher.procs
+calls_idle n old new is =
+    subst (λ (system : System). CallsAlike old.kernel.dispatcher.procs system.kernel.dispatcher.procs) (sym is) (alike_itself old.kernel.dispatcher.procs)
+
+-- so what holds of drives, of what is kept and of those at the disk holds behind them
+
+own_alike : (old new : Table) (p : ℕ) (service : Option InService) → CallsAlike old new → IsOwn old p service → IsOwn new p service
+own_alike old new p service alike own = record {
+  function = own.function;
+  its = ap (λ (call : Taken). function_of call.function) (alike.calls p) ∙ own.its;
+  caller = own.caller;
+  multi = own.multi ∙ sym (alike.multi p);
+  entered = subst (λ (call : Taken). HasEntered own.caller own.function call service) (sym (alike.calls p)) own.entered;
+}
+
+own_passed : (n : ℕ) (served : Option Served) (old new : Table) (service : Option InService) → CallsAlike old new
+    → IfSome served (λ call. IsOwn old call.p service) → IfSome (option_map (passed_on n) served) (λ call. IsOwn new call.p service)
+own_passed n None old new service alike own = tt
+own_passed n (Some call) old new service alike own = own_alike old new call.p service alike own
+
+begun_on : (n : ℕ) (served : Option Served) → IfSome served (λ call. 0 < call.left) → IfSome (option_map (passed_on n) served) (λ call. 0 < call.left)
+begun_on n None begun = tt
+begun_on n (Some call) begun = begun
+
+holds_by : {D : Type 0} (attached : D → ℕ → Option ℕ) (disks : D → Option Disks) (n : ℕ) (old : Kernel) (kept : Kept) (drives : D)
+    → HoldsDrives attached disks old kept drives → HoldsDrives attached disks (record old { disk = passed_by n old.disk }) kept drives
+unfolding passed_by
+holds_by attached disks n old kept drives h = record {
+  filed = λ p some. h.filed p (omega (arith, at_passed old.disk n p, some));
+  own = own_passed n old.disk.served old.dispatcher.procs old.dispatcher.procs kept.service (alike_itself old.dispatcher.procs) h.own;
+  begun = begun_on n old.disk.served h.begun;
+  fits = h.fits;
+  workless = h.workless;
+}
+
+own_by : (served : Option Served) (old new : Table) (service : Option InService) → CallsAlike old new
+    → IfSome served (λ call. IsOwn old call.p service) → IfSome served (λ call. IsOwn new call.p service)
+own_by None old new service alike own = tt
+own_by (Some call) old new service alike own = own_alike old new call.p service alike own
+
+pub holds_passed : {D : Type 0} (attached : D → ℕ → Option ℕ) (disks : D → Option Disks) (n : ℕ) (old new : Kernel) (before kept : Kept) (drives : D)
+    → new.disk ≡ passed_by n old.disk → CallsAlike old.dispatcher.procs new.dispatcher.procs → kept ≡ before
+    → HoldsDrives attached disks old before drives → HoldsDrives attached disks new kept drives
+holds_passed attached disks n old new before kept drives is alike same h =
+    let passed = holds_by attached disks n old before drives h in
+    let here : HoldsDrives attached disks new before drives = record {
+      filed = λ p some.
+          ap (λ (call : Taken). is_some (function_of call.function)) (alike.calls p)
+          ∙ passed.filed p (subst (λ (disk : DiskService). 0 < at_disk disk p) is some);
+      own = own_by new.disk.served old.dispatcher.procs new.dispatcher.procs before.service alike
+          (subst (λ (disk : DiskService). IfSome disk.served (λ call. IsOwn old.dispatcher.procs call.p before.service)) (sym is) passed.own);
+      begun = subst HasBegun (sym is) passed.begun;
+      fits = passed.fits;
+      workless = passed.workless;
+    } in
+    subst (λ (k : Kept). HoldsDrives attached disks new k drives) (sym same) here

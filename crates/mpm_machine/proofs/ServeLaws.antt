@@ -1,0 +1,492 @@
+-- The disk's step as the code makes it: a call that is over, and a step of the turn of the one in service.
+use Rattle.std.proofs.Common.{◌≡◌, ◌∙◌, ℕ, Bool, true, false, List, [], Option, Some, None, Result, Ok, Err, IfErr, IfSome, option_map, is_some, if◌then◌else◌, ◌==◌, inl, inr, length, arith, ◌+◌, ◌-◌, refl, sym, ap, subst}
+use Rattle.std.specs.Prelude.{◌⊎◌, OnOk, OnErr, option_and_then}
+use Rattle.std.proofs.lemmas.Bool.{false≢true}
+use Rattle.mpm_base.specs.Calls.{Taken, Answer}
+use Rattle.mpm_port.specs.Disks.{Disks}
+use Rattle.mpm_port.specs.declared.Failed.{Failed}
+use Rattle.mpm_procs.specs.Table.{Lives, call_of}
+use Rattle.mpm_ready.specs.Order.{first_of}
+use Rattle.mpm_service.specs.Disk.{DiskService, is_last_step, after_step, step_answer, answer_by, served_after, turned, turn_answer, served_process, HasBegun, IsAfter}
+use Rattle.mpm_service.specs.Places.{is_call_of}
+use Rattle.mpm_service.specs.declared.service.Served.{Served}
+use Rattle.mpm_service.specs.declared.service.Turn.{Turn}
+use Rattle.mpm_service.specs.declared.service.Turn.TheVariants.{Idle, Passing, Work, Starts}
+use Rattle.mpm_service.proofs.SoundLaws.{last_ends}
+use Rattle.mpm_kernel.specs.Kernel.{Kernel}
+use Rattle.mpm_kernel.specs.Disk.{with_disk, ready_again as made_ready_again, IsOver}
+use Rattle.mpm_output.specs.Outside.{Outside, by_sink}
+use Rattle.mpm_output.specs.Writing.{Wrote, Stopped, Fails, Emits}
+use Rattle.mpm_output.proofs.WritingLaws.{wrote_nothing, wrote_cause, stopped_cause}
+use Rattle.mpm_port.specs.Causes.{HasCause}
+use Rattle.mpm_render.specs.Outputs.{Output}
+use Rattle.mpm_bdos.specs.declared.caller.Caller.{Caller}
+use Rattle.mpm_bdos.specs.declared.functions.FileFunction.{FileFunction}
+use Rattle.mpm_bdos.specs.declared.refusals.Extended.{Extended}
+use Rattle.mpm_bdos.specs.Answering.{HasEntered, MayAnswer}
+use Rattle.mpm_bdos.specs.declared.functions.DirectFunction.{DirectFunction}
+use Rattle.mpm_bdos.specs.Functions.{function_of}
+use Rattle.mpm_bdos.specs.Direct.{Directly, direct_of}
+use Rattle.mpm_bdos.specs.Filing.{Filing, Situation}
+use Rattle.mpm_bdos.specs.Finishing.{ComesTo}
+use Rattle.mpm_bdos.specs.Jobs.{call_turns}
+use Rattle.mpm_bdos.specs.Outcomes.{file_call}
+use Rattle.mpm_bdos.specs.Serving.{Kept, InService, Serves}
+use Rattle.mpm_bdos.specs.Turns.{told_images}
+use Rattle.mpm_machine.specs.declared.system.System.{System}
+use Rattle.mpm_machine.specs.Files.{Files, Between, Within, StandsBetween, StandsServed, StandsForFiles, StandsWorkedBy, StandsWorked}
+use Rattle.mpm_machine.specs.State.{Change, HasRoomForAll, IsWhole, silent}
+use Rattle.mpm_machine.specs.FileCalls.{MayTell, IsToldOf, told_of, concluded}
+use Rattle.mpm_machine.specs.DiskStep.{ready_again, step_passed, call_over, over_after, served_by, disk_served, over_by, process_over, files_over, files_served_by, files_served, told_of_call}
+use Rattle.mpm_machine.specs.Stepping.{nothing_told, told_by_process, told_within}
+use Rattle.mpm_machine.specs.Holding.{IsOwn}
+use Rattle.mpm_machine.specs.After.{IsOfCall, IsToldIn, HasAnswered, HasStoppedAnswering, HasPassed, HasStoppedServing}
+use Rattle.mpm_machine.proofs.FinishLaws.{no_completions_finished}
+use Rattle.mpm_machine.proofs.FileLaws.{whole_concluded}
+use Rattle.mpm_machine.proofs.FileStepLaws.{concluded_more}
+use Rattle.mpm_machine.proofs.DiskStepLaws.{whole_ready_again, whole_call_over}
+use Rattle.mpm_machine.proofs.KeepingLaws.{ServesSame, same_then, concluded_serves, finishing_serves}
+use Rattle.mpm_machine.proofs.ToldLaws.{own_told}
+use Rattle.mpm_machine.proofs.TurnLaws.{passing_stands, turn_stands, last_turn_serves, whose_turn}
+
+-- a call that is over: what is told of it is what it came to
+
+abbrev told_here : ℕ → System → Answer → Option Extended → Directly
+told_here p system answer extended = told_of (call_of system.kernel.dispatcher.procs p) answer extended
+
+told_is_its : (images : ℕ → List ℕ) (s : Situation) (p : ℕ) (system : System) (kept : Kept) (answer : Answer) (extended : Option Extended) → ComesTo images s kept answer extended
+    → told_here p system answer extended ≡ told_of_call s p system
+told_is_its images s p system kept answer extended comes =
+    let call = call_of system.kernel.dispatcher.procs p in
+    ap (λ (a : Answer). told_of call a extended) comes.answer_is ∙ ap (λ (e : Option Extended). told_of call (file_call s).answer e) comes.extended_is
+
+pub answered_ok : {A E : Type 0} (r : Result A E) (p : ℕ) (old new : System) (o n : Outside) (s : Situation) (kept : Kept) (disks : Option Disks) (answer : Answer) (extended : Option Extended)
+    → ComesTo (told_images disks) s kept answer extended → kept.service ≡ None
+    → OnOk r (new ≡ (call_over (told_here p old answer extended) p old).system) → OnOk r (Wrote o n (call_over (told_here p old answer extended) p old).emitted)
+    → OnOk r ((new ≡ (call_over (told_of_call s p old) p old).system) × Wrote o n (call_over (told_of_call s p old) p old).emitted × StandsBetween kept disks (file_call s).filing)
+answered_ok (Ok a) p old new o n s kept disks answer extended comes idle system wrote =
+    let same = told_is_its (told_images disks) s p old kept answer extended comes in (
+      subst (λ (told : Directly). new ≡ (call_over told p old).system) same system,
+      subst (λ (told : Directly). Wrote o n (call_over told p old).emitted) same wrote,
+      record { idle = idle; filing_is = comes.filing_is; stand = comes.stand },
+    )
+answered_ok (Err e) p old new o n s kept disks answer extended comes idle system wrote = tt
+
+pub answered_err : {A : Type 0} (r : Result A Failed) (p : ℕ) (old : System) (o n : Outside) (s : Situation) (kept : Kept) (disks : Option Disks) (answer : Answer) (extended : Option Extended)
+    → ComesTo (told_images disks) s kept answer extended
+    → IfErr r (λ error. Fails (by_sink error) o n (call_over (told_here p old answer extended) p old).emitted)
+    → OnErr r (Stopped o n (call_over (told_of_call s p old) p old).emitted)
+answered_err (Ok a) p old o n s kept disks answer extended comes failed = tt
+answered_err (Err e) p old o n s kept disks answer extended comes failed =
+    subst (λ (told : Directly). Stopped o n (call_over told p old).emitted) (told_is_its (told_images disks) s p old kept answer extended comes) failed
+
+pub answered_told : {A E : Type 0} (r : Result A E) (p : ℕ) (old new : System) (o n : Outside) (kept : Kept) (answer : Answer) (extended : Option Extended)
+    → IsOwn old.kernel.dispatcher.procs p kept.service
+    → ((caller : Caller) (function : FileFunction) (call : Taken) → HasEntered caller function call kept.service → MayAnswer caller.multi function call.dma answer extended)
+    → OnOk r (new ≡ (call_over (told_here p old answer extended) p old).system) → OnOk r (Wrote o n (call_over (told_here p old answer extended) p old).emitted)
+    → OnOk r (HasAnswered p o n old new)
+answered_told (Ok a) p old new o n kept answer extended own may system wrote = record {
+  told = told_here p old answer extended;
+  of_call = refl;
+  tells = own_told p old kept.service answer extended own may;
+  system = system;
+  wrote = wrote;
+}
+answered_told (Err e) p old new o n kept answer extended own may system wrote = tt
+
+on_ok : {A E P Q : Type 0} (r : Result A E) → (P → Q) → OnOk r P → OnOk r Q
+on_ok (Ok a) so p = so p
+on_ok (Err e) so p = tt
+
+on_err : {A E P Q : Type 0} (r : Result A E) → (P → Q) → OnErr r P → OnErr r Q
+on_err (Ok a) so p = tt
+on_err (Err e) so p = so p
+
+pub answered_stops : {A : Type 0} (r : Result A Failed) (p : ℕ) (old : System) (o n : Outside) (kept : Kept) (answer : Answer) (extended : Option Extended)
+    → IsOwn old.kernel.dispatcher.procs p kept.service
+    → ((caller : Caller) (function : FileFunction) (call : Taken) → HasEntered caller function call kept.service → MayAnswer caller.multi function call.dma answer extended)
+    → IfErr r (λ error. Fails (by_sink error) o n (call_over (told_here p old answer extended) p old).emitted)
+    → OnErr r (HasStoppedAnswering p o n old)
+answered_stops (Ok a) p old o n kept answer extended own may failed = tt
+answered_stops (Err e) p old o n kept answer extended own may failed = record {
+  told = told_here p old answer extended;
+  of_call = refl;
+  tells = own_told p old kept.service answer extended own may;
+  stops = failed;
+}
+
+pub answered_whole : {A E : Type 0} (r : Result A E) (told : Directly) (p : ℕ) (old new : System) → IsWhole old → IsOver p old.kernel
+    → OnOk r (new ≡ (call_over told p old).system) → OnOk r (IsWhole new)
+answered_whole r told p old new w over = on_ok r (λ (is : new ≡ (call_over told p old).system). subst IsWhole (sym is) (whole_call_over told p old w over))
+
+nobody_over : (told : Directly) (p : ℕ) (system : System) → (call_over told p system).system.kernel.dispatcher.completed ≡ []
+unfolding call_over
+nobody_over told p system = no_completions_finished _ (concluded told p (ready_again p system)).system refl
+
+pub answered_nobody : {A E : Type 0} (r : Result A E) (told : Directly) (p : ℕ) (old new : System) → OnOk r (new ≡ (call_over told p old).system)
+    → OnOk r (new.kernel.dispatcher.completed ≡ [])
+answered_nobody r told p old new =
+    on_ok r (λ (is : new ≡ (call_over told p old).system). ap (λ (s : System). s.kernel.dispatcher.completed) is ∙ nobody_over told p old)
+
+-- nobody is served behind it
+pub over_serves : (told : Directly) (p : ℕ) (system : System) → system.kernel.disk.served ≡ None → ServesSame system (call_over told p system).system
+unfolding call_over
+over_serves told p system none =
+    let again = ready_again p system in
+    let afterwards = (concluded told p again).system in
+    same_then system.kernel.disk afterwards.kernel.disk (call_over told p system).system.kernel.disk (concluded_serves told p again (ap (is_call_of p) none)) (finishing_serves afterwards)
+
+-- what was written, whether the sink failed or not
+pub emits_cause : {A : Type 0} (r : Result A Failed) (o n : Outside) (emitted : List Output) → Emits by_sink o n emitted r → HasCause o.faults.sink n.faults.sink r
+emits_cause (Ok a) o n emitted emits = wrote_cause a o n emitted emits.ok
+emits_cause (Err e) o n emitted emits = stopped_cause e o n emitted emits.err
+
+-- a step of the call in service: whose it is
+
+step_whose : (b : Bool) (call : Served) (p : ℕ) (last : Bool) → (if b then Work call.p (call.left == 1) else Passing) ≡ Work p last → Some call.p ≡ Some p
+step_whose true call p last works = ap served_one works
+  where
+    served_one : Turn → Option ℕ
+    served_one Idle = None
+    served_one Passing = None
+    served_one (Work p last) = Some p
+    served_one (Starts p) = None
+step_whose false call p last works = absurd (cc)
+
+working_by : (turn_steps : ℕ) (served : Option Served) (first : Option ℕ) (p : ℕ) (last : Bool) → answer_by turn_steps served first ≡ Work p last → option_map (λ (call : Served). call.p) served ≡ Some p
+unfolding step_answer
+working_by turn_steps None None p last works = absurd (cc)
+working_by turn_steps None (Some q) p last works = absurd (cc)
+working_by turn_steps (Some call) first p last works = step_whose (is_last_step turn_steps call) call p last works
+
+working_process : (disk : DiskService) (p : ℕ) (last : Bool) → turn_answer disk ≡ Work p last → served_process disk ≡ Some p
+unfolding turn_answer served_process
+working_process disk p last works = working_by disk.turn_steps disk.served (first_of disk.waiting) p last works
+
+-- of a last turn
+
+over_process : (system : System) (p : ℕ) → turn_answer system.kernel.disk ≡ Work p true → process_over system ≡ Some p
+unfolding process_over
+over_process system p works =
+    ap (option_and_then (λ (q : ℕ). over_by (turn_answer system.kernel.disk))) (working_process system.kernel.disk p true works) ∙ ap over_by works
+
+pub over_served : (told : Directly) (system : System) (p : ℕ) → turn_answer system.kernel.disk ≡ Work p true → disk_served told system ≡ call_over told p (step_passed system)
+unfolding disk_served
+over_served told system p works =
+    ap (λ (served : Option ℕ). served_by served told system) (working_process system.kernel.disk p true works) ∙ ap (λ (turn : Turn). over_after turn told (step_passed system)) works
+
+pub over_files : (system : System) (files : Files) (p : ℕ) → turn_answer system.kernel.disk ≡ Work p true → files_served system files ≡ files_over (Work p true) files
+unfolding files_served
+over_files system files p works =
+    ap (λ (served : Option ℕ). files_served_by served system files) (working_process system.kernel.disk p true works) ∙ ap (λ (turn : Turn). files_over turn files) works
+
+over_within : (system : System) (s : Situation) (p : ℕ) → turn_answer system.kernel.disk ≡ Work p true → told_within (Within s) system ≡ told_of_call s p system
+unfolding told_within
+over_within system s p works = ap (λ (over : Option ℕ). told_by_process over (Within s) system) (over_process system p works)
+
+pub works_within : (turn_steps : ℕ) (served : Option Served) (first : Option ℕ) (p : ℕ) (last : Bool) (kept : Kept) (disks : Option Disks) (filing : Filing)
+    → answer_by turn_steps served first ≡ Work p last → StandsWorkedBy turn_steps served kept disks (Between filing) → ⊥
+works_within turn_steps None None p last kept disks filing works stands = absurd (cc)
+works_within turn_steps None (Some q) p last kept disks filing works stands = absurd (cc)
+works_within turn_steps (Some call) first p last kept disks filing works stands = stands
+
+abbrev Passed : Files → Outside → Outside → System → System → Kept → Option Disks → Type 0
+Passed files o n old new kept disks =
+    (new ≡ (disk_served (told_within files old) old).system) × Wrote o n (disk_served (told_within files old) old).emitted × StandsForFiles new.kernel.disk kept disks (files_served old files)
+
+over_so : (system : System) (s : Situation) (p : ℕ) → turn_answer system.kernel.disk ≡ Work p true
+    → disk_served (told_within (Within s) system) system ≡ call_over (told_of_call s p (step_passed system)) p (step_passed system)
+over_so system s p works =
+    ap (λ (told : Directly). disk_served told system) (over_within system s p works) ∙ over_served (told_of_call s p (step_passed system)) system p works
+
+over_stands : (s : Situation) (p : ℕ) (o n : Outside) (old new : System) (kept : Kept) (disks : Option Disks) → turn_answer old.kernel.disk ≡ Work p true → (turned old.kernel.disk).served ≡ None
+    → (new ≡ (call_over (told_of_call s p (step_passed old)) p (step_passed old)).system)
+    × Wrote o n (call_over (told_of_call s p (step_passed old)) p (step_passed old)).emitted × StandsBetween kept disks (file_call s).filing
+    → Passed (Within s) o n old new kept disks
+over_stands s p o n old new kept disks works none so =
+    let told = told_of_call s p (step_passed old) in
+    let is : disk_served (told_within (Within s) old) old ≡ call_over told p (step_passed old) = over_so old s p works in
+    let nobody : new.kernel.disk.served ≡ None =
+    ap (λ (system : System). system.kernel.disk.served) so.0 ∙ (over_serves told p (step_passed old) none).served ∙ none in (
+      so.0 ∙ sym (ap (λ c. c.system) is),
+      subst (λ c. Wrote o n c.emitted) (sym is) so.1,
+      record {
+        stands = subst (λ (files : Files). StandsServed new.kernel.disk.served kept disks files) (sym (over_files old (Within s) p works))
+            (subst (λ (served : Option Served). StandsServed served kept disks (Between (file_call s).filing)) (sym nobody) so.2);
+      },
+    )
+
+pub pass_over : {A E : Type 0} (r : Result A E) (files : Files) (p : ℕ) (o n : Outside) (old new : System) (before kept : Kept) (disks : Option Disks)
+    → turn_answer old.kernel.disk ≡ Work p true → (turned old.kernel.disk).served ≡ None → StandsWorked old.kernel.disk before disks files
+    → ((s : Situation) → Serves (told_images disks) before s (call_turns s) → s.caller.process ≡ p
+    → OnOk r ((new ≡ (call_over (told_of_call s p (step_passed old)) p (step_passed old)).system)
+    × Wrote o n (call_over (told_of_call s p (step_passed old)) p (step_passed old)).emitted × StandsBetween kept disks (file_call s).filing))
+    → OnOk r (Passed files o n old new kept disks)
+unfolding turn_answer
+pass_over r (Between filing) p o n old new before kept disks works none stands over =
+    let disk = old.kernel.disk in absurd (works_within disk.turn_steps disk.served (first_of disk.waiting) p true before disks filing works stands.stands)
+pass_over r (Within s) p o n old new before kept disks works none stands over =
+    on_ok r (over_stands s p o n old new kept disks works none)
+    (over s (last_turn_serves old.kernel.disk before disks s p works stands) (whose_turn old.kernel.disk before disks s p true works stands))
+
+-- or the sink failed in it
+pub pass_stops : {A E : Type 0} (r : Result A E) (files : Files) (p : ℕ) (o n : Outside) (old : System) (before : Kept) (disks : Option Disks)
+    → turn_answer old.kernel.disk ≡ Work p true → StandsWorked old.kernel.disk before disks files
+    → ((s : Situation) → Serves (told_images disks) before s (call_turns s) → s.caller.process ≡ p
+    → OnErr r (Stopped o n (call_over (told_of_call s p (step_passed old)) p (step_passed old)).emitted))
+    → OnErr r (Stopped o n (disk_served (told_within files old) old).emitted)
+unfolding turn_answer
+pass_stops r (Between filing) p o n old before disks works stands over =
+    let disk = old.kernel.disk in absurd (works_within disk.turn_steps disk.served (first_of disk.waiting) p true before disks filing works stands.stands)
+pass_stops r (Within s) p o n old before disks works stands over =
+    subst (λ (c : Change). OnErr r (Stopped o n c.emitted)) (sym (over_so old s p works))
+    (over s (last_turn_serves old.kernel.disk before disks s p works stands) (whose_turn old.kernel.disk before disks s p true works stands))
+
+-- the told of a call is of the process, whose call the disk's step leaves
+
+tells_passed : (function : Option FileFunction) (other : Option DirectFunction) (p : ℕ) (system : System) (answer : Answer) (extended : Option Extended)
+    → MayTell function other p (step_passed system) answer extended → MayTell function other p system answer extended
+tells_passed (Some function) other p system answer extended tells = tells
+tells_passed None (Some function) p system answer extended tells = tells
+tells_passed None None p system answer extended tells = tells
+
+told_passed : (p : ℕ) (system : System) (answer : Answer) (extended : Option Extended) → IsToldOf p (step_passed system) answer extended → IsToldOf p system answer extended
+unfolding IsToldOf
+told_passed p system answer extended tells =
+    let number = (call_of system.kernel.dispatcher.procs p).function in
+    tells_passed (function_of number) (direct_of number) p system answer extended tells
+
+pub has_passed_over : {A E : Type 0} (r : Result A E) (p : ℕ) (o n : Outside) (old new : System) → turn_answer old.kernel.disk ≡ Work p true
+    → OnOk r (HasAnswered p o n (step_passed old) new) → OnOk r (HasPassed o n old new)
+has_passed_over r p o n old new works =
+    on_ok r (λ (answered : HasAnswered p o n (step_passed old) new). record {
+      told = answered.told;
+      of_call = subst (λ (over : Option ℕ). IsOfCall over answered.told old) (sym (over_process old p works)) answered.of_call;
+      tells = subst (λ (over : Option ℕ). IsToldIn over answered.told old) (sym (over_process old p works))
+          (told_passed p old answered.told.answer answered.told.extended answered.tells);
+      system = answered.system ∙ sym (ap (λ (c : Change). c.system) (over_served answered.told old p works));
+      wrote = subst (λ (c : Change). Wrote o n c.emitted) (sym (over_served answered.told old p works)) answered.wrote;
+    })
+
+pub has_stopped_over : {A E : Type 0} (r : Result A E) (p : ℕ) (o n : Outside) (old : System) → turn_answer old.kernel.disk ≡ Work p true
+    → OnErr r (HasStoppedAnswering p o n (step_passed old)) → OnErr r (HasStoppedServing o n old)
+has_stopped_over r p o n old works =
+    on_err r (λ (stopped : HasStoppedAnswering p o n (step_passed old)). record {
+      told = stopped.told;
+      of_call = subst (λ (over : Option ℕ). IsOfCall over stopped.told old) (sym (over_process old p works)) stopped.of_call;
+      tells = subst (λ (over : Option ℕ). IsToldIn over stopped.told old) (sym (over_process old p works))
+          (told_passed p old stopped.told.answer stopped.told.extended stopped.tells);
+      stops = subst (λ (c : Change). Stopped o n c.emitted) (sym (over_served stopped.told old p works)) stopped.stops;
+    })
+
+-- of one that isn't a call's last
+
+unfoldable pub IsNotLast : Turn → Type 0
+IsNotLast turn = (p : ℕ) → turn ≡ Work p true → ⊥
+
+some_served : (served : Option Served) → is_some served ≡ true → (q : ℕ) × (option_map (λ (call : Served). call.p) served ≡ Some q)
+some_served None some = absurd (false≢true some)
+some_served (Some call) some = (call.p, refl)
+
+somebody : (disk : DiskService) → is_some disk.served ≡ true → (q : ℕ) × (served_process disk ≡ Some q)
+unfolding served_process
+somebody disk some = some_served disk.served some
+
+nothing_over : (turn : Turn) (told : Directly) (system : System) → IsNotLast turn → over_after turn told system ≡ silent system
+unfolding IsNotLast
+nothing_over Idle told system more = refl
+nothing_over Passing told system more = refl
+nothing_over (Starts p) told system more = refl
+nothing_over (Work p true) told system more = absurd (more p refl)
+nothing_over (Work p false) told system more = refl
+
+pub silent_served : (told : Directly) (system : System) → is_some system.kernel.disk.served ≡ true → IsNotLast (turn_answer system.kernel.disk)
+    → disk_served told system ≡ silent (step_passed system)
+unfolding disk_served
+silent_served told system some more =
+    ap (λ (served : Option ℕ). served_by served told system) (somebody system.kernel.disk some).1
+    ∙ nothing_over (turn_answer system.kernel.disk) told (step_passed system) more
+
+same_files : (turn : Turn) (s : Situation) → IsNotLast turn → files_over turn (Within s) ≡ Within s
+unfolding IsNotLast
+same_files Idle s more = refl
+same_files Passing s more = refl
+same_files (Starts p) s more = refl
+same_files (Work p true) s more = absurd (more p refl)
+same_files (Work p false) s more = refl
+
+pub same_served : (system : System) (s : Situation) → is_some system.kernel.disk.served ≡ true → IsNotLast (turn_answer system.kernel.disk) → files_served system (Within s) ≡ Within s
+unfolding files_served
+same_served system s some more =
+    ap (λ (served : Option ℕ). files_served_by served system (Within s)) (somebody system.kernel.disk some).1 ∙ same_files (turn_answer system.kernel.disk) s more
+
+nobody_over_by : (served : Option ℕ) (turn : Turn) → IsNotLast turn → option_and_then (λ (q : ℕ). over_by turn) served ≡ None
+unfolding IsNotLast
+nobody_over_by None turn more = refl
+nobody_over_by (Some q) Idle more = refl
+nobody_over_by (Some q) Passing more = refl
+nobody_over_by (Some q) (Starts p) more = refl
+nobody_over_by (Some q) (Work p true) more = absurd (more p refl)
+nobody_over_by (Some q) (Work p false) more = refl
+
+none_over : (system : System) → IsNotLast (turn_answer system.kernel.disk) → process_over system ≡ None
+unfolding process_over
+none_over system more = nobody_over_by (served_process system.kernel.disk) (turn_answer system.kernel.disk) more
+
+-- what stands goes on by the turn
+served_still : (served : Option Served) (turn : Turn) (turn_steps : ℕ) (first : Option ℕ) → answer_by turn_steps served first ≡ turn → is_some served ≡ true
+    → ((turn ≡ Passing) ⊎ ((p : ℕ) × (last : Bool) × (turn ≡ Work p last)))
+unfolding step_answer
+served_still None turn turn_steps first is some = absurd (false≢true some)
+served_still (Some call) turn turn_steps first is some = by_step (is_last_step turn_steps call) is
+  where
+    by_step : (b : Bool) → (if b then Work call.p (call.left == 1) else Passing) ≡ turn → ((turn ≡ Passing) ⊎ ((p : ℕ) × (last : Bool) × (turn ≡ Work p last)))
+    by_step true works = inr (call.p, (call.left == 1), sym works)
+    by_step false passes = inl (sym passes)
+
+more_stands : (disk : DiskService) (kept : Kept) (disks : Option Disks) (s : Situation) (p : ℕ) (last : Bool) → turn_answer disk ≡ Work p last → IsNotLast (turn_answer disk)
+    → StandsWorked disk kept disks (Within s) → StandsForFiles (turned disk) kept disks (Within s)
+unfolding IsNotLast
+more_stands disk kept disks s p true works more stands = absurd (more p works)
+more_stands disk kept disks s p false works more stands = turn_stands disk kept disks s p works stands
+
+pub turn_goes_on : (disk : DiskService) (kept : Kept) (disks : Option Disks) (s : Situation) → is_some disk.served ≡ true → IsNotLast (turn_answer disk)
+    → StandsWorked disk kept disks (Within s) → StandsForFiles (turned disk) kept disks (Within s)
+unfolding turn_answer
+turn_goes_on disk kept disks s some more stands =
+    elim (served_still disk.served (turn_answer disk) disk.turn_steps (first_of disk.waiting) refl some) [
+      | inl passes ↦ passing_stands disk kept disks s passes stands
+      | inr works ↦ more_stands disk kept disks s works.0 works.1 works.2 more stands
+    ]
+
+pub not_between : (turn_steps : ℕ) (served : Option Served) (kept : Kept) (disks : Option Disks) (filing : Filing) → is_some served ≡ true
+    → StandsWorkedBy turn_steps served kept disks (Between filing) → ⊥
+not_between turn_steps None kept disks filing some stands = false≢true some
+not_between turn_steps (Some call) kept disks filing some stands = stands
+
+pub pass_on : (files : Files) (o : Outside) (old : System) (kept : Kept) (disks : Option Disks) → is_some old.kernel.disk.served ≡ true → IsNotLast (turn_answer old.kernel.disk)
+    → StandsWorked old.kernel.disk kept disks files → Passed files o o old (step_passed old) kept disks
+pass_on (Between filing) o old kept disks some more stands = absurd (not_between old.kernel.disk.turn_steps old.kernel.disk.served kept disks filing some stands.stands)
+pass_on (Within s) o old kept disks some more stands =
+    let is = silent_served (told_within (Within s) old) old some more in (
+      sym (ap (λ (c : Change). c.system) is),
+      subst (λ (c : Change). Wrote o o c.emitted) (sym is) (wrote_nothing o),
+      subst (λ (files : Files). StandsForFiles (turned old.kernel.disk) kept disks files) (sym (same_served old s some more)) (turn_goes_on old.kernel.disk kept disks s some more stands),
+    )
+
+pub has_passed_on : (o : Outside) (old : System) → is_some old.kernel.disk.served ≡ true → IsNotLast (turn_answer old.kernel.disk) → HasPassed o o old (step_passed old)
+has_passed_on o old some more =
+    let is = silent_served nothing_told old some more in
+    record {
+      told = nothing_told;
+      of_call = subst (λ (over : Option ℕ). IsOfCall over nothing_told old) (sym (none_over old more)) tt;
+      tells = subst (λ (over : Option ℕ). IsToldIn over nothing_told old) (sym (none_over old more)) tt;
+      system = sym (ap (λ (c : Change). c.system) is);
+      wrote = subst (λ (c : Change). Wrote o o c.emitted) (sym is) (wrote_nothing o);
+    }
+
+-- the other answers of the disk are none of a last turn
+pub not_last : (turn : Turn) (p : ℕ) → turn ≡ Work p false → IsNotLast turn
+unfolding IsNotLast
+not_last turn p is = λ q last. apart p q (sym is ∙ last)
+  where
+    apart : (p q : ℕ) → Work p false ≡ Work q true → ⊥
+    apart p q e = absurd (cc)
+
+-- the system behind the disk's step, and whose call it was
+pub passed_is : (old : System) (kernel : Kernel) → kernel ≡ with_disk turned old.kernel → record old { kernel = kernel } ≡ step_passed old
+passed_is old kernel is = ap (λ (k : Kernel). record old { kernel = k }) is
+
+pub works_last : (disk : DiskService) (answer : Turn) (p : ℕ) (last : Bool) → answer ≡ turn_answer disk → answer ≡ Work p last → last ≡ true → turn_answer disk ≡ Work p true
+works_last disk answer p last is works ends = sym is ∙ works ∙ ap (λ (b : Bool). Work p b) ends
+
+pub works_on : (disk : DiskService) (answer : Turn) (p : ℕ) (last : Bool) → answer ≡ turn_answer disk → answer ≡ Work p last → last ≡ false → IsNotLast (turn_answer disk)
+works_on disk answer p last is works ends = not_last (turn_answer disk) p (sym is ∙ works ∙ ap (λ (b : Bool). Work p b) ends)
+
+pub never_on : (disk : DiskService) (answer : Turn) → answer ≡ turn_answer disk → ((p : ℕ) (last : Bool) → answer ≡ Work p last → ⊥) → IsNotLast (turn_answer disk)
+unfolding IsNotLast
+never_on disk answer is never = λ p works. never p true (is ∙ works)
+
+-- so it goes on
+pub passes_so : (files : Files) (o : Outside) (old : System) (kernel : Kernel) (kept : Kept) (disks : Option Disks) → kernel ≡ with_disk turned old.kernel
+    → is_some old.kernel.disk.served ≡ true → IsNotLast (turn_answer old.kernel.disk) → StandsWorked old.kernel.disk kept disks files
+    → Passed files o o old (record old { kernel = kernel }) kept disks
+passes_so files o old kernel kept disks is some more stands =
+    subst (λ (new : System). Passed files o o old new kept disks) (sym (passed_is old kernel is)) (pass_on files o old kept disks some more stands)
+
+pub has_passed_so : (o : Outside) (old : System) (kernel : Kernel) → kernel ≡ with_disk turned old.kernel → is_some old.kernel.disk.served ≡ true
+    → IsNotLast (turn_answer old.kernel.disk) → HasPassed o o old (record old { kernel = kernel })
+has_passed_so o old kernel is some more = subst (HasPassed o o old) (sym (passed_is old kernel is)) (has_passed_on o old some more)
+
+pub begun_so : (disk after : DiskService) (answer : Turn) → is_some disk.served ≡ true → answer ≡ turn_answer disk → IsAfter answer after → HasBegun after
+unfolding turn_answer
+begun_so disk after answer some is so =
+    elim (served_still disk.served (turn_answer disk) disk.turn_steps (first_of disk.waiting) refl some) [
+      | inl passes ↦ subst (λ (turn : Turn). IsAfter turn after) (is ∙ passes) so
+      | inr works ↦ subst (λ (turn : Turn). IsAfter turn after) (is ∙ works.2) so
+    ]
+
+-- behind the last nobody is served
+
+none_by : (turn_steps : ℕ) (served : Option Served) (first : Option ℕ) (p : ℕ) → answer_by turn_steps served first ≡ Work p true → served_after turn_steps served first ≡ None
+none_by turn_steps None None p works = absurd (cc)
+none_by turn_steps None (Some q) p works = absurd (cc)
+none_by turn_steps (Some call) first p works = last_ends call turn_steps _ _ p refl refl works
+
+pub none_behind : (disk : DiskService) (p : ℕ) → turn_answer disk ≡ Work p true → (turned disk).served ≡ None
+unfolding turn_answer turned
+none_behind disk p works = none_by disk.turn_steps disk.served (first_of disk.waiting) p works
+
+pub nobody_behind : {A E : Type 0} (r : Result A E) (p : ℕ) (o n : Outside) (old new : System) → turn_answer old.kernel.disk ≡ Work p true
+    → OnOk r (HasAnswered p o n (step_passed old) new) → OnOk r (new.kernel.disk.served ≡ None)
+nobody_behind r p o n old new works =
+    on_ok r (λ (answered : HasAnswered p o n (step_passed old) new).
+    let none = none_behind old.kernel.disk p works in
+    ap (λ (system : System). system.kernel.disk.served) answered.system ∙ (over_serves answered.told p (step_passed old) none).served ∙ none)
+
+pub none_holds : {A E : Type 0} (r : Result A E) (P : Served → Type 0) (disk : DiskService) → OnOk r (disk.served ≡ None) → OnOk r (IfSome disk.served P)
+none_holds r P disk = on_ok r (λ (none : disk.served ≡ None). subst (λ (served : Option Served). IfSome served P) (sym none) tt)
+
+-- whose call it is stays so, and his own, as it goes on
+own_after : (b c : Bool) (call : Served) (P : ℕ → Type 0) → P call.p
+    → IfSome (if b then (if c then None else (Some (record call { left = call.left - 1; passed = 0 }))) else (Some (record call { passed = call.passed + 1 }))) (λ (next : Served). P next.p)
+own_after true true call P own = tt
+own_after true false call P own = own
+own_after false c call P own = own
+
+own_turned : (turn_steps : ℕ) (served : Option Served) (first : Option ℕ) (P : ℕ → Type 0) → is_some served ≡ true → IfSome served (λ (call : Served). P call.p)
+    → IfSome (served_after turn_steps served first) (λ (call : Served). P call.p)
+unfolding after_step
+own_turned turn_steps None first P some own = absurd (false≢true some)
+own_turned turn_steps (Some call) first P some own = own_after (is_last_step turn_steps call) (call.left == 1) call P own
+
+pub own_so : (old kernel : Kernel) (service : Option InService) → kernel ≡ with_disk turned old → is_some old.disk.served ≡ true
+    → IfSome old.disk.served (λ (call : Served). IsOwn old.dispatcher.procs call.p service) → IfSome kernel.disk.served (λ (call : Served). IsOwn kernel.dispatcher.procs call.p service)
+unfolding turned
+own_so old kernel service is some own =
+    subst (λ (k : Kernel). IfSome k.disk.served (λ (call : Served). IsOwn k.dispatcher.procs call.p service)) (sym is)
+    (own_turned old.disk.turn_steps old.disk.served (first_of old.disk.waiting) (λ p. IsOwn old.dispatcher.procs p service) some own)
+
+own_by : (served : Option Served) (P : ℕ → Type 0) (p : ℕ) → option_map (λ (call : Served). call.p) served ≡ Some p → IfSome served (λ call. P call.p) → P p
+own_by None P p is own = absurd (cc)
+own_by (Some call) P p is own = let same : call.p ≡ p = cc in subst P same own
+
+pub own_last : (disk : DiskService) (P : ℕ → Type 0) (p : ℕ) → turn_answer disk ≡ Work p true → IfSome disk.served (λ call. P call.p) → P p
+unfolding served_process
+own_last disk P p works own = own_by disk.served P p (working_process disk p true works) own
+
+-- a call that is over, whose process is ready again, and what it comes to
+pub again_whole : (p : ℕ) (old : System) (kernel : Kernel) → IsWhole old → IsOver p old.kernel → kernel ≡ made_ready_again p old.kernel → IsWhole (record old { kernel = kernel })
+again_whole p old kernel w over is =
+    subst (λ (k : Kernel). IsWhole (record old { kernel = k })) (sym is) (whole_ready_again p old w over)
+
+pub concluded_whole : (told : Directly) (p : ℕ) (old new : System) (kernel : Kernel) → IsWhole old → IsOver p old.kernel → kernel ≡ made_ready_again p old.kernel
+    → new ≡ (concluded told p (record old { kernel = kernel })).system → IsWhole new
+concluded_whole told p old new kernel w over is came =
+    subst IsWhole (sym came)
+    (whole_concluded told p (record old { kernel = kernel }) (again_whole p old kernel w over is) (subst (λ (k : Kernel). Lives k.dispatcher.procs p) (sym is) over.lives))
+
+pub concluded_room : (told : Directly) (p : ℕ) (old new : System) (kernel : Kernel) → HasRoomForAll (length old.records + 1)
+    → new ≡ (concluded told p (record old { kernel = kernel })).system → HasRoomForAll (length new.records)
+concluded_room told p old new kernel room came =
+    omega (arith, room, (concluded_more told p (record old { kernel = kernel })).few, ap (λ (s : System). length s.records) came)

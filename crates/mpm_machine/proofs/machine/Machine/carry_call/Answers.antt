@@ -1,0 +1,159 @@
+use Rattle.std.proofs.Common.{◌≡◌, ◌∙◌, ℕ, ◌+◌, ◌≤◌, Option, Some, refl, sym, ap, subst, arith}
+use Rattle.mpm_output.specs.Outside.{seen}
+use Rattle.mpm_service.specs.Ahead.{left_to}
+use Rattle.mpm_kernel.specs.Kernel.{Kernel}
+use Rattle.mpm_bdos.specs.Serving.{Kept, Serves}
+use Rattle.mpm_bdos.specs.Jobs.{call_turns}
+use Rattle.mpm_bdos.specs.Turns.{FitsDrives, told_images}
+use Rattle.mpm_machine.specs.declared.machine.StepFault.TheVariants.{WriteFault}
+use Rattle.mpm_machine.specs.Files.{Files}
+use Rattle.mpm_machine.specs.Holding.{IsOwn}
+use Rattle.mpm_machine.specs.Mounting.{HasNoDrive, KeepsMounted}
+use Rattle.mpm_machine.specs.Failing.{Working, HaveImagesOf, FailsWithin}
+use Rattle.mpm_machine.specs.Settling.{HasCarried, StopsCarrying, WritesEndOf, StopsEndOf}
+use Rattle.mpm_machine.proofs.FilingLaws.{label_none}
+use Rattle.mpm_machine.proofs.FailingLaws.{turns_fail}
+use Rattle.mpm_machine.proofs.CarryingLaws.{in_call, all_left_turns, own_behind, whole_unserved, nobody_left, never_both}
+use Rattle.mpm_machine.proofs.machine.Machine.carry_call.Goals as goal
+
+pub end_call-requires-clause-whole : goal.end_call-requires-clause-whole
+end_call-requires-clause-whole g c =
+    whole_unserved c.args.self.now.system c.finish_disk_call-turns.new.self c.requires.whole c.finish_disk_call-turns.ensures.kernel c.finish_disk_call-turns.ensures.sound
+
+pub end_call-requires-clause-over : goal.end_call-requires-clause-over
+end_call-requires-clause-over g c = c.finish_disk_call-turns.ensures.over c.args.p c.requires.served
+
+pub end_call-requires-clause-own : goal.end_call-requires-clause-own
+end_call-requires-clause-own g c =
+    subst (λ (k : Kernel). IsOwn k.dispatcher.procs c.args.p c.do_turns.new.self.service) (sym c.finish_disk_call-turns.ensures.kernel)
+    (own_behind c.args.self.now.system.kernel.disk c.args.p c.args.self.now.system.kernel.dispatcher.procs c.args.self.now.bdos.service c.do_turns.new.self.service c.requires.served
+    c.requires.holds.own c.do_turns.ensures.left.kept.service)
+
+pub end_call-requires-clause-idle : goal.end_call-requires-clause-idle
+end_call-requires-clause-idle g c = ap (λ (k : Kernel). k.disk.served) c.finish_disk_call-turns.ensures.kernel ∙ nobody_left c.args.self.now.system.kernel
+
+-- a drive failed in a turn
+
+pub returns-in-Err-clause-err : goal.returns-in-Err-clause-err
+returns-in-Err-clause-err g c files stands =
+    let disk = c.args.self.now.system.kernel.disk in
+    let disks = g.D.Drives.disks c.args.drives.now in
+    let now = g.D.Drives.disks c.do_turns.new.drives in
+    let kept = c.args.self.now.bdos in
+    let its = in_call files disk c.args.p kept disks c.requires.served stands in
+    let left = c.do_turns.ensures.left in
+    let few : its.turns + c.finish_disk_call-turns.result ≤ call_turns its.call = omega (arith, its.left, c.finish_disk_call-turns.ensures.turns, all_left_turns disk) in (
+      refl,
+      subst (λ (working : Option Working). HaveImagesOf (FailsWithin working) now c.do_turns.new.self.mounted) (sym its.left_is)
+          (turns_fail disks now kept c.do_turns.new.self.mounted its.call its.turns (left_to disk.served) its.serves (c.in-Err.ensures.err its.call its.turns its.serves few)
+          left.images left.kept.labels),
+    )
+
+pub returns-in-Err-clause-keeps : goal.returns-in-Err-clause-keeps
+returns-in-Err-clause-keeps g c = record { labels = c.do_turns.ensures.left.kept.labels; beside = c.do_turns.ensures.left.beside }
+
+pub returns-in-Err-clause-bare : goal.returns-in-Err-clause-bare
+returns-in-Err-clause-bare g c none number = label_none _ _ (c.do_turns.ensures.left.kept.labels number) (none number)
+
+pub returns-in-Err-clause-none : goal.returns-in-Err-clause-none
+returns-in-Err-clause-none g c none = (c.do_turns.ensures.idle (c.requires.holds.workless none)).device
+
+pub returns-in-Err-clause-unfailing : goal.returns-in-Err-clause-unfailing
+returns-in-Err-clause-unfailing g c none = never_both c.do_turns.result _ _ c.in-Err.is (c.do_turns.ensures.unfailing (c.requires.holds.workless none))
+
+pub returns-in-Err-clause-calls : goal.returns-in-Err-clause-calls
+returns-in-Err-clause-calls g c = omega (arith, c.do_turns.ensures.calls, c.finish_disk_call-turns.ensures.turns)
+
+pub returns-in-Err-clause-cause : goal.returns-in-Err-clause-cause
+returns-in-Err-clause-cause g c = record { stays = tt; failed = (c.in-Err.ensures.cause.failed, refl) }
+
+-- all is done
+
+pub returns-in-Ok-clause-ok : goal.returns-in-Ok-clause-ok
+returns-in-Ok-clause-ok g c files stands =
+    let before = seen g.S.Sink.written g.S.Sink.faults c.args.render.now c.args.sink.now in
+    let behind = seen g.S.Sink.written g.S.Sink.faults c.end_call.new.render c.end_call.new.sink in
+    let disk = c.args.self.now.system.kernel.disk in
+    let now = g.D.Drives.disks c.do_turns.new.drives in
+    let its = in_call files disk c.args.p c.args.self.now.bdos (g.D.Drives.disks c.args.drives.now) c.requires.served stands in
+    let few : its.turns + c.finish_disk_call-turns.result ≤ call_turns its.call = omega (arith, its.left, c.finish_disk_call-turns.ensures.turns, all_left_turns disk) in
+    let all : its.turns + c.finish_disk_call-turns.result ≡ call_turns its.call = omega (arith, its.left, c.finish_disk_call-turns.ensures.turns, all_left_turns disk) in
+    let serves = subst (λ (j : ℕ). Serves (told_images now) c.do_turns.new.self its.call j) all (c.in_default.ensures.ok its.call its.turns its.serves few) in
+    let passed = ap (λ (k : Kernel). record c.args.self.now.system { kernel = k }) c.finish_disk_call-turns.ensures.kernel in
+    subst (λ (f : Files). HasCarried f before behind c.args.self.now.system c.end_call.new.self.system c.end_call.new.self.bdos now) (sym its.is)
+    (c.in-Ok.ensures.ok now its.call c.args.self.now.system serves its.whose passed)
+
+pub returns-in-Ok-clause-end : goal.returns-in-Ok-clause-end
+returns-in-Ok-clause-end g c =
+    let before = seen g.S.Sink.written g.S.Sink.faults c.args.render.now c.args.sink.now in
+    let behind = seen g.S.Sink.written g.S.Sink.faults c.end_call.new.render c.end_call.new.sink in
+    subst (λ (call : Option ℕ). WritesEndOf call before behind c.args.self.now.system) (sym c.requires.served)
+    (c.in-Ok.ensures.end c.args.self.now.system (ap (λ (k : Kernel). record c.args.self.now.system { kernel = k }) c.finish_disk_call-turns.ensures.kernel))
+
+pub returns-in-Ok-clause-keeps : goal.returns-in-Ok-clause-keeps
+returns-in-Ok-clause-keeps g c =
+    subst (λ (k : Kept). KeepsMounted (g.D.Drives.disks c.args.drives.now) (g.D.Drives.disks c.do_turns.new.drives) c.args.self.now.bdos.mounted k.mounted) (sym c.end_call.ensures.kept)
+    (record { labels = c.do_turns.ensures.left.kept.labels; beside = c.do_turns.ensures.left.beside })
+
+pub returns-in-Ok-clause-bare : goal.returns-in-Ok-clause-bare
+returns-in-Ok-clause-bare g c none =
+    subst (λ (k : Kept). HasNoDrive k.mounted) (sym c.end_call.ensures.kept) (λ number. label_none _ _ (c.do_turns.ensures.left.kept.labels number) (none number))
+
+pub returns-in-Ok-clause-none : goal.returns-in-Ok-clause-none
+returns-in-Ok-clause-none g c none = (c.do_turns.ensures.idle (c.requires.holds.workless none)).device
+
+pub returns-in-Ok-clause-fits : goal.returns-in-Ok-clause-fits
+returns-in-Ok-clause-fits g c =
+    subst (λ (k : Kept). FitsDrives g.D.Drives.attached g.D.Drives.disks k.mounted k.cached c.do_turns.new.drives) (sym c.end_call.ensures.kept) c.do_turns.ensures.left.fits
+
+pub returns-in-Ok-clause-calls : goal.returns-in-Ok-clause-calls
+returns-in-Ok-clause-calls g c = omega (arith, c.do_turns.ensures.calls, c.finish_disk_call-turns.ensures.turns)
+
+pub returns-in-Ok-clause-cause : goal.returns-in-Ok-clause-cause
+returns-in-Ok-clause-cause g c =
+    record { stays = λ i. record { sink = c.in-Ok.ensures.cause.stays i; drives = c.in_default.ensures.cause.stays i }; failed = tt }
+
+-- the sink failed
+
+pub returns-in-Err-end_call-clause-err : goal.returns-in-Err-end_call-clause-err
+returns-in-Err-end_call-clause-err g c files stands =
+    let before = seen g.S.Sink.written g.S.Sink.faults c.args.render.now c.args.sink.now in
+    let behind = seen g.S.Sink.written g.S.Sink.faults c.end_call.new.render c.end_call.new.sink in
+    let disk = c.args.self.now.system.kernel.disk in
+    let now = g.D.Drives.disks c.do_turns.new.drives in
+    let its = in_call files disk c.args.p c.args.self.now.bdos (g.D.Drives.disks c.args.drives.now) c.requires.served stands in
+    let few : its.turns + c.finish_disk_call-turns.result ≤ call_turns its.call = omega (arith, its.left, c.finish_disk_call-turns.ensures.turns, all_left_turns disk) in
+    let all : its.turns + c.finish_disk_call-turns.result ≡ call_turns its.call = omega (arith, its.left, c.finish_disk_call-turns.ensures.turns, all_left_turns disk) in
+    let serves = subst (λ (j : ℕ). Serves (told_images now) c.do_turns.new.self its.call j) all (c.in_default.ensures.ok its.call its.turns its.serves few) in
+    let passed = ap (λ (k : Kernel). record c.args.self.now.system { kernel = k }) c.finish_disk_call-turns.ensures.kernel in
+    subst (λ (f : Files). StopsCarrying WriteFault f before behind c.args.self.now.system c.end_call.new.self.bdos.mounted now) (sym its.is)
+    (c.in-Err-end_call.ensures.err now its.call c.args.self.now.system serves its.whose passed)
+
+pub returns-in-Err-end_call-clause-stops : goal.returns-in-Err-end_call-clause-stops
+returns-in-Err-end_call-clause-stops g c =
+    let before = seen g.S.Sink.written g.S.Sink.faults c.args.render.now c.args.sink.now in
+    let behind = seen g.S.Sink.written g.S.Sink.faults c.end_call.new.render c.end_call.new.sink in
+    subst (λ (call : Option ℕ). StopsEndOf call before behind c.args.self.now.system) (sym c.requires.served)
+    (c.in-Err-end_call.ensures.stops c.args.self.now.system (ap (λ (k : Kernel). record c.args.self.now.system { kernel = k }) c.finish_disk_call-turns.ensures.kernel))
+
+pub returns-in-Err-end_call-clause-keeps : goal.returns-in-Err-end_call-clause-keeps
+returns-in-Err-end_call-clause-keeps g c =
+    subst (λ (k : Kept). KeepsMounted (g.D.Drives.disks c.args.drives.now) (g.D.Drives.disks c.do_turns.new.drives) c.args.self.now.bdos.mounted k.mounted) (sym c.end_call.ensures.kept)
+    (record { labels = c.do_turns.ensures.left.kept.labels; beside = c.do_turns.ensures.left.beside })
+
+pub returns-in-Err-end_call-clause-bare : goal.returns-in-Err-end_call-clause-bare
+returns-in-Err-end_call-clause-bare g c none =
+    subst (λ (k : Kept). HasNoDrive k.mounted) (sym c.end_call.ensures.kept) (λ number. label_none _ _ (c.do_turns.ensures.left.kept.labels number) (none number))
+
+pub returns-in-Err-end_call-clause-none : goal.returns-in-Err-end_call-clause-none
+returns-in-Err-end_call-clause-none g c none = (c.do_turns.ensures.idle (c.requires.holds.workless none)).device
+
+pub returns-in-Err-end_call-clause-fits : goal.returns-in-Err-end_call-clause-fits
+returns-in-Err-end_call-clause-fits g c =
+    subst (λ (k : Kept). FitsDrives g.D.Drives.attached g.D.Drives.disks k.mounted k.cached c.do_turns.new.drives) (sym c.end_call.ensures.kept) c.do_turns.ensures.left.fits
+
+pub returns-in-Err-end_call-clause-calls : goal.returns-in-Err-end_call-clause-calls
+returns-in-Err-end_call-clause-calls g c = omega (arith, c.do_turns.ensures.calls, c.finish_disk_call-turns.ensures.turns)
+
+pub returns-in-Err-end_call-clause-cause : goal.returns-in-Err-end_call-clause-cause
+returns-in-Err-end_call-clause-cause g c = record { stays = tt; failed = (c.in-Err-end_call.ensures.cause.failed, c.in_default.ensures.cause.stays) }

@@ -1,0 +1,93 @@
+use Rattle.std.proofs.Common.{◌∙◌, ap, sym, subst, length, arith}
+use Rattle.mpm_output.specs.Outside.{seen}
+use Rattle.mpm_bdos.specs.Serving.{Kept}
+use Rattle.mpm_machine.specs.State.{IsWhole}
+use Rattle.mpm_machine.specs.Settling.{ended_with}
+use Rattle.mpm_machine.proofs.DiskStepLaws.{whole_all_paid}
+use Rattle.mpm_machine.proofs.CarryingLaws.{Pays, carried_stopped_first, carried_stopped_last, carried_all, told_stopped, told_stopped_last, told_wrote, ends_told, keeps_paid, stopped_behind}
+use Rattle.mpm_machine.proofs.machine.Machine.end_call.Goals as goal
+
+pub answer_call-requires-clause-room : goal.answer_call-requires-clause-room
+answer_call-requires-clause-room g c = omega (arith, ap length c.requires.none)
+
+pub end_all-requires : goal.end_all-requires
+end_all-requires g c = record { whole = subst IsWhole (sym c.pay.ensures.system) (whole_all_paid c.answer_call.new.self.system c.in_default.ensures.whole) }
+
+-- the sink failed as the call was answered
+
+pub returns-in-Err-clause-err : goal.returns-in-Err-clause-err
+returns-in-Err-clause-err g c disks s before serves whose is =
+    carried_stopped_first _ _ disks c.args.self.now.bdos c.answer_call.new.self.bdos s c.args.p c.args.self.now.system before whose is serves c.answer_call.ensures.kept
+    (c.in-Err.ensures.err disks s serves whose)
+
+pub returns-in-Err-clause-stops : goal.returns-in-Err-clause-stops
+returns-in-Err-clause-stops g c before is =
+    let stopped = c.in-Err.ensures.stops in
+    record {
+      change = ended_with stopped.told c.args.p before;
+      is = ends_told c.args.p c.args.self.now.system before stopped.told is stopped.of_call stopped.tells;
+      stops = told_stopped _ _ c.args.p c.args.self.now.system before stopped.told is stopped.stops;
+    }
+
+-- or as the records came out
+
+pub returns-in-Err-end_all-clause-err : goal.returns-in-Err-end_all-clause-err
+returns-in-Err-end_all-clause-err g c disks s before serves whose is =
+    let over = c.in_default.ensures.ok disks s serves whose in
+    let m = seen g.S.Sink.written g.S.Sink.faults c.answer_call.new.render c.answer_call.new.sink in
+    carried_stopped_last _ m _ disks c.args.self.now.bdos c.pay.new.self.bdos s c.args.p c.args.self.now.system before c.answer_call.new.self.system c.pay.new.self.system whose is serves
+    (ap (λ (k : Kept). k.mounted) c.pay.ensures.rest ∙ ap (λ (k : Kept). k.mounted) c.answer_call.ensures.kept) over.0 c.pay.ensures.system over.1 c.in-Err-end_all.ensures.wrote.err
+
+pub returns-in-Err-end_all-clause-stops : goal.returns-in-Err-end_all-clause-stops
+returns-in-Err-end_all-clause-stops g c before is =
+    let told = c.in_default.ensures.told in
+    let m = seen g.S.Sink.written g.S.Sink.faults c.answer_call.new.render c.answer_call.new.sink in
+    record {
+      change = ended_with told.told c.args.p before;
+      is = ends_told c.args.p c.args.self.now.system before told.told is told.of_call told.tells;
+      stops = told_stopped_last _ m _ c.args.p c.args.self.now.system before c.answer_call.new.self.system c.pay.new.self.system told.told is told.system c.pay.ensures.system told.wrote
+          c.in-Err-end_all.ensures.wrote.err;
+    }
+
+pub returns-in-Err-end_all-clause-trace : goal.returns-in-Err-end_all-clause-trace
+returns-in-Err-end_all-clause-trace g c = c.in-Err-end_all.ensures.wrote.err.trace ∙ c.answer_call.ensures.trace
+
+pub returns-in-Err-end_all-clause-cause : goal.returns-in-Err-end_all-clause-cause
+returns-in-Err-end_all-clause-cause g c =
+    stopped_behind _ _ _ _ (seen g.S.Sink.written g.S.Sink.faults c.answer_call.new.render c.answer_call.new.sink) (seen g.S.Sink.written g.S.Sink.faults c.end_all.new.render c.end_all.new.sink) _
+    c.in_default.ensures.cause.stays c.in-Err-end_all.ensures.wrote.err
+
+pub returns-in-Err-end_all-clause-kept : goal.returns-in-Err-end_all-clause-kept
+returns-in-Err-end_all-clause-kept g c =
+    keeps_paid c.args.self.now.bdos c.answer_call.new.self.bdos c.pay.new.self.bdos c.answer_call.ensures.kept c.pay.ensures.rest
+
+-- or all was written
+
+pub returns-clause-ok : goal.returns-clause-ok
+returns-clause-ok g c disks s before serves whose is =
+    let over = c.in_default.ensures.ok disks s serves whose in
+    let m = seen g.S.Sink.written g.S.Sink.faults c.answer_call.new.render c.answer_call.new.sink in
+    let first : Pays c.answer_call.new.self.system c.answer_call.new.self.bdos c.pay.new.self.bdos = record { rest = c.pay.ensures.rest; filing = c.pay.ensures.filing } in
+    let last : Pays c.end_all.new.self c.pay.new.self.bdos c.pay-2.new.self.bdos = record { rest = c.pay-2.ensures.rest; filing = c.pay-2.ensures.filing } in
+    carried_all _ m _ disks c.answer_call.new.self.bdos c.pay.new.self.bdos c.pay-2.new.self.bdos s c.args.p c.args.self.now.system before c.answer_call.new.self.system c.pay.new.self.system
+    c.end_all.new.self c.pay-2.new.self.system whose is over.0 c.pay.ensures.system c.in_default-end_all.ensures.system c.pay-2.ensures.system over.1 c.in_default-end_all.ensures.wrote.ok over.2
+    first last
+
+pub returns-clause-end : goal.returns-clause-end
+returns-clause-end g c before is =
+    let told = c.in_default.ensures.told in
+    let m = seen g.S.Sink.written g.S.Sink.faults c.answer_call.new.render c.answer_call.new.sink in
+    record {
+      change = ended_with told.told c.args.p before;
+      is = ends_told c.args.p c.args.self.now.system before told.told is told.of_call told.tells;
+      wrote = told_wrote _ m _ c.args.p c.args.self.now.system before c.answer_call.new.self.system c.pay.new.self.system told.told is told.system c.pay.ensures.system told.wrote
+          c.in_default-end_all.ensures.wrote.ok;
+    }
+
+pub returns-clause-trace : goal.returns-clause-trace
+returns-clause-trace g c = c.in_default-end_all.ensures.wrote.ok.trace ∙ c.answer_call.ensures.trace
+
+pub returns-clause-kept : goal.returns-clause-kept
+returns-clause-kept g c =
+    let first = keeps_paid c.args.self.now.bdos c.answer_call.new.self.bdos c.pay.new.self.bdos c.answer_call.ensures.kept c.pay.ensures.rest in
+    keeps_paid c.args.self.now.bdos c.pay.new.self.bdos c.pay-2.new.self.bdos first c.pay-2.ensures.rest

@@ -1,0 +1,91 @@
+use Rattle.std.proofs.Common.{◌≡◌, ◌∙◌, ap, arith}
+use Rattle.mpm_kernel.specs.Kernel.{Kernel}
+use Rattle.mpm_output.specs.Outside.{Faults, seen}
+use Rattle.mpm_machine.specs.declared.machine.Machine.{Machine}
+use Rattle.mpm_machine.specs.declared.system.System.{System}
+use Rattle.mpm_machine.proofs.EndStepLaws.{ended_sound, has_ended, has_ended_to, serving_stopped, serving_stops, ending_stopped, ended_stops, ends_served, ended_begun, ended_filed, ended_own, ended_turn_steps, ended_whole, ended_nobody_due, ended_no_completions, ended_steps, workless_paid}
+use Rattle.mpm_machine.proofs.BehindLaws.{rest_images}
+use Rattle.mpm_machine.proofs.CarryingLaws.{keeps_paid, stopped_behind}
+use Rattle.mpm_machine.proofs.machine.Machine.end_step.Goals as goal
+
+-- the sink failed in the disk's step
+
+pub returns-in-Err-clause-err : goal.returns-in-Err-clause-err
+returns-in-Err-clause-err g c disks files stands = serving_stopped c.args.instruction files _ _ c.args.self.now.system (c.in-Err.ensures.err disks files stands)
+
+pub returns-in-Err-clause-stands : goal.returns-in-Err-clause-stands
+returns-in-Err-clause-stands g c disks files stands =
+    rest_images c.args.instruction c.args.self.now.system c.args.self.now.bdos c.serve_disk.new.self.bdos disks files c.serve_disk.ensures.kept stands
+
+pub returns-in-Err-clause-stops : goal.returns-in-Err-clause-stops
+returns-in-Err-clause-stops g c = serving_stops c.args.instruction _ _ c.args.self.now.system c.in-Err.ensures.stops
+
+-- or behind it
+
+pub returns-in-Err-end_all-clause-err : goal.returns-in-Err-end_all-clause-err
+returns-in-Err-end_all-clause-err g c disks files stands =
+    let m = seen g.S.Sink.written g.S.Sink.faults c.serve_disk.new.render c.serve_disk.new.sink in
+    ending_stopped c.args.instruction files _ m _ c.args.self.now.system c.serve_disk.new.self.system c.serve_disk.new.self.bdos disks (c.in_default.ensures.ok disks files stands)
+    c.in-Err-end_all.ensures.wrote.err
+
+pub returns-in-Err-end_all-clause-stands : goal.returns-in-Err-end_all-clause-stands
+returns-in-Err-end_all-clause-stands g c disks files stands =
+    rest_images c.args.instruction c.args.self.now.system c.args.self.now.bdos c.serve_disk.new.self.bdos disks files c.serve_disk.ensures.kept stands
+
+pub returns-in-Err-end_all-clause-stops : goal.returns-in-Err-end_all-clause-stops
+returns-in-Err-end_all-clause-stops g c =
+    let m = seen g.S.Sink.written g.S.Sink.faults c.serve_disk.new.render c.serve_disk.new.sink in
+    ended_stops c.args.instruction _ m _ c.args.self.now.system c.serve_disk.new.self.system c.in_default.ensures.step c.in-Err-end_all.ensures.wrote.err
+
+pub returns-in-Err-end_all-clause-trace : goal.returns-in-Err-end_all-clause-trace
+returns-in-Err-end_all-clause-trace g c = c.in-Err-end_all.ensures.wrote.err.trace ∙ c.serve_disk.ensures.trace
+
+pub returns-in-Err-end_all-clause-cause : goal.returns-in-Err-end_all-clause-cause
+returns-in-Err-end_all-clause-cause g c =
+    stopped_behind _ _ _ _ (seen g.S.Sink.written g.S.Sink.faults c.serve_disk.new.render c.serve_disk.new.sink) (seen g.S.Sink.written g.S.Sink.faults c.end_all.new.render c.end_all.new.sink) _
+    c.in_default.ensures.cause.stays c.in-Err-end_all.ensures.wrote.err
+
+-- all was written
+
+pub pick-requires : goal.pick-requires
+pick-requires g c =
+    ended_sound c.serve_disk.new.self.system c.end_all.new.self c.pay.new.self.system c.in_default.ensures.whole c.in_default-end_all.ensures.system c.pay.ensures.system
+
+pub returns : goal.returns
+returns g c =
+    let instruction = c.args.instruction in
+    let old = c.args.self.now in
+    let served = c.serve_disk.new.self in
+    let ended = c.end_all.new.self in
+    let paid = c.pay.new.self in
+    let o = seen g.S.Sink.written g.S.Sink.faults c.args.render.now c.args.sink.now in
+    let m = seen g.S.Sink.written g.S.Sink.faults c.serve_disk.new.render c.serve_disk.new.sink in
+    let n = seen g.S.Sink.written g.S.Sink.faults c.end_all.new.render c.end_all.new.sink in
+    let new : System = record paid.system { kernel = c.pick.new.self } in
+    let ends = c.in_default-end_all.ensures.system in
+    let wrote = c.in_default-end_all.ensures.wrote.ok in
+    let faults : g.S.Sink.faults c.end_all.new.sink ≡ g.S.Sink.faults c.args.sink.now = ap (λ (f : Faults). f.sink) wrote.faults ∙ c.in_default.ensures.cause.stays in
+    let picks = ap (λ (k : Kernel). record paid.system { kernel = k }) c.pick.ensures.kernel in
+    let step = has_ended instruction o m n old.system served.system ended paid.system new c.in_default.ensures.step ends wrote c.pay.ensures.system picks in
+    let so = ends_served instruction served.system ended paid.system new c.in_default.ensures.whole ends c.pay.ensures.system picks in
+    record {
+      ok = λ disks files stands.
+          has_ended_to instruction files o m n old.system served.system ended paid.system new served.bdos paid.bdos disks (c.in_default.ensures.ok disks files stands) ends wrote
+          c.pay.ensures.system picks c.pay.ensures.rest (λ some. ap (λ (machine : Machine). machine.bdos) (c.pay.ensures.served some)) c.pay.ensures.filing;
+      err = λ disks files stands. tt;
+      stands = λ disks files stands. tt;
+      step = step;
+      stops = tt;
+      due = ended_nobody_due instruction o n old.system new c.requires.whole step;
+      whole = ended_whole instruction o n old.system new c.requires.whole step;
+      no_completions = ended_no_completions instruction o n old.system new c.requires.completed step;
+      count = ended_steps instruction o n old.system new step;
+      begun = ended_begun instruction served.system new so c.in_default.ensures.begun;
+      filed = ended_filed instruction served.system new so c.in_default.ensures.filed;
+      own = ended_own instruction served.system new served.bdos paid.bdos so c.pay.ensures.rest c.in_default.ensures.own;
+      turn_steps = ended_turn_steps instruction o m old.system served.system new so c.in_default.ensures.step;
+      kept = keeps_paid old.bdos served.bdos paid.bdos c.serve_disk.ensures.kept c.pay.ensures.rest;
+      workless = λ none less. workless_paid served.bdos paid.bdos c.pay.ensures.rest (c.serve_disk.ensures.workless none less);
+      trace = wrote.trace ∙ c.serve_disk.ensures.trace;
+      cause = record { later = omega (arith, faults); stays = faults; failed = tt };
+    }

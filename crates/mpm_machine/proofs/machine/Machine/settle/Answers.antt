@@ -1,0 +1,92 @@
+use Rattle.std.proofs.Common.{◌≡◌, ◌∙◌, Bool, subst, arith}
+use Rattle.std.specs.Prelude.{OnOk}
+use Rattle.mpm_port.specs.Texts.{appended}
+use Rattle.mpm_mount.specs.Mounting.{SameDrives}
+use Rattle.mpm_render.specs.Outputs.{closed}
+use Rattle.mpm_output.specs.Outside.{seen}
+use Rattle.mpm_output.proofs.WritingLaws.{on_ok_always}
+use Rattle.mpm_machine.specs.Faults.{itself}
+use Rattle.mpm_machine.specs.Settling.{carried}
+use Rattle.mpm_machine.proofs.SettlingLaws.{carried_shows, carried_files, carried_images, stops_carrying, err_seen, err_stops, ok_closes, err_closes, stops_settling, keeps_synced, same_still, same_count, none_counted, sink_alone, cause_behind, ok_so}
+use Rattle.mpm_machine.proofs.machine.Machine.settle.Goals as goal
+
+-- the call in service was carried to its end, and lines are closed
+
+pub returns-in-Ok-clause-ok : goal.returns-in-Ok-clause-ok
+returns-in-Ok-clause-ok g c s first stands =
+    let P : Bool → Type 0 = λ t. OnOk c.close.result (g.S.Sink.written c.close.new.sink ≡ appended first (closed t (carried s).outputs)) in
+    subst P c.in-Ok.ensures.trace
+    (c.close.ensures.ok (carried s).outputs first
+    (carried_shows s _ _ _ _ _ _ first stands.system.parts (c.in-Ok.ensures.ok s.files stands.files) stands.system.shown))
+
+pub returns-in-Ok-clause-files : goal.returns-in-Ok-clause-files
+returns-in-Ok-clause-files g c s first stands =
+    on_ok_always c.close.result
+    (carried_files s _ _ _ _ _ _ _ stands.system.parts (c.in-Ok.ensures.ok s.files stands.files) c.close.ensures.drives.images)
+
+pub returns-in-Ok-clause-err : goal.returns-in-Ok-clause-err
+returns-in-Ok-clause-err g c s first stands =
+    let m = seen g.S.Sink.written g.S.Sink.faults c.carry.new.render c.carry.new.sink in
+    let n = seen g.S.Sink.written g.S.Sink.faults c.close.new.render c.close.new.sink in
+    let has = c.in-Ok.ensures.ok s.files stands.files in
+    let shows = carried_shows s _ m _ _ _ _ first stands.system.parts has stands.system.shown in
+    err_stops c.close.result s m n c.carry.new.self.bdos.mounted (g.D.Drives.disks c.close.new.drives) first c.close.ensures.trace shows
+    (err_seen c.close.result g.S.Sink.written g.S.Sink.faults c.carry.new.render c.close.new.render c.carry.new.sink c.close.new.sink c.close.ensures.unwritten)
+    (c.close.ensures.err (carried s).outputs first shows)
+    (carried_images s _ m _ _ _ _ _ stands.system.parts has c.close.ensures.drives.images)
+
+pub returns-in-Ok-clause-end : goal.returns-in-Ok-clause-end
+returns-in-Ok-clause-end g c =
+    ok_closes c.close.result _ (seen g.S.Sink.written g.S.Sink.faults c.carry.new.render c.carry.new.sink) _ c.args.self.now.system c.in-Ok.ensures.end c.close.ensures.ok
+
+pub returns-in-Ok-clause-stops : goal.returns-in-Ok-clause-stops
+returns-in-Ok-clause-stops g c =
+    err_closes c.close.result _ (seen g.S.Sink.written g.S.Sink.faults c.carry.new.render c.carry.new.sink) (seen g.S.Sink.written g.S.Sink.faults c.close.new.render c.close.new.sink)
+    c.args.self.now.system c.in-Ok.ensures.end c.close.ensures.err
+    (err_seen c.close.result g.S.Sink.written g.S.Sink.faults c.carry.new.render c.close.new.render c.carry.new.sink c.close.new.sink c.close.ensures.unwritten)
+
+pub returns-in-Ok-clause-cause : goal.returns-in-Ok-clause-cause
+returns-in-Ok-clause-cause g c = cause_behind itself _ _ _ c.close.result c.in-Ok.ensures.cause.stays c.close.ensures.cause
+
+pub returns-in-Ok-clause-keeps : goal.returns-in-Ok-clause-keeps
+returns-in-Ok-clause-keeps g c = keeps_synced _ _ _ _ _ c.in-Ok.ensures.keeps c.close.ensures.drives.images
+
+pub returns-in-Ok-clause-calls : goal.returns-in-Ok-clause-calls
+returns-in-Ok-clause-calls g c =
+    omega (arith, c.in-Ok.ensures.calls, c.close.ensures.calls, same_count c.args.self.now.bdos.mounted c.carry.new.self.bdos.mounted c.in-Ok.ensures.keeps.labels)
+
+pub returns-in-Ok-clause-synced : goal.returns-in-Ok-clause-synced
+returns-in-Ok-clause-synced g c none =
+    let same = same_count c.args.self.now.bdos.mounted c.carry.new.self.bdos.mounted c.in-Ok.ensures.keeps.labels in
+    ok_so c.close.result _ _ (λ all. omega (arith, all, same, c.in-Ok.ensures.still none)) c.close.ensures.synced
+
+pub returns-in-Ok-clause-idle : goal.returns-in-Ok-clause-idle
+returns-in-Ok-clause-idle g c none =
+    subst (λ d. SameDrives g.D.Drives.attached g.D.Drives.disks g.D.Drives.failed_names d c.close.new.drives) (c.in-Ok.ensures.idle none) c.close.ensures.drives
+
+pub returns-in-Ok-clause-names : goal.returns-in-Ok-clause-names
+returns-in-Ok-clause-names g c = c.close.ensures.drives.failed ∙ c.in-Ok.ensures.names
+
+pub returns-in-Ok-clause-attached : goal.returns-in-Ok-clause-attached
+returns-in-Ok-clause-attached g c number = c.close.ensures.drives.drives number ∙ c.in-Ok.ensures.attached number
+
+pub returns-in-Ok-clause-none : goal.returns-in-Ok-clause-none
+returns-in-Ok-clause-none g c none = c.close.ensures.none (none_counted c.carry.new.self.bdos.mounted (c.in-Ok.ensures.bare none)) ∙ c.in-Ok.ensures.none none
+
+pub returns-in-Ok-clause-unfailing : goal.returns-in-Ok-clause-unfailing
+returns-in-Ok-clause-unfailing g c none = sink_alone c.close.result c.carry.new.self.bdos.mounted (c.in-Ok.ensures.bare none) c.close.ensures.some
+
+-- or it stopped
+
+pub returns-in-Err-clause-err : goal.returns-in-Err-clause-err
+returns-in-Err-clause-err g c s first stands =
+    stops_carrying c.in-Err.fault s _ _ _ _ _ first stands.system.parts c.in-Err.ensures.trace stands.system.shown (c.in-Err.ensures.err s.files stands.files)
+
+pub returns-in-Err-clause-stops : goal.returns-in-Err-clause-stops
+returns-in-Err-clause-stops g c = stops_settling c.in-Err.fault _ _ c.args.self.now.system c.in-Err.ensures.stops
+
+pub returns-in-Err-clause-calls : goal.returns-in-Err-clause-calls
+returns-in-Err-clause-calls g c = omega (arith, c.in-Err.ensures.calls)
+
+pub returns-in-Err-clause-idle : goal.returns-in-Err-clause-idle
+returns-in-Err-clause-idle g c none = same_still g.D.Drives.attached g.D.Drives.disks g.D.Drives.failed_names c.args.drives.now c.carry.new.drives (c.in-Err.ensures.idle none)

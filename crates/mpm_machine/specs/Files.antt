@@ -1,0 +1,101 @@
+-- Files and drives as file calls find them: between two calls that the disk serves, or within one. What stands for them: what is kept
+-- of file calls, the directories in memory, and the images. (MP/M II Programmer's Guide, "BDOS Function Calls"; the service in turns is
+-- this project's own.)
+use Rattle.std.specs.Prelude.{◌≡◌, ⊤, ℕ, suc, ◌+◌, ◌-◌, ◌<◌, Bool, false, List, [], ◌∷◌, Option, Some, None, slice_index_or, if◌then◌else◌}
+use Rattle.std.specs.List.{range_with_len}
+use Rattle.mpm_port.specs.Disks.{Disks}
+use Rattle.mpm_mount.specs.Drives.{Drive}
+use Rattle.mpm_service.specs.Disk.{DiskService, is_last_step}
+use Rattle.mpm_service.specs.declared.service.Served.{Served}
+use Rattle.mpm_bdos.specs.Filing.{Filing, Situation}
+use Rattle.mpm_bdos.specs.Jobs.{call_turns}
+use Rattle.mpm_bdos.specs.Outcomes.{drives_after, left_by, without_search}
+use Rattle.mpm_bdos.specs.Serving.{Kept, StandEach, Serves, filing_of}
+use Rattle.mpm_bdos.specs.Turns.{told_images}
+
+-- no call is in service, or one is, in the situation in which it entered: of what it found nothing changes until its last turn is over
+pub data Files : Type 0 where
+  Between : Filing → Files
+  Within : Situation → Files
+
+abbrev pub filing_in : Files → Filing
+filing_in (Between filing) = filing
+filing_in (Within s) = s.filing
+
+-- the drives for which the images stand: where a call is in service, what its first turns have made of those that it found
+abbrev pub turns_ended : Served → Situation → ℕ
+turns_ended call s = call_turns s - call.left
+
+unfoldable pub drives_in : Option Served → Files → List (Option Drive)
+drives_in served (Between filing) = filing.drives
+drives_in None (Within s) = s.filing.drives
+drives_in (Some call) (Within s) = drives_after s (turns_ended call s)
+
+-- between two calls what is kept, and the directory in memory of each mounted drive and its image, as it is told, stand for what file
+-- calls find
+pub record StandsBetween (kept : Kept) (disks : Option Disks) (filing : Filing) : Type 0 where
+  pub idle : kept.service ≡ None
+  pub filing_is : filing_of kept filing.drives ≡ filing
+  pub stand : StandEach (told_images disks) kept.mounted filing.drives
+
+-- within a call with so many turns ended they stand for its drives behind these, and its work is that of its job, with the others left
+pub record StandsWithin (call : Served) (kept : Kept) (disks : Option Disks) (s : Situation) : Type 0 where
+  pub turns : ℕ
+  pub left : turns + call.left ≡ call_turns s
+  pub some : 0 < call.left
+  pub whose : call.p ≡ s.caller.process
+  pub serves : Serves (told_images disks) kept s turns
+
+-- so they stand by the call that the disk serves, if it serves one
+abbrev pub StandsServed : Option Served → Kept → Option Disks → Files → Type 0
+StandsServed None kept disks (Between filing) = StandsBetween kept disks filing
+StandsServed None kept disks (Within s) = ⊥
+StandsServed (Some call) kept disks (Between filing) = ⊥
+StandsServed (Some call) kept disks (Within s) = StandsWithin call kept disks s
+
+-- files are within a call where the disk serves one, and else between two
+abbrev pub AreWithin : Option Served → Files → Type 0
+AreWithin None (Between filing) = ⊤
+AreWithin None (Within s) = ⊥
+AreWithin (Some call) (Between filing) = ⊥
+AreWithin (Some call) (Within s) = ⊤
+
+-- of the disk this looks at the call in service alone: whoever comes to wait or leaves, it stays
+pub record StandsForFiles (disk : DiskService) (kept : Kept) (disks : Option Disks) (files : Files) : Type 0 where
+  pub stands : StandsServed disk.served kept disks files
+
+-- so they stand within a step as the turn's work was done whose last step this is: of one turn more
+abbrev pub one_more : Bool → ℕ → ℕ
+one_more more turns = if more then suc turns else turns
+
+pub record HasWorked (turn_steps : ℕ) (call : Served) (kept : Kept) (disks : Option Disks) (s : Situation) : Type 0 where
+  pub turns : ℕ
+  pub left : turns + call.left ≡ call_turns s
+  pub some : 0 < call.left
+  pub whose : call.p ≡ s.caller.process
+  pub serves : Serves (told_images disks) kept s (one_more (is_last_step turn_steps call) turns)
+
+abbrev pub StandsWorkedBy : ℕ → Option Served → Kept → Option Disks → Files → Type 0
+StandsWorkedBy turn_steps None kept disks (Between filing) = StandsBetween kept disks filing
+StandsWorkedBy turn_steps None kept disks (Within s) = ⊥
+StandsWorkedBy turn_steps (Some call) kept disks (Between filing) = ⊥
+StandsWorkedBy turn_steps (Some call) kept disks (Within s) = HasWorked turn_steps call kept disks s
+
+pub record StandsWorked (disk : DiskService) (kept : Kept) (disks : Option Disks) (files : Files) : Type 0 where
+  pub stands : StandsWorkedBy disk.turn_steps disk.served kept disks files
+
+-- the processes of slots that ended give back what they had open and marked, and their searches end
+unfoldable pub left_each : (ℕ → Bool) → List ℕ → Filing → Filing
+left_each gone [] filing = filing
+left_each gone (p ∷ ps) filing = left_each gone ps (if gone p then without_search (left_by filing p) p else filing)
+
+abbrev pub owes : List Bool → ℕ → Bool
+owes owed p = slice_index_or owed p false
+
+unfoldable pub all_left : List Bool → Filing → Filing
+all_left owed filing = left_each (owes owed) (range_with_len 0 32) filing
+
+-- those who owe it do so where no call is in service
+abbrev pub given_back : List Bool → Files → Files
+given_back owed (Between filing) = Between (all_left owed filing)
+given_back owed (Within s) = Within s

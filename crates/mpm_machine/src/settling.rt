@@ -1,0 +1,215 @@
+//! The end of a run: the call in service is carried to its end, the drives are synced, and unfinished lines are closed.
+ghost use Rattle.std.specs.Prelude.{◌≡◌, ℕ, ◌+◌, ◌*◌, ◌<◌, ◌≤◌, List, [], Option, Some, None, OnOk, OnErr, IfErr};
+ghost use Rattle.mpm_port.specs.Texts.{appended};
+
+use crate::machine::{Machine, StepFault};
+use mpm_base::{Pid, Steps};
+use mpm_port::{Drives, Failed, Sink};
+use mpm_render::Render;
+use std::sync::ledger::Ledger;
+
+impl Machine {
+    ghost use Rattle.mpm_port.specs.Causes.{HasCause};
+    ghost use Rattle.mpm_port.specs.Disks.{Disks};
+    ghost use Rattle.mpm_mount.specs.Mounting.{SameDrives};
+    ghost use Rattle.mpm_render.specs.Outputs.{Output, rendered, closed};
+    ghost use Rattle.mpm_render.specs.Shown.{Shows};
+    ghost use Rattle.mpm_output.specs.Outside.{seen};
+    ghost use Rattle.mpm_output.specs.Writing.{Stopped};
+    ghost use Rattle.mpm_service.specs.Disk.{served_process};
+    ghost use Rattle.mpm_service.specs.Ahead.{turns_left};
+    ghost use Rattle.mpm_kernel.specs.Disk.{IsOver};
+    ghost use Rattle.mpm_bdos.specs.Filing.{Situation};
+    ghost use Rattle.mpm_bdos.specs.Jobs.{call_turns};
+    ghost use Rattle.mpm_bdos.specs.Serving.{Serves};
+    ghost use Rattle.mpm_bdos.specs.Syncing.{mounted_count};
+    ghost use Rattle.mpm_bdos.specs.Turns.{FitsDrives, told_images};
+    ghost use Rattle.mpm_machine.specs.declared.system.System.{System};
+    ghost use Rattle.mpm_machine.specs.State.{State, StandsWithDrives, IsWhole, NoCompletions};
+    ghost use Rattle.mpm_machine.specs.Files.{Files, Within, StandsForFiles, filing_in};
+    ghost use Rattle.mpm_machine.specs.Holding.{IsOwn, HoldsDrives};
+    ghost use Rattle.mpm_machine.specs.Faults.{counts, HaveCause, itself, EndsBy, OnDiskFault, OnWriteFault};
+    ghost use Rattle.mpm_machine.specs.Mounting.{HasNoDrive, KeepsMounted};
+    ghost use Rattle.mpm_machine.specs.Failing.{HaveImages};
+    ghost use Rattle.mpm_machine.specs.After.{EndKeeps};
+    ghost use Rattle.mpm_machine.specs.Settling.{carried, carried_out, turns_passed, HasCarried, StopsCarrying, StopsAtEnd, WritesEndOf, StopsEndOf, WritesEnd, StopsEnd, ClosesEnd, StopsSettling};
+
+    /// The end of a run: the call in service is carried to its end, each drive is synced, in order of the letters, and unfinished lines
+    /// are closed. Where a drive fails nothing more is written, and the lines are left to `Render::finish`. Only `Render::finish` may
+    /// follow, as no step follows the end.
+    pub fn settle<D: Drives, S: Sink, L: Ledger>(
+        &mut self,
+        drives: &mut D,
+        render: &mut Render,
+        sink: &mut S,
+        steps: &mut Steps<L>,
+    ) -> Result<(), StepFault>
+        requires whole { IsWhole self.old.system }
+        requires no_completions { NoCompletions self.old.system }
+        requires holds { HoldsDrives D.attached D.disks self.old.system.kernel self.old.bdos drives.old }
+        ensures ok { (s : State) (first : Option (List ℕ)) → StandsWithDrives self.old render.old (S.written sink.old) (D.disks drives.old) s first
+            → OnOk result (S.written sink.new ≡ appended first (closed render.old.trace (carried s).outputs)) }
+        ensures files { (s : State) (first : Option (List ℕ)) → StandsWithDrives self.old render.old (S.written sink.old) (D.disks drives.old) s first
+            → OnOk result (StandsForFiles self.new.system.kernel.disk self.new.bdos (D.disks drives.new) (carried s).files) }
+        ensures err { (s : State) (first : Option (List ℕ)) → StandsWithDrives self.old render.old (S.written sink.old) (D.disks drives.old) s first
+            → IfErr result (λ fault. StopsAtEnd fault render.new (S.written sink.new) (D.disks drives.new) self.new.bdos.mounted s first) }
+
+        // Whatever is on the drives: what the end writes is what the call in service may tell brings about.
+        ensures end { OnOk result (ClosesEnd (seen S.written S.faults render.old sink.old) (S.written sink.new) self.old.system) }
+        ensures stops { IfErr result (λ fault. StopsSettling fault (seen S.written S.faults render.old sink.old) (seen S.written S.faults render.new sink.new) self.old.system) }
+        ensures trace { render.new.trace ≡ render.old.trace }
+        ensures cause { HaveCause itself (counts S.faults D.faults sink.old drives.old) (counts S.faults D.faults sink.new drives.new) result }
+        ensures keeps { KeepsMounted (D.disks drives.old) (D.disks drives.new) self.old.bdos.mounted self.new.bdos.mounted }
+
+        // Each turn that is left calls a drive at most 20 times, and each drive is synced by one call. Where no call is in service no
+        // image changes.
+        ensures calls { steps.new ≤ steps.old + 20 * turns_left self.old.system.kernel.disk + mounted_count self.old.bdos.mounted }
+        ensures synced { self.old.system.kernel.disk.served ≡ None → OnOk result (steps.new ≡ steps.old + mounted_count self.old.bdos.mounted) }
+        ensures idle { self.old.system.kernel.disk.served ≡ None → SameDrives D.attached D.disks D.failed_names drives.old drives.new }
+        ensures names { D.failed_names drives.new ≡ D.failed_names drives.old }
+        ensures attached { (number : ℕ) → D.attached drives.new number ≡ D.attached drives.old number }
+        ensures none { HasNoDrive self.old.bdos.mounted → drives.new ≡ drives.old }
+        ensures unfailing { HasNoDrive self.old.bdos.mounted → IfErr result (λ fault. fault ≡ StepFault.WriteFault) }
+    {
+        match self.carry(drives, render, sink, steps) {
+            Ok(()) => self.close(drives, render, sink, steps),
+            Err(fault) => Err(fault),
+        }
+    }
+
+    /// Each drive is synced, in order of the letters, and unfinished lines are closed.
+    fn close<D: Drives, S: Sink, L: Ledger>(
+        &self,
+        drives: &mut D,
+        render: &mut Render,
+        sink: &mut S,
+        steps: &mut Steps<L>,
+    ) -> Result<(), StepFault>
+        requires { FitsDrives D.attached D.disks self.now.bdos.mounted self.now.bdos.cached drives.old }
+        ensures ok { (outputs : List Output) (first : Option (List ℕ)) → Shows render.old (S.written sink.old) outputs first
+            → OnOk result (S.written sink.new ≡ appended first (closed render.old.trace outputs)) }
+        ensures err { (outputs : List Output) (first : Option (List ℕ)) → Shows render.old (S.written sink.old) outputs first
+            → IfErr result (λ fault. EndsBy fault (S.written sink.new) first (rendered render.old.trace outputs) (closed render.old.trace outputs)) }
+        ensures unwritten { IfErr result (λ fault. OnDiskFault fault ((render.new ≡ render.old) × (sink.new ≡ sink.old))) }
+        ensures some { IfErr result (λ fault. OnDiskFault fault (0 < mounted_count self.now.bdos.mounted)) }
+        ensures trace { render.new.trace ≡ render.old.trace }
+        ensures cause { HaveCause itself (counts S.faults D.faults sink.old drives.old) (counts S.faults D.faults sink.new drives.new) result }
+        ensures calls { steps.new ≤ steps.old + mounted_count self.now.bdos.mounted }
+        ensures synced { OnOk result (steps.new ≡ steps.old + mounted_count self.now.bdos.mounted) }
+        ensures synced_first { IfErr result (λ fault. OnWriteFault fault (steps.new ≡ steps.old + mounted_count self.now.bdos.mounted)) }
+        ensures drives { SameDrives D.attached D.disks D.failed_names drives.old drives.new }
+        ensures none { mounted_count self.now.bdos.mounted ≡ 0 → drives.new ≡ drives.old }
+    {
+        if let Err(Failed) = self.bdos.sync(drives, steps) {
+            return Err(StepFault::DiskFault);
+        }
+        match render.finish(sink) {
+            Ok(()) => Ok(()),
+            Err(Failed) => Err(StepFault::WriteFault),
+        }
+    }
+
+    /// The call in service, if there is one, is carried to its end.
+    fn carry<D: Drives, S: Sink, L: Ledger>(
+        &mut self,
+        drives: &mut D,
+        render: &mut Render,
+        sink: &mut S,
+        steps: &mut Steps<L>,
+    ) -> Result<(), StepFault>
+        requires whole { IsWhole self.old.system }
+        requires no_completions { NoCompletions self.old.system }
+        requires holds { HoldsDrives D.attached D.disks self.old.system.kernel self.old.bdos drives.old }
+        ensures ok { (files : Files) → StandsForFiles self.old.system.kernel.disk self.old.bdos (D.disks drives.old) files
+            → OnOk result (HasCarried files (seen S.written S.faults render.old sink.old) (seen S.written S.faults render.new sink.new) self.old.system self.new.system self.new.bdos (D.disks drives.new)) }
+        ensures err { (files : Files) → StandsForFiles self.old.system.kernel.disk self.old.bdos (D.disks drives.old) files
+            → IfErr result (λ fault. StopsCarrying fault files (seen S.written S.faults render.old sink.old) (seen S.written S.faults render.new sink.new) self.old.system self.new.bdos.mounted (D.disks drives.new)) }
+        ensures end { OnOk result (WritesEnd (seen S.written S.faults render.old sink.old) (seen S.written S.faults render.new sink.new) self.old.system) }
+        ensures stops { IfErr result (λ fault. StopsEnd fault (seen S.written S.faults render.old sink.old) (seen S.written S.faults render.new sink.new) self.old.system) }
+        ensures trace { render.new.trace ≡ render.old.trace }
+        ensures cause { HaveCause itself (counts S.faults D.faults sink.old drives.old) (counts S.faults D.faults sink.new drives.new) result }
+        ensures keeps { KeepsMounted (D.disks drives.old) (D.disks drives.new) self.old.bdos.mounted self.new.bdos.mounted }
+        ensures names { D.failed_names drives.new ≡ D.failed_names drives.old }
+        ensures attached { (number : ℕ) → D.attached drives.new number ≡ D.attached drives.old number }
+        ensures bare { HasNoDrive self.old.bdos.mounted → HasNoDrive self.new.bdos.mounted }
+        ensures none { HasNoDrive self.old.bdos.mounted → drives.new ≡ drives.old }
+        ensures unfailing { HasNoDrive self.old.bdos.mounted → IfErr result (λ fault. fault ≡ StepFault.WriteFault) }
+        ensures fits { FitsDrives D.attached D.disks self.new.bdos.mounted self.new.bdos.cached drives.new }
+        ensures idle { self.old.system.kernel.disk.served ≡ None → drives.new ≡ drives.old }
+        ensures still { self.old.system.kernel.disk.served ≡ None → steps.new ≡ steps.old }
+        ensures calls { steps.new ≤ steps.old + 20 * turns_left self.old.system.kernel.disk }
+    {
+        match self.system.kernel.disk().serving() {
+            Some(p) => self.carry_call(p, drives, render, sink, steps),
+            None => Ok(()),
+        }
+    }
+
+    /// The turns that are left to it are done, and it is answered; the ends that are then due come.
+    fn carry_call<D: Drives, S: Sink, L: Ledger>(
+        &mut self,
+        p: Pid,
+        drives: &mut D,
+        render: &mut Render,
+        sink: &mut S,
+        steps: &mut Steps<L>,
+    ) -> Result<(), StepFault>
+        requires whole { IsWhole self.old.system }
+        requires no_completions { NoCompletions self.old.system }
+        requires served { served_process self.old.system.kernel.disk ≡ Some p }
+        requires holds { HoldsDrives D.attached D.disks self.old.system.kernel self.old.bdos drives.old }
+        ensures ok { (files : Files) → StandsForFiles self.old.system.kernel.disk self.old.bdos (D.disks drives.old) files
+            → OnOk result (HasCarried files (seen S.written S.faults render.old sink.old) (seen S.written S.faults render.new sink.new) self.old.system self.new.system self.new.bdos (D.disks drives.new)) }
+        ensures err { (files : Files) → StandsForFiles self.old.system.kernel.disk self.old.bdos (D.disks drives.old) files
+            → IfErr result (λ fault. StopsCarrying fault files (seen S.written S.faults render.old sink.old) (seen S.written S.faults render.new sink.new) self.old.system self.new.bdos.mounted (D.disks drives.new)) }
+        ensures end { OnOk result (WritesEnd (seen S.written S.faults render.old sink.old) (seen S.written S.faults render.new sink.new) self.old.system) }
+        ensures stops { IfErr result (λ fault. StopsEnd fault (seen S.written S.faults render.old sink.old) (seen S.written S.faults render.new sink.new) self.old.system) }
+        ensures trace { render.new.trace ≡ render.old.trace }
+        ensures cause { HaveCause itself (counts S.faults D.faults sink.old drives.old) (counts S.faults D.faults sink.new drives.new) result }
+        ensures keeps { KeepsMounted (D.disks drives.old) (D.disks drives.new) self.old.bdos.mounted self.new.bdos.mounted }
+        ensures names { D.failed_names drives.new ≡ D.failed_names drives.old }
+        ensures attached { (number : ℕ) → D.attached drives.new number ≡ D.attached drives.old number }
+        ensures bare { HasNoDrive self.old.bdos.mounted → HasNoDrive self.new.bdos.mounted }
+        ensures none { HasNoDrive self.old.bdos.mounted → drives.new ≡ drives.old }
+        ensures unfailing { HasNoDrive self.old.bdos.mounted → IfErr result (λ fault. fault ≡ StepFault.WriteFault) }
+        ensures fits { FitsDrives D.attached D.disks self.new.bdos.mounted self.new.bdos.cached drives.new }
+        ensures calls { steps.new ≤ steps.old + 20 * turns_left self.old.system.kernel.disk }
+    {
+        let turns = self.system.kernel.finish_disk_call();
+        if let Err(Failed) = self.bdos.do_turns(turns, drives, steps) {
+            return Err(StepFault::DiskFault);
+        }
+        match self.end_call(p, render, sink) {
+            Ok(()) => Ok(()),
+            Err(Failed) => Err(StepFault::WriteFault),
+        }
+    }
+
+    /// Behind its turns it is answered, and the ends that are due come.
+    fn end_call<S: Sink>(&mut self, p: Pid, render: &mut Render, sink: &mut S) -> Result<(), Failed>
+        requires whole { IsWhole self.old.system }
+        requires over { IsOver p self.old.system.kernel }
+        requires own { IsOwn self.old.system.kernel.dispatcher.procs p self.old.bdos.service }
+        requires none { self.old.system.records ≡ [] }
+        requires idle { self.old.system.kernel.disk.served ≡ None }
+        ensures ok { (disks : Option Disks) (s : Situation) (before : System) → Serves (told_images disks) self.old.bdos s (call_turns s) → s.caller.process ≡ p → self.old.system ≡ turns_passed before
+            → OnOk result (HasCarried (Within s) (seen S.written S.faults render.old sink.old) (seen S.written S.faults render.new sink.new) before self.new.system self.new.bdos disks) }
+        ensures err { (disks : Option Disks) (s : Situation) (before : System) → Serves (told_images disks) self.old.bdos s (call_turns s) → s.caller.process ≡ p → self.old.system ≡ turns_passed before
+            → OnErr result (Stopped (seen S.written S.faults render.old sink.old) (seen S.written S.faults render.new sink.new) (carried_out s before).change.emitted × HaveImages disks self.new.bdos.mounted (filing_in (carried_out s before).files).drives) }
+        ensures end { (before : System) → self.old.system ≡ turns_passed before → OnOk result (WritesEndOf (Some p) (seen S.written S.faults render.old sink.old) (seen S.written S.faults render.new sink.new) before) }
+        ensures stops { (before : System) → self.old.system ≡ turns_passed before → OnErr result (StopsEndOf (Some p) (seen S.written S.faults render.old sink.old) (seen S.written S.faults render.new sink.new) before) }
+        ensures trace { render.new.trace ≡ render.old.trace }
+        ensures cause { HasCause (S.faults sink.old) (S.faults sink.new) result }
+        ensures kept { EndKeeps self.old.bdos self.new.bdos }
+    {
+        if let Err(Failed) = self.answer_call(p, render, sink) {
+            return Err(Failed);
+        }
+        self.pay();
+        if let Err(Failed) = self.system.end_all(&mut self.reply, render, sink) {
+            return Err(Failed);
+        }
+        self.pay();
+        Ok(())
+    }
+}

@@ -1,0 +1,421 @@
+ghost use Rattle.std.specs.Prelude.{◌≡◌, ℕ, ◌+◌, ◌-◌, ◌*◌, ◌<◌, ◌≤◌, ◌&&◌, true, false, List, [], Option, Some, None, IfOk, OnOk, IfErr, OnErr, IsOk, IfSome, IsSome, length, is_some};
+ghost use Rattle.mpm_script.specs.declared.line.TheConstants.{GREATEST_STEP};
+
+use crate::filing::{call_files, give_back, start_call};
+use crate::machine::{Machine, StepFault};
+use mpm_base::{Pid, Steps};
+use mpm_bdos::Extended;
+use mpm_port::{Drives, Failed, Sink};
+use mpm_render::Render;
+use mpm_service::Turn;
+use std::sync::ledger::Ledger;
+
+impl Machine {
+    ghost use Rattle.mpm_machine.specs.declared.system.System.{System};
+    ghost use Rattle.mpm_procs.specs.Table.{Lives, call_of};
+    ghost use Rattle.mpm_bdos.specs.Serving.{Serves, filing_of};
+    ghost use Rattle.mpm_output.specs.Outside.{seen};
+    ghost use Rattle.mpm_output.specs.Writing.{Wrote, Stopped};
+    ghost use Rattle.mpm_machine.specs.State.{silent, IsWhole, NoCompletions, HasRoom, HasRoomForAll};
+    ghost use Rattle.mpm_machine.specs.Files.{Files, Between, StandsBetween, StandsWorked, StandsForFiles, drives_in, filing_in, all_left};
+    ghost use Rattle.mpm_machine.specs.Holding.{IsOwn, OwnsService, AreFiled, HoldsDrives};
+    ghost use Rattle.mpm_machine.specs.DiskStep.{is_done_at_once, file_called, files_called, told_at_gate, told_of_call, call_over, disk_served, files_served, all_paid, call_entered, files_entered, turns_within};
+    ghost use Rattle.mpm_machine.specs.Stepping.{rest_of, nothing_told, before_disk, files_begun, told_within, telling_then, files_rest};
+    ghost use Rattle.mpm_service.specs.Disk.{HasBegun};
+    ghost use Rattle.mpm_kernel.specs.Disk.{IsOver};
+    ghost use Rattle.mpm_dispatcher.specs.Dispatch.{IsReady};
+    ghost use Rattle.mpm_mount.specs.Drives.{Drive};
+    ghost use Rattle.mpm_port.specs.Disks.{Disks};
+    ghost use Rattle.mpm_port.specs.Causes.{HasCause};
+    ghost use Rattle.mpm_bdos.specs.Filing.{Filing, Situation};
+    ghost use Rattle.mpm_bdos.specs.Functions.{function_of};
+    ghost use Rattle.mpm_bdos.specs.Jobs.{call_turns};
+    ghost use Rattle.mpm_bdos.specs.Outcomes.{file_call};
+    ghost use Rattle.mpm_bdos.specs.Turns.{FitsDrives, has_work, told_images};
+    ghost use Rattle.mpm_machine.specs.Faults.{counts, HaveCause, itself, OnDiskFault, OnWriteFault};
+    ghost use Rattle.mpm_machine.specs.Due.{NobodyDue};
+    ghost use Rattle.mpm_machine.specs.FileCalls.{file_caller, told_of, concluded};
+    ghost use Rattle.mpm_machine.specs.After.{StopsBy, HasBegunStep, HasBegunTo, HasBegunToStop, HasEndedStep, HasEndedTo, HasEndedToStop, HasCalled, HasToldAtGate, HasStoppedAtGate, HasServedTo, HasPassed, HasStoppedServing, HasServed, HasAnswered, HasStoppedAnswering, HasEnteredCall, EndKeeps};
+    ghost use Rattle.mpm_machine.specs.Mounting.{HasNoDrive, KeepsMounted};
+    ghost use Rattle.mpm_machine.specs.Failing.{FailsWithin, HaveImages, HaveImagesOf, turns_done, working_if, working_in, works_at_once};
+
+    /// What a step begins with, and the held calls that this completed. Answers whether it was an instruction. A drive may fail only
+    /// where a file call is done at once, before anything is written.
+    pub(crate) fn begin_step<D: Drives, S: Sink, L: Ledger>(
+        &mut self,
+        drives: &mut D,
+        render: &mut Render,
+        sink: &mut S,
+        steps: &mut Steps<L>,
+    ) -> Result<bool, StepFault>
+        requires most { self.old.system.steps < GREATEST_STEP }
+        requires whole { IsWhole self.old.system }
+        requires no_completions { NoCompletions self.old.system }
+        requires holds { HoldsDrives D.attached D.disks self.old.system.kernel self.old.bdos drives.old }
+        ensures ok { (files : Files) → StandsWorked self.old.system.kernel.disk self.old.bdos (D.disks drives.old) files
+            → OnOk result (HasBegunTo files (seen S.written S.faults render.old sink.old) (seen S.written S.faults render.new sink.new) self.old.system self.new.system self.new.bdos (D.disks drives.new)) }
+        ensures err { (files : Files) → StandsWorked self.old.system.kernel.disk self.old.bdos (D.disks drives.old) files
+            → IfErr result (λ fault. StopsBy fault (seen S.written S.faults render.old sink.old) (seen S.written S.faults render.new sink.new) (before_disk self.old.system files).emitted) }
+        ensures images { (files : Files) → StandsWorked self.old.system.kernel.disk self.old.bdos (D.disks drives.old) files
+            → IfErr result (λ fault. OnDiskFault fault (HaveImagesOf (FailsWithin (working_in self.old.system files)) (D.disks drives.new) self.new.bdos.mounted)) }
+        ensures stands { (files : Files) → StandsWorked self.old.system.kernel.disk self.old.bdos (D.disks drives.old) files
+            → IfErr result (λ fault. OnWriteFault fault (StandsWorked self.old.system.kernel.disk self.new.bdos (D.disks drives.new) (files_begun self.old.system files))) }
+        ensures step { IfOk result (λ instruction. HasBegunStep instruction (seen S.written S.faults render.old sink.old) (seen S.written S.faults render.new sink.new) self.old.system self.new.system) }
+        ensures stops { IfErr result (λ fault. HasBegunToStop fault (seen S.written S.faults render.old sink.old) (seen S.written S.faults render.new sink.new) self.old.system) }
+        ensures served { OnOk result (self.new.system.kernel.disk.served ≡ self.old.system.kernel.disk.served) }
+        ensures turn_steps { OnOk result (self.new.system.kernel.disk.turn_steps ≡ self.old.system.kernel.disk.turn_steps) }
+        ensures whole { OnOk result (IsWhole self.new.system) }
+        ensures completed { OnOk result (self.new.system.kernel.dispatcher.completed ≡ []) }
+        ensures room { OnOk result (HasRoomForAll (length self.new.system.records + 1)) }
+        ensures keeps { KeepsMounted (D.disks drives.old) (D.disks drives.new) self.old.bdos.mounted self.new.bdos.mounted }
+        ensures names { D.failed_names drives.new ≡ D.failed_names drives.old }
+        ensures attached { (number : ℕ) → D.attached drives.new number ≡ D.attached drives.old number }
+        ensures bare { HasNoDrive self.old.bdos.mounted → HasNoDrive self.new.bdos.mounted }
+        ensures none { HasNoDrive self.old.bdos.mounted → drives.new ≡ drives.old }
+        ensures holds { OnOk result (HoldsDrives D.attached D.disks self.new.system.kernel self.new.bdos drives.new) }
+        ensures unfailing { HasNoDrive self.old.bdos.mounted → IfErr result (λ fault. fault ≡ StepFault.WriteFault) }
+        ensures idle { works_at_once (file_caller self.old.system) self.old.system ≡ false
+            → IfErr result (λ fault. fault ≡ StepFault.WriteFault) × (drives.new ≡ drives.old) × (steps.new ≡ steps.old) }
+        ensures apart { IsSome self.old.system.kernel.disk.served → IfErr result (λ fault. fault ≡ StepFault.WriteFault) × (drives.new ≡ drives.old) × (steps.new ≡ steps.old) }
+        ensures calls { (files : Files) → StandsWorked self.old.system.kernel.disk self.old.bdos (D.disks drives.old) files
+            → steps.new ≤ steps.old + 20 * turns_done (working_in self.old.system files) }
+        ensures trace { render.new.trace ≡ render.old.trace }
+        ensures cause { HaveCause itself (counts S.faults D.faults sink.old drives.old) (counts S.faults D.faults sink.new drives.new) result }
+    {
+        match self.system.file_caller() {
+            Some(p) => match self.begin_with_files(p, drives, render, sink, steps) {
+                Ok(()) => Ok(false),
+                Err(fault) => Err(fault),
+            },
+            None => match self.system.begin_alone(&mut self.reply, render, sink) {
+                Ok(instruction) => Ok(instruction),
+                Err(Failed) => Err(StepFault::WriteFault),
+            },
+        }
+    }
+
+    /// What a step begins with in which a process makes a file call, and the held calls that this completed.
+    fn begin_with_files<D: Drives, S: Sink, L: Ledger>(
+        &mut self,
+        p: Pid,
+        drives: &mut D,
+        render: &mut Render,
+        sink: &mut S,
+        steps: &mut Steps<L>,
+    ) -> Result<(), StepFault>
+        requires most { self.old.system.steps < GREATEST_STEP }
+        requires whole { IsWhole self.old.system }
+        requires no_completions { NoCompletions self.old.system }
+        requires caller { file_caller self.old.system ≡ Some p }
+        requires holds { HoldsDrives D.attached D.disks self.old.system.kernel self.old.bdos drives.old }
+        ensures ok { (files : Files) → StandsWorked self.old.system.kernel.disk self.old.bdos (D.disks drives.old) files
+            → OnOk result (HasBegunTo files (seen S.written S.faults render.old sink.old) (seen S.written S.faults render.new sink.new) self.old.system self.new.system self.new.bdos (D.disks drives.new)) }
+        ensures err { (files : Files) → StandsWorked self.old.system.kernel.disk self.old.bdos (D.disks drives.old) files
+            → IfErr result (λ fault. StopsBy fault (seen S.written S.faults render.old sink.old) (seen S.written S.faults render.new sink.new) (before_disk self.old.system files).emitted) }
+        ensures images { (files : Files) → StandsWorked self.old.system.kernel.disk self.old.bdos (D.disks drives.old) files
+            → IfErr result (λ fault. OnDiskFault fault (HaveImagesOf (FailsWithin (working_in self.old.system files)) (D.disks drives.new) self.new.bdos.mounted)) }
+        ensures stands { (files : Files) → StandsWorked self.old.system.kernel.disk self.old.bdos (D.disks drives.old) files
+            → IfErr result (λ fault. OnWriteFault fault (StandsWorked self.old.system.kernel.disk self.new.bdos (D.disks drives.new) (files_begun self.old.system files))) }
+        ensures step { OnOk result (HasBegunStep false (seen S.written S.faults render.old sink.old) (seen S.written S.faults render.new sink.new) self.old.system self.new.system) }
+        ensures stops { IfErr result (λ fault. HasBegunToStop fault (seen S.written S.faults render.old sink.old) (seen S.written S.faults render.new sink.new) self.old.system) }
+        ensures served { OnOk result (self.new.system.kernel.disk.served ≡ self.old.system.kernel.disk.served) }
+        ensures turn_steps { OnOk result (self.new.system.kernel.disk.turn_steps ≡ self.old.system.kernel.disk.turn_steps) }
+        ensures whole { OnOk result (IsWhole self.new.system) }
+        ensures completed { OnOk result (self.new.system.kernel.dispatcher.completed ≡ []) }
+        ensures room { OnOk result (HasRoomForAll (length self.new.system.records + 1)) }
+        ensures keeps { KeepsMounted (D.disks drives.old) (D.disks drives.new) self.old.bdos.mounted self.new.bdos.mounted }
+        ensures names { D.failed_names drives.new ≡ D.failed_names drives.old }
+        ensures attached { (number : ℕ) → D.attached drives.new number ≡ D.attached drives.old number }
+        ensures bare { HasNoDrive self.old.bdos.mounted → HasNoDrive self.new.bdos.mounted }
+        ensures none { HasNoDrive self.old.bdos.mounted → drives.new ≡ drives.old }
+        ensures holds { OnOk result (HoldsDrives D.attached D.disks self.new.system.kernel self.new.bdos drives.new) }
+        ensures unfailing { HasNoDrive self.old.bdos.mounted → IfErr result (λ fault. fault ≡ StepFault.WriteFault) }
+        ensures idle { works_at_once (file_caller self.old.system) self.old.system ≡ false
+            → IfErr result (λ fault. fault ≡ StepFault.WriteFault) × (drives.new ≡ drives.old) × (steps.new ≡ steps.old) }
+        ensures apart { IsSome self.old.system.kernel.disk.served → IfErr result (λ fault. fault ≡ StepFault.WriteFault) × (drives.new ≡ drives.old) × (steps.new ≡ steps.old) }
+        ensures calls { (files : Files) → StandsWorked self.old.system.kernel.disk self.old.bdos (D.disks drives.old) files
+            → steps.new ≤ steps.old + 20 * turns_done (working_in self.old.system files) }
+        ensures trace { render.new.trace ≡ render.old.trace }
+        ensures cause { HaveCause itself (counts S.faults D.faults sink.old drives.old) (counts S.faults D.faults sink.new drives.new) result }
+    {
+        self.system.make_file_call(p);
+        match self.call_or_wait(p, drives, render, sink, steps) {
+            Ok(()) => {
+                self.system.answer_all(&mut self.reply);
+                Ok(())
+            }
+            Err(fault) => Err(fault),
+        }
+    }
+
+    /// A file call that a process has made is done at once, or waits for the disk.
+    fn call_or_wait<D: Drives, S: Sink, L: Ledger>(
+        &mut self,
+        p: Pid,
+        drives: &mut D,
+        render: &mut Render,
+        sink: &mut S,
+        steps: &mut Steps<L>,
+    ) -> Result<(), StepFault>
+        requires whole { IsWhole self.old.system }
+        requires completed { self.old.system.kernel.dispatcher.completed ≡ [] }
+        requires none { self.old.system.records ≡ [] }
+        requires lives { Lives self.old.system.kernel.dispatcher.procs p }
+        requires ready { IsReady self.old.system.kernel.dispatcher p }
+        requires holds { HoldsDrives D.attached D.disks self.old.system.kernel self.old.bdos drives.old }
+        ensures ok { (files : Files) → StandsWorked self.old.system.kernel.disk self.old.bdos (D.disks drives.old) files
+            → OnOk result (HasCalled (told_at_gate p self.old.system files) p (seen S.written S.faults render.old sink.old) (seen S.written S.faults render.new sink.new) self.old.system self.new.system
+            × StandsWorked self.new.system.kernel.disk self.new.bdos (D.disks drives.new) (files_called p self.old.system files)) }
+        ensures err { (files : Files) → StandsWorked self.old.system.kernel.disk self.old.bdos (D.disks drives.old) files
+            → IfErr result (λ fault. StopsBy fault (seen S.written S.faults render.old sink.old) (seen S.written S.faults render.new sink.new) (file_called (told_at_gate p self.old.system files) p self.old.system).emitted) }
+        ensures images { (filing : Filing) → StandsWorked self.old.system.kernel.disk self.old.bdos (D.disks drives.old) (Between filing)
+            → IfErr result (λ fault. OnDiskFault fault (HaveImagesOf (FailsWithin (working_if (is_done_at_once p self.old.system) filing p self.old.system)) (D.disks drives.new) self.new.bdos.mounted)) }
+        ensures stands { (files : Files) → StandsWorked self.old.system.kernel.disk self.old.bdos (D.disks drives.old) files
+            → IfErr result (λ fault. OnWriteFault fault (StandsWorked self.old.system.kernel.disk self.new.bdos (D.disks drives.new) (files_called p self.old.system files))) }
+        ensures called { OnOk result (HasToldAtGate p (seen S.written S.faults render.old sink.old) (seen S.written S.faults render.new sink.new) self.old.system self.new.system) }
+        ensures stops { IfErr result (λ fault. HasStoppedAtGate fault p (seen S.written S.faults render.old sink.old) (seen S.written S.faults render.new sink.new) self.old.system) }
+        ensures keeps { KeepsMounted (D.disks drives.old) (D.disks drives.new) self.old.bdos.mounted self.new.bdos.mounted }
+        ensures names { D.failed_names drives.new ≡ D.failed_names drives.old }
+        ensures attached { (number : ℕ) → D.attached drives.new number ≡ D.attached drives.old number }
+        ensures bare { HasNoDrive self.old.bdos.mounted → HasNoDrive self.new.bdos.mounted }
+        ensures none { HasNoDrive self.old.bdos.mounted → drives.new ≡ drives.old }
+        ensures holds { HoldsDrives D.attached D.disks self.old.system.kernel self.new.bdos drives.new }
+        ensures unfailing { HasNoDrive self.old.bdos.mounted → IfErr result (λ fault. fault ≡ StepFault.WriteFault) }
+        ensures idle { (is_some (function_of (call_of self.old.system.kernel.dispatcher.procs p).function) && is_done_at_once p self.old.system) ≡ false
+            → IfErr result (λ fault. fault ≡ StepFault.WriteFault) × (drives.new ≡ drives.old) × (steps.new ≡ steps.old) }
+        ensures apart { IsSome self.old.system.kernel.disk.served → IfErr result (λ fault. fault ≡ StepFault.WriteFault) × (drives.new ≡ drives.old) × (steps.new ≡ steps.old) }
+        ensures calls { (filing : Filing) → StandsWorked self.old.system.kernel.disk self.old.bdos (D.disks drives.old) (Between filing)
+            → steps.new ≤ steps.old + 20 * turns_done (working_if (is_done_at_once p self.old.system) filing p self.old.system) }
+        ensures trace { render.new.trace ≡ render.old.trace }
+        ensures cause { HaveCause itself (counts S.faults D.faults sink.old drives.old) (counts S.faults D.faults sink.new drives.new) result }
+    {
+        if !self.system.is_done_at_once(p) {
+            self.system.kernel.wait_for_disk(p);
+            return Ok(());
+        }
+        match call_files(
+            &self.system,
+            &mut self.bdos,
+            p,
+            &mut self.reply,
+            drives,
+            steps,
+        ) {
+            Ok(extended) => self.conclude(p, extended, render, sink),
+            Err(Failed) => Err(StepFault::DiskFault),
+        }
+    }
+
+    /// A file call that is done at once is concluded, by what it came to.
+    fn conclude<S: Sink>(
+        &mut self,
+        p: Pid,
+        extended: Option<Extended>,
+        render: &mut Render,
+        sink: &mut S,
+    ) -> Result<(), StepFault>
+        requires whole { IsWhole self.old.system }
+        requires lives { Lives self.old.system.kernel.dispatcher.procs p }
+        requires room { HasRoom self.old.system }
+        ensures system { OnOk result (self.new.system ≡ (concluded (told_of (call_of self.old.system.kernel.dispatcher.procs p) self.old.reply extended) p self.old.system).system) }
+        ensures wrote { OnOk result (Wrote (seen S.written S.faults render.old sink.old) (seen S.written S.faults render.new sink.new) (concluded (told_of (call_of self.old.system.kernel.dispatcher.procs p) self.old.reply extended) p self.old.system).emitted) }
+        ensures err { IfErr result (λ fault. (fault ≡ StepFault.WriteFault) × Stopped (seen S.written S.faults render.old sink.old) (seen S.written S.faults render.new sink.new)
+            (concluded (told_of (call_of self.old.system.kernel.dispatcher.procs p) self.old.reply extended) p self.old.system).emitted) }
+        ensures bdos { self.new.bdos ≡ self.old.bdos }
+    {
+        match self
+            .system
+            .conclude_file_call(p, extended, &self.reply, render, sink)
+        {
+            Ok(()) => Ok(()),
+            Err(Failed) => Err(StepFault::WriteFault),
+        }
+    }
+
+    /// The rest of a step: the disk's, the ends that are due, the records, and who runs.
+    pub(crate) fn end_step<S: Sink>(
+        &mut self,
+        instruction: bool,
+        render: &mut Render,
+        sink: &mut S,
+    ) -> Result<(), Failed>
+        requires whole { IsWhole self.old.system }
+        requires completed { self.old.system.kernel.dispatcher.completed ≡ [] }
+        requires room { HasRoomForAll (length self.old.system.records + 1) }
+        requires begun { HasBegun self.old.system.kernel.disk }
+        requires filed { AreFiled self.old.system.kernel }
+        requires own { OwnsService self.old.system.kernel self.old.bdos.service }
+        ensures ok { (disks : Option Disks) (files : Files) → StandsWorked self.old.system.kernel.disk self.old.bdos disks files
+            → OnOk result (HasEndedTo instruction files (seen S.written S.faults render.old sink.old) (seen S.written S.faults render.new sink.new) self.old.system self.new.system self.new.bdos disks) }
+        ensures err { (disks : Option Disks) (files : Files) → StandsWorked self.old.system.kernel.disk self.old.bdos disks files
+            → OnErr result (Stopped (seen S.written S.faults render.old sink.old) (seen S.written S.faults render.new sink.new) (rest_of instruction (telling_then nothing_told self.old.system files) (silent self.old.system)).emitted) }
+        ensures stands { (disks : Option Disks) (files : Files) → StandsWorked self.old.system.kernel.disk self.old.bdos disks files
+            → OnErr result (HaveImages disks self.new.bdos.mounted (drives_in (rest_of instruction (telling_then nothing_told self.old.system files) (silent self.old.system)).system.kernel.disk.served (files_rest self.old.system files))) }
+        ensures step { OnOk result (HasEndedStep instruction (seen S.written S.faults render.old sink.old) (seen S.written S.faults render.new sink.new) self.old.system self.new.system) }
+        ensures stops { OnErr result (HasEndedToStop instruction (seen S.written S.faults render.old sink.old) (seen S.written S.faults render.new sink.new) self.old.system) }
+        ensures due { OnOk result (NobodyDue self.new.system.kernel) }
+        ensures whole { OnOk result (IsWhole self.new.system) }
+        ensures no_completions { OnOk result (NoCompletions self.new.system) }
+        ensures count { OnOk result (self.new.system.steps ≡ self.old.system.steps) }
+        ensures begun { OnOk result (HasBegun self.new.system.kernel.disk) }
+        ensures filed { OnOk result (AreFiled self.new.system.kernel) }
+        ensures own { OnOk result (OwnsService self.new.system.kernel self.new.bdos.service) }
+        ensures turn_steps { OnOk result (self.new.system.kernel.disk.turn_steps ≡ self.old.system.kernel.disk.turn_steps) }
+        ensures kept { EndKeeps self.old.bdos self.new.bdos }
+        ensures workless { HasNoDrive self.old.bdos.mounted → has_work self.old.bdos.service ≡ false → has_work self.new.bdos.service ≡ false }
+        ensures trace { render.new.trace ≡ render.old.trace }
+        ensures cause { HasCause (S.faults sink.old) (S.faults sink.new) result }
+    {
+        if let Err(Failed) = self.serve_disk(render, sink) {
+            return Err(Failed);
+        }
+        if let Err(Failed) = self.system.end_all(&mut self.reply, render, sink) {
+            return Err(Failed);
+        }
+        self.pay();
+        self.system.kernel.pick(instruction);
+        Ok(())
+    }
+
+    /// The disk's step: where the last turn of the call in service is over, it is answered; those who ended give back what they owe,
+    /// and the next call enters service.
+    fn serve_disk<S: Sink>(&mut self, render: &mut Render, sink: &mut S) -> Result<(), Failed>
+        requires whole { IsWhole self.old.system }
+        requires completed { self.old.system.kernel.dispatcher.completed ≡ [] }
+        requires room { HasRoomForAll (length self.old.system.records + 1) }
+        requires begun { HasBegun self.old.system.kernel.disk }
+        requires filed { AreFiled self.old.system.kernel }
+        requires own { OwnsService self.old.system.kernel self.old.bdos.service }
+        ensures ok { (disks : Option Disks) (files : Files) → StandsWorked self.old.system.kernel.disk self.old.bdos disks files
+            → OnOk result (HasServedTo files (seen S.written S.faults render.old sink.old) (seen S.written S.faults render.new sink.new) self.old.system self.new.system self.new.bdos disks) }
+        ensures err { (disks : Option Disks) (files : Files) → StandsWorked self.old.system.kernel.disk self.old.bdos disks files
+            → OnErr result (Stopped (seen S.written S.faults render.old sink.old) (seen S.written S.faults render.new sink.new) (disk_served (told_within files self.old.system) self.old.system).emitted) }
+        ensures step { OnOk result (HasServed (seen S.written S.faults render.old sink.old) (seen S.written S.faults render.new sink.new) self.old.system self.new.system) }
+        ensures stops { OnErr result (HasStoppedServing (seen S.written S.faults render.old sink.old) (seen S.written S.faults render.new sink.new) self.old.system) }
+        ensures begun { OnOk result (HasBegun self.new.system.kernel.disk) }
+        ensures filed { OnOk result (AreFiled self.new.system.kernel) }
+        ensures own { OnOk result (OwnsService self.new.system.kernel self.new.bdos.service) }
+        ensures whole { OnOk result (IsWhole self.new.system) }
+        ensures completed { OnOk result (self.new.system.kernel.dispatcher.completed ≡ []) }
+        ensures kept { EndKeeps self.old.bdos self.new.bdos }
+        ensures workless { HasNoDrive self.old.bdos.mounted → has_work self.old.bdos.service ≡ false → has_work self.new.bdos.service ≡ false }
+        ensures trace { render.new.trace ≡ render.old.trace }
+        ensures cause { HasCause (S.faults sink.old) (S.faults sink.new) result }
+    {
+        if let Err(Failed) = self.pass_turn(render, sink) {
+            return Err(Failed);
+        }
+        self.pay();
+        self.enter_call();
+        Ok(())
+    }
+
+    /// A step of the call in service, if there is one.
+    fn pass_turn<S: Sink>(&mut self, render: &mut Render, sink: &mut S) -> Result<(), Failed>
+        requires whole { IsWhole self.old.system }
+        requires completed { self.old.system.kernel.dispatcher.completed ≡ [] }
+        requires room { HasRoomForAll (length self.old.system.records + 1) }
+        requires begun { HasBegun self.old.system.kernel.disk }
+        requires filed { AreFiled self.old.system.kernel }
+        requires own { OwnsService self.old.system.kernel self.old.bdos.service }
+        ensures ok { (disks : Option Disks) (files : Files) → StandsWorked self.old.system.kernel.disk self.old.bdos disks files
+            → OnOk result (self.new.system ≡ (disk_served (told_within files self.old.system) self.old.system).system
+            × Wrote (seen S.written S.faults render.old sink.old) (seen S.written S.faults render.new sink.new) (disk_served (told_within files self.old.system) self.old.system).emitted
+            × StandsForFiles self.new.system.kernel.disk self.new.bdos disks (files_served self.old.system files)) }
+        ensures err { (disks : Option Disks) (files : Files) → StandsWorked self.old.system.kernel.disk self.old.bdos disks files
+            → OnErr result (Stopped (seen S.written S.faults render.old sink.old) (seen S.written S.faults render.new sink.new) (disk_served (told_within files self.old.system) self.old.system).emitted) }
+        ensures step { OnOk result (HasPassed (seen S.written S.faults render.old sink.old) (seen S.written S.faults render.new sink.new) self.old.system self.new.system) }
+        ensures stops { OnErr result (HasStoppedServing (seen S.written S.faults render.old sink.old) (seen S.written S.faults render.new sink.new) self.old.system) }
+        ensures begun { OnOk result (HasBegun self.new.system.kernel.disk) }
+        ensures filed { OnOk result (AreFiled self.new.system.kernel) }
+        ensures own { OnOk result (OwnsService self.new.system.kernel self.new.bdos.service) }
+        ensures whole { OnOk result (IsWhole self.new.system) }
+        ensures completed { OnOk result (self.new.system.kernel.dispatcher.completed ≡ []) }
+        ensures kept { EndKeeps self.old.bdos self.new.bdos }
+        ensures workless { HasNoDrive self.old.bdos.mounted → has_work self.old.bdos.service ≡ false → has_work self.new.bdos.service ≡ false }
+        ensures trace { render.new.trace ≡ render.old.trace }
+        ensures cause { HasCause (S.faults sink.old) (S.faults sink.new) result }
+    {
+        if self.system.kernel.disk().serving().is_none() {
+            return Ok(());
+        }
+        if let Turn::Work { p, last } = self.system.kernel.turn_disk() {
+            if last {
+                return self.answer_call(p, render, sink);
+            }
+        }
+        Ok(())
+    }
+
+    /// The call of a process is over, whose turns were served: its process is ready again, and it is answered.
+    pub(crate) fn answer_call<S: Sink>(
+        &mut self,
+        p: Pid,
+        render: &mut Render,
+        sink: &mut S,
+    ) -> Result<(), Failed>
+        requires whole { IsWhole self.old.system }
+        requires over { IsOver p self.old.system.kernel }
+        requires own { IsOwn self.old.system.kernel.dispatcher.procs p self.old.bdos.service }
+        requires room { HasRoomForAll (length self.old.system.records + 1) }
+        ensures ok { (disks : Option Disks) (s : Situation) → Serves (told_images disks) self.old.bdos s (call_turns s) → s.caller.process ≡ p
+            → OnOk result ((self.new.system ≡ (call_over (told_of_call s p self.old.system) p self.old.system).system)
+            × Wrote (seen S.written S.faults render.old sink.old) (seen S.written S.faults render.new sink.new) (call_over (told_of_call s p self.old.system) p self.old.system).emitted
+            × StandsBetween self.new.bdos disks (file_call s).filing) }
+        ensures err { (disks : Option Disks) (s : Situation) → Serves (told_images disks) self.old.bdos s (call_turns s) → s.caller.process ≡ p
+            → OnErr result (Stopped (seen S.written S.faults render.old sink.old) (seen S.written S.faults render.new sink.new) (call_over (told_of_call s p self.old.system) p self.old.system).emitted) }
+        ensures told { OnOk result (HasAnswered p (seen S.written S.faults render.old sink.old) (seen S.written S.faults render.new sink.new) self.old.system self.new.system) }
+        ensures stops { OnErr result (HasStoppedAnswering p (seen S.written S.faults render.old sink.old) (seen S.written S.faults render.new sink.new) self.old.system) }
+        ensures idle { self.new.bdos.service ≡ None }
+        ensures whole { OnOk result (IsWhole self.new.system) }
+        ensures completed { OnOk result (self.new.system.kernel.dispatcher.completed ≡ []) }
+        ensures kept { EndKeeps self.old.bdos self.new.bdos }
+        ensures trace { render.new.trace ≡ render.old.trace }
+        ensures cause { HasCause (S.faults sink.old) (S.faults sink.new) result }
+    {
+        let extended = self.bdos.reply(&mut self.reply);
+        self.system
+            .end_file_call(p, extended, &mut self.reply, render, sink)
+    }
+
+    /// Where no call is in service, those who ended give back what they had open and marked.
+    pub(crate) fn pay(&mut self)
+        ensures system { self.new.system ≡ all_paid self.old.system }
+        ensures reply { self.new.reply ≡ self.old.reply }
+        ensures rest { self.new.bdos ≡ record self.old.bdos { opens = self.new.bdos.opens; marks = self.new.bdos.marks; searches = self.new.bdos.searches } }
+        ensures served { IsSome self.old.system.kernel.disk.served → self.new ≡ self.old }
+        ensures filing { self.old.system.kernel.disk.served ≡ None → (drives : List (Option Drive))
+            → filing_of self.new.bdos drives ≡ all_left self.old.system.owed (filing_of self.old.bdos drives) }
+    {
+        if self.system.kernel.disk().serving().is_none() {
+            give_back(&mut self.bdos, &self.system.owed);
+            self.system.owed.clear();
+        }
+    }
+
+    /// Where no call is in service, the first that waits enters it, if one does.
+    fn enter_call(&mut self)
+        requires whole { IsWhole self.old.system }
+        requires begun { HasBegun self.old.system.kernel.disk }
+        requires filed { AreFiled self.old.system.kernel }
+        requires own { OwnsService self.old.system.kernel self.old.bdos.service }
+        ensures ok { (disks : Option Disks) (files : Files) → StandsForFiles self.old.system.kernel.disk self.old.bdos disks files
+            → (self.new.system ≡ call_entered (turns_within (files_entered self.old.system files)) self.old.system)
+            × StandsForFiles self.new.system.kernel.disk self.new.bdos disks (files_entered self.old.system files) }
+        ensures entered { HasEnteredCall self.old.system self.new.system }
+        ensures whole { IsWhole self.new.system }
+        ensures begun { HasBegun self.new.system.kernel.disk }
+        ensures own { OwnsService self.new.system.kernel self.new.bdos.service }
+        ensures kept { self.new.bdos ≡ record self.old.bdos { service = self.new.bdos.service } }
+        ensures workless { HasNoDrive self.old.bdos.mounted → has_work self.old.bdos.service ≡ false → has_work self.new.bdos.service ≡ false }
+        ensures reply { self.new.reply ≡ self.old.reply }
+    {
+        if self.system.kernel.disk().serving().is_some() {
+            return;
+        }
+        if let Turn::Starts { p } = self.system.kernel.turn_disk() {
+            let turns = start_call(&self.system, &mut self.bdos, p);
+            self.system.kernel.begin_disk_call(turns);
+        }
+    }
+}
