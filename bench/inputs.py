@@ -233,7 +233,6 @@ def read_machine(text):
     check_drives(machine.get("drive", []))
     if "residents" in machine:
         need(machine["version"] == 2 and machine["residents"] == [])
-    need(machine.get("disk_turn", 0) == 0)
     return machine
 
 

@@ -12,8 +12,8 @@ HERE = os.path.dirname(os.path.abspath(__file__))
 sys.path.insert(0, os.path.join(os.path.dirname(HERE), "bench"))
 import images
 
-# The steps that a disk takes for a record: those that can be asked for. Once a disk can be served by turns, 20 stands here too.
-DISK_TURNS = (0,)
+# The steps of a turn of the disk with which each case is run.
+DISK_TURNS = (0, 20)
 
 # Where the guest is started: the witness has made its queues, opened its file, locked its records and done some rounds by then.
 STARTED = 20_000
@@ -213,7 +213,8 @@ def filling(kind_name):
     count = kind.drm + 1 - 3 - -(-blocks // kind.places)
     more = {f"MOREAA{chr(65 + number // 16)}{chr(65 + number % 16)}DAT": b"" for number in range(1, count + 1)}
     more["FULL    DAT"] = bytes(blocks * kind.block)
-    yield from beside("fill", held("fill", f"0002 00FF {count:04X}\\r\n"), kind_name, more=more)
+    # Each record is a turn of twenty steps at most.
+    yield from beside("fill", held("fill", f"0002 00FF {count:04X}\\r\n"), kind_name, 30 * blocks * kind.block_records + 400_000, more=more)
 
 
 def files(case):

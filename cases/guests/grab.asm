@@ -1,5 +1,5 @@
-; Takes all that there is, in four processes: each opens sixteen files in unlocked mode, of which the process has no more, and locks 32
-; records of the first. Then it makes queues until there are no more. It writes how many files it opened, how many records it locked,
+; Takes all that there is, in four processes, one after the other: each opens sixteen files in unlocked mode, of which the process has
+; no more, and locks 32 records of the first. Then it makes queues until there are no more. It writes how many files it opened, how many records it locked,
 ; and how many queues it made; holds all that for thirty ticks; and its processes end without giving anything back.
 
 bdos    equ     0005h
@@ -64,6 +64,20 @@ child2:
 child3:
         ld      hl,96
 child:
+        push    hl
+turn:
+        ld      de,1
+        ld      c,141           ; delay
+        call    bdos
+        pop     hl
+        push    hl
+        ld      a,(ready)       ; those that have taken theirs, times 32
+        rrca
+        rrca
+        rrca
+        cp      l
+        jr      nz,turn
+        pop     hl
         call    take
         ld      de,waiting_user
         ld      c,137           ; read queue
@@ -71,9 +85,8 @@ child:
         ld      c,0             ; system reset
         jp      bdos
 
-; Opens the files and locks 32 records from HL on; no other process runs meanwhile.
+; Opens the files and locks 32 records from HL on; no other process does so meanwhile.
 take:
-        di
         ld      (number),hl
         ld      e,0FFh
         ld      c,45            ; set BDOS error mode: answers, and tells nothing
@@ -109,7 +122,6 @@ refused:
         call    lock
         ld      hl,ready
         inc     (hl)
-        ei
         ret
 
 ; Keeps the file control block of the first file; A stays.

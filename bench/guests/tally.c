@@ -1,0 +1,61 @@
+/* TALLY A, at another console TALLY B: adds one to the count of a record of SHARED.DAT over and over, for ever: to a record of four in turn, to the
+   count of all, the first word in it, and to its own, the second or the third one. Each time it locks the record before it reads it, and frees it
+   after it was written. TALLY C and TALLY D do so without locks, and lose each other's. */
+
+#define OPEN_FILE 15
+#define SET_DMA 26
+#define READ_RANDOM 33
+#define WRITE_RANDOM 34
+#define LOCK_RECORD 42
+#define UNLOCK_RECORD 43
+#define DISPATCH 142
+
+static char *const word = (char *) 0x0082;     /* the word behind the command, in upper case */
+static unsigned long record[32];
+static unsigned char id[2];
+static unsigned char fcb[36] = {
+    0, 'S', 'H', 'A', 'R', 'E' | 0x80, 'D', ' ', ' ', 'D', 'A', 'T'
+};
+
+/* A call of the kernel: its function, its parameter; what it answers in A. */
+static unsigned char call(unsigned char function, unsigned int parameter) __naked
+{
+    (void) function; /* sdcc hands the function over in A, and the parameter in DE, as the kernel takes it */
+    (void) parameter;
+    __asm
+        ld   c, a
+        push ix
+        call 0x0005
+        pop  ix
+        ret
+    __endasm;
+}
+
+static unsigned char call_with(unsigned char function, void *dma)
+{
+    call(SET_DMA, (unsigned int) dma);
+    return call(function, (unsigned int) fcb);
+}
+
+int main(void)
+{
+    unsigned char own = 1 + (*word - 'A') % 2;
+    unsigned char locks = *word < 'C';
+    unsigned char number = 0;
+    if (call(OPEN_FILE, (unsigned int) fcb))
+        return 0;
+    id[0] = fcb[33];
+    id[1] = fcb[34];
+    for (;;) {
+        fcb[33] = number++ % 4;
+        fcb[34] = 0;
+        while (locks && call_with(LOCK_RECORD, id))
+            call(DISPATCH, 0);
+        call_with(READ_RANDOM, record);
+        record[0]++;
+        record[own]++;
+        call_with(WRITE_RANDOM, record);
+        if (locks)
+            call_with(UNLOCK_RECORD, id);
+    }
+}
