@@ -2,6 +2,8 @@
    count of all, the first word in it, and to its own, the second or the third one. Each time it locks the record before it reads it, and frees it
    after it was written. TALLY C and TALLY D do so without locks, and lose each other's. */
 
+#include "kernel.h"
+
 #define OPEN_FILE 15
 #define SET_DMA 26
 #define READ_RANDOM 33
@@ -16,20 +18,6 @@ static unsigned char id[2];
 static unsigned char fcb[36] = {
     0, 'S', 'H', 'A', 'R', 'E' | 0x80, 'D', ' ', ' ', 'D', 'A', 'T'
 };
-
-/* A call of the kernel: its function, its parameter; what it answers in A. */
-static unsigned char call(unsigned char function, unsigned int parameter) __naked
-{
-    (void) function; /* sdcc hands the function over in A, and the parameter in DE, as the kernel takes it */
-    (void) parameter;
-    __asm
-        ld   c, a
-        push ix
-        call 0x0005
-        pop  ix
-        ret
-    __endasm;
-}
 
 static unsigned char call_with(unsigned char function, void *dma)
 {

@@ -1,6 +1,8 @@
 /* TURN OLD.TYP NEW.TYP writes a file's records into a new file in the other order, the last one first, so that each is read and written at random, and
    the new file grows from its end. It tells how many records there were. */
 
+#include "kernel.h"
+
 #define PRINT_CHARACTER 2
 #define OPEN_FILE 15
 #define CLOSE_FILE 16
@@ -13,20 +15,6 @@
 /* The interpreter has put the names of both words into the base page; opening the first uses the second one's place. */
 static unsigned char *const first = (unsigned char *) 0x005C;
 static unsigned char old[36], new[36], record[128];
-
-/* A call of the kernel: its function, its parameter; what it answers in A. */
-static unsigned char call(unsigned char function, unsigned int parameter) __naked
-{
-    (void) function; /* sdcc hands the function over in A, and the parameter in DE, as the kernel takes it */
-    (void) parameter;
-    __asm
-        ld   c, a
-        push ix
-        call 0x0005
-        pop  ix
-        ret
-    __endasm;
-}
 
 static void put_text(const char *text)
 {

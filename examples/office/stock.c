@@ -3,6 +3,8 @@
    until it was written, so that nobody else's change is lost. The file is open in unlocked mode: several may work on it at once.
    README.md has the commands that make STOCK.COM. */
 
+#include "kernel.h"
+
 #define PRINT_CHARACTER 2
 #define OPEN_FILE 15
 #define READ_RANDOM 33
@@ -20,20 +22,6 @@ static unsigned char id[2];
 static unsigned char fcb[36] = {
     0, 'S', 'T', 'O', 'C', 'K' | 0x80, ' ', ' ', ' ', 'D', 'A', 'T'
 };
-
-/* A call of the kernel: its function, its parameter; what it answers in A. */
-static unsigned char call(unsigned char function, unsigned int parameter) __naked
-{
-    (void) function; /* sdcc hands the function over in A, and the parameter in DE, as the kernel takes it */
-    (void) parameter;
-    __asm
-        ld   c, a
-        push ix
-        call 0x0005
-        pop  ix
-        ret
-    __endasm;
-}
 
 static void put(char character)
 {
