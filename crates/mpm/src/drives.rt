@@ -1,6 +1,6 @@
-ghost use Rattle.std.specs.Prelude.{◌≡◌, ℕ, Some, None, IsSome, IsOk, IsTrue, ◌↔◌};
+ghost use Rattle.std.specs.Prelude.{◌≡◌, ◌<◌, ℕ, Some, None, IsSome, IsOk, IsTrue, ◌↔◌};
 ghost use Rattle.mpm_port.specs.Causes.{HasCause};
-ghost use Rattle.mpm.specs.Attached.{no_drives, size_of, after_access, sizes_told};
+ghost use Rattle.mpm.specs.Attached.{no_drives, size_of, is_unsynced, after_access, sizes_told};
 
 use mpm_port::{Drives, Failed, FailedNames, FetchError};
 use std::array;
@@ -61,6 +61,7 @@ fn open_locked(host: &HostRuntime, name: &str) -> io::Result<File> {
 pub struct RealDrives {
     host: HostRuntime,
     images: [Option<Image>; 16],
+    unsynced: [bool; 16],
     failed: FailedNames,
     faults: u64,
 }
@@ -71,7 +72,7 @@ impl Model for RealDrives {
 
     ghost Value = { RealDisks };
 
-    ghost view = { λ d. record { sizes = d.images; failed = d.failed; faults = d.faults } };
+    ghost view = { λ d. record { sizes = d.images; unsynced = d.unsynced; failed = d.failed; faults = d.faults } };
 }
 
 impl RealDrives {
@@ -82,6 +83,7 @@ impl RealDrives {
         RealDrives {
             host,
             images: array::from_fn(|_| None),
+            unsynced: [false; 16],
             failed: FailedNames::new(host.alloc()),
             faults: 0,
         }
@@ -90,7 +92,8 @@ impl RealDrives {
     /// The image of an attached drive.
     fn image(&self, drive: u8) -> &Image
         requires { IsSome (size_of self.now drive) }
-        ensures { size_of self.now drive ≡ Some result.now }
+        ensures size { size_of self.now drive ≡ Some result.now }
+        ensures within { drive < 16 }
     {
         let Some(Some(image)) = self.images.get(usize::from(drive)) else {
             unreachable!();
@@ -118,6 +121,8 @@ impl Drives for RealDrives {
 
     ghost disks = { λ _. None };
 
+    ghost unsynced = { is_unsynced };
+
     ghost faults = { λ d. d.faults };
 
     ghost failed_names = { λ d. d.failed };
@@ -133,6 +138,7 @@ impl Drives for RealDrives {
             return Err(self.failed.refuse(name));
         };
         self.images[place] = Some(image);
+        self.unsynced[place] = false;
         Ok(())
     }
 
@@ -149,11 +155,15 @@ impl Drives for RealDrives {
     fn write(&mut self, drive: u8, sector: u32, bytes: &[u8; 128]) -> Result<(), Failed> {
         let file = &self.image(drive).file;
         let written = file.write_all_at(bytes, 128 * u64::from(sector));
+        self.unsynced[usize::from(drive)] = true;
         self.answer(written.is_ok())
     }
 
     fn sync(&mut self, drive: u8) -> Result<(), Failed> {
         let synced = self.image(drive).file.sync_all();
+        if synced.is_ok() {
+            self.unsynced[usize::from(drive)] = false;
+        }
         self.answer(synced.is_ok())
     }
 }

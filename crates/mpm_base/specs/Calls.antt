@@ -1,6 +1,6 @@
 -- A kernel call as it was taken, and its reply, as contracts see them: without what stands behind the bytes that count.
-use Rattle.std.specs.Prelude.{ℕ, ◌+◌, ◌*◌, List, [], ◌++◌, Option, None, min, length, take, drop, replicate, slice_index_or}
-use Rattle.mpm_base.specs.Lists.{zeros}
+use Rattle.std.specs.Prelude.{ℕ, ◌+◌, ◌*◌, List, [], Option, None, drop, slice_index_or}
+use Rattle.mpm_base.specs.Lists.{zeros, in_width}
 use Rattle.mpm_base.specs.declared.number.Name8.{Name8}
 
 -- a call: its function, its parameter, its caller's DMA address, the file control block at its parameter (zeros where
@@ -30,13 +30,13 @@ byte_in call place = slice_index_or call.bytes place 0
 abbrev pub word_at : Taken → ℕ → ℕ
 word_at call place = byte_in call place + 256 * byte_in call (place + 1)
 
--- the first eight bytes, those that lack as zeros
-unfoldable pub eight_of : List ℕ → List ℕ
-eight_of bytes = take (min (length bytes) 8) bytes ++ drop (min (length bytes) 8) (replicate 8 0)
+-- a call without a file control block, by its function, its parameter and its bytes
+abbrev pub asking : ℕ → ℕ → List ℕ → Taken
+asking function word bytes = record { function = function; word = word; dma = 0; fcb = zeros 36; bytes = bytes }
 
--- the eight bytes that a call read at a place, and the name that they are
+-- the eight bytes that a call read at a place, those that lack as zeros, and the name that they are
 abbrev pub eight_at : Taken → ℕ → List ℕ
-eight_at call place = eight_of (drop place call.bytes)
+eight_at call place = in_width 8 (drop place call.bytes)
 
 abbrev pub name_at : Taken → ℕ → Name8
 name_at call place = record { 0 = eight_at call place }

@@ -1,7 +1,7 @@
 ghost use Rattle.std.specs.Prelude.{◌≡◌, ◌≤◌, ◌<◌, ◌+◌, ◌++◌, ◌∷◌, [], length, drop};
-ghost use Rattle.mpm_base.specs.Calls.{eight_of};
 
 use crate::number::Name8;
+use crate::texts::in_width;
 use std::marker::Model;
 
 /// A kernel call as it was taken in its gate step.
@@ -133,7 +133,7 @@ impl Call {
     pub fn eight(&self, place: usize) -> [u8; 8]
         ensures { result ≡ eight_at self.now place }
     {
-        first_eight(self.from(place))
+        in_width(self.from(place))
     }
 
     /// The name of eight bytes at a place of those bytes.
@@ -149,17 +149,6 @@ impl Call {
     {
         &self.bytes[..self.length as usize]
     }
-}
-
-/// The first eight bytes, those that lack as zeros.
-#[tactic(auto, unfolding(crate::specs::Calls::eight_of))]
-fn first_eight(bytes: &[u8]) -> [u8; 8]
-    ensures { result ≡ eight_of bytes.now }
-{
-    let mut eight = [0; 8];
-    let count = bytes.len().min(8);
-    eight[..count].copy_from_slice(&bytes[..count]);
-    eight
 }
 
 /// The value of a call that is refused, where its function names no other.

@@ -9,6 +9,7 @@ mod number;
 mod segment;
 mod steps;
 mod tabs;
+mod texts;
 
 pub use call::{Call, FAILURE_CODE, Outcome, Reply};
 pub use devices::Devices;
@@ -17,3 +18,4 @@ pub use number::{Name8, Pid, Seg};
 pub use segment::SegmentSpec;
 pub use steps::Steps;
 pub use tabs::tab_width;
+pub use texts::{ends_text, in_width};

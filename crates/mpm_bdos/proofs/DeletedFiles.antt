@@ -5,6 +5,7 @@ use Rattle.std.specs.Prelude.{bytes_eq, is_some, find, filter, option_map}
 use Rattle.std.specs.List.{list_any, list_all}
 use Rattle.std.proofs.lemmas.Bool.{false≢true, and_parts}
 use Rattle.std.proofs.lemmas.List.FromFn.{fill_by_all}
+use Rattle.std.specs.Cmp.{both_ways}
 use Rattle.mpm_names.specs.Matching.{does_match}
 use Rattle.mpm_names.proofs.Fitting.{fits_everywhere}
 use Rattle.mpm_mount.specs.declared.searching.Found.{Found}
@@ -213,15 +214,10 @@ kept_there (Some item ∷ places) p among key h there =
     kept_there_step p among item key (is_among (map (file_where (is_given_back p among)) places) key) (list_any (has_item_of p key) places) (item.process == p) (keys.is_same_file item.file key) refl there h
     (λ more. kept_there places p among key more there)
 
-by_both : (a b : Bool) → (a ≡ true → b ≡ true) → (b ≡ true → a ≡ true) → a ≡ b
-by_both true b f g = sym (f refl)
-by_both false true f g = g refl
-by_both false false f g = refl
-
 kept_alike : (places : List (Option Item)) (p : ℕ) (among : FileKey → Bool) (key : FileKey) → list_any (has_item_of p key) places ≡ true
     → is_among (map (file_where (is_given_back p among)) places) key ≡ among key
 kept_alike places p among key has =
-    by_both (is_among (map (file_where (is_given_back p among)) places) key) (among key) (kept_only places p among key) (kept_there places p among key has)
+    both_ways (is_among (map (file_where (is_given_back p among)) places) key) (among key) (kept_only places p among key) (kept_there places p among key has)
 
 -- so items and locks go alike
 item_alike : (p : ℕ) (a b : FileKey → Bool) (item : Item) (own : Bool) → (item.process == p) ≡ own → (own ≡ true → a item.file ≡ b item.file)

@@ -2,14 +2,16 @@
 use Rattle.std.proofs.Common.{◌≡◌, ◌≢◌, ℕ, zero, suc, ◌<◌, Bool, true, List, [], ◌∷◌, Option, Some, None, IfSome, refl, sym, ap, subst, ◌∙◌, arith, length}
 use Rattle.std.specs.Prelude.{IsSome, is_some, option_map, option_and_then, slice_index_or, slice_set}
 use Rattle.std.proofs.lemmas.Bool.{true≢false}
+use Rattle.std.proofs.lemmas.List.{length-set}
 use Rattle.mpm_base.specs.declared.kind.Kind.{Kind}
 use Rattle.mpm_port.specs.Disks.{Disks, Told, image_of}
 use Rattle.mpm_blocks.specs.Geometries.{geometry_of}
 use Rattle.mpm_blocks.specs.Sectors.{told_image}
 use Rattle.mpm_cache.specs.declared.cache.Place.{Place}
-use Rattle.mpm_cache.specs.Coherent.{HaveOwnImages, StayApart, AreApart}
+use Rattle.mpm_cache.specs.Coherent.{HaveOwnImages, AreApart}
+use Rattle.mpm_cache.proofs.AliasLaws.{apart_after}
 use Rattle.mpm_sectors.specs.Writes.{Elsewhere}
-use Rattle.mpm_mount.specs.Directories.{Directory}
+use Rattle.mpm_mount.specs.Directories.{Directory, IsDirectory}
 use Rattle.mpm_bdos.specs.Serving.{directory_at, AreInPlace}
 use Rattle.mpm_bdos.specs.Syncing.{AreAttached}
 use Rattle.mpm_bdos.specs.Turns.{FitsDrives, KeepsImages, StaysBeside, HasLeft, has_directory, labelled}
@@ -49,6 +51,23 @@ by_label P (Some d) None same so = tt
 by_label P None (Some e) same so = absurd (true≢false (ap is_some same))
 by_label P (Some d) (Some e) same so = subst P (ap (λ found. label_in found (labelled d)) (sym same)) so
 
+-- directories without a fault in their places, one of which is changed to another of its drive and kind
+set_any : {X : Type 0} (P : X → Type 0) (places : List (Option X)) (number other : ℕ) (new : Option X) → IfSome new P → IfSome (slice_index_or places other None) P
+    → IfSome (slice_index_or (slice_set places number new) other None) P
+set_any P [] number other new is each = each
+set_any P (x ∷ xs) zero zero new is each = is
+set_any P (x ∷ xs) zero (suc other) new is each = each
+set_any P (x ∷ xs) (suc number) zero new is each = each
+set_any P (x ∷ xs) (suc number) (suc other) new is each = set_any P xs number other new is each
+
+pub in_place_after : (mounted : List (Option Directory)) (number : ℕ) (new : Option Directory) → AreInPlace mounted → option_map labelled new ≡ option_map labelled (directory_at mounted number)
+    → IfSome new (λ d. IsDirectory d.kind d.entries) → AreInPlace (slice_set mounted number new)
+in_place_after mounted number new placed same is = record {
+  places = length-set mounted number new ∙ placed.places;
+  each = λ other. by_label (λ label. label.0 ≡ other) (directory_at mounted other) (directory_at (slice_set mounted number new) other) (labels_stay mounted number other new same) (placed.each other);
+  directories = λ other. set_any (λ (d : Directory). IsDirectory d.kind d.entries) mounted number other new is (placed.directories other);
+}
+
 -- sizes go by what is attached
 sizes_after : (mounted : List (Option Directory)) (number : ℕ) (new : Option Directory) (attached now : ℕ → Option ℕ) → option_map labelled new ≡ option_map labelled (directory_at mounted number)
     → ((other : ℕ) → now other ≡ attached other) → ((other : ℕ) → IfSome (directory_at mounted other) (λ d. attached other ≡ Some (geometry_of d.kind).bytes))
@@ -63,13 +82,6 @@ apart_among : (among mounted : ℕ → Bool) (cached : List (Place × List ℕ))
 apart_among among mounted cached disks same apart = record {
   own = λ drive other a b. apart.own drive other (sym (same drive) ∙ a) (sym (same other) ∙ b);
   alone = λ drive a. apart.alone drive (sym (same drive) ∙ a);
-}
-
-apart_after : (among : ℕ → Bool) (drive : ℕ) (cached new : List (Place × List ℕ)) (disks now : Option Disks) → among drive ≡ true → StayApart drive cached new disks now
-    → AreApart among cached disks → AreApart among new now
-apart_after among drive cached new disks now is stay apart = record {
-  own = λ one other a b. stay.own one other (apart.own one other a b);
-  alone = λ other a. stay.alone other (apart.own other drive a is) (apart.alone other a);
 }
 
 -- a directory in its place is of that drive

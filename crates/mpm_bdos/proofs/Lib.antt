@@ -27,7 +27,7 @@ pub mod Unlocking
 pub mod StillProtected
 pub mod Filling
 pub mod Counting
-pub mod Examples
+pub mod examples
 pub mod Searched
 pub mod Behind
 pub mod Deleted
@@ -58,3 +58,4 @@ pub mod FinishLaws
 pub mod Answerable
 pub mod SoundLaws
 pub mod AtOnceLaws
+pub mod SyncLaws

@@ -12,11 +12,12 @@ use Rattle.mpm_dirent.specs.declared.kinds.Entry.TheVariants.{Free}
 use Rattle.mpm_dirent.specs.declared.kinds.XfcbEntry.{XfcbEntry}
 use Rattle.mpm_dirent.specs.declared.kinds.LabelEntry.{LabelEntry}
 use Rattle.mpm_mount.specs.Drives.{FileName, PhysicalExtent, Drive, entry_name, with_extent_there, extent_at, count_in}
-use Rattle.mpm_mount.specs.Faults.{extent_of, is_named, is_label, is_xfcb}
-use Rattle.mpm_mount.specs.Images.{extent_in, drive_of}
+use Rattle.mpm_mount.specs.Faults.{extent_of, is_label, is_xfcb}
+use Rattle.mpm_mount.specs.Images.{extent_in}
 use Rattle.mpm_mount.specs.Directories.{Directory, extent_slot, xfcb_slot, label_slot, Stands}
 use Rattle.mpm_guard.specs.Passwords.{is_admitted}
 use Rattle.mpm_files.specs.Plans.{attributes_in}
+use Rattle.mpm_files.proofs.Tied.{kind_of}
 use Rattle.mpm_mount.proofs.LookedUp.{extent_found, extent_missing, xfcb_found, xfcb_missing, label_found, label_missing}
 use Rattle.mpm_bdos.specs.Subjects.{data_byte, extent_count, xfcb_admits, file_admits}
 use Rattle.mpm_bdos.specs.Looking.{label_at, label_where, label_in, label_of, xfcb_at, xfcb_where, xfcb_in, protection_of, count_at, count_where, count_of}
@@ -30,12 +31,6 @@ label_within d slot full found =
 pub xfcb_within : (d : Directory) (file : FileName) (slot : ℕ) → length d.entries ≡ (geometry_of d.kind).drm + 1 → xfcb_slot d file ≡ Some slot → slot ≤ (geometry_of d.kind).drm
 xfcb_within d file slot full found =
     let at = position-Some (is_xfcb file.user file.name) d.entries slot Free found in
-    omega (arith, at.0, full)
-
-pub extent_within : (d : Directory) (file : FileName) (extent slot : ℕ) → length d.entries ≡ (geometry_of d.kind).drm + 1 → extent_slot d file extent ≡ Some slot
-    → slot ≤ (geometry_of d.kind).drm
-extent_within d file extent slot full found =
-    let at = position-Some (is_named d.kind (entry_name d.kind file extent)) d.entries slot Free found in
     omega (arith, at.0, full)
 
 -- the label
@@ -79,15 +74,11 @@ count_by_slot image d files file extent stands (Some slot) e =
     ap (counts extent) f.extent ∙ counted_where (nat_le extent (extent_of f.file)) extent (extent_in (sectors_of image d.kind) d.kind f.file)
     ∙ sym (ap (count_at extent) f.entry)
 
-pub kind_stands : (image : List ℕ) (d : Directory) (files : Drive) → Stands image d files → files.kind ≡ d.kind
-unfolding drive_of
-kind_stands image d files stands = ap (λ (drive : Drive). drive.kind) stands.drive
-
 pub count_stands : (image : List ℕ) (d : Directory) (files : Drive) (file : FileName) (extent : ℕ) → Stands image d files
     → extent_count files file extent ≡ count_of d file extent
 unfolding extent_count extent_at count_of
 count_stands image d files file extent stands =
-    ap (λ (kind : Kind). counts extent (get files.extents (entry_name kind file extent))) (kind_stands image d files stands)
+    ap (λ (kind : Kind). counts extent (get files.extents (entry_name kind file extent))) (kind_of image d files stands)
     ∙ count_by_slot image d files file extent stands (extent_slot d file extent) refl
 
 -- the label's data byte

@@ -1,8 +1,8 @@
 -- Directories in the places of their drives.
 use Rattle.std.proofs.Common.{◌≡◌, ℕ, zero, suc, List, [], ◌∷◌, ◌++◌, Option, Some, None, IfSome, length, refl, ap, ◌∙◌}
 use Rattle.std.specs.Prelude.{replicate, slice_index_or, slice_set}
-use Rattle.mpm_mount.specs.Directories.{Directory}
-use Rattle.mpm_bdos.specs.Serving.{AreInPlace, all_put, in_places}
+use Rattle.mpm_mount.specs.Directories.{Directory, IsDirectory}
+use Rattle.mpm_bdos.specs.Serving.{AreInPlace, all_put}
 
 set_long : {X : Type 0} (xs : List X) (n : ℕ) (x : X) → length (slice_set xs n x) ≡ length xs
 set_long [] n x = refl
@@ -23,12 +23,19 @@ no_place P zero number = tt
 no_place P (suc n) zero = tt
 no_place P (suc n) (suc number) = no_place (λ k. P (suc k)) n number
 
-pub all_placed : (directories : List Directory) → AreInPlace (in_places directories)
-unfolding all_put
-all_placed [] = record { places = refl; each = no_place (λ number (directory : Directory). directory.drive ≡ number) 16 }
-all_placed (directory ∷ directories) = record {
-  places = set_long (in_places directories) directory.drive (Some directory) ∙ (all_placed directories).places;
-  each = set_each (λ number (one : Directory). one.drive ≡ number) (in_places directories) directory.drive directory refl (all_placed directories).each;
+-- in places that are free, and in those in which one more directory without a fault was put
+pub none_placed : AreInPlace (replicate 16 None)
+none_placed = record {
+  places = refl;
+  each = no_place (λ number (directory : Directory). directory.drive ≡ number) 16;
+  directories = no_place (λ number (directory : Directory). IsDirectory directory.kind directory.entries) 16;
+}
+
+pub one_placed : (places : List (Option Directory)) (directory : Directory) → AreInPlace places → IsDirectory directory.kind directory.entries → AreInPlace (slice_set places directory.drive (Some directory))
+one_placed places directory placed is = record {
+  places = set_long places directory.drive (Some directory) ∙ placed.places;
+  each = set_each (λ number (one : Directory). one.drive ≡ number) places directory.drive directory refl placed.each;
+  directories = set_each (λ number (one : Directory). IsDirectory one.kind one.entries) places directory.drive directory is placed.directories;
 }
 
 -- the last of them is put before the others

@@ -1,18 +1,13 @@
 -- The size of a file, by a walk over its entries: what is left behind the last that was found tells it, or else that one does.
-use Rattle.std.proofs.Common.{◌≡◌, ◌∙◌, ℕ, ◌+◌, ◌*◌, ◌%◌, ◌≤◌, ◌==◌, Bool, true, false, ◌&&◌, ◌||◌, cond, List, [], ◌∷◌, Option, Some, None, length, get_or, sym, refl, ap, arith, eq-eqb}
+use Rattle.std.proofs.Common.{◌≡◌, ◌∙◌, ℕ, ◌+◌, ◌*◌, ◌≤◌, ◌==◌, Bool, true, false, ◌&&◌, cond, List, [], ◌∷◌, Option, Some, None, length, sym, refl, ap}
 use Rattle.std.specs.Prelude.{bytes_eq, filter, option_map}
 use Rattle.std.specs.List as lists
 use Rattle.std.specs.declared.cmp.Ordering.{Ordering}
-use Rattle.std.specs.Ordering.{is_lt, ordering_reverse}
-use Rattle.std.specs.Cmp.Lexicographic.{bytes_decides}
-use Rattle.std.proofs.lemmas.List.{get_or-map}
-use Rattle.mpm_names.proofs.Fitting.{fits_everywhere}
-use Rattle.mpm_mount.proofs.Sought.{less_of}
-use Rattle.mpm_mount.proofs.UsedBlocks.{or_last}
+use Rattle.std.specs.Ordering.{is_lt}
 use Rattle.std.specs.Cmp.{IsTotalOrder, tied_itself}
 use Rattle.std.specs.FinMap.{entries, entries_sorted, is_sorted}
 use Rattle.std.specs.FinMap.Entries.{below_all}
-use Rattle.std.proofs.lemmas.Bool.{and_parts}
+use Rattle.std.proofs.lemmas.Bool.{and_parts, and_right}
 use Rattle.std.proofs.lemmas.Option.{same_Some}
 use Rattle.mpm_base.specs.declared.kind.Kind.{Kind}
 use Rattle.mpm_names.specs.Matching.{does_match}
@@ -29,46 +24,8 @@ use Rattle.mpm_mount.proofs.Orders.{entry_total}
 use Rattle.mpm_mount.proofs.NextFound.{is_sought_pair, next_none, next_found}
 use Rattle.mpm_bdos.specs.Replies.{size_of}
 use Rattle.mpm_bdos.specs.Sizes.{size_at}
-use Rattle.mpm_files.proofs.SearchSteps.{is_true, AreSteps, found_is, above_through, mod_twice}
-
--- entries in the order of their keys
-not_both_ways : {K : Type 0} (R : K → K → Ordering) → IsTotalOrder R → (a b : K) → is_lt (R a b) ≡ true → is_lt (R b a) ≡ false
-not_both_ways R o a b less = ap is_lt (o.antisymm b a ∙ ap ordering_reverse (less_of (R a b) less))
-
-found_below_step : {K X : Type 0} (R : K → K → Ordering) (k x : K) (v : X) (e : K × X) (o : Option (K × X)) (b : Bool) → is_lt (R k e.0) ≡ true → cond b (Some e) o ≡ Some (x, v)
-    → (o ≡ Some (x, v) → is_lt (R k x) ≡ true) → is_lt (R k x) ≡ true
-found_below_step R k x v e o true below is so = ap (λ (pair : _ × _). is_lt (R k pair.0)) (sym (same_Some e (x, v) is)) ∙ below
-found_below_step R k x v e o false below is so = so is
-
-found_below : {K X : Type 0} (R : K → K → Ordering) (k x : K) (v : X) (test : K → Bool) (es : List (K × X)) → below_all R k es ≡ true → lists.find (λ e. test e.0) es ≡ Some (x, v)
-    → is_lt (R k x) ≡ true
-found_below R k x v test [] below is = absurd (cc)
-found_below R k x v test (e ∷ es) below is =
-    let parts = and_parts (is_lt (R k e.0)) (below_all R k es) below in
-    found_below_step R k x v e (lists.find (λ f. test f.0) es) (test e.0) parts.0 is (found_below R k x v test es parts.1)
-
--- an entry of a file's very name is one that a search for the name comes to
-itself_fits : (pattern : List ℕ) → length pattern ≡ 11 → does_match pattern (plain pattern) ≡ true
-itself_fits pattern size = fits_everywhere pattern (plain pattern) (λ k h.
-    let p = get_or pattern k 0 in
-    let q = get_or (plain pattern) k 0 in
-    let at : q ≡ p % 128 = get_or-map (λ c. c % 128) pattern k 0 0 (omega arith) in
-    ap (λ x. (p % 128 == 63) || x) (eq-eqb (p % 128) (q % 128) (sym (mod_twice p) ∙ ap (λ n. n % 128) (sym at))) ∙ or_last (p % 128 == 63))
-
-exact_fits : (pattern name : List ℕ) → length pattern ≡ 11 → bytes_eq name (plain pattern) ≡ true → does_match pattern name ≡ true
-exact_fits pattern name size same = ap (does_match pattern) ((bytes_decides name (plain pattern)).0 same) ∙ itself_fits pattern size
-
-exact_narrowed : (u m b a : Bool) → (b ≡ true → m ≡ true) → (u && (m && a)) ≡ false → ((u && b) && a) ≡ false
-exact_narrowed false m b a so h = refl
-exact_narrowed true m false a so h = refl
-exact_narrowed true m true a so h = ap (λ x. x && a) (sym (so refl)) ∙ h
-
-exact_here : (u b a : Bool) → u ≡ true → a ≡ true → ((u && b) && a) ≡ b
-exact_here u b a is above = ap (λ x. (x && b) && a) is ∙ ap (λ x. b && x) above ∙ and_all b
-
-none_above : (b : Bool) → (b && false) ≡ false
-none_above true = refl
-none_above false = refl
+use Rattle.mpm_files.proofs.SearchSteps.{is_true, AreSteps, found_is, above_through, not_both_ways, found_below}
+use Rattle.mpm_files.proofs.Lowest.{exact_fits, exact_narrowed, exact_here}
 
 -- the size by entries, or another where there are none
 abbrev pub size_or : {K : Type 0} → ℕ → List (K × PhysicalExtent) → ℕ
@@ -176,7 +133,7 @@ size_step image d files user pattern last found size stands long least =
           (above_through d.kind user last found k.user k.name k.number (ap (is_above (option_map (found_name d.kind user) last)) is ∙ above) (ap (λ n. is_lt (entry_cmp n k)) is ∙ less)
           ∙ sym less ∙ ap (λ n. is_lt (entry_cmp n k)) (sym is));
       before = λ k not_less. ap (λ b. ((k.user == user) && bytes_eq k.name (plain pattern)) && b) (ap (λ n. is_lt (entry_cmp n k)) is ∙ not_less)
-          ∙ none_above ((k.user == user) && bytes_eq k.name (plain pattern));
+          ∙ and_right ((k.user == user) && bytes_eq k.name (plain pattern)) false refl;
     })
     (entries files.extents) (is_true (is_sorted entry_cmp (entries files.extents)) (entries_sorted files.extents)) (next_found image d files search found stands least))
     ∙ sized_by (((x.user == user) && bytes_eq x.name (plain pattern)) && is_above (option_map (found_name d.kind user) last) x) size (x, v) rest

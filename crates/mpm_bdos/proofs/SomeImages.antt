@@ -22,7 +22,7 @@ use Rattle.mpm_mount.specs.Directories.{Directory, IsWhole, IsDirectory, Stands}
 use Rattle.mpm_mount.specs.Mounting.{drive_in}
 use Rattle.mpm_mount.proofs.EntryWritten.{directory_within, slot_room, entries_set}
 use Rattle.mpm_mount.proofs.FreeEntries.{all_slots}
-use Rattle.mpm_bdos.specs.Serving.{AreInPlace, StandsWhere, StandEach, directory_at}
+use Rattle.mpm_bdos.specs.Serving.{AreInPlace, StandsWhere, StandEach, StandForSome, directory_at}
 
 -- an entry is read back from its 32 bytes
 pub record IsReadBack (wide : Bool) (entry : Entry) : Type 0 where
@@ -166,19 +166,18 @@ stands_where : (number : ℕ) (place : Option Directory) → IfSome place (λ d.
 stands_where number None its can = tt
 stands_where number (Some d) its can = record { number_is = its; stands = stands_with d can }
 
--- so whatever is told of images, there are some, and drives, for which directories stand that can
-pub record StandForSome (mounted : List (Option Directory)) : Type 0 where
-  pub images : ℕ → List ℕ
-  pub drives : List (Option Drive)
-  pub stand : StandEach images mounted drives
+can_each : (place : Option Directory) → IfSome place (λ d. IsDirectory d.kind d.entries) → IfSome place CanStand
+can_each None is = tt
+can_each (Some d) is = can_stand d is
 
-pub stands_for_some : (mounted : List (Option Directory)) → AreInPlace mounted → ((number : ℕ) → IfSome (directory_at mounted number) CanStand) → StandForSome mounted
-stands_for_some mounted in_place each = record {
+-- directories in their places stand for some
+pub stands_for_some : (mounted : List (Option Directory)) → AreInPlace mounted → StandForSome mounted
+stands_for_some mounted in_place = record {
   images = λ number. image_where (directory_at mounted number);
   drives = drives_with mounted;
   stand = record {
     each = λ number.
         subst (StandsWhere number (image_where (directory_at mounted number)) (directory_at mounted number)) (sym (drive_where mounted number))
-        (stands_where number (directory_at mounted number) (in_place.each number) (each number));
+        (stands_where number (directory_at mounted number) (in_place.each number) (can_each (directory_at mounted number) (in_place.directories number)));
   };
 }

@@ -38,6 +38,7 @@ use Rattle.mpm_bdos.proofs.NamedFiles.{subject_name}
 use Rattle.mpm_bdos.proofs.Suited.{IsCall, each_suits, low_first}
 use Rattle.mpm_bdos.proofs.UnmountedLaws.{unmounted_so}
 use Rattle.mpm_bdos.proofs.OnDrives.{no_drive}
+use Rattle.mpm_bdos.proofs.EndingLaws.{own_job}
 
 pub plain_again : (name other : List ℕ) → name ≡ plain other → plain name ≡ name
 plain_again name other e = ap plain e ∙ plain_twice other ∙ sym e
@@ -79,14 +80,10 @@ nothing_refuses s refusal e none = sym e ∙ is_none refusal none
     is_none (Some r) e = absurd (cc)
 
 -- of a call that isn't refused the job is that of its function
-granted_job : (s : Situation) → refusal_of s ≡ None → job_of s ≡ job_by s s.function
-unfolding job_of
-granted_job s none = ap (λ r. unless_refused r (job_by s s.function)) none
-
 pub begins : (image : List ℕ) (d : Directory) (s : Situation) (job : Option Job) (work : Option Work) → IsCall s → refusal_of s ≡ None → job ≡ job_by s s.function
     → (IfSome job (Suits (drive_at s)) → WorksOn image (Some d) (drive_at s) job 0 work) → Begins image (Some d) s work
 begins image d s job work call none is works =
-    let same : job ≡ job_of s = is ∙ sym (granted_job s none) in
+    let same : job ≡ job_of s = is ∙ sym (own_job s none) in
     let suits : IfSome (job_of s) (Suits (drive_at s)) = each_suits s (job_of s) call refl in
     record {
       suits = suits;
@@ -141,7 +138,7 @@ without_drive s ReadXfcb none = refl
 pub unmounted_begins : (image : List ℕ) (s : Situation) → refusal_of s ≡ None → mounted s.filing (drive_number s) ≡ None → Begins image None s None
 unmounted_begins image s none not_mounted =
     let named : drive_named s ≡ None = no_drive s (drive_named s) (unnamed_refusal _ s.function) (sym (unmounted_so s not_mounted) ∙ none) in
-    begins_none image None s (granted_job s none ∙ without_drive s s.function named)
+    begins_none image None s (own_job s none ∙ without_drive s s.function named)
 
 -- as many turns
 as_many : (units : ℕ) (n : ℕ) → units ≡ n → max units 1 ≡ max 1 n

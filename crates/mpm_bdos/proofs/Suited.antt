@@ -1,13 +1,12 @@
 -- The job of a call that nothing refuses suits the drive that it names.
-use Rattle.std.proofs.Common.{◌≡◌, ◌≢◌, ◌∙◌, ℕ, zero, suc, ◌+◌, ◌%◌, ◌<◌, ◌≤◌, ◌==◌, ◌&&◌, not, Bool, true, false, cond, List, Option, Some, None, IfSome, length, drop, sym, refl, ap, subst, arith}
+use Rattle.std.proofs.Common.{◌≡◌, ◌≢◌, ◌∙◌, ℕ, zero, suc, ◌+◌, ◌%◌, ◌<◌, ◌≤◌, ◌==◌, ◌&&◌, not, Bool, true, false, cond, List, Option, Some, None, IfSome, length, sym, refl, ap, subst, arith}
 use Rattle.std.specs.Prelude.{is_some, nat_lt, slice_index, if◌then◌else◌}
 use Rattle.std.specs.FinMap.{get}
 use Rattle.std.proofs.lemmas.Bool.{or_parts}
 use Rattle.std.proofs.lemmas.Bool.Decides.{nat_tests}
-use Rattle.std.proofs.lemmas.List.{length-drop, length-take-le}
 use Rattle.std.proofs.lemmas.Option.{same_Some}
 use Rattle.mpm_base.proofs.Choices.{either}
-use Rattle.mpm_dirent.specs.Entries.{part}
+use Rattle.mpm_dirent.proofs.Lengths.{part_size}
 use Rattle.mpm_mount.specs.Drives.{FileName, Drive, free_entries}
 use Rattle.mpm_mount.specs.Faults.{plain}
 use Rattle.mpm_mount.specs.Searching.{IsUnambiguous}
@@ -61,15 +60,13 @@ unfolding is_ambiguous
 clear_name name size none =
     record { size = size; marks = λ k h. not_equal (slice_index name k % 128) 63 (fails_at (λ byte. byte % 128 == 63) name k 0 refl none) }
 
-part_size : (from count : ℕ) (bytes : List ℕ) → from + count ≤ length bytes → length (part from count bytes) ≡ count
-part_size from count bytes h = length-take-le count (drop from bytes) (omega (arith, length-drop from bytes))
-
 name_size : (s : Situation) → length s.call.fcb ≡ 36 → length (block s).name ≡ 11
 unfolding block_of
 name_size s size = part_size 1 11 s.call.fcb (omega (arith, size))
 
 -- records
-within_file : (first count : ℕ) → are_beyond first count ≡ false → first + count ≤ 262144
+-- records that are not beyond a file are within the 262,144 that it may have
+pub within_file : (first count : ℕ) → are_beyond first count ≡ false → first + count ≤ 262144
 within_file first count e = grind (arith, nat_tests)
 
 not_beyond : (s : Situation) → applies s (subject s) BeyondFile ≡ false → first_record s + s.caller.multi ≤ 262144

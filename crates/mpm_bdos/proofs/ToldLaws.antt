@@ -27,7 +27,7 @@ use Rattle.mpm_bdos.specs.declared.ends.Ended.{Ended}
 use Rattle.mpm_bdos.specs.declared.functions.FileFunction.{FileFunction}
 use Rattle.mpm_bdos.specs.declared.functions.FileFunction.TheVariants.{ResetDisks, OpenFile, CloseFile, SearchFirst, SearchNext, DeleteFile, ReadSequential, WriteSequential, MakeFile, RenameFile, ProtectDisk, SetAttributes, ReadRandom, WriteRandom, FileSize, ResetDrives, AccessDrives, FreeDrives, TestAndWrite, LockRecord, UnlockRecord, FreeSpace, FlushBuffers, SetLabel, LabelData, ReadXfcb, WriteXfcb}
 use Rattle.mpm_bdos.specs.Filing.{Situation, block}
-use Rattle.mpm_fcb.specs.Positions.{random_record, are_beyond}
+use Rattle.mpm_fcb.specs.Positions.{random_record}
 use Rattle.mpm_bdos.specs.Subjects.{drive_at, subject_key, first_by, first_record, open_mode}
 use Rattle.mpm_bdos.specs.Refusals.{refusals_of, applies, refusal_of}
 use Rattle.mpm_bdos.specs.Records.{Locking, unless_ended, end_of, locking}
@@ -42,7 +42,7 @@ use Rattle.mpm_bdos.specs.Replying.{IsServed}
 use Rattle.mpm_bdos.proofs.Granted.{none_applies}
 use Rattle.mpm_bdos.proofs.MovedLaws.{is_on_records, most_moved, all_moved}
 use Rattle.mpm_bdos.proofs.EndingLaws.{own_job, kind_of, ended_is, ended_few}
-use Rattle.mpm_bdos.proofs.Suited.{IsCall, low_first}
+use Rattle.mpm_bdos.proofs.Suited.{IsCall, low_first, within_file}
 
 -- locks
 one_further : (o : Option RecordEnd) (m n : ℕ) → IfSome o (λ end. m < n) → IfSome o (λ end. m + 1 < suc n)
@@ -197,9 +197,6 @@ read_low (suc count) drive file n sound h =
     read_low_by (is_some (extent_at drive file (n / 128))) (is_some (visible_of drive file n)) (reading drive file (n + 1) count) file n (low_record drive file n sound) h
 
 -- a call on records stands where a block can
-not_beyond : (first count : ℕ) → are_beyond first count ≡ false → first + count ≤ 262144
-not_beyond first count h = grind (arith, nat_tests)
-
 sequential_read : (s : Situation) → job_of s ≡ Some (reading_job s)
     → (turned s (call_turns s)).moved ≡ sum_by records_moved (reading (drive_at s) (file_of_job (reading_job s)) (first_record s) s.caller.multi).units
 unfolding plan_of
@@ -226,7 +223,7 @@ place_by s image directory work ReadSequential served is moves =
     (cases_lt 0 t.moved)
 place_by s image directory work WriteSequential served is moves =
     let none = none_applies s (refusals_of WriteSequential) (ap refusals_of is) served.none in
-    omega (arith, not_beyond (first_record s) s.caller.multi none.1.1.0, moved_16 s served.none (ap is_moving is) served.suits, served.caller.some)
+    omega (arith, within_file (first_record s) s.caller.multi none.1.1.0, moved_16 s served.none (ap is_moving is) served.suits, served.caller.some)
 place_by s image directory work MakeFile served is moves = absurd (false≢true moves)
 place_by s image directory work RenameFile served is moves = absurd (false≢true moves)
 place_by s image directory work ProtectDisk served is moves = absurd (false≢true moves)
@@ -257,7 +254,7 @@ pub in_file : (s : Situation) (image : List ℕ) (directory : Option Directory) 
 unfolding refusals_of applies first_record
 in_file s image directory work served f =
     let none = none_applies s (refusals_of LockRecord) (ap refusals_of f) served.none in
-    omega (arith, not_beyond (first_by (block s) s.function) s.caller.multi none.1.1.0, ap (first_by (block s)) f, served.caller.some)
+    omega (arith, within_file (first_by (block s) s.function) s.caller.multi none.1.1.0, ap (first_by (block s)) f, served.caller.some)
 
 -- records that were read
 read_each_by : (there : Bool) (seen : Option (List ℕ)) (drive : Drive) (file : FileName) (n : ℕ) (rest : Plan) → visible_of drive file n ≡ seen

@@ -4,7 +4,7 @@ use Rattle.mpm_base.specs.Calls.{Taken}
 use Rattle.mpm_base.specs.declared.kind.Kind.{Kind}
 use Rattle.mpm_cache.specs.declared.cache.Place.{Place}
 use Rattle.mpm_mount.specs.Drives.{Drive}
-use Rattle.mpm_mount.specs.Directories.{Directory, Stands}
+use Rattle.mpm_mount.specs.Directories.{Directory, IsDirectory, Stands}
 use Rattle.mpm_opens.specs.declared.kinds.FileKey.{FileKey}
 use Rattle.mpm_opens.specs.Items.{place_at}
 use Rattle.mpm_opens.specs.Opens.{OpenFiles, none_open}
@@ -52,7 +52,8 @@ pub record Kept : Type 0 where
   pub searches : List (Option LastSearch)
   pub service : Option InService
 
--- a directory in a place, if one is there; it is of the drive with the place's number; and there are places for sixteen drives
+-- a directory in a place, if one is there; it is of the drive with the place's number, and without a fault; and there are places
+-- for sixteen drives
 abbrev pub directory_at : List (Option Directory) → ℕ → Option Directory
 directory_at mounted number = slice_index_or mounted number None
 
@@ -62,6 +63,7 @@ kind_at mounted number = option_map (λ directory. directory.kind) (directory_at
 pub record AreInPlace (mounted : List (Option Directory)) : Type 0 where
   pub places : length mounted ≡ 16
   pub each : (number : ℕ) → IfSome (directory_at mounted number) (λ directory. directory.drive ≡ number)
+  pub directories : (number : ℕ) → IfSome (directory_at mounted number) (λ directory. IsDirectory directory.kind directory.entries)
 
 -- directories that come into the places of their drives, the first where there are two; and into sixteen that are free
 unfoldable pub all_put : List Directory → List (Option Directory) → List (Option Directory)
@@ -105,6 +107,12 @@ StandsWhere number image None (Some drive) = ⊥
 
 pub record StandEach (images : ℕ → List ℕ) (mounted : List (Option Directory)) (drives : List (Option Drive)) : Type 0 where
   pub each : (number : ℕ) → StandsWhere number (images number) (directory_at mounted number) (slice_index_or drives number None)
+
+-- so whatever is told of images, there are some, and drives, for which the directories stand
+pub record StandForSome (mounted : List (Option Directory)) : Type 0 where
+  pub images : ℕ → List ℕ
+  pub drives : List (Option Drive)
+  pub stand : StandEach images mounted drives
 
 -- the work of a job on a drive that is mounted, with so many turns ended; and no work where there is no job
 abbrev pub WorksAt : List ℕ → Option Directory → Drive → Job → ℕ → Work → Type 0

@@ -1,11 +1,15 @@
 -- What was written to the mounted drives is brought to where it stays, on one after another.
-use Rattle.std.specs.Prelude.{ℕ, List, Option, IsSome, IfSome, is_some, count_by}
+use Rattle.std.specs.Prelude.{◌≡◌, ℕ, Bool, false, List, Option, IsSome, IfSome, is_some, count_by}
 use Rattle.mpm_mount.specs.Directories.{Directory}
 use Rattle.mpm_bdos.specs.Serving.{directory_at}
 
 -- each of them is attached
 abbrev pub AreAttached : (ℕ → Option ℕ) → List (Option Directory) → Type 0
 AreAttached attached mounted = (number : ℕ) → IfSome (directory_at mounted number) (λ directory. IsSome (attached number))
+
+-- each of them is synced: no write to it was asked for since
+abbrev pub AreSynced : (ℕ → Bool) → List (Option Directory) → Type 0
+AreSynced unsynced mounted = (number : ℕ) → IfSome (directory_at mounted number) (λ directory. unsynced number ≡ false)
 
 -- how many there are
 abbrev pub mounted_count : List (Option Directory) → ℕ

@@ -50,7 +50,7 @@ abbrev pub IsServing : Option Disks → List (Option Directory) → Drive → Jo
 IsServing disks mounted before job j None = ⊥
 IsServing disks mounted before job j (Some service) = IsWorkingOn disks (directory_at mounted service.drive) before job j service.work
 
--- where a device failed in it, the image stands within some turn from this one on
+-- where a device failed in its next turn, the image stands within that one
 abbrev pub IsContainedAt : Option Disks → Option Directory → Drive → Job → ℕ → Type 0
 IsContainedAt disks None before job j = ⊥
 IsContainedAt disks (Some directory) before job j = Contained disks directory.drive before job j
@@ -130,7 +130,7 @@ abbrev pub KeepsImages : Option ℕ → List (Option Directory) → Option Disks
 KeepsImages drive mounted disks now =
     (number : ℕ) → drive ≢ Some number → has_directory mounted number ≡ true → told_image now number ≡ told_image disks number
 
--- where a device failed in it, the image of the job's drive stands within some turn from this one on
+-- where a device failed in it, the image of the job's drive stands within that turn
 pub record StopsWithin (disks : Option Disks) (s : Situation) (turns : ℕ) : Type 0 where
   pub job : Job
   pub its : job_of s ≡ Some job

@@ -18,7 +18,7 @@ fn is_file_call(call: &Call) -> bool
 }
 
 impl Bdos {
-    ghost use Rattle.std.specs.Prelude.{◌≡◌, ◌≤◌, ◌+◌, ◌*◌, ℕ, List, Option, Some, None, Ok, IfOk, IsOk, OnOk, OnErr, option_map, false};
+    ghost use Rattle.std.specs.Prelude.{◌≡◌, ◌≤◌, ◌+◌, ◌*◌, ℕ, List, Option, Some, None, is_some, true, Ok, IfOk, IsOk, OnOk, OnErr, option_map, false};
     ghost use Rattle.mpm_port.specs.Causes.{HasCause};
     ghost use Rattle.mpm_port.specs.Disks.{Told};
     ghost use Rattle.mpm_clock.specs.Times.{IsTime};
@@ -29,7 +29,7 @@ impl Bdos {
     ghost use Rattle.mpm_bdos.specs.Functions.{function_of};
     ghost use Rattle.mpm_bdos.specs.Subjects.{drive_number};
     ghost use Rattle.mpm_bdos.specs.Jobs.{call_turns};
-    ghost use Rattle.mpm_bdos.specs.Serving.{IsCaller, StandEach, Serves, directory_at};
+    ghost use Rattle.mpm_bdos.specs.Serving.{IsCaller, StandEach, StandForSome, Serves, directory_at};
     ghost use Rattle.mpm_bdos.specs.Turns.{FitsDrives, StaysBeside, has_work, labelled, told_images};
     ghost use Rattle.mpm_bdos.specs.Starting.{caller_of, entering};
     ghost use Rattle.mpm_bdos.specs.Finishing.{ComesTo};
@@ -114,6 +114,7 @@ impl Bdos {
             → IfOk result (MayAnswer process.now.multi function call.now.dma reply.new) }
         ensures drive { (before : List (Option Drive)) (function : functions.FileFunction) → function_of call.now.function ≡ Some function
             → IfOk result (IsOfDrive (drive_number (entering self.old before (caller_of p process.now) function call.now (stamp_of now)))) }
+        ensures stand { is_some (function_of call.now.function) ≡ true → StandForSome self.old.mounted }
         ensures none { ((number : ℕ) → directory_at self.old.mounted number ≡ None) → drives.new ≡ drives.old }
         ensures unfailing { ((number : ℕ) → directory_at self.old.mounted number ≡ None) → IsOk result }
         ensures service { (function : functions.FileFunction) → function_of call.now.function ≡ Some function → self.new.service ≡ None }

@@ -1,6 +1,6 @@
 ghost use Rattle.std.specs.Prelude.{◌≡◌, ◌<◌, true, None, is_some, slice_index_or};
 ghost use Rattle.std.specs.Option.{option_copied};
-ghost use Rattle.mpm_bdos.specs.Serving.{AreInPlace, kind_at};
+ghost use Rattle.mpm_bdos.specs.Serving.{AreInPlace, StandForSome, kind_at};
 
 use mpm_base::Kind;
 use mpm_mount::Mounted;
@@ -34,8 +34,10 @@ impl Directories {
     }
 
     /// The directory of a drive, where it is mounted; none above the sixteenth is.
+    #[tactic(auto, using(crate::proofs::SomeImages::stands_for_some))]
     pub(crate) fn get(&self, drive: u8) -> Option<&Mounted>
-        ensures { option_copied result ≡ slice_index_or self.now drive None }
+        ensures stand { StandForSome self.now }
+        ensures place { option_copied result ≡ slice_index_or self.now drive None }
     {
         match self.places.get(usize::from(drive)) {
             Some(place) => place.as_ref(),

@@ -248,16 +248,20 @@ impl Bdos {
         ensures no_reply { self.old.service ≡ None → reply.new ≡ reply.old }
         ensures no_extended { self.old.service ≡ None → result ≡ None }
     {
-        match self.service.take() {
-            Some(service) => reply_service(
-                &service,
-                reply,
-                &self.mounted,
-                &mut self.protected,
-                &mut self.opens,
-                &mut self.marks,
-                &mut self.searches,
-            ),
+        match &self.service {
+            Some(service) => {
+                let extended = reply_service(
+                    service,
+                    reply,
+                    &self.mounted,
+                    &mut self.protected,
+                    &mut self.opens,
+                    &mut self.marks,
+                    &mut self.searches,
+                );
+                self.service = None;
+                extended
+            }
             None => None,
         }
     }

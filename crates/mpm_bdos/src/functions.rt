@@ -64,6 +64,7 @@ pub enum FileFunction {
 
 impl FileFunction {
     /// The function of a number, if it is one on files and drives that the disk serves.
+    #[inline(always)]
     #[tactic(auto, unfolding(crate::specs::Functions::function_of))]
     pub fn of(number: u8) -> Option<FileFunction>
         ensures { result ≡ function_of number }

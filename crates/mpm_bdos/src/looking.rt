@@ -113,7 +113,7 @@ fn count_at(entry: &Entry, extent: u16) -> Option<u8>
 }
 
 /// The record count of an extent of a user's file in a drive's directory, if it is there.
-#[tactic(auto, using(crate::proofs::Looked::extent_within), unfolding(crate::specs::Looking::count_of))]
+#[tactic(auto, using(mpm_files::proofs::Slots::slot_within), unfolding(crate::specs::Looking::count_of))]
 fn count_of(mounted: &Mounted, user: u8, name: &[u8; 11], extent: u16) -> Option<u8>
     ensures { result ≡ spec.count_of mounted.now (record { user = user; name = plain name.now }) extent }
 {

@@ -20,9 +20,13 @@ fn no_places(alloc: Global) -> Result<Vec<Option<Mounted>>, OutOfMemory>
 }
 
 /// Puts a directory into the place of its drive's number, if there is that place.
+#[tactic(auto, using(crate::proofs::Placed::one_placed))]
 fn put(places: &mut Vec<Option<Mounted>>, mounted: Mounted)
-    ensures { places.new.items ≡ slice_set places.old.items mounted.drive (Some mounted) }
+    ensures put { places.new.items ≡ slice_set places.old.items mounted.drive (Some mounted) }
+    ensures placed { AreInPlace places.old.items → AreInPlace places.new.items }
 {
+    // Whatever kind it is of, it is a directory of that kind.
+    let _ = mounted.kind();
     let number = usize::from(mounted.drive());
     if number < places.len() {
         places[number] = Some(mounted);
@@ -34,7 +38,7 @@ fn put(places: &mut Vec<Option<Mounted>>, mounted: Mounted)
 ///
 /// # Errors
 /// Where no memory is found for the places.
-#[tactic(auto, using(crate::proofs::Placed::all_placed, crate::proofs::Placed::last_put, crate::proofs::Placed::none_put))]
+#[tactic(auto, using(crate::proofs::Placed::none_placed, crate::proofs::Placed::last_put, crate::proofs::Placed::none_put))]
 pub fn in_places(
     alloc: Global,
     mut mounted: Vec<Mounted>,

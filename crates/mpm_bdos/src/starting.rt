@@ -15,7 +15,7 @@ ghost use Rattle.mpm_bdos.specs.Answering.{IsEntered};
 ghost use Rattle.mpm_bdos.specs.Asking.{called, StandsFor};
 ghost use Rattle.mpm_bdos.specs.Changes as changes;
 ghost use Rattle.mpm_bdos.specs.Functions.{function_of};
-ghost use Rattle.mpm_bdos.specs.Serving.{IsCaller, HaveUsers, StandEach, WorksOn};
+ghost use Rattle.mpm_bdos.specs.Serving.{IsCaller, HaveUsers, StandEach, StandForSome, WorksOn};
 ghost use Rattle.mpm_bdos.specs.Starting as spec;
 
 use crate::asking::{ask, drive_of_call, word_of_call};
@@ -141,8 +141,8 @@ fn begun_job(mounted: &Mounted, job: &Job) -> Option<Work>
 fn begun(mounted: &Mounted, job: Option<Job>) -> Option<Work>
     ensures { (image : List ℕ) (drive : Drive) → Stands image mounted.now drive → IfSome job (Suits drive) → WorksOn image (Some mounted.now) drive job 0 result }
 {
-    match job {
-        Some(job) => begun_job(mounted, &job),
+    match &job {
+        Some(job) => begun_job(mounted, job),
         None => None,
     }
 }
@@ -337,6 +337,7 @@ fn entered_among(
     ensures entered { IsEntered caller.now function call.now result }
     ensures drive { (drives : List (Option Drive))
         → result.drive ≡ subjects.drive_number (called drives protected.now opens.now marks.now searches.now caller.now function call.now moment) }
+    ensures stand { StandForSome mounted.now }
     ensures all { (images : ℕ → List ℕ) (drives : List (Option Drive)) → StandEach images mounted.now drives
         → spec.EntersAmong images mounted.now (called drives protected.now opens.now marks.now searches.now caller.now function call.now moment) result }
 {
@@ -386,7 +387,7 @@ impl Bdos {
     ghost use Rattle.mpm_bdos.specs.declared.functions.FileFunction as functions;
     ghost use Rattle.mpm_bdos.specs.Functions.{function_of};
     ghost use Rattle.mpm_bdos.specs.Jobs.{call_turns};
-    ghost use Rattle.mpm_bdos.specs.Serving.{IsCaller, StandEach, Serves, directory_at};
+    ghost use Rattle.mpm_bdos.specs.Serving.{IsCaller, StandEach, StandForSome, Serves, directory_at};
     ghost use Rattle.mpm_bdos.specs.Subjects.{drive_number};
     ghost use Rattle.mpm_bdos.specs.Turns.{drive_served, has_work};
     ghost use Rattle.mpm_bdos.specs.Answering.{HasEntered};
@@ -406,6 +407,7 @@ impl Bdos {
         ensures drive { (drives : List (Option Drive)) (function : functions.FileFunction) → function_of call.now.function ≡ Some function
             → drive_served self.new.service ≡ Some (drive_number (entering self.old drives (caller_of p process.now) function call.now (stamp_of now))) }
         ensures some { is_some (function_of call.now.function) ≡ true → 0 < result }
+        ensures stand { is_some (function_of call.now.function) ≡ true → StandForSome self.old.mounted }
         ensures workless { is_some (function_of call.now.function) ≡ true → ((number : ℕ) → directory_at self.old.mounted number ≡ None) → has_work self.new.service ≡ false }
         ensures kept { self.new ≡ record self.old { service = self.new.service } }
         ensures other { function_of call.now.function ≡ None → self.new ≡ self.old }

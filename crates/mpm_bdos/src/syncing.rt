@@ -1,7 +1,8 @@
-ghost use Rattle.std.specs.Prelude.{◌≡◌, ◌≤◌, ◌<◌, ◌+◌, true, None, IsSome, IfSome, OnOk, OnErr, is_some, if◌then◌else◌};
+ghost use Rattle.std.specs.Prelude.{◌≡◌, ◌≢◌, ℕ, ◌≤◌, ◌<◌, ◌+◌, true, false, None, IsSome, IfSome, OnOk, OnErr, is_some, if◌then◌else◌};
 ghost use Rattle.mpm_port.specs.Causes.{HasCause};
 ghost use Rattle.mpm_mount.specs.Mounting.{SameDrives};
-ghost use Rattle.mpm_bdos.specs.Syncing.{AreAttached, mounted_count};
+ghost use Rattle.mpm_bdos.specs.Serving.{directory_at};
+ghost use Rattle.mpm_bdos.specs.Syncing.{AreAttached, AreSynced, mounted_count};
 
 use crate::bdos::Bdos;
 use crate::directories::Directories;
@@ -22,6 +23,9 @@ fn sync_place<D: Drives, L: Ledger>(
     ensures calls { steps.new ≡ steps.old + (if is_some place.now then 1 else 0) }
     ensures some { OnErr result (is_some place.now ≡ true) }
     ensures none { place.now ≡ None → drives.new ≡ drives.old }
+    ensures synced { IfSome place.now (λ directory. OnOk result (D.unsynced drives.new directory.drive ≡ false)) }
+    ensures stay { (number : ℕ) → D.unsynced drives.old number ≡ false → D.unsynced drives.new number ≡ false }
+    ensures beside { (number : ℕ) → IfSome place.now (λ directory. number ≢ directory.drive) → D.unsynced drives.new number ≡ D.unsynced drives.old number }
 {
     match place {
         Some(mounted) => {
@@ -42,6 +46,9 @@ impl Directories {
         ensures all { OnOk result (steps.new ≡ steps.old + mounted_count self.now) }
         ensures some { OnErr result (0 < mounted_count self.now) }
         ensures none { mounted_count self.now ≡ 0 → drives.new ≡ drives.old }
+        ensures synced { OnOk result (AreSynced (D.unsynced drives.new) self.now) }
+        ensures stay { (number : ℕ) → D.unsynced drives.old number ≡ false → D.unsynced drives.new number ≡ false }
+        ensures beside { (number : ℕ) → directory_at self.now number ≡ None → D.unsynced drives.new number ≡ D.unsynced drives.old number }
     {
         for place in self.places.as_slice() {
             if let Err(Failed) = sync_place(place, drives, steps) {
@@ -53,14 +60,15 @@ impl Directories {
 }
 
 impl Bdos {
-    ghost use Rattle.std.specs.Prelude.{◌≡◌, ◌≤◌, ◌<◌, ◌+◌, OnOk, OnErr};
+    ghost use Rattle.std.specs.Prelude.{◌≡◌, ℕ, ◌≤◌, ◌<◌, ◌+◌, false, None, OnOk, OnErr};
     ghost use Rattle.mpm_port.specs.Causes.{HasCause};
     ghost use Rattle.mpm_mount.specs.Mounting.{SameDrives};
-    ghost use Rattle.mpm_bdos.specs.Syncing.{mounted_count};
+    ghost use Rattle.mpm_bdos.specs.Serving.{directory_at};
+    ghost use Rattle.mpm_bdos.specs.Syncing.{AreSynced, mounted_count};
     ghost use Rattle.mpm_bdos.specs.Turns.{FitsDrives};
 
     /// Brings what was written to the mounted drives to where it stays, one drive after another in order of their letters, up to
-    /// the first that fails. `steps` counts the calls.
+    /// the first that fails: behind a success each of them is synced. `steps` counts the calls.
     #[tactic(auto, using(crate::proofs::Fitting::fit_attached))]
     pub fn sync<D: Drives, L: Ledger>(
         &self,
@@ -74,6 +82,9 @@ impl Bdos {
         ensures all { OnOk result (steps.new ≡ steps.old + mounted_count self.now.mounted) }
         ensures some { OnErr result (0 < mounted_count self.now.mounted) }
         ensures none { mounted_count self.now.mounted ≡ 0 → drives.new ≡ drives.old }
+        ensures synced { OnOk result (AreSynced (D.unsynced drives.new) self.now.mounted) }
+        ensures stay { (number : ℕ) → D.unsynced drives.old number ≡ false → D.unsynced drives.new number ≡ false }
+        ensures beside { (number : ℕ) → directory_at self.now.mounted number ≡ None → D.unsynced drives.new number ≡ D.unsynced drives.old number }
     {
         self.mounted.sync(drives, steps)
     }

@@ -49,7 +49,7 @@ fn told_at(entry: &Entry) -> Option<[u8; 128]>
 }
 
 /// The entry that covers an extent of a user's file, as a search tells it, in a drive's directory.
-#[tactic(auto, using(crate::proofs::Looked::extent_within, crate::proofs::Told::can_tell), unfolding(crate::specs::Telling::told_in))]
+#[tactic(auto, using(mpm_files::proofs::Slots::slot_within, crate::proofs::Told::can_tell), unfolding(crate::specs::Telling::told_in))]
 fn told_in(mounted: &Mounted, user: u8, name: &[u8; 11], extent: u16) -> Option<[u8; 128]>
     ensures { result ≡ spec.told_in mounted.now (record { user = user; name = plain name.now }) extent }
 {

@@ -3,6 +3,7 @@ ghost use Rattle.mpm_port.specs.Causes.{HasCause};
 ghost use Rattle.mpm_port.specs.Disks.{Told};
 ghost use Rattle.mpm_blocks.specs.Geometries.{geometry_of};
 ghost use Rattle.mpm_cache.specs.Coherent.{IsCoherent, HasNoAlias};
+ghost use Rattle.mpm_mount.specs.Directories.{IsDirectory};
 ghost use Rattle.mpm_mount.specs.Drives.{Drive};
 ghost use Rattle.mpm_files.specs.declared.jobs.Job.{Job};
 ghost use Rattle.mpm_files.specs.declared.jobs.JobKind.TheVariants as kinds;
@@ -43,18 +44,24 @@ pub(crate) fn turn_at<D: Drives, L: Ledger>(
     ensures calls { steps.new ≤ steps.old + 20 }
     ensures reads { work.old.job.kind ≡ kinds.Read → steps.new ≤ steps.old + 1 }
     ensures cached { work.old.job.kind ≡ kinds.Read → IfSome place.old (λ d. IsNextCached cache.old d work.old) → steps.new ≡ steps.old }
+    ensures directory { IfSome place.new (λ d. IsDirectory d.kind d.entries) }
     ensures leaves { HasLeft D.attached D.disks D.failed_names place.old cache.old cache.new drives.old drives.new }
     ensures cause { HasCause (D.faults drives.old) (D.faults drives.new) result }
 {
     match place {
-        Some(mounted) => mpm_files::turn(mounted, cache, work, drives, steps),
+        Some(mounted) => {
+            let result = mpm_files::turn(mounted, cache, work, drives, steps);
+            // Whatever the turn made of it, it is a directory of its kind.
+            let _ = mounted.kind();
+            result
+        }
         None => Ok(Progress::Done),
     }
 }
 
 impl Directories {
     /// Does the next unit of a job on the drive of a number, where it is mounted.
-    #[tactic(auto, using(crate::proofs::Fitting::labels_stay, crate::proofs::Fitting::images_after, crate::proofs::Fitting::stays_after, crate::proofs::Fitting::stays_same))]
+    #[tactic(auto, using(crate::proofs::Fitting::labels_stay, crate::proofs::Fitting::in_place_after, crate::proofs::Fitting::images_after, crate::proofs::Fitting::stays_after, crate::proofs::Fitting::stays_same))]
     pub(crate) fn turn<D: Drives, L: Ledger>(
         &mut self,
         number: u8,

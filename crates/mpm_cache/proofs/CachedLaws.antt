@@ -4,7 +4,7 @@ use Rattle.std.specs.Cmp.{IsEquivalence}
 use Rattle.std.specs.List.{IsDistinct}
 use Rattle.std.specs.Map.{keys_of, lookup, lookup_entry, remove_entry}
 use Rattle.std.specs.Option.{option_map_or}
-use Rattle.std.proofs.lemmas.Bool.{false≢true, eqb-true, eq-eqb}
+use Rattle.std.proofs.lemmas.Bool.{false≢true, eqb-true, eq-eqb, false_from_ne_true}
 use Rattle.std.proofs.lemmas.Map.{lookup-remove_entry}
 use Rattle.lru.specs.LruCache.{LruCache, lru_cache, promoted, put_entries}
 use Rattle.lru.proofs.CallerLemmas.{Contains-lookup_entry}
@@ -32,10 +32,6 @@ known_same d s o p h = let two = both_true (d == o) (s == p) h in (eqb-true d o 
 pub same_known : (d s o p : ℕ) → d ≡ o → s ≡ p → is_at d s (at o p) ≡ true
 same_known d s o p h k = two_true (d == o) (s == p) (eq-eqb d o h) (eq-eqb s p k)
 
-not_true : (b : Bool) → (b ≡ true → ⊥) → b ≡ false
-not_true true h = absurd (h refl)
-not_true false h = refl
-
 alike : (a b : Bool) → (a ≡ true → b ≡ true) → (b ≡ true → a ≡ true) → a ≡ b
 alike true true f g = refl
 alike true false f g = absurd (false≢true (f refl))
@@ -60,7 +56,7 @@ same_place_laws = record {
 
 -- a place that is one sector is no other
 apart_at : (d s o p : ℕ) (x : Place) → is_at d s (at o p) ≡ false → is_at d s x ≡ true → is_at o p x ≡ false
-apart_at d s o p x apart is = not_true (is_at o p x) (λ other. false≢true (sym apart ∙ through (at d s) x (at o p) is (swapped (at o p) x other)))
+apart_at d s o p x apart is = false_from_ne_true (is_at o p x) (λ other. false≢true (sym apart ∙ through (at d s) x (at o p) is (swapped (at o p) x other)))
 
 -- without the entry of one sector the others are found as before
 found_without : (d s o p : ℕ) (es : List (Place × List ℕ)) → is_at d s (at o p) ≡ false → lookup (is_at o p) (remove_entry (is_at d s) es) ≡ lookup (is_at o p) es

@@ -6,6 +6,7 @@ use Rattle.std.proofs.lemmas.List.FromFn.{length-map-range_with_len}
 use Rattle.std.specs.Char.{to_ascii_uppercase}
 use Rattle.mpm_base.specs.Lists.{zeros}
 use Rattle.mpm_base.proofs.Choices.{either}
+use Rattle.mpm_base.proofs.Widths.{length_in_width}
 use Rattle.mpm_names.specs.Spellings.{Spelling, spelling, is_form, star_of, kept_at, filled, meaning, parsed}
 use Rattle.mpm_names.specs.declared.file_name.Parsed.{Parsed}
 use Rattle.mpm_command.specs.Texts.{first_word, second_word}
@@ -66,9 +67,7 @@ base_page_size page tail few =
 -- a command has a name, so that its tail is shorter than its text, which stands behind two bytes of a message of 130
 
 pub message_size : (bytes : List ℕ) → length (message_in bytes) ≡ 130
-message_size bytes =
-    let size = min (length bytes) 130 in
-    omega (arith, length-append (take size bytes) (drop size (zeros 130)), length-take size bytes, length-drop size (zeros 130), zeros_size 130)
+message_size bytes = length_in_width 130 bytes
 
 text_size : (message : List ℕ) → length (text_of message) ≤ length message - 2
 unfolding text_of

@@ -1,3 +1,4 @@
 pub mod Laws
 pub mod Filling
 pub mod StandingLaws
+pub mod Examples

@@ -1,10 +1,11 @@
 -- The command line interpreter: what it does in each row of its table, and where it goes by the answer. (MP/M II User's
 -- Guide, "Command Line Interpreter"; System Guide, "Page Relocatable Programs"; Programmer's Guide, "Function 150: Send CLI
 -- Command", and those of the functions that it calls.)
-use Rattle.std.specs.Prelude.{ℕ, ◌+◌, ◌-◌, ◌*◌, ◌%◌, ◌<◌, ◌≤◌, ◌≡◌, ◌==◌, ◌&&◌, Bool, true, false, nat_lt, nat_le, if◌then◌else◌, List, [], ◌∷◌, ◌++◌, min, length, take, drop, codes, slice_index, slice_index_or, slice_set, bit_or, Option, Some, None}
+use Rattle.std.specs.Prelude.{ℕ, ◌+◌, ◌-◌, ◌*◌, ◌%◌, ◌<◌, ◌≤◌, ◌≡◌, ◌==◌, ◌&&◌, Bool, true, false, nat_lt, nat_le, if◌then◌else◌, List, [], ◌∷◌, ◌++◌, length, take, drop, codes, slice_index, slice_index_or, slice_set, bit_or, Option, Some, None}
 use Rattle.z80_regs.specs.Words.{low, high, word_of}
-use Rattle.mpm_base.specs.Lists.{zeros}
+use Rattle.mpm_base.specs.Lists.{zeros, in_width}
 use Rattle.mpm_base.specs.Calls.{Taken, Answer}
+pub use Rattle.mpm_base.specs.Calls.{asking}
 use Rattle.mpm_base.specs.declared.functions.TheConstants.{PRINT_STRING, OPEN_FILE, CLOSE_FILE, READ_SEQUENTIAL, SET_GET_USER_CODE, COMPUTE_FILE_SIZE, ABSOLUTE_MEMORY_REQUEST, RELOCATABLE_MEMORY_REQUEST, MEMORY_FREE, OPEN_QUEUE, READ_QUEUE, CONDITIONAL_WRITE_QUEUE}
 use Rattle.mpm_base.specs.declared.segment.SegmentSpec.{SegmentSpec}
 use Rattle.mpm_procs.specs.declared.process.NewProcess.{NewProcess}
@@ -54,10 +55,7 @@ opening consoles = record {
   spec = record { base = 0; pages = 2 };
 }
 
--- a call by its function, its parameter and its bytes; one on a file has its control block
-abbrev pub asking : ℕ → ℕ → List ℕ → Taken
-asking function word bytes = record { function = function; word = word; dma = 0; fcb = zeros 36; bytes = bytes }
-
+-- a call on a file has its control block
 abbrev pub asking_file : ℕ → List ℕ → List ℕ → Taken
 asking_file function fcb bytes = record { function = function; word = 0; dma = 0; fcb = fcb; bytes = bytes }
 
@@ -187,7 +185,7 @@ followed (Some command) message cli = record cli {
 
 -- the message of a command, 130 bytes; one from a console that isn't there is dropped
 abbrev pub message_in : List ℕ → List ℕ
-message_in bytes = take (min (length bytes) 130) bytes ++ drop (min (length bytes) 130) (zeros 130)
+message_in bytes = in_width 130 bytes
 
 abbrev pub commanded : List ℕ → Interpreter → Interpreter
 commanded message cli = if nat_lt (console_in message) cli.consoles then followed (command_in message) message cli else cli

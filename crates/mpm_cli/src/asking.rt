@@ -1,7 +1,7 @@
 ghost use Rattle.std.specs.Prelude.{◌≡◌, ◌≤◌, ◌<◌, length};
 ghost use Rattle.mpm_cli.specs.Interpreters.{asking, asking_file, handing, queue_block as block_of_queue, file_block as block_of_file, read_only as name_read_only, code_address as address_of_code, message_in as message_of_bytes, size_in as size_of_block};
 
-use mpm_base::{Call, SegmentSpec};
+use mpm_base::{Call, SegmentSpec, in_width};
 use mpm_command::Command;
 
 /// Makes a call, of bytes at most 4,096.
@@ -72,14 +72,10 @@ pub(crate) fn code_address(spec: SegmentSpec, place: u32) -> u16
 }
 
 /// A message of the command queue, as many bytes as it has.
-#[tactic(auto, unfolding(mpm_base::specs::Lists::zeros))]
 pub(crate) fn message_in(bytes: &[u8]) -> [u8; 130]
     ensures { result ≡ message_of_bytes bytes.now }
 {
-    let mut message = [0; 130];
-    let size = bytes.len().min(130);
-    message[..size].copy_from_slice(&bytes[..size]);
-    message
+    in_width(bytes)
 }
 
 /// How many records a file has, as its control block says.

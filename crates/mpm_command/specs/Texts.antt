@@ -1,13 +1,14 @@
 -- The parts of the text of a command: it ends at 00h or CR, and spaces part its words. (MP/M II Programmer's Guide, "Function
 -- 150: Send CLI Command".)
-use Rattle.std.specs.Prelude.{ℕ, Bool, not, ◌==◌, ◌||◌, List, drop, take_while}
+use Rattle.std.specs.Prelude.{ℕ, Bool, not, ◌==◌, List, drop, take_while}
 use Rattle.std.specs.List.{prefix_len}
+use Rattle.mpm_base.specs.Texts.{ends_text}
 use Rattle.mpm_command.specs.declared.text.Run.{Run}
 use Rattle.mpm_command.specs.declared.text.Run.TheVariants.{Text, Word, Spaces}
 
 -- whether a byte may stand in a run
 abbrev pub is_of : Run → ℕ → Bool
-is_of Text byte = not (byte == 0 || byte == 13)
+is_of Text byte = not (ends_text byte)
 is_of Word byte = not (byte == 32)
 is_of Spaces byte = byte == 32
 

@@ -2,6 +2,8 @@ ghost use Rattle.std.specs.Prelude.{◌≡◌, ◌≤◌, length, drop};
 ghost use Rattle.std.specs.List.{prefix_len};
 ghost use Rattle.mpm_command.specs.Texts.{is_of, run_of, behind_run as behind_run_of, first_word as first_word_of, second_word as second_word_of, behind_first as behind_first_of};
 
+use mpm_base::ends_text;
+
 /// What a part of a text is made of.
 #[derive(Clone, Copy, Debug, PartialEq, Eq)]
 pub(crate) enum Run {
@@ -73,7 +75,7 @@ fn goes_on(kind: Run, byte: u8) -> bool
     ensures { result ≡ is_of kind byte }
 {
     match kind {
-        Run::Text => byte != 0 && byte != b'\r',
+        Run::Text => !ends_text(byte),
         Run::Word => byte != b' ',
         Run::Spaces => byte == b' ',
     }

@@ -2,7 +2,7 @@
 use Rattle.std.proofs.Common.{◌≡◌, ◌≢◌, ◌∙◌, ℕ, ◌+◌, ◌<◌, Bool, true, false, ◌&&◌, List, [], ◌∷◌, Option, Some, None, is_some, map, refl, sym, ap, subst, arith}
 use Rattle.std.specs.Prelude.{count_by}
 use Rattle.std.specs.Option.{option_map_or}
-use Rattle.std.proofs.lemmas.Bool.{false≢true, ne_eqb, eqb-true}
+use Rattle.std.proofs.lemmas.Bool.{false≢true, ne_eqb, eqb-true, and_right}
 use Rattle.std.proofs.lemmas.List.Sums.{sum_by-set}
 use Rattle.mpm_base.proofs.CountLaws.{one_if, one_if_false, count_cons}
 use Rattle.mpm_ready.specs.Order.{Member}
@@ -74,10 +74,6 @@ pub gate_waits_console : (t : Consoles) (n : ℕ) (console : Console) (r : ℕ) 
 unfolding gate_waits
 gate_waits_console t n console r has = sum_by-set (λ c. one_if (is_gate_waiter c r)) t.consoles n console new_console has
 
-nobody_at : (b : Bool) → (b && false) ≡ false
-nobody_at true = refl
-nobody_at false = refl
-
 -- a change of the waiters or of the printers
 pub gate_waits_unlisted : (t : Consoles) (p r : ℕ) → gate_waits (unlisted t p) r ≡ gate_waits t r
 unfolding gate_waits unlisted
@@ -91,7 +87,7 @@ gate_waits_listed t p priority unit r = refl
 without_wait_own : (console : Console) (p : ℕ) → is_gate_waiter (without_wait_of p console) p ≡ false
 unfolding without_wait_of
 without_wait_own console p =
-    either (λ (c : Console). is_gate_waiter c p ≡ false) (is_owner console.owner p) _ _ (λ own. nobody_at (is_owner console.owner p))
+    either (λ (c : Console). is_gate_waiter c p ≡ false) (is_owner console.owner p) _ _ (λ own. and_right (is_owner console.owner p) false refl)
     (λ other. ap (λ (b : Bool). b && is_some console.awaits) other)
 
 without_wait_other : (console : Console) (p r : ℕ) → r ≢ p → is_gate_waiter (without_wait_of p console) r ≡ is_gate_waiter console r

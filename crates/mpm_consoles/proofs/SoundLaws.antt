@@ -1,12 +1,12 @@
 -- What is so of the consoles and printers stays so after each call.
-use Rattle.std.proofs.Common.{◌≡◌, ◌≢◌, ◌∙◌, inl, inr, ℕ, ◌+◌, ◌<◌, ◌≤◌, Bool, true, false, not, List, [], ◌∷◌, Option, Some, None, ◌&&◌, ◌||◌, eqb, map, length, get_or, set, replicate, refl, sym, ap, subst, arith}
-use Rattle.std.proofs.lemmas.Bool.{false≢true, cases_eq, cases_lt, eq-eqb, ne_eqb}
+use Rattle.std.proofs.Common.{◌≡◌, ◌≢◌, ◌∙◌, inl, inr, ℕ, ◌+◌, ◌<◌, ◌≤◌, Bool, true, false, List, [], ◌∷◌, Option, Some, None, ◌||◌, eqb, map, length, get_or, set, replicate, refl, sym, ap, subst, arith}
+use Rattle.std.proofs.lemmas.Bool.{false≢true, cases_eq, cases_lt, eq-eqb, ne_eqb, and_right}
 use Rattle.std.proofs.lemmas.List.{get_or-set_same, get_or-set_other, get_or_past, get_or_default, get_or-replicate, length-replicate, length-set, length-map}
 use Rattle.std.proofs.Math.ListN.{get_or-map}
 use Rattle.mpm_ready.specs.Order.{Member, first_of, in_list, without_slot, put_in}
 use Rattle.mpm_ready.specs.Tables.{list_at, no_lists, inserted, removed}
 use Rattle.mpm_ready.proofs.OrderLaws.{in_list_put_in, in_list_without_slot, without_slot_absent}
-use Rattle.mpm_ready.proofs.TableLaws.{list_at_inserted, list_at_inserted_other, list_at_removed, table_removed, table_inserted, table_none, list_at_none, none_in_none}
+use Rattle.mpm_ready.proofs.TableLaws.{list_at_inserted, list_at_inserted_other, list_at_removed, table_removed, table_inserted, table_none, list_at_none, none_in_none, not_itself}
 use Rattle.mpm_consoles.specs.Console.{Console, new_console, is_owner, passed_to, with_raw, with_output_stopped, awaited_for, awaiting, without_wait_of, resumed, typed, without_first, spoken, written, IsProper}
 use Rattle.mpm_consoles.specs.Consoles.{Consoles, no_owners, console_at, HasConsole, HasUnit, owner_of, owns, place_of, waiters_of, first_waiter, waits_for, WaitsNowhere, with_console, MayWait, IsSound}
 use Rattle.mpm_consoles.specs.Handling.{given, unlisted, listed, first_taken, raw_set, gate_wait_begun, put_out, units_without_waiter}
@@ -105,14 +105,10 @@ sound_given t (ConsoleUnit n) owner sound has waited = sound_console t n _ sound
 sound_given t (PrinterUnit n) owner sound has waited = sound_printer t n owner sound has waited
 
 -- a process waits for no unit
-both_false : (a b : Bool) → b ≡ false → (a && b) ≡ false
-both_false true b is = is
-both_false false b is = refl
-
 for_fewer : (owner : Option ℕ) (ms : List Member) (p : ℕ) → MayWait owner ms → MayWait owner (without_slot p ms)
 for_fewer owner ms p is = record {
   free = λ none. ap (without_slot p) (is.free none) ∙ none_out p;
-  others = λ r owned. in_list_without_slot ms p r ∙ both_false _ _ (is.others r owned);
+  others = λ r owned. in_list_without_slot ms p r ∙ and_right _ _ (is.others r owned);
 }
   where
     none_out : (p : ℕ) → without_slot p [] ≡ []
@@ -183,10 +179,6 @@ nobody (m ∷ ms) none = absurd (cc)
 
 pub nobody_first : (t : Consoles) (unit : Unit) → first_waiter t unit ≡ None → MayWait None (waiters_of t unit)
 nobody_first t unit none = record { free = λ _. nobody (waiters_of t unit) none; others = λ p is. absurd (cc) }
-
-not_itself : (b x : Bool) → b ≡ true → (not b && x) ≡ false
-not_itself true x h = refl
-not_itself false x h = absurd (false≢true h)
 
 out : (ms : List Member) (p : ℕ) → in_list p (without_slot p ms) ≡ false
 out ms p = in_list_without_slot ms p p ∙ not_itself _ _ (eq-eqb p p refl)

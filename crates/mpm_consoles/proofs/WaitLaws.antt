@@ -1,9 +1,9 @@
 -- Who waits for which unit.
-use Rattle.std.proofs.Common.{◌≡◌, ◌∙◌, inl, inr, ℕ, Bool, true, false, not, ◌&&◌, List, Some, None, eqb, refl, sym, ap}
+use Rattle.std.proofs.Common.{◌≡◌, ◌∙◌, inl, inr, ℕ, Bool, true, false, List, Some, None, eqb, refl, sym, ap}
 use Rattle.std.proofs.lemmas.Bool.{false≢true, cases_Bool, eq-eqb, eqb-true}
 use Rattle.mpm_ready.specs.Order.{Member, in_list}
 use Rattle.mpm_ready.specs.Tables.{list_at, list_of, IsTable}
-use Rattle.mpm_ready.proofs.TableLaws.{list_of_known, in_its_list, in_list_removed, unlisted as not_listed}
+use Rattle.mpm_ready.proofs.TableLaws.{list_of_known, in_its_list, in_list_removed, unlisted as not_listed, not_itself}
 use Rattle.mpm_consoles.specs.Consoles.{Consoles, HasUnit, place_of, waits_for}
 use Rattle.mpm_consoles.specs.Handling.{unlisted}
 use Rattle.mpm_consoles.specs.declared.unit.Unit.{Unit}
@@ -30,10 +30,6 @@ has_unlisted t p (ConsoleUnit n) has = has
 has_unlisted t p (PrinterUnit n) has = has
 
 -- and it waits no more
-not_itself : (b x : Bool) → b ≡ true → (not b && x) ≡ false
-not_itself true x h = refl
-not_itself false x h = absurd (false≢true h)
-
 pub gone : (t : Consoles) (p : ℕ) (unit : Unit) → waits_for (unlisted t p) p unit ≡ false
 unfolding unlisted
 gone t p unit = in_list_removed t.waiters p p (place_of unit) ∙ not_itself _ _ (eq-eqb p p refl)

@@ -1,7 +1,7 @@
 ghost use Rattle.std.specs.Prelude.{◌≡◌, ◌≢◌, ◌⊎◌, ℕ, Some, IsSome, IfSome, IfOk, OnOk, OnErr};
 ghost use Rattle.mpm_port.specs.Causes.{HasCause, names_after};
 ghost use Rattle.mpm_port.specs.Disks.{IsInside, SameDisks, Attaches, Writes, Told, image_of, sector_of};
-ghost use Rattle.mpm_port.specs.MemoryDisks.{disks_of, size_of, sizes_told};
+ghost use Rattle.mpm_port.specs.MemoryDisks.{disks_of, size_of, is_unsynced, sizes_told};
 ghost use Rattle.mpm_devices.specs.Steady.{IsSteady};
 
 use mpm_port::{Drives, Failed, FetchError, MemoryDrives};
@@ -39,6 +39,8 @@ impl Drives for SteadyDrives {
 
     ghost disks = { λ d. Some (disks_of d) };
 
+    ghost unsynced = { is_unsynced };
+
     ghost faults = { λ _. 0 };
 
     ghost failed_names = { λ d. d.failed };
@@ -65,7 +67,7 @@ impl Drives for SteadyDrives {
         self.drives.write(drive, sector, bytes)
     }
 
-    #[tactic(auto, unfolding(mpm_port::specs::MemoryDisks::after_access))]
+    #[tactic(auto, unfolding(mpm_port::specs::MemoryDisks::after_sync, mpm_port::specs::MemoryDisks::after_access))]
     fn sync(&mut self, drive: u8) -> Result<(), Failed> {
         self.drives.sync(drive)
     }

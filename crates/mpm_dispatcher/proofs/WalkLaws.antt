@@ -100,9 +100,10 @@ unfolding IsOnce in_list
 once_counts [] q once = refl
 once_counts (m ∷ ms) q once = once_step (m.slot == q) m ms q refl once.0 (once_counts ms q once.1)
 
-one_if_most : (b : Bool) → one_if b ≤ 1
-one_if_most true = omega arith
-one_if_most false = omega arith
+-- a test counts once at most
+pub at_most_one : (b : Bool) → one_if b ≤ 1
+at_most_one true = omega arith
+at_most_one false = omega arith
 
 in_list_if_counted : (b : Bool) → 0 < one_if b → b ≡ true
 in_list_if_counted true some = refl
@@ -122,5 +123,5 @@ pub few_in : (lists : List (List Member)) (list : ℕ) → IsTable lists → len
 few_in lists list table =
     let ms = list_at lists list in
     let once = table.once list in
-    few_numbers (map (λ m. m.slot) ms) 32 (λ q. omega (arith, once_counts ms q once, one_if_most (in_list q ms)))
+    few_numbers (map (λ m. m.slot) ms) 32 (λ q. omega (arith, once_counts ms q once, at_most_one (in_list q ms)))
     (λ q some. member_below ms q (table.slots list) (in_list_if_counted (in_list q ms) (omega (arith, once_counts ms q once, some))))

@@ -1,3 +1,4 @@
 pub mod Telling
 pub mod Mounting
 pub mod Opening
+pub mod Syncing

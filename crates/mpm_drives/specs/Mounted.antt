@@ -1,5 +1,5 @@
 -- The drives of a machine: as its machine file lists them, as they are mounted, and by what is on them.
-use Rattle.std.specs.Prelude.{◌≡◌, ◌≢◌, ℕ, ◌-◌, List, [], ◌∷◌, Option, Some, None, IsSome, IfSome, map, replicate, slice_set}
+use Rattle.std.specs.Prelude.{◌≡◌, ◌≢◌, ℕ, Bool, false, ◌-◌, List, [], ◌∷◌, Option, Some, None, IsSome, IfSome, map, replicate, slice_set}
 use Rattle.std.specs.List.{All, AllByRecursion, AllZip}
 use Rattle.mpm_base.specs.declared.kind.Kind.{Kind}
 use Rattle.mpm_port.specs.Disks.{Disks}
@@ -52,6 +52,10 @@ AreMounted attached disks images specs mounted = AllZip (IsMountedAs attached di
 -- the drives are attached
 abbrev pub AreAttached : (ℕ → Option ℕ) → List Directory → Type 0
 AreAttached attached mounted = All (λ d. IsSome (attached d.drive)) mounted
+
+-- they are synced: no write to them was asked for since
+abbrev pub AreSynced : (ℕ → Bool) → List Directory → Type 0
+AreSynced unsynced mounted = All (λ d. unsynced d.drive ≡ false) mounted
 
 -- what is on a drive of a machine file is what its image stands for
 pub record IsDriveOf (images : Images) (spec : DriveSpec) (drive : NumberedDrive) : Type 0 where

@@ -1,10 +1,10 @@
-ghost use Rattle.std.specs.Prelude.{◌≡◌, ◌<◌, ◌≤◌, ◌+◌, true, [], ℕ, List, All, IfOk, IfErr, OnOk, OnErr, length};
+ghost use Rattle.std.specs.Prelude.{◌≡◌, ◌<◌, ◌≤◌, ◌+◌, true, false, [], ℕ, List, All, IfOk, IfErr, OnOk, OnErr, length};
 ghost use Rattle.mpm_port.specs.Causes.{HasCause};
 ghost use Rattle.mpm_machine_file.specs.Drives.{all_differ};
 ghost use Rattle.mpm_machine_file.specs.MachineFiles.{IsDrive};
 ghost use Rattle.mpm_mount.specs.Mounting.{SameDrives};
 ghost use Rattle.mpm_drives.specs.Images.{image_named};
-ghost use Rattle.mpm_drives.specs.Mounted.{number_of, IsMountedAs, AreMounted, AreAttached, OnlyDrive, SameBeside};
+ghost use Rattle.mpm_drives.specs.Mounted.{number_of, IsMountedAs, AreMounted, AreAttached, AreSynced, OnlyDrive, SameBeside};
 ghost use Rattle.mpm_drives.specs.Stopping.{StopsAt, Stops};
 
 use crate::error::BootError;
@@ -98,6 +98,8 @@ impl MountedDrives {
         ensures all { OnOk result (steps.new ≡ steps.old + length self.now) }
         ensures some { OnErr result (0 < length self.now) }
         ensures none { self.now ≡ [] → drives.new ≡ drives.old }
+        ensures synced { OnOk result (AreSynced (D.unsynced drives.new) self.now) }
+        ensures stay { (number : ℕ) → D.unsynced drives.old number ≡ false → D.unsynced drives.new number ≡ false }
     {
         for mounted in self.items.as_slice() {
             steps.tick();

@@ -86,12 +86,13 @@ fn put_sector(image: &mut Vec<u8>, sector: u32, bytes: &[u8; 128]) {
     }
 }
 
-/// The two disks, and which drive fails in each call that writes to it, if one does.
+/// The two disks, which drive fails in each call that writes to it, if one does, and the drives that were written and not synced.
 #[derive(Drop)]
 pub(crate) struct Floppies {
     a: Vec<u8>,
     b: Vec<u8>,
     failing: Option<u8>,
+    unsynced: [bool; 256],
     faults: u64,
 }
 
@@ -105,7 +106,7 @@ fn one_more_fault(faults: u64) -> u64
 }
 
 impl Drives for Floppies {
-    ghost use Rattle.std.specs.Prelude.{◌≡◌, ℕ, List, [], Option, Some, None, IfSome};
+    ghost use Rattle.std.specs.Prelude.{◌≡◌, ℕ, false, List, [], Option, Some, None, IfSome, slice_index_or};
     ghost use Rattle.std.proofs.Common.{subst};
     ghost use Rattle.mpm_port.specs.Disks.{Disks};
 
@@ -113,13 +114,16 @@ impl Drives for Floppies {
 
     ghost disks = { λ _. None };
 
+    ghost unsynced = { λ d drive. slice_index_or d.unsynced drive false };
+
     ghost faults = { λ d. d.faults };
 
     ghost failed_names = { λ _. [] };
 
     ghost sizes = { λ _ _ _ _ told size. absurd (subst (λ (disks : Option Disks). IfSome disks (λ _. ⊥)) told tt) };
 
-    fn attach(&mut self, _drive: u8, _name: &str) -> Result<(), FetchError> {
+    fn attach(&mut self, drive: u8, _name: &str) -> Result<(), FetchError> {
+        self.unsynced[usize::from(drive)] = false;
         Ok(())
     }
 
@@ -137,6 +141,7 @@ impl Drives for Floppies {
     }
 
     fn write(&mut self, drive: u8, sector: u32, bytes: &[u8; 128]) -> Result<(), Failed> {
+        self.unsynced[usize::from(drive)] = true;
         if self.failing == Some(drive) {
             self.faults = one_more_fault(self.faults);
             return Err(Failed);
@@ -149,7 +154,8 @@ impl Drives for Floppies {
         Ok(())
     }
 
-    fn sync(&mut self, _drive: u8) -> Result<(), Failed> {
+    fn sync(&mut self, drive: u8) -> Result<(), Failed> {
+        self.unsynced[usize::from(drive)] = false;
         Ok(())
     }
 }
@@ -167,6 +173,7 @@ pub(crate) fn two_disks(
         a,
         b,
         failing,
+        unsynced: [false; 256],
         faults: 0,
     })
 }

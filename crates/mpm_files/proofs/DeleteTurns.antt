@@ -22,6 +22,7 @@ use Rattle.mpm_mount.proofs.Sorts.{extent_freed, xfcb_freed}
 use Rattle.mpm_mount.proofs.Orders.{file_total}
 use Rattle.mpm_mount.proofs.NextFound.{next_found, next_none, is_sought_pair}
 use Rattle.mpm_mount.proofs.LookedUp.{xfcb_found, xfcb_missing}
+use Rattle.mpm_mount.proofs.Replaced.{and_all}
 use Rattle.mpm_files.specs.declared.jobs.JobKind.TheVariants.{Delete}
 use Rattle.mpm_files.specs.declared.jobs.Job.{Job}
 use Rattle.mpm_files.specs.declared.work.Work.{Work}
@@ -36,6 +37,7 @@ use Rattle.mpm_files.proofs.NextEntries.{deletion_next, deleted_xfcb_next}
 use Rattle.mpm_files.proofs.Served.{left_as, serves_quietly}
 use Rattle.mpm_files.proofs.NextDone.{IsDone, place_within}
 use Rattle.mpm_files.proofs.SearchSteps.{plain_twice}
+use Rattle.mpm_files.proofs.Left.{no_front}
 
 -- the first of a list by a test of what it is made to
 abbrev made_of : {X Y : Type 0} → Option X → (X → Y) → Option Y
@@ -51,10 +53,6 @@ find_made (x ∷ xs) f p q same =
     ap (λ b. cond b (Some (f x)) (lists.find q (each xs f))) (same x) ∙ ap (cond (p x) (Some (f x))) (find_made xs f p q same) ∙ first_made f (p x) x (lists.find p xs)
 
 -- the first entry that fits is the one that a search finds
-and_all : (b : Bool) → (b && true) ≡ b
-and_all true = refl
-and_all false = refl
-
 first_fitting : (files : Drive) (d : Directory) (user : ℕ) (pattern : List ℕ)
     → lists.find (λ e. is_fitting user pattern e.0) (entries_named files)
     ≡ made_of (made_of (lists.find (is_sought_pair (search_of d.kind user pattern None)) (entries files.extents)) (λ e. e.0)) (λ name. (record { user = name.user; name = name.name }, name.number))
@@ -210,10 +208,6 @@ xfcb_deleted image d before job j work slot stands serving kind h is =
     )
 
 -- there is always one that goes
-no_front : (xs ys : List FileUnit) → xs ++ ys ≡ [] → xs ≡ []
-no_front [] ys none = refl
-no_front (x ∷ xs) ys none = absurd (omega (arith, ap length none))
-
 drop_none : (us : List FileUnit) (j : ℕ) → drop j us ≡ [] → length us ≤ j
 drop_none [] j none = omega arith
 drop_none (u ∷ us) zero none = absurd (omega (arith, ap length none))

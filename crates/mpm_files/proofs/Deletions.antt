@@ -7,6 +7,7 @@ use Rattle.std.proofs.lemmas.List.{length-append}
 use Rattle.std.proofs.lemmas.List.Sums.{sum_by-cons}
 use Rattle.mpm_mount.specs.Drives.{FileName, file_cmp, Drive}
 use Rattle.mpm_mount.proofs.Orders.{file_total, file_same}
+use Rattle.mpm_mount.proofs.Replaced.{and_all}
 use Rattle.mpm_files.specs.Units.{FileUnit, RemovesEntry, RemovesXfcb}
 use Rattle.mpm_files.specs.Plans.{when, is_same_file, is_entry_of, is_fitting, deleting_entry, deleting}
 use Rattle.mpm_files.specs.Counting.{bit}
@@ -42,10 +43,6 @@ one_xfcb user pattern entry named file true same =
     (one_file file entry.0 same)
 one_xfcb user pattern entry named file false apart = plus_none (bit (is_fitting user pattern file && list_any (is_entry_of file) named))
 
-without_test : (b : Bool) → (b && true) ≡ b
-without_test true = refl
-without_test false = refl
-
 never : (b : Bool) → bit (b && false) ≡ 0
 never true = refl
 never false = refl
@@ -58,7 +55,7 @@ its_xfcb drive file =
 
 where_counted : (drive : Drive) (file : FileName) (c : Bool)
     → sum_by (λ q. bit (is_same_file q.0 file && c)) (entries drive.xfcbs) ≡ bit (c && is_some (get drive.xfcbs file))
-where_counted drive file true = sums_alike (λ q. bit (is_same_file q.0 file && true)) (λ q. bit (is_same_file q.0 file)) (entries drive.xfcbs) (λ q. ap bit (without_test (is_same_file q.0 file))) ∙ its_xfcb drive file
+where_counted drive file true = sums_alike (λ q. bit (is_same_file q.0 file && true)) (λ q. bit (is_same_file q.0 file)) (entries drive.xfcbs) (λ q. ap bit (and_all (is_same_file q.0 file))) ∙ its_xfcb drive file
 where_counted drive file false = sums_alike (λ q. bit (is_same_file q.0 file && false)) (λ q. 0) (entries drive.xfcbs) (λ q. never (is_same_file q.0 file)) ∙ sum_nothing (entries drive.xfcbs)
 
 three_tests : (a b c : Bool) → ((a && b) && c) ≡ (a && (b && c))

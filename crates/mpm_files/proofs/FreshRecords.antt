@@ -12,9 +12,9 @@ use Rattle.mpm_dirent.specs.declared.kinds.Entry.TheVariants.{File}
 use Rattle.mpm_dirent.specs.declared.kinds.FileEntry.{FileEntry}
 use Rattle.mpm_dirent.specs.Proper.{MapFits, IsProper}
 use Rattle.mpm_mount.specs.Drives.{FileName, PhysicalExtent, Drive, entry_number, block_place, with_extent}
-use Rattle.mpm_mount.specs.Faults.{extent_of, name_of, cause_of}
+use Rattle.mpm_mount.specs.Faults.{extent_of, name_of, has_at, file_cause, cause_of}
 use Rattle.mpm_mount.specs.Images.{contents_of, extent_in}
-use Rattle.mpm_mount.specs.Changes.{TakesBlock, exchanged}
+use Rattle.mpm_mount.specs.Changes.{TakesBlock, exchanged, with_block}
 use Rattle.mpm_mount.specs.Directories.{Directory, Stands, entry_in, others, free_block}
 use Rattle.mpm_mount.proofs.LookedUp.{free_block_unheld}
 use Rattle.mpm_mount.proofs.KeptRecords.{place_within}
@@ -51,11 +51,17 @@ takes d file n slot block f ex s2 rc has size free few low high number = record 
 extent_again : (n : ℕ) → 32 * (n / 128 / 32) + n / 128 % 32 ≡ n / 128
 extent_again n = omega arith
 
+-- S1 is no cause of a fault
+whatever_s1 : (kind : Kind) (earlier : List Entry) (f : FileEntry) (s1 : ℕ) → cause_of kind earlier (File (record f { s1 = s1 })) ≡ cause_of kind earlier (File f)
+unfolding file_cause has_at
+whatever_s1 kind earlier f s1 = refl
+
 still_by : (d : Directory) (file : FileName) (n slot block : ℕ) (f : FileEntry) (b : Bool) → HasEntry d file n slot f → length f.blocks ≡ 16 → free_block d ≡ Some block
     → cause_of d.kind (others d.entries slot) (File (if b then at_record n (with_number d.kind n block f) else (with_number d.kind n block f))) ≡ None
 still_by d file n slot block f true has size free =
     let ranges = record_ranges n f has.number in
-    still_taking d slot f (block_place d.kind n) block (n / 128 % 32) (n / 128 / 32) (n % 128 + 1) has.sound.faultless
+    whatever_s1 d.kind (others d.entries slot) (with_block f (block_place d.kind n) block (n / 128 % 32) (n / 128 / 32) (n % 128 + 1)) 0
+    ∙ still_taking d slot f (block_place d.kind n) block (n / 128 % 32) (n / 128 / 32) (n % 128 + 1) has.sound.faultless
     (takes d file n slot block f (n / 128 % 32) (n / 128 / 32) (n % 128 + 1) has size free ranges.few ranges.low ranges.high
     (ap (entry_number d.kind) (extent_again n) ∙ sym (entry_numbered d file n slot f has)))
 still_by d file n slot block f false has size free =

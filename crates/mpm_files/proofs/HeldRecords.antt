@@ -78,7 +78,7 @@ raising_is sectors kind n f = refl
 
 -- a file's entry with those of a record
 abbrev pub at_record : ℕ → FileEntry → FileEntry
-at_record n f = record f { ex = n / 128 % 32; s2 = n / 128 / 32; rc = n % 128 + 1 }
+at_record n f = record f { ex = n / 128 % 32; s1 = 0; s2 = n / 128 / 32; rc = n % 128 + 1 }
 
 at_extent : (n : ℕ) (f : FileEntry) → extent_of (at_record n f) ≡ n / 128
 at_extent n f = omega arith

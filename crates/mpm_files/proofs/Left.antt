@@ -38,7 +38,7 @@ first_left units j unit other left follows h =
     (both.0, record { rest = follows.rest; same = both.1 })
 
 -- where nothing is left, whatever a cursor says follows
-no_front : (xs ys : List FileUnit) → xs ++ ys ≡ [] → xs ≡ []
+pub no_front : (xs ys : List FileUnit) → xs ++ ys ≡ [] → xs ≡ []
 no_front [] ys none = refl
 no_front (x ∷ xs) ys none = absurd (omega (arith, ap length none))
 

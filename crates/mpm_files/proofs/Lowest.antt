@@ -1,10 +1,10 @@
 -- The lowest entry of a file by its exact name, and the attributes of the file.
-use Rattle.std.proofs.Common.{◌≡◌, ◌∙◌, ℕ, ◌%◌, ◌==◌, Bool, true, false, ◌&&◌, ◌||◌, cond, List, [], ◌∷◌, Option, Some, None, length, get_or, sym, refl, ap, arith, eq-eqb}
+use Rattle.std.proofs.Common.{◌≡◌, ◌∙◌, ℕ, ◌%◌, ◌==◌, Bool, true, false, ◌&&◌, ◌||◌, cond, List, [], ◌∷◌, Option, Some, None, length, get_or, sym, refl, ap, arith, eq-eqb, eqb-true}
 use Rattle.std.specs.Prelude.{option_map, bytes_eq, filter}
 use Rattle.std.specs.List as lists
 use Rattle.std.specs.Ordering.{is_lt}
 use Rattle.std.specs.FinMap.{entries, entries_sorted, is_sorted}
-use Rattle.std.proofs.lemmas.Bool.{and_parts}
+use Rattle.std.proofs.lemmas.Bool.{and_parts, and_from}
 use Rattle.std.specs.Cmp.Lexicographic.{bytes_decides}
 use Rattle.std.proofs.lemmas.List.{get_or-map}
 use Rattle.mpm_base.specs.declared.kind.Kind.{Kind}
@@ -18,12 +18,12 @@ use Rattle.mpm_mount.specs.Images.{extent_in}
 use Rattle.mpm_mount.specs.Directories.{Directory, entry_in, Stands}
 use Rattle.mpm_mount.specs.Searching.{search_of, found_name, is_above, IsNext}
 use Rattle.mpm_mount.specs.Searching as searching
-use Rattle.mpm_mount.proofs.UsedBlocks.{or_last}
+use Rattle.mpm_mount.proofs.UsedBlocks.{or_last, and_last}
 use Rattle.mpm_mount.proofs.Replaced.{and_all}
 use Rattle.mpm_mount.proofs.Orders.{entry_total}
 use Rattle.mpm_mount.proofs.NextFound.{is_sought_pair, next_none, next_found}
 use Rattle.mpm_files.specs.Units.{first_attributes}
-use Rattle.mpm_files.specs.Lookups.{attributes_at}
+use Rattle.mpm_files.specs.Lookups.{attributes_at, IsEntryOf}
 use Rattle.mpm_files.proofs.SearchSteps.{is_true, stepped, nothing_found, mod_twice, found_is, above_through}
 
 -- the lowest entry of a file, whatever its name: the first of that name that a search for it comes to
@@ -58,6 +58,7 @@ attributes_first files file kind =
     first_kept (is_of file) (entries files.extents)
     ∙ ap (option_map (λ e. e.1.attributes)) (found_same (is_of file) (λ e. is_of file e && true) (entries files.extents) (λ e. sym (and_all (is_of file e))))
 
+-- an entry of a file's very name is one that a search for the name comes to
 itself_fits : (pattern : List ℕ) → length pattern ≡ 11 → does_match pattern (plain pattern) ≡ true
 itself_fits pattern size = fits_everywhere pattern (plain pattern) (λ k h.
     let p = get_or pattern k 0 in
@@ -69,19 +70,16 @@ cond_told : {X Y : Type 0} (x : X) (f : X → Y) (o : Option X) (b : Bool) → t
 cond_told x f o true = refl
 cond_told x f o false = refl
 
-exact_narrowed : (u m b a : Bool) → (b ≡ true → m ≡ true) → (u && (m && a)) ≡ false → ((u && b) && a) ≡ false
+-- what a search for a pattern passes over, one for a name that fits it passes over
+pub exact_narrowed : (u m b a : Bool) → (b ≡ true → m ≡ true) → (u && (m && a)) ≡ false → ((u && b) && a) ≡ false
 exact_narrowed false m b a so h = refl
 exact_narrowed true m false a so h = refl
 exact_narrowed true m true a so h = ap (λ x. x && a) (sym (so refl)) ∙ h
 
-exact_here : (u b a : Bool) → u ≡ true → a ≡ true → ((u && b) && a) ≡ b
+pub exact_here : (u b a : Bool) → u ≡ true → a ≡ true → ((u && b) && a) ≡ b
 exact_here u b a is above = ap (λ x. (x && b) && a) is ∙ ap (λ x. b && x) above ∙ and_all b
 
-none_above : (b : Bool) → (b && false) ≡ false
-none_above true = refl
-none_above false = refl
-
-exact_fits : (pattern name : List ℕ) → length pattern ≡ 11 → bytes_eq name (plain pattern) ≡ true → does_match pattern name ≡ true
+pub exact_fits : (pattern name : List ℕ) → length pattern ≡ 11 → bytes_eq name (plain pattern) ≡ true → does_match pattern name ≡ true
 exact_fits pattern name size same = ap (does_match pattern) ((bytes_decides name (plain pattern)).0 same) ∙ itself_fits pattern size
 
 pub lowest_step : (image : List ℕ) (d : Directory) (files : Drive) (user : ℕ) (pattern : List ℕ) (last : Option Found) (found : Found) → Stands image d files → length pattern ≡ 11
@@ -107,7 +105,7 @@ lowest_step image d files user pattern last found stands size least =
           (above_through d.kind user last found k.user k.name k.number (ap (is_above (option_map (found_name d.kind user) last)) is ∙ above) (ap (λ n. is_lt (entry_cmp n k)) is ∙ less)
           ∙ sym less ∙ ap (λ n. is_lt (entry_cmp n k)) (sym is));
       before = λ k not_less. ap (λ b. ((k.user == user) && bytes_eq k.name (plain pattern)) && b) (ap (λ n. is_lt (entry_cmp n k)) is ∙ not_less)
-          ∙ none_above ((k.user == user) && bytes_eq k.name (plain pattern));
+          ∙ and_last ((k.user == user) && bytes_eq k.name (plain pattern));
     })
     (entries files.extents) (is_true (is_sorted entry_cmp (entries files.extents)) (entries_sorted files.extents)) (next_found image d files search found stands least))
     ∙ cond_told (x, v) (λ e. e.1.attributes) _ (((x.user == user) && bytes_eq x.name (plain pattern)) && is_above (option_map (found_name d.kind user) last) x)
@@ -123,3 +121,17 @@ no_lower image d files user pattern last stands size none =
     (λ e. ((e.0.user == user) && bytes_eq e.0.name (plain pattern)) && is_above (option_map (found_name d.kind user) last) e.0) (entries files.extents)
     (λ e h. exact_narrowed (e.0.user == user) (does_match pattern e.0.name) (bytes_eq e.0.name (plain pattern)) (is_above (option_map (found_name d.kind user) last) e.0) (exact_fits pattern e.0.name size) h)
     (next_none image d files (search_of d.kind user pattern last) stands none))
+
+pub entry_found : (d : Directory) (user : ℕ) (pattern : List ℕ) (last : Option Found) (found : Found) → IsNext d.kind (search_of d.kind user pattern last) d.entries (Some found)
+    → bytes_eq found.name (plain pattern) ≡ true → IsEntryOf d (record { user = user; name = plain pattern }) found
+entry_found d user pattern last found least same =
+    let parts = and_parts (least.file.user == user) (does_match pattern (plain least.file.name) && is_above (option_map (found_name d.kind user) last) (name_of d.kind least.file)) least.sought in
+    let name : found.name ≡ plain pattern = (bytes_decides found.name (plain pattern)).0 same in
+    record {
+      entry = least.file;
+      there = least.entry;
+      its = and_from (user == least.file.user) (bytes_eq (plain pattern) (plain least.file.name)) (eq-eqb user least.file.user (sym (eqb-true least.file.user user parts.0)))
+          ((bytes_decides (plain pattern) (plain least.file.name)).1 (sym name ∙ least.name));
+      name = name;
+      extent = least.extent;
+    }

@@ -52,7 +52,7 @@ files_differ a b apart =
     false_from_ne_true (eq_by_cmp file_cmp a b) (λ tied. true≢false (sym (is_itself a) ∙ ap (λ (f : FileName). is_same_file a f) (file_tied a b tied) ∙ apart))
 
 -- the other way round
-one_test : (a b : Bool) → (a ≡ true → b ≡ true) → (b ≡ true → a ≡ true) → a ≡ b
+pub one_test : (a b : Bool) → (a ≡ true → b ≡ true) → (b ≡ true → a ≡ true) → a ≡ b
 one_test true b there back = sym (there refl)
 one_test false true there back = back refl
 one_test false false there back = refl

@@ -1,5 +1,5 @@
 -- The next unit of a job that sets attributes: the first entry of the file above the last that has them.
-use Rattle.std.proofs.Common.{◌≡◌, ℕ, ◌<◌, Bool, true, false, cond, T, ◌==◌, ◌&&◌, List, [], ◌∷◌, ◌++◌, Option, Some, None, map, length, drop, get_or, refl, sym, ap, subst, ◌∙◌, arith}
+use Rattle.std.proofs.Common.{◌≡◌, ℕ, ◌<◌, Bool, true, false, cond, ◌==◌, ◌&&◌, List, [], ◌∷◌, ◌++◌, Option, Some, None, map, length, drop, get_or, refl, sym, ap, subst, ◌∙◌, arith}
 use Rattle.std.specs.Prelude.{nat_lt, bytes_eq}
 use Rattle.std.specs.List.{filter}
 use Rattle.std.specs.declared.cmp.Ordering.{Ordering}
@@ -22,6 +22,7 @@ use Rattle.mpm_files.proofs.Names.{one_file}
 use Rattle.mpm_files.proofs.Sums.{as_it_was}
 use Rattle.mpm_files.proofs.NextUnits.{Next, next_of}
 use Rattle.mpm_files.proofs.NextEntries.{filter_mapped}
+use Rattle.mpm_files.proofs.SearchSteps.{is_true}
 
 -- numbers that rise
 unfoldable AllAbove : ℕ → List ℕ → Type 0
@@ -58,10 +59,6 @@ order_of_one file one other a b is too =
 less_of_one : (file one other : FileName) (a b : ℕ) → is_same_file one file ≡ true → is_same_file other file ≡ true
     → is_lt (entry_cmp (record { user = one.user; name = one.name; number = a }) (record { user = other.user; name = other.name; number = b })) ≡ true → a < b
 less_of_one file one other a b is too less = ltb-true a b (sym (order_of_one file one other a b is too) ∙ less)
-
-holds_true : (b : Bool) → T b → b ≡ true
-holds_true true h = refl
-holds_true false h = absurd h
 
 -- what rises among the entries of a map
 above_step : {X : Type 0} (of : X → Bool) (num : X → ℕ) (a : ℕ) (x : X) (rest : List X) (b : Bool) → of x ≡ b → (b ≡ true → a < num x)
@@ -163,7 +160,7 @@ numbers_rise drive file =
     let parts = and_parts (is_lt (entry_cmp x.0 y.0)) (below_all entry_cmp x.0 ys) is in
     ((λ own too. less_of_one file (record { user = x.0.user; name = x.0.name }) (record { user = y.0.user; name = y.0.name }) x.0.number y.0.number own too parts.0), parts.1))
     (λ x xs is. and_parts (below_all entry_cmp x.0 xs) (is_sorted entry_cmp xs) is)
-    (entries drive.extents) (holds_true (is_sorted entry_cmp (entries drive.extents)) (entries_sorted drive.extents))
+    (entries drive.extents) (is_true (is_sorted entry_cmp (entries drive.extents)) (entries_sorted drive.extents))
 
 by_keys : (file : FileName) (m : FinMap entry_cmp PhysicalExtent)
     → map (λ e. e.0.number) (filter (is_of file) (entries m)) ≡ map (λ name. name.number) (filter (λ name. (name.user == file.user) && bytes_eq name.name file.name) (keys m))

@@ -63,11 +63,7 @@ in_service now e before job j new unit done none on = record {
 
 contained : (now : Option Disks) (drive : ℕ) (before : Drive) (job : Job) (j : ℕ) (unit : FileUnit) → unit_at before job j ≡ unit
     → StandsWithin now drive (units_done before job j) unit → Contained now drive before job j
-contained now drive before job j unit is within = record {
-  turn = j;
-  since = omega arith;
-  within = subst (StandsWithin now drive (units_done before job j)) (sym is) within;
-}
+contained now drive before job j unit is within = record { within = subst (StandsWithin now drive (units_done before job j)) (sym is) within }
 
 -- a device failed within a unit that was next
 pub fails_next : {A E : Type 0} (disks now : Option Disks) (d e : Directory) (old new : Work) (error : E)

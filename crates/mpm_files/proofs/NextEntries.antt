@@ -17,7 +17,7 @@ use Rattle.mpm_files.specs.Units.{FileUnit, RemovesEntry, RemovesXfcb, stages, l
 use Rattle.mpm_files.specs.Plans.{when, is_same_file, entries_named, is_entry_of, has_file, is_fitting, of_xfcb, deleting_entry, deleting}
 use Rattle.mpm_files.specs.Counting.{bit}
 use Rattle.mpm_files.specs.Serving.{Follows}
-use Rattle.mpm_files.proofs.Names.{one_file, is_itself, entry_parts, files_differ, same_back}
+use Rattle.mpm_files.proofs.Names.{one_file, is_itself, entry_parts, files_differ, same_back, one_test}
 use Rattle.mpm_files.proofs.Pairs.{sums_alike, sum_mapped, one_key}
 use Rattle.mpm_files.proofs.NextUnits.{Next, next_of}
 
@@ -44,11 +44,6 @@ entries_without R o same m k =
 -- the entries by name, without one
 pub is_named : FileName → ℕ → (FileName × ℕ) → Bool
 is_named file number entry = is_same_file file entry.0 && (number == entry.1)
-
-one_test : (a b : Bool) → (a ≡ true → b ≡ true) → (b ≡ true → a ≡ true) → a ≡ b
-one_test true b there back = sym (there refl)
-one_test false true there back = back refl
-one_test false false there back = refl
 
 pub tied_name : (file other : FileName) (number k : ℕ)
     → eq_by_cmp entry_cmp (record { user = file.user; name = file.name; number = number }) (record { user = other.user; name = other.name; number = k }) ≡ is_named file number (other, k)

@@ -81,12 +81,12 @@ clearing_next units j files file n bytes records stamp other follows no_entry cl
     (alone_units (needs_entry files file n) _ (AddsEntry file (n / 128)) (ClearsBlock file n) unit no_entry (never (clears_blocks files.kind) (needs_block files file n)))))) h
 
 -- a record that is written by itself
-pub record_next : (units : List FileUnit) (j : ℕ) (files : Drive) (cleared : Bool) (file : FileName) (n : ℕ) (bytes : List ℕ) (records : List (List ℕ)) (stamp : Option (List ℕ)) (other : FileUnit)
+pub writing_next : (units : List FileUnit) (j : ℕ) (files : Drive) (cleared : Bool) (file : FileName) (n : ℕ) (bytes : List ℕ) (records : List (List ℕ)) (stamp : Option (List ℕ)) (other : FileUnit)
     → Follows units j (left_writing files cleared file n (bytes ∷ records) stamp) → needs_entry files file n ≡ false
     → (clears_blocks files.kind && (needs_block files file n && not cleared)) ≡ false → j < length units
     → Next units j (WritesRecord file n bytes stamp) other (left_writing (applied files (WritesRecord file n bytes stamp)) false file (n + 1) records None)
 unfolding all_applied
-record_next units j files cleared file n bytes records stamp other follows no_entry no_block h =
+writing_next units j files cleared file n bytes records stamp other follows no_entry no_block h =
     let unit : FileUnit = WritesRecord file n bytes stamp in
     next_of units j unit other (left_writing (applied files unit) false file (n + 1) records None) (left_writing files cleared file n (bytes ∷ records) stamp) follows
     (after_units files cleared file n bytes records stamp (unit ∷ []) (alone_units (needs_entry files file n) _ (AddsEntry file (n / 128)) (ClearsBlock file n) unit no_entry no_block)) h

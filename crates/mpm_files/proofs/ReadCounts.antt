@@ -8,7 +8,7 @@ use Rattle.mpm_files.specs.Counting.{counted, unless_refused, read_count}
 abbrev pub ReadTo : (ℕ → Option RecordError) → ℕ → ℕ → ℕ → Type 0
 ReadTo errors n count k = (left : ℕ) → k + left ≡ count → read_count errors n count ≡ counted k (read_count errors (n + k) left)
 
-nothing_more : (c : Count) → counted 0 c ≡ c
+pub nothing_more : (c : Count) → counted 0 c ≡ c
 nothing_more c = ap (λ u. record c { units = u }) (omega arith)
 
 pub counted_both : (k m : ℕ) (c : Count) → counted k (counted m c) ≡ counted (k + m) c

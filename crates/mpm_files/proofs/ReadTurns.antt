@@ -36,7 +36,7 @@ quiet before job j k is = ap (missed_by before job k) is ∙ sym (ap (missed_by 
 abbrev pub read_now : Work → ℕ
 read_now work = work.job.first + work.ended
 
-none_left : (count done : ℕ) → count ≤ done → count - done ≡ 0
+pub none_left : (count done : ℕ) → count ≤ done → count - done ≡ 0
 none_left count done h = omega arith
 
 pub reads_more : (before : Drive) (job : Job) (j : ℕ) (work : Work) → IsServing before job j work → work.job.kind ≡ Read → j < length (plan_of before job).units → work.ended < work.job.count

@@ -65,7 +65,7 @@ record_found image d files file n stands lacks =
     ∙ found_by image d files file n (extent_slot d file (n / 128)) stands refl lacks
 
 -- a record that can be read is held, and visible
-tests_pass : (a b c : Bool) → read_by_tests a b c ≡ None → (a ≡ true) × ((b ≡ true) × (c ≡ true))
+pub tests_pass : (a b c : Bool) → read_by_tests a b c ≡ None → (a ≡ true) × ((b ≡ true) × (c ≡ true))
 tests_pass true true true none = (refl, (refl, refl))
 tests_pass true true false none = absurd (true≢false (ap is_some none))
 tests_pass true false c none = absurd (true≢false (ap is_some none))

@@ -34,7 +34,7 @@ pub record Puts (file : FileName) (number : ℕ) (entry : PhysicalExtent) (entri
 sums_as_values : (d : Drive) → held d ≡ sum_by (λ e. held_blocks e.1) (entries d.extents)
 sums_as_values d = sum_values held_blocks (entries d.extents)
 
-other_number : (file : FileName) (k number : ℕ) → k ≢ number
+pub other_number : (file : FileName) (k number : ℕ) → k ≢ number
     → eq_by_cmp entry_cmp (record { user = file.user; name = file.name; number = k }) (record { user = file.user; name = file.name; number = number }) ≡ false
 other_number file k number apart = false_from_ne_true _ (λ tied. apart ((entry_parts file file k number tied).1))
 

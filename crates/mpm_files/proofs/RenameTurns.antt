@@ -5,7 +5,7 @@ use Rattle.std.specs.List.{list_all}
 use Rattle.std.specs.Ordering.{eq_by_cmp, is_eq}
 use Rattle.std.specs.Cmp.{tied_itself}
 use Rattle.std.specs.FinMap.{FinMap, get, insert, remove, get-insert, get-remove}
-use Rattle.std.proofs.lemmas.Bool.{true≢false, false_from_ne_true, and_parts, cases_eq}
+use Rattle.std.proofs.lemmas.Bool.{true≢false, and_parts, cases_eq}
 use Rattle.mpm_blocks.specs.Sectors.{sectors_of}
 use Rattle.mpm_dirent.specs.declared.kinds.Entry.TheVariants.{Free, File}
 use Rattle.mpm_dirent.specs.declared.kinds.FileEntry.{FileEntry}
@@ -28,7 +28,7 @@ use Rattle.mpm_files.specs.Plans.{plan_of, file_of_job, new_file_of_job, is_same
 use Rattle.mpm_files.specs.Counting.{file_in}
 use Rattle.mpm_files.specs.Serving.{units_done, records_moved, record_read, missed_by, has_missed, Follows, IsServing}
 use Rattle.mpm_files.specs.Turning.{MayRename, SuitsKind, Suits, one_ended}
-use Rattle.mpm_files.proofs.Names.{one_file, entry_parts, entries_differ, same_back}
+use Rattle.mpm_files.proofs.Names.{one_file, entries_differ, same_back}
 use Rattle.mpm_files.proofs.Tied.{kind_of}
 use Rattle.mpm_files.proofs.NextRenamed.{renaming_as, renaming_next, renamed_over_next, renamed_xfcb_next}
 use Rattle.mpm_files.proofs.Left.{nothing_left}
@@ -36,6 +36,7 @@ use Rattle.mpm_files.proofs.Served.{left_as, serves_quietly}
 use Rattle.mpm_files.proofs.NextDone.{IsDone}
 use Rattle.mpm_files.proofs.NoFile.{no_entry, there_at, all_of_file}
 use Rattle.mpm_files.proofs.DeleteTurns.{never_empty}
+use Rattle.mpm_files.proofs.Recorded.{other_number}
 
 -- the units of a renaming leave no entry of one number in both files
 RenamesOnly : FileName → FileName → FileUnit → Type 0
@@ -62,10 +63,6 @@ at drive file number = get drive.extents (record { user = file.user; name = file
 
 Apart : FileName → FileName → Drive → Type 0
 Apart file new drive = (number : ℕ) → is_some (at drive file number) ≡ true → at drive new number ≡ None
-
-other_number : (file : FileName) (k number : ℕ) → k ≢ number
-    → eq_by_cmp entry_cmp (record { user = file.user; name = file.name; number = k }) (record { user = file.user; name = file.name; number = number }) ≡ false
-other_number file k number apart = false_from_ne_true _ (λ tied. apart ((entry_parts file file k number tied).1))
 
 moved_apart : (drive : Drive) (file new : FileName) (number : ℕ) (entry : PhysicalExtent) → is_same_file new file ≡ false → Apart file new drive
     → Apart file new (with_extent (without_extent drive (record { user = file.user; name = file.name; number = number })) (record { user = new.user; name = new.name; number = number }) entry)

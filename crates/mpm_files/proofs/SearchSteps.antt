@@ -26,15 +26,17 @@ pub is_true : (b : Bool) → T b → b ≡ true
 is_true true h = refl
 is_true false h = absurd h
 
-not_both_ways : {K : Type 0} (R : K → K → Ordering) → IsTotalOrder R → (a b : K) → is_lt (R a b) ≡ true → is_lt (R b a) ≡ false
+-- of two keys one at most is below the other
+pub not_both_ways : {K : Type 0} (R : K → K → Ordering) → IsTotalOrder R → (a b : K) → is_lt (R a b) ≡ true → is_lt (R b a) ≡ false
 not_both_ways R o a b less = ap is_lt (o.antisymm b a ∙ ap ordering_reverse (less_of (R a b) less))
 
+-- a key below all of a list is below what is found in it
 found_below_step : {K X : Type 0} (R : K → K → Ordering) (k x : K) (v : X) (e : K × X) (o : Option (K × X)) (b : Bool) → is_lt (R k e.0) ≡ true → cond b (Some e) o ≡ Some (x, v)
     → (o ≡ Some (x, v) → is_lt (R k x) ≡ true) → is_lt (R k x) ≡ true
 found_below_step R k x v e o true below is so = ap (λ (pair : _ × _). is_lt (R k pair.0)) (sym (same_Some e (x, v) is)) ∙ below
 found_below_step R k x v e o false below is so = so is
 
-found_below : {K X : Type 0} (R : K → K → Ordering) (k x : K) (v : X) (test : K → Bool) (es : List (K × X)) → below_all R k es ≡ true → lists.find (λ e. test e.0) es ≡ Some (x, v)
+pub found_below : {K X : Type 0} (R : K → K → Ordering) (k x : K) (v : X) (test : K → Bool) (es : List (K × X)) → below_all R k es ≡ true → lists.find (λ e. test e.0) es ≡ Some (x, v)
     → is_lt (R k x) ≡ true
 found_below R k x v test [] below is = absurd (cc)
 found_below R k x v test (e ∷ es) below is =

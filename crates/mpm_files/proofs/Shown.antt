@@ -13,7 +13,7 @@ use Rattle.mpm_mount.specs.Drives.{PhysicalExtent, entry_number, count_in, block
 use Rattle.mpm_mount.proofs.KeptRecords.{one_place}
 use Rattle.mpm_files.specs.Units.{zero_record, is_raising, raised, holds_block, fresh_records}
 use Rattle.mpm_files.proofs.Seen.{seen}
-use Rattle.mpm_files.proofs.Writes.{block_written}
+use Rattle.mpm_files.proofs.Writes.{block_written, still_some}
 
 -- what is seen of a record, by three tests
 abbrev pub shown_by : Bool → Bool → Option (List ℕ) → Option (List ℕ)
@@ -118,10 +118,6 @@ mapped_some : (o : Option (List (List ℕ))) (f : List (List ℕ) → List ℕ) 
 mapped_some None f = refl
 mapped_some (Some records) f = refl
 
-set_some : (o : Option (List (List ℕ))) (f : List (List ℕ) → List (List ℕ)) → is_some (option_map f o) ≡ is_some o
-set_some None f = refl
-set_some (Some records) f = refl
-
 record_stays : (kind : Kind) (n m : ℕ) (bytes : List ℕ) (old new : PhysicalExtent) → IsWritten kind n bytes old new → m ≢ n → entry_number kind (m / 128) ≡ entry_number kind (n / 128)
     → is_some (record_in kind m old) ≡ true → record_in kind m new ≡ record_in kind m old
 record_stays kind n m bytes old new written apart number there =
@@ -171,7 +167,7 @@ record_there kind n bytes old new written =
     ∙ ap is_some written.block ∙ by_held (holds_block kind n old) refl
   where
     by_held : (b : Bool) → holds_block kind n old ≡ b → is_some (block_written kind n bytes old b) ≡ true
-    by_held true held = set_some (slice_index_or old.blocks (block_place kind n) None) _ ∙ held
+    by_held true held = still_some (slice_index_or old.blocks (block_place kind n) None) _ ∙ held
     by_held false free = refl
 
 -- what is seen of the entry

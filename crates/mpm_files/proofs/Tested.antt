@@ -17,6 +17,7 @@ use Rattle.mpm_files.proofs.Within.{unit_keeps}
 use Rattle.mpm_files.proofs.Writes.{Written, record_written}
 use Rattle.mpm_files.proofs.WriteCounts.{count_of, counted_behind}
 use Rattle.mpm_files.proofs.Tied.{read_in, read_by_tests, read_tested}
+use Rattle.mpm_files.proofs.RecordReads.{tests_pass}
 
 -- what is counted is how many are read, and why no more are
 pub counted_reading : (count : ℕ) (d : Drive) (file : FileName) (n : ℕ) → count_of (reading d file n count) ≡ read_count (read_error d file) n count
@@ -32,12 +33,6 @@ reads_alike (suc count) one other n same =
     ap (λ e. unless_refused e 1 (read_count one (n + 1) count)) (same n) ∙ ap (unless_refused (other n) 1) (reads_alike count one other (n + 1) same)
 
 -- a record that can be read raises nothing
-three_tests : (a b c : Bool) → read_by_tests a b c ≡ None → (a ≡ true) × ((b ≡ true) × (c ≡ true))
-three_tests true true true none = (refl, (refl, refl))
-three_tests true true false none = absurd (true≢false (ap is_some none))
-three_tests true false c none = absurd (true≢false (ap is_some none))
-three_tests false b c none = absurd (true≢false (ap is_some none))
-
 below : (q r last count : ℕ) → nat_le q last ≡ true → nat_lt r (if q == last then count else 128) ≡ true → (nat_lt last q || ((q == last) && nat_le count r)) ≡ false
 below q r last count low less = grind (arith, nat_tests)
 
@@ -70,7 +65,7 @@ same_reads_by : (d : Drive) (file : FileName) (n m : ℕ) (bytes : List ℕ) (st
 same_reads_by d file n m bytes stamp whole None is none = absurd (true≢false (ap is_some none))
 same_reads_by d file n m bytes stamp whole (Some old) is none =
     let after : Drive = applied d (WritesRecord file n bytes stamp) in
-    let tests = three_tests (nat_le (n / 128) old.last) (nat_lt (n % 128) (count_in old (n / 128))) (is_some (slice_index_or old.blocks (block_place d.kind n) None))
+    let tests = tests_pass (nat_le (n / 128) old.last) (nat_lt (n % 128) (count_in old (n / 128))) (is_some (slice_index_or old.blocks (block_place d.kind n) None))
     (sym (read_tested d.kind n old) ∙ none) in
     let low : raised n old ≡ old = not_raised n old (below (n / 128) (n % 128) old.last old.count tests.0 tests.1.0) in
     let written : Written file n bytes old d after = record_written d file n bytes stamp old is (whole (entry_number d.kind (n / 128)) old is) in

@@ -12,7 +12,7 @@ use Rattle.mpm_files.specs.declared.jobs.Job.{Job}
 use Rattle.mpm_files.specs.declared.moving.Step.{Step}
 use Rattle.mpm_files.specs.declared.moving.Step.TheVariants.{Entry, Block, Record}
 use Rattle.mpm_files.specs.declared.work.Work.{Work}
-use Rattle.mpm_files.specs.Stepping.{step_by, step_of}
+use Rattle.mpm_files.specs.Stepping.{step_by, step_of, record_next}
 use Rattle.mpm_files.proofs.Tied.{kind_of, entry_needed, block_needed}
 use Rattle.std.specs.FinMap.{get}
 use Rattle.mpm_blocks.specs.Sectors.{Sectors, sectors_of}
@@ -22,7 +22,7 @@ use Rattle.mpm_files.specs.Units.{FileUnit, Idles, AddsEntry, ClearsBlock, Write
 use Rattle.mpm_files.specs.Plans.{file_of_job, record_at, records_of_job, needs_entry, needs_block, clears_blocks, plan_by, plan_of, unit_at}
 use Rattle.mpm_files.specs.Serving.{units_done, records_after, with_records, missed_by, has_missed, left_writing, stamp_left, Follows, IsServing, IsCleared, IsInService}
 use Rattle.mpm_files.specs.Turning.{SuitsKind, Suits, one_ended}
-use Rattle.mpm_files.proofs.NextUnits.{items_left, entry_next, clearing_next, record_next}
+use Rattle.mpm_files.proofs.NextUnits.{items_left, entry_next, clearing_next, writing_next}
 use Rattle.mpm_files.proofs.Served.{left_as, serves_on, serves_quietly}
 use Rattle.mpm_files.proofs.NextDone.{IsDone}
 use Rattle.mpm_files.proofs.DeleteTurns.{never_empty}
@@ -43,9 +43,6 @@ unit_fits before job j unit kind h is =
     (subst (λ k. AllSo Fits before (plan_by before job k).units) (sym kind) (writing_fits (records_of_job job) before (file_of_job job) job.first job.stamp)) h)
 
 -- the record that is next, and those behind it
-abbrev pub number_now : Work → ℕ
-number_now work = work.job.first + work.moved
-
 abbrev pub bytes_now : Work → List ℕ
 bytes_now work = record_at work.job.bytes work.moved
 
@@ -67,39 +64,39 @@ records_left before job j work serving is h = by_size (cases_lt work.moved work.
     by_size (inl less) = less
     by_size (inr over) =
         absurd (never_empty (plan_of before job).units j _ (subst (Follows (plan_of before job).units j) (left_as (units_done before job j) work Write is) serving.left)
-        (no_records (units_done before job j) (is_some work.cleared) (file_of_job work.job) (number_now work) (drop work.moved (records_of_job work.job)) (stamp_now work)
+        (no_records (units_done before job j) (is_some work.cleared) (file_of_job work.job) (record_next work) (drop work.moved (records_of_job work.job)) (stamp_now work)
         (drop_all work.moved (records_of_job work.job) (omega (arith, over, length-map-range_with_len (record_at work.job.bytes) 0 work.job.count)))) h)
 
 left_now : (before : Drive) (job : Job) (j : ℕ) (work : Work) → IsServing before job j work → work.job.kind ≡ Write → j < length (plan_of before job).units
     → Follows (plan_of before job).units j
-    (left_writing (units_done before job j) (is_some work.cleared) (file_of_job work.job) (number_now work) (bytes_now work ∷ later_records work) (stamp_now work))
+    (left_writing (units_done before job j) (is_some work.cleared) (file_of_job work.job) (record_next work) (bytes_now work ∷ later_records work) (stamp_now work))
 left_now before job j work serving is h =
     subst (Follows (plan_of before job).units j)
     (left_as (units_done before job j) work Write is
-    ∙ ap (λ rs. left_writing (units_done before job j) (is_some work.cleared) (file_of_job work.job) (number_now work) rs (stamp_now work))
+    ∙ ap (λ rs. left_writing (units_done before job j) (is_some work.cleared) (file_of_job work.job) (record_next work) rs (stamp_now work))
     (items_left (record_at work.job.bytes) work.moved work.job.count (records_left before job j work serving is h)))
     serving.left
 
 -- its directory entry is added
 pub entry_written : (before : Drive) (job : Job) (j : ℕ) (work : Work) → IsServing before job j work → work.job.kind ≡ Write → j < length (plan_of before job).units
-    → (is_some work.cleared ≡ true → needs_entry (units_done before job j) (file_of_job work.job) (number_now work) ≡ false)
-    → needs_entry (units_done before job j) (file_of_job work.job) (number_now work) ≡ true
-    → IsDone before job j (record work { cleared = None }) (AddsEntry (file_of_job work.job) (number_now work / 128))
+    → (is_some work.cleared ≡ true → needs_entry (units_done before job j) (file_of_job work.job) (record_next work) ≡ false)
+    → needs_entry (units_done before job j) (file_of_job work.job) (record_next work) ≡ true
+    → IsDone before job j (record work { cleared = None }) (AddsEntry (file_of_job work.job) (record_next work / 128))
 entry_written before job j work serving is h entered needs =
     let us : List FileUnit = (plan_of before job).units in
     let files : Drive = units_done before job j in
     let file : FileName = file_of_job work.job in
-    let unit : FileUnit = AddsEntry file (number_now work / 128) in
+    let unit : FileUnit = AddsEntry file (record_next work / 128) in
     let new : Work = record work { cleared = None } in
     let none : is_some work.cleared ≡ false = false_from_ne_true (is_some work.cleared) (λ some. true≢false (sym needs ∙ entered some)) in
-    let next = entry_next us j files false file (number_now work) (bytes_now work) (later_records work) (stamp_now work) (Idles (file_of_job job) None)
-    (subst (λ c. Follows us j (left_writing files c file (number_now work) (bytes_now work ∷ later_records work) (stamp_now work))) none (left_now before job j work serving is h)) needs h in
+    let next = entry_next us j files false file (record_next work) (bytes_now work) (later_records work) (stamp_now work) (Idles (file_of_job job) None)
+    (subst (λ c. Follows us j (left_writing files c file (record_next work) (bytes_now work ∷ later_records work) (stamp_now work))) none (left_now before job j work serving is h)) needs h in
     record {
       unit_is = next.0;
       serving = serves_quietly before job j work new unit serving h next.0 refl refl refl refl refl refl refl refl (quiet before job j (suc j) (kind_is before job j work serving is))
           (subst (Follows us (suc j))
           (sym (left_as (applied files unit) (one_ended new) Write is
-          ∙ ap (λ rs. left_writing (applied files unit) false file (number_now work) rs (stamp_now work)) (items_left (record_at work.job.bytes) work.moved work.job.count (records_left before job j work serving is h))))
+          ∙ ap (λ rs. left_writing (applied files unit) false file (record_next work) rs (stamp_now work)) (items_left (record_at work.job.bytes) work.moved work.job.count (records_left before job j work serving is h))))
           next.1);
     }
 
@@ -109,24 +106,24 @@ unfolding applied stages last_of
 cleared_same files file n = refl
 
 pub block_cleared : (before : Drive) (job : Job) (j : ℕ) (work : Work) (block : ℕ) → IsServing before job j work → work.job.kind ≡ Write → j < length (plan_of before job).units
-    → is_some work.cleared ≡ false → needs_entry (units_done before job j) (file_of_job work.job) (number_now work) ≡ false
-    → (clears_blocks (units_done before job j).kind && (needs_block (units_done before job j) (file_of_job work.job) (number_now work) && not false)) ≡ true
-    → IsDone before job j (record work { cleared = Some block }) (ClearsBlock (file_of_job work.job) (number_now work))
+    → is_some work.cleared ≡ false → needs_entry (units_done before job j) (file_of_job work.job) (record_next work) ≡ false
+    → (clears_blocks (units_done before job j).kind && (needs_block (units_done before job j) (file_of_job work.job) (record_next work) && not false)) ≡ true
+    → IsDone before job j (record work { cleared = Some block }) (ClearsBlock (file_of_job work.job) (record_next work))
 block_cleared before job j work block serving is h none no_entry clears =
     let us : List FileUnit = (plan_of before job).units in
     let files : Drive = units_done before job j in
     let file : FileName = file_of_job work.job in
-    let unit : FileUnit = ClearsBlock file (number_now work) in
+    let unit : FileUnit = ClearsBlock file (record_next work) in
     let new : Work = record work { cleared = Some block } in
-    let next = clearing_next us j files file (number_now work) (bytes_now work) (later_records work) (stamp_now work) (Idles (file_of_job job) None)
-    (subst (λ c. Follows us j (left_writing files c file (number_now work) (bytes_now work ∷ later_records work) (stamp_now work))) none (left_now before job j work serving is h)) no_entry clears h in
+    let next = clearing_next us j files file (record_next work) (bytes_now work) (later_records work) (stamp_now work) (Idles (file_of_job job) None)
+    (subst (λ c. Follows us j (left_writing files c file (record_next work) (bytes_now work ∷ later_records work) (stamp_now work))) none (left_now before job j work serving is h)) no_entry clears h in
     record {
       unit_is = next.0;
       serving = serves_quietly before job j work new unit serving h next.0 refl refl refl refl refl refl refl refl (quiet before job j (suc j) (kind_is before job j work serving is))
           (subst (Follows us (suc j))
           (sym (left_as (applied files unit) (one_ended new) Write is
-          ∙ ap (λ rs. left_writing (applied files unit) true file (number_now work) rs (stamp_now work)) (items_left (record_at work.job.bytes) work.moved work.job.count (records_left before job j work serving is h))
-          ∙ ap (λ (drive : Drive). left_writing drive true file (number_now work) (bytes_now work ∷ later_records work) (stamp_now work)) (cleared_same files file (number_now work))))
+          ∙ ap (λ rs. left_writing (applied files unit) true file (record_next work) rs (stamp_now work)) (items_left (record_at work.job.bytes) work.moved work.job.count (records_left before job j work serving is h))
+          ∙ ap (λ (drive : Drive). left_writing drive true file (record_next work) (bytes_now work ∷ later_records work) (stamp_now work)) (cleared_same files file (record_next work))))
           next.1);
     }
 
@@ -138,16 +135,16 @@ pub no_stamp : (stamp : Option (List ℕ)) (moved : ℕ) → stamp_left stamp (m
 no_stamp stamp moved = ap (λ b. if b then stamp else None) (ne_eqb (moved + 1) 0 (λ none. omega arith))
 
 pub record_written : (before : Drive) (job : Job) (j : ℕ) (work : Work) → IsServing before job j work → work.job.kind ≡ Write → j < length (plan_of before job).units
-    → needs_entry (units_done before job j) (file_of_job work.job) (number_now work) ≡ false
-    → (clears_blocks (units_done before job j).kind && (needs_block (units_done before job j) (file_of_job work.job) (number_now work) && not (is_some work.cleared))) ≡ false
-    → IsDone before job j (record work { moved = work.moved + 1; cleared = None }) (WritesRecord (file_of_job work.job) (number_now work) (bytes_now work) (stamp_now work))
+    → needs_entry (units_done before job j) (file_of_job work.job) (record_next work) ≡ false
+    → (clears_blocks (units_done before job j).kind && (needs_block (units_done before job j) (file_of_job work.job) (record_next work) && not (is_some work.cleared))) ≡ false
+    → IsDone before job j (record work { moved = work.moved + 1; cleared = None }) (WritesRecord (file_of_job work.job) (record_next work) (bytes_now work) (stamp_now work))
 record_written before job j work serving is h no_entry no_block =
     let us : List FileUnit = (plan_of before job).units in
     let files : Drive = units_done before job j in
     let file : FileName = file_of_job work.job in
-    let unit : FileUnit = WritesRecord file (number_now work) (bytes_now work) (stamp_now work) in
+    let unit : FileUnit = WritesRecord file (record_next work) (bytes_now work) (stamp_now work) in
     let new : Work = record work { moved = work.moved + 1; cleared = None } in
-    let next = record_next us j files (is_some work.cleared) file (number_now work) (bytes_now work) (later_records work) (stamp_now work) (Idles (file_of_job job) None)
+    let next = writing_next us j files (is_some work.cleared) file (record_next work) (bytes_now work) (later_records work) (stamp_now work) (Idles (file_of_job job) None)
     (left_now before job j work serving is h) no_entry no_block h in
     record {
       unit_is = next.0;
@@ -157,7 +154,7 @@ record_written before job j work serving is h no_entry no_block =
           (subst (Follows us (suc j))
           (sym (left_as (applied files unit) (one_ended new) Write is
           ∙ ap (λ n. left_writing (applied files unit) false file n (later_records work) (stamp_left work.job.stamp (work.moved + 1))) (sym (next_number work.job.first work.moved))
-          ∙ ap (left_writing (applied files unit) false file (number_now work + 1) (later_records work)) (no_stamp work.job.stamp work.moved)))
+          ∙ ap (left_writing (applied files unit) false file (record_next work + 1) (later_records work)) (no_stamp work.job.stamp work.moved)))
           next.1);
     }
 
@@ -166,12 +163,12 @@ pub may_write : (before : Drive) (job : Job) (j : ℕ) (work : Work) → IsServi
 may_write before job j work serving is suits = subst (SuitsKind before job) (kind_is before job j work serving is) suits.kind
 
 pub extent_small : (before : Drive) (job : Job) (j : ℕ) (work : Work) → IsServing before job j work → work.job.kind ≡ Write → j < length (plan_of before job).units → Suits before job
-    → number_now work / 128 ≤ 2047
+    → record_next work / 128 ≤ 2047
 extent_small before job j work serving is h suits =
     omega (arith, records_left before job j work serving is h, ap (λ (q : Job). q.first) serving.job_is, ap (λ (q : Job). q.count) serving.job_is, may_write before job j work serving is suits)
 
 pub number_small : (before : Drive) (job : Job) (j : ℕ) (work : Work) → IsServing before job j work → work.job.kind ≡ Write → j < length (plan_of before job).units → Suits before job
-    → number_now work ≤ 262286
+    → record_next work ≤ 262286
 number_small before job j work serving is h suits =
     omega (arith, records_left before job j work serving is h, ap (λ (q : Job). q.first) serving.job_is, ap (λ (q : Job). q.count) serving.job_is, suits.first, suits.count)
 
@@ -199,10 +196,10 @@ step_entry true b is = refl
 step_entry false true is = absurd (true≢false (sym (ap is_entry is)))
 step_entry false false is = absurd (true≢false (sym (ap is_entry is)))
 
-pub entry_missing : (image : List ℕ) (d : Directory) (before : Drive) (job : Job) (j : ℕ) (work : Work) → Stands image d (units_done before job j) → step_of d work (number_now work) ≡ Entry
-    → needs_entry (units_done before job j) (file_of_job work.job) (number_now work) ≡ true
+pub entry_missing : (image : List ℕ) (d : Directory) (before : Drive) (job : Job) (j : ℕ) (work : Work) → Stands image d (units_done before job j) → step_of d work (record_next work) ≡ Entry
+    → needs_entry (units_done before job j) (file_of_job work.job) (record_next work) ≡ true
 entry_missing image d before job j work stands is =
-    entry_needed image d (units_done before job j) (file_of_job work.job) (number_now work) stands ∙ step_entry _ _ is
+    entry_needed image d (units_done before job j) (file_of_job work.job) (record_next work) stands ∙ step_entry _ _ is
 
 -- the unit that adds an entry has a free one
 pub entry_room : (before : Drive) (job : Job) (j : ℕ) (work : Work) (extent : ℕ) → IsServing before job j work → work.job.kind ≡ Write → j < length (plan_of before job).units
@@ -228,10 +225,10 @@ step_block false true is = (refl, refl)
 step_block false false is = absurd (true≢false (sym (ap is_block is)))
 
 -- the clearing of its block is next, and a free block is there
-pub entry_entered : (image : List ℕ) (d : Directory) (before : Drive) (job : Job) (j : ℕ) (work : Work) → Stands image d (units_done before job j) → step_of d work (number_now work) ≡ Block
-    → needs_entry (units_done before job j) (file_of_job work.job) (number_now work) ≡ false
+pub entry_entered : (image : List ℕ) (d : Directory) (before : Drive) (job : Job) (j : ℕ) (work : Work) → Stands image d (units_done before job j) → step_of d work (record_next work) ≡ Block
+    → needs_entry (units_done before job j) (file_of_job work.job) (record_next work) ≡ false
 entry_entered image d before job j work stands is =
-    entry_needed image d (units_done before job j) (file_of_job work.job) (number_now work) stands ∙ (step_block _ _ is).0
+    entry_needed image d (units_done before job j) (file_of_job work.job) (record_next work) stands ∙ (step_block _ _ is).0
 
 is_to_clear : (a b c : Bool) → (a && (b && not c)) ≡ true → (a ≡ true) × (c ≡ false)
 is_to_clear true true true is = absurd (true≢false (sym is))
@@ -244,19 +241,19 @@ of_some P (Some n) some each = each n
 of_some P None some each = absurd (true≢false (sym some))
 
 pub block_ready : (image : List ℕ) (d : Directory) (before : Drive) (job : Job) (j : ℕ) (work : Work) (block : Option ℕ) → IsInService image d before job j work → work.job.kind ≡ Write
-    → j < length (plan_of before job).units → step_of d work (number_now work) ≡ Block → block ≡ (if clears_blocks d.kind then free_block d else None)
-    → IsDone before job j (record work { cleared = block }) (ClearsBlock (file_of_job work.job) (number_now work))
+    → j < length (plan_of before job).units → step_of d work (record_next work) ≡ Block → block ≡ (if clears_blocks d.kind then free_block d else None)
+    → IsDone before job j (record work { cleared = block }) (ClearsBlock (file_of_job work.job) (record_next work))
 block_ready image d before job j work block service kind h is free =
     let files : Drive = units_done before job j in
     let file : FileName = file_of_job work.job in
-    let unit : FileUnit = ClearsBlock file (number_now work) in
+    let unit : FileUnit = ClearsBlock file (record_next work) in
     let tests = (step_block _ _ is).1 in
-    let clears = is_to_clear (clears_blocks d.kind) (lacks_block d file (number_now work)) (is_some work.cleared) tests in
+    let clears = is_to_clear (clears_blocks d.kind) (lacks_block d file (record_next work)) (is_some work.cleared) tests in
     let next : (n : ℕ) → IsDone before job j (record work { cleared = Some n }) unit = λ n.
     block_cleared before job j work n service.serving kind h clears.1 (entry_entered image d before job j work service.stands is)
-    (ap (λ k. clears_blocks k && (needs_block files file (number_now work) && not false)) (kind_of image d files service.stands)
-    ∙ ap (λ b. clears_blocks d.kind && (b && not false)) (block_needed image d files file (number_now work) service.stands)
-    ∙ ap (λ c. clears_blocks d.kind && (lacks_block d file (number_now work) && not c)) (sym clears.1) ∙ tests) in
+    (ap (λ k. clears_blocks k && (needs_block files file (record_next work) && not false)) (kind_of image d files service.stands)
+    ∙ ap (λ b. clears_blocks d.kind && (b && not false)) (block_needed image d files file (record_next work) service.stands)
+    ∙ ap (λ c. clears_blocks d.kind && (lacks_block d file (record_next work) && not c)) (sym clears.1) ∙ tests) in
     of_some (λ o. IsDone before job j (record work { cleared = o }) unit) block
     (ap is_some (free ∙ ap (λ c. if c then free_block d else None) clears.0)
     ∙ block_free image d before job j service.stands (unit_fits before job j unit (kind_is before job j work service.serving kind) h (next 0).unit_is)) next
@@ -274,14 +271,14 @@ step_record false false is = (refl, refl)
 
 -- the record is next
 pub record_ready : (image : List ℕ) (d : Directory) (before : Drive) (job : Job) (j : ℕ) (work : Work) → Stands image d (units_done before job j) → IsServing before job j work
-    → work.job.kind ≡ Write → j < length (plan_of before job).units → step_of d work (number_now work) ≡ Record
-    → IsDone before job j (record work { moved = work.moved + 1; cleared = None }) (WritesRecord (file_of_job work.job) (number_now work) (bytes_now work) (stamp_now work))
+    → work.job.kind ≡ Write → j < length (plan_of before job).units → step_of d work (record_next work) ≡ Record
+    → IsDone before job j (record work { moved = work.moved + 1; cleared = None }) (WritesRecord (file_of_job work.job) (record_next work) (bytes_now work) (stamp_now work))
 record_ready image d before job j work stands serving kind h is =
     let files : Drive = units_done before job j in
     let parts = step_record _ _ is in
-    record_written before job j work serving kind h (entry_needed image d files (file_of_job work.job) (number_now work) stands ∙ parts.0)
-    (ap (λ k. clears_blocks k && (needs_block files (file_of_job work.job) (number_now work) && not (is_some work.cleared))) (kind_of image d files stands)
-    ∙ ap (λ b. clears_blocks d.kind && (b && not (is_some work.cleared))) (block_needed image d files (file_of_job work.job) (number_now work) stands) ∙ parts.1)
+    record_written before job j work serving kind h (entry_needed image d files (file_of_job work.job) (record_next work) stands ∙ parts.0)
+    (ap (λ k. clears_blocks k && (needs_block files (file_of_job work.job) (record_next work) && not (is_some work.cleared))) (kind_of image d files stands)
+    ∙ ap (λ b. clears_blocks d.kind && (b && not (is_some work.cleared))) (block_needed image d files (file_of_job work.job) (record_next work) stands) ∙ parts.1)
 
 -- a fresh block for it is there
 fresh_by : (c lacks : Bool) (sectors : Sectors) (d : Directory) (cleared : Option ℕ) → (c && (lacks && not (is_some cleared))) ≡ false → lacks ≡ true → IfSome cleared (IsCleared sectors d)
@@ -292,13 +289,13 @@ fresh_by true false sectors d cleared none e given free = absurd (true≢false (
 fresh_by false lacks sectors d cleared none e given free = free
 
 pub fresh_ready : (image : List ℕ) (d : Directory) (before : Drive) (job : Job) (j : ℕ) (work : Work) → IsInService image d before job j work → work.job.kind ≡ Write → j < length (plan_of before job).units
-    → step_of d work (number_now work) ≡ Record → lacks_block d (file_of_job work.job) (number_now work) ≡ true → HasFreshBlock (clears_blocks d.kind) (sectors_of image d.kind) d work.cleared
+    → step_of d work (record_next work) ≡ Record → lacks_block d (file_of_job work.job) (record_next work) ≡ true → HasFreshBlock (clears_blocks d.kind) (sectors_of image d.kind) d work.cleared
 fresh_ready image d before job j work service kind h is lacks =
     let files : Drive = units_done before job j in
-    let unit : FileUnit = WritesRecord (file_of_job work.job) (number_now work) (bytes_now work) (stamp_now work) in
+    let unit : FileUnit = WritesRecord (file_of_job work.job) (record_next work) (bytes_now work) (stamp_now work) in
     let fits : Fits files unit = unit_fits before job j unit (kind_is before job j work service.serving kind) h (record_ready image d before job j work service.stands service.serving kind h is).unit_is in
-    fresh_by (clears_blocks d.kind) (lacks_block d (file_of_job work.job) (number_now work)) (sectors_of image d.kind) d work.cleared ((step_record _ _ is).1) lacks service.cleared
-    (block_free image d before job j service.stands (fits (block_needed image d files (file_of_job work.job) (number_now work) service.stands ∙ lacks)))
+    fresh_by (clears_blocks d.kind) (lacks_block d (file_of_job work.job) (record_next work)) (sectors_of image d.kind) d work.cleared ((step_record _ _ is).1) lacks service.cleared
+    (block_free image d before job j service.stands (fits (block_needed image d files (file_of_job work.job) (record_next work) service.stands ∙ lacks)))
 
-pub entry_there : (d : Directory) (work : Work) → step_of d work (number_now work) ≡ Record → lacks_entry d (file_of_job work.job) (number_now work) ≡ false
+pub entry_there : (d : Directory) (work : Work) → step_of d work (record_next work) ≡ Record → lacks_entry d (file_of_job work.job) (record_next work) ≡ false
 entry_there d work is = (step_record _ _ is).0

@@ -54,7 +54,7 @@ record SetsBlock (kind : Kind) (n : ℕ) (bytes : List ℕ) (old new : PhysicalE
   others : (place : ℕ) → place ≢ block_place kind n → slice_index_or new.blocks place None ≡ slice_index_or old.blocks place None
   block : slice_index_or new.blocks (block_place kind n) None ≡ block_written kind n bytes old (holds_block kind n old)
 
-still_some : (o : Option (List (List ℕ))) (f : List (List ℕ) → List (List ℕ)) → is_some (option_map f o) ≡ is_some o
+pub still_some : (o : Option (List (List ℕ))) (f : List (List ℕ) → List (List ℕ)) → is_some (option_map f o) ≡ is_some o
 still_some None f = refl
 still_some (Some records) f = refl
 

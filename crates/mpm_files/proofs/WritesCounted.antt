@@ -7,7 +7,7 @@ use Rattle.mpm_blocks.specs.Geometries.{block_records}
 use Rattle.mpm_files.specs.declared.errors.RecordError.{RecordError}
 use Rattle.mpm_files.specs.declared.counting.Count.{Count}
 use Rattle.mpm_files.specs.Counting.{bit, counted, unless_refused, entry_more, block_more, room_error, record_units, write_count}
-use Rattle.mpm_files.proofs.ReadCounts.{counted_both, less_by}
+use Rattle.mpm_files.proofs.ReadCounts.{counted_both, less_by, nothing_more}
 
 -- so many records were counted, of so many units, and what is left
 abbrev pub WrittenTo : Kind → (ℕ → Bool) → (ℕ → Bool) → ℕ → ℕ → ℕ → ℕ → ℕ → ℕ → ℕ → ℕ → Type 0
@@ -15,9 +15,6 @@ WrittenTo kind entries blocks free_entries free_records n count k units entries_
     (left : ℕ) → k + left ≡ count
     → write_count kind entries blocks free_entries free_records false n count
     ≡ counted units (write_count kind entries blocks entries_left records_left (nat_lt 0 k) (n + k) left)
-
-nothing_more : (c : Count) → counted 0 c ≡ c
-nothing_more c = ap (λ u. record c { units = u }) (omega arith)
 
 pub none_written : (kind : Kind) (entries blocks : ℕ → Bool) (free_entries free_records n count : ℕ)
     → WrittenTo kind entries blocks free_entries free_records n count 0 0 free_entries free_records

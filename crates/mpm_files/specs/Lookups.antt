@@ -17,7 +17,7 @@ use Rattle.mpm_files.specs.declared.stamps.Stamp.{Stamp}
 use Rattle.mpm_files.specs.declared.stamps.Stamp.TheVariants.{First, Second}
 use Rattle.mpm_files.specs.Units.{first_stamped, second_stamped}
 use Rattle.mpm_files.specs.Plans.{attributes_in}
-use Rattle.mpm_files.specs.Counting.{number_in}
+use Rattle.mpm_files.specs.Counting.{number_in, is_part_of}
 
 -- a directory has all its slots and no fault
 pub record IsSound (d : Directory) : Type 0 where
@@ -58,13 +58,13 @@ record_sector d file n = sector_at d n (extent_slot d file (n / 128))
 abbrev pub IsRecordCached : List (Place × List ℕ) → Directory → FileName → ℕ → Type 0
 IsRecordCached cached d file n = IsSome (cached_at cached d.drive (place_of d.kind (record_sector d file n)))
 
--- a file's entry as a record leaves it: last extent and record count where they rise; a block at the record's place. ("File
--- Control Block Definition": EX, S2, RC, D0 to Dn.)
+-- a file's entry as a record leaves it: last extent and record count where they rise, and then S1 zero, by which other tools
+-- cut a last record; a block at the record's place. ("File Control Block Definition": EX, S1, S2, RC, D0 to Dn.)
 abbrev pub is_above : ℕ → FileEntry → Bool
 is_above n f = nat_lt (extent_of f) (n / 128) || ((n / 128 == extent_of f) && nat_le f.rc (n % 128))
 
 abbrev pub raised_entry : ℕ → FileEntry → FileEntry
-raised_entry n f = if is_above n f then record f { ex = n / 128 % 32; s2 = n / 128 / 32; rc = n % 128 + 1 } else f
+raised_entry n f = if is_above n f then record f { ex = n / 128 % 32; s1 = 0; s2 = n / 128 / 32; rc = n % 128 + 1 } else f
 
 abbrev pub with_number : Kind → ℕ → ℕ → FileEntry → FileEntry
 with_number kind n block f = record f { blocks = slice_set f.blocks (block_place kind n) block }
@@ -92,6 +92,14 @@ attributes_at (Kept bytes) = None
 abbrev pub attributes_where : Directory → Option Found → Option (List Bool)
 attributes_where d None = None
 attributes_where d (Some found) = attributes_at (entry_in d found.slot)
+
+-- what was found is a directory entry of a file
+pub record IsEntryOf (d : Directory) (file : FileName) (found : Found) : Type 0 where
+  pub entry : FileEntry
+  pub there : entry_in d found.slot ≡ File entry
+  pub its : is_part_of file (File entry) ≡ true
+  pub name : found.name ≡ file.name
+  pub extent : found.extent ≡ extent_of entry
 
 abbrev pub is_file : Entry → Bool
 is_file (File f) = true

@@ -114,11 +114,9 @@ pub record InService (disks : Option Disks) (d : Directory) (before : Drive) (jo
   pub told : told_image disks d.drive ≡ Some image
   pub service : IsInService image d before job j work
 
--- a device failed in some turn of a job, from turn j on
+-- a device failed in the turn behind j that have ended: the image stands within its unit
 pub record Contained (disks : Option Disks) (drive : ℕ) (before : Drive) (job : Job) (j : ℕ) : Type 0 where
-  pub turn : ℕ
-  pub since : j ≤ turn
-  pub within : StandsWithin disks drive (units_done before job turn) (unit_at before job turn)
+  pub within : StandsWithin disks drive (units_done before job j) (unit_at before job j)
 
 -- one turn more has ended
 abbrev pub one_ended : Work → Work

@@ -7,7 +7,7 @@ ghost use Rattle.mpm_mount.specs.Directories.{Stands};
 ghost use Rattle.mpm_files.specs.Plans as plans;
 ghost use Rattle.mpm_files.specs.Counting as spec;
 ghost use Rattle.mpm_files.specs.Units.{first_attributes};
-ghost use Rattle.mpm_files.specs.Lookups.{attributes_where};
+ghost use Rattle.mpm_files.specs.Lookups.{attributes_where, IsEntryOf};
 
 use crate::jobs::Job;
 use mpm_blocks::geometry;
@@ -79,6 +79,7 @@ pub fn lowest_entry(mounted: &Mounted, user: u8, name: &[u8; 11]) -> Option<Foun
     ensures attributes { (image : List ℕ) (files : Drive) → Stands image mounted.now files
         → first_attributes (extents_of files (record { user = user; name = faults.plain name.now })) ≡ attributes_where mounted.now result }
     ensures within { IfSome result (λ found. found.slot < length mounted.now.entries) }
+    ensures found { IfSome result (λ found. IsEntryOf mounted.now (record { user = user; name = faults.plain name.now }) found) }
 {
     let sought = plain(name);
     let mut last = None;

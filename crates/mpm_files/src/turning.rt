@@ -116,6 +116,8 @@ pub fn turn<D: Drives, L: Ledger>(
     ensures err { (before : Drive) (job : Job) (j : ℕ) → Suits before job → InService (D.disks drives.old) mounted.old before job j work.old → j < turns_of before job
         → OnErr result (Contained (D.disks drives.new) mounted.old.drive before job j) }
     ensures progress { IfOk result (λ told. told ≡ (if nat_lt (work.old.ended + 1) (turns_in work.old) then progress.Again else progress.Done)) }
+    ensures counted { work.old.ended < turns_in work.old → OnOk result (work.new.ended ≡ work.old.ended + 1) }
+    ensures units { work.new.units ≡ work.old.units }
     ensures drive { mounted.new.drive ≡ mounted.old.drive }
     ensures kind { mounted.new.kind ≡ mounted.old.kind }
     ensures calls { steps.new ≤ steps.old + 20 }
@@ -133,6 +135,7 @@ pub fn turn<D: Drives, L: Ledger>(
 /// Counts a turn that has ended.
 fn end_turn(work: &mut Work) -> Progress
     ensures counted { work.old.ended < turns_in work.old → work.new ≡ one_ended work.old }
+    ensures units { work.new.units ≡ work.old.units }
     ensures progress { result ≡ (if nat_lt (work.old.ended + 1) (turns_in work.old) then progress.Again else progress.Done) }
 {
     work.ended = work.ended.saturating_add(1);

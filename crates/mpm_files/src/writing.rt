@@ -57,6 +57,7 @@ fn raised(file: &FileEntry, n: u32) -> FileEntry
     if is_above(file, n) {
         FileEntry {
             ex: (n / 128 % 32) as u8,
+            s1: 0,
             s2: (n / 128 / 32) as u8,
             rc: (n % 128 + 1) as u8,
             ..*file

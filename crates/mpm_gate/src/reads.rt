@@ -30,6 +30,7 @@ pub enum Reads {
 ghost use Rattle.mpm_gate.specs.Reads.{reads_of as reads_in_table, most_read};
 
 /// What the call of a function reads. (MP/M II Programmer's Guide, "BDOS Function Calls", "XDOS Function Calls".)
+#[inline(always)]
 #[tactic(auto, unfolding(crate::specs::Reads::reads_of))]
 pub fn reads_of(function: u8) -> Reads
     ensures table { result ≡ reads_in_table function }

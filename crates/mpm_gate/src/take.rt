@@ -7,7 +7,7 @@ ghost use Rattle.mpm_gate.specs.Calls.{with_more, descriptor_from, descriptors_f
 use crate::memory::{range_at, word_at};
 use crate::reads::{Reads, reads_of};
 use mpm_banks::Banks;
-use mpm_base::{Call, Seg};
+use mpm_base::{Call, Seg, ends_text};
 use z80_regs::Regs;
 
 /// How many process descriptors of a chain are read at most.
@@ -30,13 +30,14 @@ impl TextEnd {
     {
         match self {
             TextEnd::Dollar => byte == b'$',
-            TextEnd::NullOrReturn => byte == 0 || byte == b'\r',
+            TextEnd::NullOrReturn => ends_text(byte),
         }
     }
 }
 
 /// Takes a kernel call: fills it in with its function, its parameter, the DMA address, and every byte that it reads in its
 /// caller's memory, all as they are now. The multi-sector count is at most 16.
+#[inline(always)]
 #[tactic(auto, using(crate::proofs::BytesLaws::length_bytes), unfolding(crate::specs::Calls::taken_call, crate::specs::Calls::bytes_read, crate::specs::Calls::block_read))]
 pub fn call_of(regs: &Regs, banks: &Banks, seg: Seg, dma: u16, multi: u8, call: &mut Call)
     requires { multi ≤ 16 }

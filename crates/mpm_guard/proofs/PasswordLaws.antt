@@ -1,8 +1,9 @@
 -- What was encoded is decoded again; and who is let in, by equal passwords.
-use Rattle.std.proofs.Common.{◌≡◌, ◌∙◌, ◌⊎◌, ℕ, Bool, true, false, ◌||◌, List, [], ◌∷◌, ◌++◌, map, reverse, sym, refl, ap, inl, inr}
+use Rattle.std.proofs.Common.{◌≡◌, ◌∙◌, ℕ, Bool, true, false, ◌||◌, List, [], ◌∷◌, ◌++◌, map, reverse, sym, refl, ap, inl, inr}
 use Rattle.std.specs.Prelude.{bit_xor, bytes_eq, replicate}
 use Rattle.std.proofs.lemmas.List.{map-append, reverse-append, reverse-reverse}
 use Rattle.std.proofs.lemmas.Slice.Eq.{bytes_eq-Decides}
+use Rattle.std.proofs.lemmas.Bool.{or_right, or_cases}
 use lib.Bits.{xor_assoc, xor_self, xor_zero_r}
 use Rattle.mpm_dirent.specs.declared.kinds.XfcbEntry.{XfcbEntry}
 use Rattle.mpm_dirent.specs.declared.kinds.LabelEntry.{LabelEntry}
@@ -30,14 +31,6 @@ decoded_back decode bytes =
     let f : ℕ → ℕ = λ byte. bit_xor byte decode in
     ap (map f) (reverse_map f (reverse bytes) ∙ ap (map f) (reverse-reverse bytes)) ∙ each_back decode bytes
 
-one_of_two : (a b : Bool) → (a || b) ≡ true → (a ≡ true) ⊎ (b ≡ true)
-one_of_two true b e = inl refl
-one_of_two false b e = inr e
-
-right : (a b : Bool) → b ≡ true → (a || b) ≡ true
-right true b e = refl
-right false b e = e
-
 left : (a b : Bool) → a ≡ true → (a || b) ≡ true
 left true b e = refl
 left false b e = absurd (cc)
@@ -46,7 +39,7 @@ left false b e = absurd (cc)
 knows : (decode : ℕ) (stored given default : List ℕ) → has_password decode stored given default ≡ true → Knows decode stored given default
 knows decode stored given default e =
     let kept = decoded decode stored in
-    elim (one_of_two (bytes_eq given kept) (bytes_eq default kept) e) [
+    elim (or_cases (bytes_eq given kept) (bytes_eq default kept) e) [
       | inl own ↦ inl ((bytes_eq-Decides given kept).0 own)
       | inr by_default ↦ inr ((bytes_eq-Decides default kept).0 by_default)
     ]
@@ -56,7 +49,7 @@ has decode stored given default known =
     let kept = decoded decode stored in
     elim known [
       | inl own ↦ left (bytes_eq given kept) (bytes_eq default kept) ((bytes_eq-Decides given kept).1 own)
-      | inr by_default ↦ right (bytes_eq given kept) (bytes_eq default kept) ((bytes_eq-Decides default kept).1 by_default)
+      | inr by_default ↦ or_right (bytes_eq given kept) (bytes_eq default kept) ((bytes_eq-Decides default kept).1 by_default)
     ]
 
 -- who is admitted to a file
@@ -64,7 +57,7 @@ pub passes : (label : ℕ) (xfcb : XfcbEntry) (need : ℕ) (given default : List
     → MayPass label xfcb need given default
 unfolding is_admitted
 passes label xfcb need given default e =
-    elim (one_of_two (is_unguarded label xfcb need) (has_password xfcb.decode xfcb.password given default) e) [
+    elim (or_cases (is_unguarded label xfcb need) (has_password xfcb.decode xfcb.password given default) e) [
       | inl free ↦ inl free
       | inr known ↦ inr (knows xfcb.decode xfcb.password given default known)
     ]
@@ -76,14 +69,14 @@ is_let_in label xfcb need given default may =
     let kept = has_password xfcb.decode xfcb.password given default in
     elim may [
       | inl unguarded ↦ left (is_unguarded label xfcb need) kept unguarded
-      | inr known ↦ right (is_unguarded label xfcb need) kept (has xfcb.decode xfcb.password given default known)
+      | inr known ↦ or_right (is_unguarded label xfcb need) kept (has xfcb.decode xfcb.password given default known)
     ]
 
 -- who is admitted to the label
 pub changes : (label : LabelEntry) (given default : List ℕ) → is_label_admitted label given default ≡ true → MayChange label given default
 unfolding is_label_admitted
 changes label given default e =
-    elim (one_of_two (bytes_eq label.password (replicate 8 0)) (has_password label.decode label.password given default) e) [
+    elim (or_cases (bytes_eq label.password (replicate 8 0)) (has_password label.decode label.password given default) e) [
       | inl blank ↦ inl ((bytes_eq-Decides label.password (replicate 8 0)).0 blank)
       | inr known ↦ inr (knows label.decode label.password given default known)
     ]
@@ -94,5 +87,5 @@ may_change label given default may =
     let kept = has_password label.decode label.password given default in
     elim may [
       | inl blank ↦ left (bytes_eq label.password (replicate 8 0)) kept ((bytes_eq-Decides label.password (replicate 8 0)).1 blank)
-      | inr known ↦ right (bytes_eq label.password (replicate 8 0)) kept (has label.decode label.password given default known)
+      | inr known ↦ or_right (bytes_eq label.password (replicate 8 0)) kept (has label.decode label.password given default known)
     ]

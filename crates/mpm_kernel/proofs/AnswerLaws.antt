@@ -3,10 +3,11 @@ use Rattle.std.proofs.Common.{◌≡◌, ◌∙◌, ℕ, ◌-◌, ◌<◌, Bool,
 use Rattle.std.proofs.lemmas.Bool.{cases_lt}
 use Rattle.std.proofs.lemmas.Bool.Decides.{nat_tests}
 use Rattle.std.proofs.lemmas.List.{get_or_append_left, get_or-append_right, get_or-take, get_or-replicate, get_or_past, length-take, length-replicate, drop-append-le, drop_all}
+use Rattle.mpm_base.specs.Lists.{in_width}
+use Rattle.mpm_base.proofs.Widths.{length_in_width}
 use Rattle.mpm_base.specs.Calls.{Taken, Answer, answering, byte_in, word_at}
 use Rattle.mpm_base.specs.declared.functions.TheConstants.{READ_QUEUE}
-use Rattle.mpm_queues.specs.Queue.{in_width, block_size, with_given}
-use Rattle.mpm_queues.proofs.MessageLaws.{length_in_width}
+use Rattle.mpm_queues.specs.Queue.{block_size, with_given}
 use Rattle.mpm_kernel.specs.Completion.{completion_of}
 
 -- the block of a call stays as it is given a message, and the message stands behind it
@@ -41,7 +42,8 @@ reading : (b : Bool) (other : Answer) (at at_call : ℕ) (bytes message : List �
 reading true other at at_call bytes message is same equal = cc
 reading false other at at_call bytes message is same equal = absurd (cc)
 
-function_given : (message : List ℕ) (call : Taken) → (with_given message call).function ≡ call.function
+-- a call with a message given asks for the function that it asked for
+pub function_given : (message : List ℕ) (call : Taken) → (with_given message call).function ≡ call.function
 unfolding with_given
 function_given message call = refl
 

@@ -12,16 +12,13 @@ use Rattle.mpm_procs.proofs.MapLaws.{lives_below}
 use Rattle.mpm_queues.specs.Handling.{read_outcome, write_outcome, woken_by}
 use Rattle.mpm_queues.proofs.WaitLaws.{waits_one, read_ends_waiter, write_ends_waiter}
 use Rattle.mpm_dispatcher.specs.Dispatch.{ready, ready_in, lists_ready, also_completed, with_other}
+use Rattle.mpm_dispatcher.proofs.WalkLaws.{at_most_one}
 use Rattle.mpm_kernel.specs.Awaiting.{Awaits, AwaitsIn, completions}
 use Rattle.mpm_kernel.specs.Kernel.{Kernel, IsSound, waits_of, dispatched}
 use Rattle.mpm_kernel.proofs.PlaceLaws.{not_equal, moved_lists, table_moved, list_moved, list_moved_other}
 use Rattle.mpm_kernel.proofs.Soundness.{listed_once}
 
 -- completions
-
-at_most_one : (b : Bool) → one_if b ≤ 1
-at_most_one true = omega arith
-at_most_one false = omega arith
 
 itself : (q : ℕ) → one_if (q == q) ≡ 1
 itself q = one_if_true (q == q) (grind (arith, nat_tests))

@@ -31,6 +31,7 @@ use Rattle.mpm_kernel.specs.Queueing.{with_queue, queue_made, opened, may_delete
 use Rattle.mpm_base.specs.declared.functions.TheConstants.{SET_MULTI_SECTOR_COUNT, SET_BDOS_ERROR_MODE}
 use Rattle.mpm_kernel.proofs.Beside.{StaysBeside, beside_same, beside_both, beside_changed, beside_call}
 use Rattle.mpm_kernel.proofs.Homes.{SameHomes, homes_stay, homes_both, homes_changed, homes_call}
+use Rattle.mpm_kernel.proofs.AnswerLaws.{function_given}
 
 -- the calls of the kernel: who lives, lives where somebody lived, and each process that waits at no queue keeps its call
 
@@ -187,10 +188,6 @@ call_else : (procs : Table) (r q : ℕ) (call : Taken) → q ≢ r → call_of (
 unfolding with_call
 call_else procs r q call other = get_or-set_other procs.calls r q call no_call other
 
-given_function : (message : List ℕ) (call : Taken) → (with_given message call).function ≡ call.function
-unfolding with_given
-given_function message call = refl
-
 pub kept_delivered_to : (b : Bool) (o : Option ℕ) (message : List ℕ) (kernel : Kernel) (called : Called)
     → called.kernel.dispatcher.procs ≡ (if b then kernel.dispatcher.procs else (delivered_to o message kernel.dispatcher.procs)) → ((r : ℕ) → o ≡ Some r → waits kernel.queues r ≡ 1)
     → length called.kernel.units.consoles ≡ length kernel.units.consoles → KeepsHome kernel called
@@ -203,7 +200,7 @@ kept_delivered_to false (Some r) message kernel called e one count =
       homes = homes_both kernel afterwards called.kernel (homes_call kernel r call) (homes_stay afterwards called.kernel e);
       call = λ q none. ap (λ procs. call_of procs q) e ∙ call_else kernel.dispatcher.procs r q call (λ same. omega (arith, one r refl, none, ap (waits kernel.queues) same));
       beside = λ q. beside_both q kernel.dispatcher.procs afterwards.dispatcher.procs called.kernel.dispatcher.procs
-          (beside_call kernel.dispatcher.procs r q call (given_function message (call_of kernel.dispatcher.procs r)))
+          (beside_call kernel.dispatcher.procs r q call (function_given message (call_of kernel.dispatcher.procs r)))
           (beside_same q afterwards.dispatcher.procs called.kernel.dispatcher.procs e);
       consoles = count;
     }

@@ -26,7 +26,8 @@ process_left : (p : ℕ) (unit : Unit) (kernel : Kernel) → (unit_left p unit k
 unfolding unit_left
 process_left p unit kernel = refl
 
-queues_left : (p : ℕ) (unit : Unit) (kernel : Kernel) → (unit_left p unit kernel).queues ≡ kernel.queues
+-- whoever leaves a unit leaves the queues as they are
+pub queues_left : (p : ℕ) (unit : Unit) (kernel : Kernel) → (unit_left p unit kernel).queues ≡ kernel.queues
 unfolding unit_left
 queues_left p unit kernel = refl
 

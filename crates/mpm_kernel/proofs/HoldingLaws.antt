@@ -2,7 +2,7 @@
 use Rattle.std.proofs.Common.{◌≡◌, ◌≢◌, ◌∙◌, ℕ, zero, suc, ◌+◌, ◌<◌, ◌≤◌, Bool, true, false, cond, List, [], ◌∷◌, length, Option, Some, None, inl, inr, refl, sym, ap, arith}
 use Rattle.std.specs.List.{range_with_len}
 use Rattle.std.specs.Option.{option_map_or}
-use Rattle.std.proofs.lemmas.Bool.{false≢true, cases_eq, cases_lt}
+use Rattle.std.proofs.lemmas.Bool.{false≢true, cases_eq, cases_lt, false_from_ne_true}
 use Rattle.std.proofs.lemmas.Bool.Decides.{nat_tests}
 use Rattle.mpm_base.proofs.Choices.{either}
 use Rattle.mpm_procs.specs.Table.{Lives, process_in}
@@ -98,10 +98,6 @@ relieved_gone p k kernel s h below =
     ap (λ (queues : Queues). holds queues p k) (left_units p _ (leaves_messages p kernel s h).sound).queues
     ∙ all_gone 32 0 p k _ (leaves_given_back p kernel s h) (omega arith) (omega (arith, below))
 
-past_gone : (b : Bool) → (b ≡ true → ⊥) → b ≡ false
-past_gone true never = absurd (never refl)
-past_gone false never = refl
-
 pub nothing_held : (kernel : Kernel) (p q : ℕ) → IsSound kernel → Lives kernel.dispatcher.procs p → holds (discharged kernel p).queues p q ≡ false
 unfolding discharged
 nothing_held kernel p q s h = elim (cases_lt q 32) [
@@ -109,7 +105,7 @@ nothing_held kernel p q s h = elim (cases_lt q 32) [
   | inr past ↦
       let sound = (leaves_relieved p kernel s h).sound.queues in
       let t = (relieved p kernel).queues in
-      past_gone (holds t p q) (λ held. omega (arith, past, made_below t q sound (holds_made t p q sound held)))
+      false_from_ne_true (holds t p q) (λ held. omega (arith, past, made_below t q sound (holds_made t p q sound held)))
 ]
 
 -- the message of a mutual exclusion queue has no bytes, so that no procedure has one

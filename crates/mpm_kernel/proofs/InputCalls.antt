@@ -1,8 +1,8 @@
 -- What stays so after the calls that read from a console and write to it.
-use Rattle.std.proofs.Common.{◌≡◌, ◌∙◌, ℕ, ◌<◌, ◌≤◌, Bool, true, false, ◌&&◌, ◌==◌, [], List, length, Option, Some, None, refl, sym, ap, subst, arith}
+use Rattle.std.proofs.Common.{◌≡◌, ◌∙◌, ℕ, ◌<◌, Bool, true, false, ◌&&◌, ◌==◌, [], List, length, Option, Some, None, refl, sym, ap, subst, arith}
 use Rattle.std.proofs.lemmas.Bool.{ne_eqb}
 use Rattle.mpm_base.specs.Calls.{Taken}
-use Rattle.mpm_base.proofs.CountLaws.{one_if, one_if_false}
+use Rattle.mpm_base.proofs.CountLaws.{one_if_false}
 use Rattle.mpm_base.specs.declared.functions.TheConstants.{CONSOLE_INPUT, RAW_CONSOLE_INPUT, DIRECT_CONSOLE_IO, READ_CONSOLE_BUFFER, GET_CONSOLE_STATUS}
 use Rattle.mpm_procs.specs.Table.{Lives, process_in}
 use Rattle.mpm_procs.specs.declared.process.Process.{Process}
@@ -16,6 +16,7 @@ use Rattle.mpm_consoles.proofs.SoundLaws.{sound_raw, sound_take, sound_wait}
 use Rattle.mpm_line_input.specs.Echoes.{key_echo}
 use Rattle.mpm_line_input.specs.Lines.{is_full, ends, line_end}
 use Rattle.mpm_dispatcher.specs.Dispatch.{ready}
+use Rattle.mpm_dispatcher.proofs.WalkLaws.{at_most_one}
 use Rattle.mpm_kernel.specs.Kernel.{Kernel, IsSound, CompletedLive, HasConsole, with_changed}
 use Rattle.mpm_kernel.specs.Columns.{column_of, spoke}
 use Rattle.mpm_kernel.specs.Called.{Called, low_parameter}
@@ -34,10 +35,6 @@ record Serves (p console : ℕ) (kernel : Kernel) : Type 0 where
   pub calls : Calls p kernel
   pub has : HasConsole kernel console
   pub owner : owns kernel.units p (ConsoleUnit console) ≡ true
-
-at_most_one : (b : Bool) → one_if b ≤ 1
-at_most_one true = omega arith
-at_most_one false = omega arith
 
 -- the owner waits at its gate
 waits_at_gate : (p console : ℕ) (key : Bool) (kernel : Kernel) → Serves p console kernel → WaitsAt kernel p (gate_wait_begun kernel.units console key)

@@ -18,7 +18,7 @@ use Rattle.mpm_kernel.proofs.PlaceLaws.{list_moved, list_moved_other}
 use Rattle.mpm_consoles.proofs.PlaceLaws.{owner_is, gate_waits_unlisted}
 use Rattle.mpm_kernel.proofs.UnitWaits.{waits_one, waits_unlisted, waits_unlisted_other, waits_given, gates_given, owner_given, owner_from_given, owner_unlisted, consoles_given, printers_given}
 use Rattle.mpm_kernel.proofs.UnitCounts.{many_heir}
-use Rattle.mpm_kernel.proofs.UnitLaws.{first_is_there}
+use Rattle.mpm_dispatcher.proofs.ReadyLaws.{first_is_in}
 use Rattle.mpm_kernel.proofs.Soundness.{AreUnits, sound_units, sound_ready}
 
 -- units after one of them came to an heir, or to nobody, and before
@@ -84,7 +84,7 @@ passed_nobody t unit sound has none = record {
 
 passed_to_first : (o : Option ℕ) (t : Consoles) (unit : Unit) → AreUnitsSound t → HasUnit t unit → first_waiter t unit ≡ o → HavePassed t (pass_to o t unit) o
 passed_to_first None t unit sound has is = passed_nobody t unit sound has is
-passed_to_first (Some h) t unit sound has is = passed_waiter t unit unit h sound has (first_is_there (waiters_of t unit) h is)
+passed_to_first (Some h) t unit sound has is = passed_waiter t unit unit h sound has (first_is_in (waiters_of t unit) h is)
 
 -- a unit passes on
 pub passed_on : (t : Consoles) (unit : Unit) → AreUnitsSound t → HasUnit t unit → HavePassed t (passed t unit) (first_waiter t unit)
@@ -170,7 +170,7 @@ ready_unit_left kernel p q unit s has is_ready =
 not_heir_if : (b : Bool) (t : Consoles) (p : ℕ) (unit : Unit) → AreUnitsSound t → HasUnit t unit → owns t p unit ≡ b
     → (if b then first_waiter t unit else None) ≡ Some p → ⊥
 not_heir_if true t p unit sound has own is =
-    false≢true (sym ((sound.waited unit has).others p (owner_is (owner_of t unit) p own)) ∙ first_is_there (waiters_of t unit) p is)
+    false≢true (sym ((sound.waited unit has).others p (owner_is (owner_of t unit) p own)) ∙ first_is_in (waiters_of t unit) p is)
 not_heir_if false t p unit sound has own is = absurd (cc)
 
 not_heir : (t : Consoles) (p : ℕ) (unit : Unit) → AreUnitsSound t → HasUnit t unit → heir_of t p unit ≡ Some p → ⊥

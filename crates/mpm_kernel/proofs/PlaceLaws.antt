@@ -1,10 +1,11 @@
 -- The places where a process stands: how a change of the lists, of the flags or of the clock changes their number.
-use Rattle.std.proofs.Common.{◌≡◌, ◌≢◌, ℕ, ◌+◌, ◌<◌, ◌≤◌, Bool, true, false, ◌==◌, ◌||◌, List, [], ◌∷◌, map, length, Option, Some, None, refl, ap, arith}
+use Rattle.std.proofs.Common.{◌≡◌, ◌≢◌, ℕ, ◌+◌, ◌<◌, ◌≤◌, true, false, ◌==◌, List, [], ◌∷◌, map, length, Option, Some, None, refl, ap, arith}
 use Rattle.std.specs.Prelude.{count_by}
 use Rattle.std.specs.List.{AllByRecursion}
 use Rattle.std.proofs.lemmas.Bool.Decides.{nat_tests}
 use Rattle.std.proofs.lemmas.List.Sums.{sum_by-set}
 use Rattle.std.proofs.lemmas.List.{length-map}
+use Rattle.std.proofs.lemmas.Bool.{or_right}
 use Rattle.mpm_base.proofs.CountLaws.{one_if, one_if_true, one_if_false, count_cons}
 use Rattle.mpm_flags.specs.declared.flags.Flag.{Flag}
 use Rattle.mpm_flags.specs.declared.flags.Flag.TheVariants.{Clear, Set, Waits}
@@ -74,10 +75,6 @@ flags_without_other (flag ∷ flags) p q apart =
 pub length_without_waiter : (flags : List Flag) (p : ℕ) → length (flags_without_waiter flags p) ≡ length flags
 unfolding flags_without_waiter
 length_without_waiter flags p = length-map flags (without_waiter p)
-
-or_right : (a b : Bool) → b ≡ true → (a || b) ≡ true
-or_right true b h = refl
-or_right false b h = h
 
 -- what is so of each number of a list, by the places where it stands
 pub all_by_counts : (P : ℕ → Type 0) (ps : List ℕ) → ((p : ℕ) → 0 < count_by (λ x. x == p) ps → P p) → AllByRecursion P ps

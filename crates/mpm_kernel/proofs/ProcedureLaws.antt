@@ -1,8 +1,7 @@
 -- What stays so where a process's resident procedure ends.
 use Rattle.std.proofs.Common.{◌≡◌, ◌≢◌, ◌∙◌, ℕ, ◌≤◌, ◌==◌, Bool, true, false, List, length, Option, Some, None, if◌then◌else◌, refl, sym, ap, arith}
 use Rattle.std.specs.List.{AllByRecursion}
-use Rattle.std.proofs.lemmas.Bool.{false≢true}
-use Rattle.std.proofs.lemmas.Bool.Decides.{nat_tests}
+use Rattle.std.proofs.lemmas.Bool.{false≢true, eq-eqb}
 use Rattle.mpm_base.proofs.Choices.{either}
 use Rattle.mpm_procs.specs.Table.{Table, lives, Lives, process_in, with_process}
 use Rattle.mpm_procs.proofs.MapLaws.{lives_changed, lives_after}
@@ -40,15 +39,12 @@ lives_outside p q kernel h =
 
 -- who is still to be answered lives and is another process, and there is one at most
 
-same_number : (n : ℕ) → (n == n) ≡ true
-same_number n = grind (arith, nat_tests)
-
 all_still : (P : ℕ → Type 0) (first : Option ℕ) (p : ℕ) (procs : Table) → ((q : ℕ) → Lives procs q → q ≢ p → P q) → AllByRecursion P (still_completed first p procs)
 all_still P None p procs each = tt
 all_still P (Some q) p procs each =
     either (AllByRecursion P) (q == p) _ _ (λ _. tt)
     (λ other.
-    let apart : q ≢ p = λ same. false≢true (sym other ∙ (ap (λ (x : ℕ). q == x) (sym same) ∙ same_number q)) in
+    let apart : q ≢ p = λ same. false≢true (sym other ∙ (ap (λ (x : ℕ). q == x) (sym same) ∙ eq-eqb q q refl)) in
     either (AllByRecursion P) (lives procs q) _ _ (λ living. (each q living apart, tt)) (λ _. tt))
 
 few_still : (first : Option ℕ) (p : ℕ) (procs : Table) → length (still_completed first p procs) ≤ 1

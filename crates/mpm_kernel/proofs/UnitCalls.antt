@@ -1,8 +1,9 @@
 -- What stays so after the calls on consoles and printers.
 use Rattle.std.proofs.Common.{◌≡◌, ◌≢◌, ◌∙◌, ℕ, ◌+◌, ◌<◌, ◌≤◌, Bool, true, false, not, ◌&&◌, ◌||◌, ◌==◌, if◌then◌else◌, inl, inr, length, Option, Some, None, refl, sym, ap, arith}
 use Rattle.std.specs.Prelude.{nat_lt}
-use Rattle.std.proofs.lemmas.Bool.{false≢true, cases_eq}
+use Rattle.std.proofs.lemmas.Bool.{false≢true, cases_eq, and_parts}
 use Rattle.std.proofs.lemmas.Bool.Decides.{nat_tests}
+use Rattle.std.proofs.lemmas.Option.{same_Some}
 use Rattle.mpm_base.proofs.Choices.{either}
 use Rattle.mpm_base.specs.Calls.{Taken, byte_in, name_at}
 use Rattle.mpm_ready.specs.Tables.{list_of, removed}
@@ -85,9 +86,6 @@ has_before_given : (t : Consoles) (unit other : Unit) (owner : Option ℕ) → H
 has_before_given t unit (ConsoleUnit n) owner has = omega (arith, consoles_given t unit owner, has)
 has_before_given t unit (PrinterUnit n) owner has = omega (arith, printers_given t unit owner, has)
 
-some_is : (a b : ℕ) → Some a ≡ Some b → a ≡ b
-some_is a b e = cc
-
 -- a unit comes to a living process that doesn't wait for it
 pub quiet_given : (kernel : Kernel) (unit : Unit) (p : ℕ) → IsSound kernel → HasUnit kernel.units unit → Lives kernel.dispatcher.procs p
     → MayWait (Some p) (waiters_of kernel.units unit) → AreQuiet kernel (given kernel.units unit (Some p))
@@ -98,7 +96,7 @@ quiet_given kernel unit p s has h for = record {
     printers = printers_given kernel.units unit (Some p);
     owners = λ other q there is. elim (owner_from_given kernel.units unit other (Some p) q has is) [
       | inl before ↦ s.owners other q (has_before_given kernel.units unit other (Some p) there) before
-      | inr new ↦ ap (lives kernel.dispatcher.procs) (sym (some_is p q new)) ∙ h
+      | inr new ↦ ap (lives kernel.dispatcher.procs) (sym (same_Some p q new)) ∙ h
     ];
   };
   fewer = λ q. omega (arith, waits_given kernel.units unit (Some p) q, gates_given kernel.units unit (Some p) q has);
@@ -282,19 +280,15 @@ stays_assigned_to (Some to) call p kernel c live below =
     })
     (λ _. same p failure_code kernel c)
 
-both_true : (b c : Bool) → (b && c) ≡ true → b ≡ true
-both_true true c h = refl
-both_true false c h = absurd (false≢true h)
-
 stays_assigned : (call : Taken) (p : ℕ) (kernel : Kernel) → Calls p kernel → StaysSound p (assigned call p kernel)
 unfolding assigned
 stays_assigned call p kernel c =
     let console = byte_in call 0 in
     called_if p (nat_lt console (length kernel.units.consoles) && may_attach kernel.units p (ConsoleUnit console)) _ _
     (λ may.
-    let fits = both_true (nat_lt console (length kernel.units.consoles)) _ may in
+    let fits = (and_parts (nat_lt console (length kernel.units.consoles)) _ may).0 in
     stays_assigned_to (named kernel.dispatcher.procs (name_at call 1)) call p kernel c
-    (λ q is. both_true (lives kernel.dispatcher.procs q) _ (lowest_passes (is_called kernel.dispatcher.procs (name_at call 1)) q is).0)
+    (λ q is. (and_parts (lives kernel.dispatcher.procs q) _ (lowest_passes (is_called kernel.dispatcher.procs (name_at call 1)) q is).0).0)
     (grind (arith, nat_tests, fits)))
     (λ _. same p failure_code kernel c)
 

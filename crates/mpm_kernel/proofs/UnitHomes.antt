@@ -1,6 +1,6 @@
 -- Where processes live, and which calls they keep, after the calls on consoles and printers.
 use Rattle.std.proofs.Common.{◌≡◌, ◌≢◌, ◌∙◌, ℕ, Bool, true, false, ◌&&◌, ◌==◌, List, Option, Some, None, if◌then◌else◌, refl, ap, length}
-use Rattle.std.proofs.lemmas.Bool.{false≢true}
+use Rattle.std.proofs.lemmas.Bool.{and_parts}
 use Rattle.std.proofs.lemmas.List.{length-set}
 use Rattle.mpm_base.specs.Calls.{Taken, byte_in, name_at}
 use Rattle.mpm_procs.specs.Table.{HasSlots, lives, Lives, process_in, call_of, with_process}
@@ -28,6 +28,7 @@ use Rattle.mpm_kernel.proofs.InputLaws.{consoles_attached}
 use Rattle.mpm_kernel.proofs.Homes.{homes_stay, homes_both, homes_changed}
 use Rattle.mpm_kernel.proofs.RowLaws.{by_rows}
 use Rattle.mpm_kernel.proofs.CallHomes.{KeepsHome, kept_if, kept_kernel_if, kept_same, kept_changed, kept_then, kept_procs}
+use Rattle.mpm_kernel.proofs.ChangeLaws.{queues_left}
 
 -- there are as many consoles
 
@@ -75,10 +76,6 @@ unfolding unit_left
 kept_left_changed p unit process kernel s h same due mode multi =
     kept_procs kernel (with_changed kernel p process) _ (kept_changed p 0 kernel process s h same due mode multi) refl (many_left p unit kernel).consoles
 
-queues_left : (p : ℕ) (unit : Unit) (kernel : Kernel) → (unit_left p unit kernel).queues ≡ kernel.queues
-unfolding unit_left
-queues_left p unit kernel = refl
-
 kept_console_set : (call : Taken) (p : ℕ) (kernel : Kernel) → IsSound kernel → Lives kernel.dispatcher.procs p → KeepsHome kernel (console_set call p kernel)
 unfolding console_set console_changed
 kept_console_set call p kernel s h =
@@ -111,16 +108,12 @@ kept_assigned_to (Some to) call kernel s live =
     (kept_procs kernel (with_changed kernel to (record (process_in kernel.dispatcher.procs to) { console = byte_in call 0 })) _ (kept_changed to 0 kernel _ s (live to refl) refl refl (λ _. refl) (λ _. refl)) refl (many_assigned kernel.units (byte_in call 0) to).consoles)
     (kept_same kernel _ refl refl)
 
-first_true : (b c : Bool) → (b && c) ≡ true → b ≡ true
-first_true true c h = refl
-first_true false c h = absurd (false≢true h)
-
 kept_assigned : (call : Taken) (p : ℕ) (kernel : Kernel) → IsSound kernel → KeepsHome kernel (assigned call p kernel)
 unfolding assigned
 kept_assigned call p kernel s =
     kept_if kernel (nat_lt (byte_in call 0) (length kernel.units.consoles) && may_attach kernel.units p (ConsoleUnit (byte_in call 0))) _ _
     (kept_assigned_to (named kernel.dispatcher.procs (name_at call 1)) call kernel s
-    (λ q is. first_true (lives kernel.dispatcher.procs q) _ (lowest_passes (is_called kernel.dispatcher.procs (name_at call 1)) q is).0))
+    (λ q is. (and_parts (lives kernel.dispatcher.procs q) _ (lowest_passes (is_called kernel.dispatcher.procs (name_at call 1)) q is).0).0))
     (kept_same kernel _ refl refl)
 
 kept_printer_called : (call : Taken) (p : ℕ) (kernel : Kernel) → IsSound kernel → Lives kernel.dispatcher.procs p → KeepsHome kernel (printer_called call p kernel)

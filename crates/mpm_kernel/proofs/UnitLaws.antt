@@ -3,10 +3,8 @@ use Rattle.std.proofs.Common.{◌≡◌, ◌∙◌, ℕ, ◌<◌, Bool, true, fa
 use Rattle.std.specs.Bool.{OnTrue}
 use Rattle.std.specs.Prelude.{IfSome, slice_get}
 use Rattle.std.proofs.lemmas.Bool.{false≢true}
-use Rattle.std.proofs.lemmas.Bool.Decides.{nat_tests}
 use Rattle.std.proofs.lemmas.List.{set-get_or}
 use Rattle.mpm_base.proofs.Choices.{either}
-use Rattle.mpm_ready.specs.Order.{Member, first_of, in_list}
 use Rattle.mpm_procs.specs.Table.{Table, Lives, process_in}
 use Rattle.mpm_consoles.specs.Console.{new_console, first_key, without_first, is_for, woken, has_room}
 use Rattle.mpm_consoles.specs.Consoles.{Consoles, console_at, HasUnit, owner_of, owns, waiters_of, first_waiter, waits_for, WaitsNowhere}
@@ -20,6 +18,7 @@ use Rattle.mpm_consoles.specs.declared.keys.KeyDone.TheVariants.{Stored, Dropped
 use Rattle.mpm_consoles.specs.declared.unit.Unit.{Unit}
 use Rattle.mpm_consoles.specs.declared.unit.Unit.TheVariants.{Console as ConsoleUnit}
 use Rattle.mpm_dispatcher.specs.Dispatch.{ready, IsReady}
+use Rattle.mpm_dispatcher.proofs.ReadyLaws.{first_is_in}
 use Rattle.mpm_kernel.specs.Kernel.{Kernel, IsSound, HasConsole}
 use Rattle.mpm_kernel.specs.Consoling.{IfLives, KeyNames}
 use Rattle.mpm_kernel.proofs.PlaceLaws.{in_some}
@@ -45,11 +44,6 @@ waits_at_none kernel p true s is_ready = waits_at_no_unit kernel p s is_ready
 waits_at_none kernel p false s is_ready = tt
 
 -- who waits for a unit lives, and so does who owns one
-pub first_is_there : (ms : List Member) (p : ℕ) → first_of ms ≡ Some p → in_list p ms ≡ true
-unfolding first_of in_list
-first_is_there [] p e = absurd (cc)
-first_is_there (m ∷ ms) p e = grind (arith, nat_tests, e)
-
 pub waiter_lives : (kernel : Kernel) (unit : Unit) (p : ℕ) → IsSound kernel → waits_for kernel.units p unit ≡ true → Lives kernel.dispatcher.procs p
 waiter_lives kernel unit p s there = s.live p (omega (arith, waits_one kernel.units p unit s.units there))
 
@@ -67,7 +61,7 @@ owner_fits kernel n owner s below is =
 
 first_lives : (kernel : Kernel) (unit : Unit) → IsSound kernel → IfLives kernel.dispatcher.procs (first_waiter kernel.units unit)
 first_lives kernel unit s =
-    lives_if kernel.dispatcher.procs (first_waiter kernel.units unit) (λ p is. waiter_lives kernel unit p s (first_is_there (waiters_of kernel.units unit) p is))
+    lives_if kernel.dispatcher.procs (first_waiter kernel.units unit) (λ p is. waiter_lives kernel unit p s (first_is_in (waiters_of kernel.units unit) p is))
 
 only_if : (procs : Table) (b : Bool) (o : Option ℕ) → IfLives procs o → IfLives procs (if b then o else None)
 only_if procs true o h = h

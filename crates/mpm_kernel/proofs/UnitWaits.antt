@@ -1,10 +1,9 @@
 -- Who waits at consoles and printers, and who owns them, after each change of them; and what is so of them stays so.
-use Rattle.std.proofs.Common.{◌≡◌, ◌≢◌, ◌∙◌, ℕ, ◌+◌, ◌≤◌, Bool, true, false, ◌&&◌, ◌⊎◌, List, map, length, set, get_or, Option, Some, None, inl, inr, refl, sym, ap, arith}
+use Rattle.std.proofs.Common.{◌≡◌, ◌≢◌, ◌∙◌, ℕ, ◌+◌, ◌≤◌, Bool, true, false, ◌&&◌, ◌⊎◌, List, length, set, get_or, Option, Some, None, inl, inr, refl, sym, ap, arith}
 use Rattle.std.specs.Prelude.{is_some}
 use Rattle.std.specs.Option.{option_map_or}
-use Rattle.std.proofs.lemmas.Bool.{cases_eq, eq-eqb, ne_eqb}
+use Rattle.std.proofs.lemmas.Bool.{cases_eq, eq-eqb, ne_eqb, and_right}
 use Rattle.std.proofs.lemmas.List.{length-set, length-map, get_or-set_same, get_or-set_other}
-use Rattle.std.proofs.Math.ListN.{get_or-map}
 use Rattle.mpm_base.proofs.CountLaws.{one_if, one_if_false}
 use Rattle.mpm_ready.specs.Tables.{list_of}
 use Rattle.mpm_ready.proofs.TableLaws.{list_of_known, list_of_removed, list_of_removed_other}
@@ -16,15 +15,13 @@ use Rattle.mpm_consoles.specs.declared.unit.Unit.TheVariants.{Console as Console
 use Rattle.mpm_consoles.specs.Columns.{columns_after}
 use Rattle.mpm_consoles.proofs.ConsoleLaws.{columns_within, owner_without_wait}
 use Rattle.mpm_consoles.proofs.PlaceLaws.{owner_is, gate_waits_console, waiters_without, waits_dequeued, waits_dequeued_other, gate_waits_without, gate_waits_without_other}
+use Rattle.mpm_consoles.proofs.SoundLaws.{without_wait_at}
 use Rattle.mpm_kernel.specs.Kernel.{waits_at_units}
+use Rattle.mpm_queues.proofs.WaitLaws.{none_of}
 
 -- a process waits for one unit, or for none
 abbrev one_at : Option ℕ → ℕ
 one_at o = option_map_or (λ _. 1) o 0
-
-none_of : (o : Option ℕ) → one_at o ≡ 0 → o ≡ None
-none_of None is = refl
-none_of (Some list) is = absurd (omega (arith, is))
 
 pub nowhere_waits : (t : Consoles) (p : ℕ) → waits t p ≡ 0 → WaitsNowhere t p
 unfolding waits
@@ -59,15 +56,11 @@ gates_kept t n console q h owner awaits =
     ap (λ o. is_owner o q && is_some console.awaits) owner ∙ ap (λ a. is_owner (console_at t n).owner q && is_some a) awaits in
     omega (arith, gate_waits_console t n console q h, ap one_if same)
 
-no_gate : (b : Bool) → (b && false) ≡ false
-no_gate true = refl
-no_gate false = refl
-
 -- one at whose gate nobody waits any more
 pub gates_fewer : (t : Consoles) (n : ℕ) (console : Console) (q : ℕ) → HasConsole t n → console.awaits ≡ None
     → gate_waits (with_console t n console) q + one_if (is_at_gate q (console_at t n)) ≡ gate_waits t q
 gates_fewer t n console q h none =
-    let off : is_at_gate q console ≡ false = ap (λ a. is_owner console.owner q && is_some a) none ∙ no_gate (is_owner console.owner q) in
+    let off : is_at_gate q console ≡ false = ap (λ a. is_owner console.owner q && is_some a) none ∙ and_right (is_owner console.owner q) false refl in
     omega (arith, gate_waits_console t n console q h, one_if_false (is_at_gate q console) off)
 
 gates_printer : (t new : Consoles) (q : ℕ) → new.consoles ≡ t.consoles → gate_waits new q ≡ gate_waits t q
@@ -178,9 +171,6 @@ proper_spoken console bytes proper = record {
 without_wait_new : (p : ℕ) → without_wait_of p new_console ≡ new_console
 unfolding without_wait_of new_console
 without_wait_new p = refl
-
-without_wait_at : (consoles : List Console) (p n : ℕ) → get_or (map (without_wait_of p) consoles) n new_console ≡ without_wait_of p (get_or consoles n new_console)
-without_wait_at consoles p n = ap (get_or (map (without_wait_of p) consoles) n) (sym (without_wait_new p)) ∙ get_or-map (without_wait_of p) consoles n new_console
 
 pub owner_units_without : (t : Consoles) (p : ℕ) (unit : Unit) → owner_of (units_without_waiter t p) unit ≡ owner_of t unit
 unfolding units_without_waiter unlisted

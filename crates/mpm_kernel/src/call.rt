@@ -21,6 +21,7 @@ impl Kernel {
     ghost use Rattle.mpm_kernel.specs.Calls.{called};
 
     /// Does the call that a ready process keeps.
+    #[inline(always)]
     pub fn call(&mut self, p: Pid, reply: &mut Reply) -> Outcome
         requires sound { IsSound self.old }
         requires lives { Lives self.old.dispatcher.procs p }
@@ -35,6 +36,7 @@ impl Kernel {
     }
 
     /// The call that a process keeps, by its function.
+    #[inline(always)]
     #[tactic(auto, using(crate::proofs::SoundLaws::sound_begun), unfolding(crate::specs::Calls::call_done, crate::specs::Dates::date_answered, crate::specs::Dates::time_answered))]
     fn serve(&mut self, p: Pid, reply: &mut Reply) -> Outcome
         requires sound { IsSound self.old }

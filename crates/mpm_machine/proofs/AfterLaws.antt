@@ -8,6 +8,7 @@ use Rattle.mpm_machine_file.specs.MachineFiles.{IsMachine}
 use Rattle.mpm_machine.specs.declared.system.System.{System}
 use Rattle.mpm_machine.specs.State.{IsWhole, NoCompletions}
 use Rattle.mpm_machine.specs.Opening.{with_terminals, begun_by_interpreter, with_interpreting, with_residents, booted, opened, opening_system}
+use Rattle.mpm_machine.proofs.SizeLaws.{memory_new}
 use Rattle.mpm_machine.proofs.PlacedLaws.{booted_is_bare, opening_is_bare}
 use Rattle.mpm_machine.proofs.OpeningLaws.{Begun, BegunSo, interpreting_begun, no_terminals, more_terminals, begun_none, begun_more, boots, whole_picked, no_completions_picked}
 use Rattle.mpm_service.specs.Disk.{DiskService}
@@ -33,7 +34,7 @@ terminals_begun (suc n) start w few =
 residents_begun : (file : MachineFile) (events : List Timed) → IsMachine file → All IsTimed events
     → Begun (booted file events) (with_terminals file.consoles (with_interpreting file.consoles (begun_by_interpreter (booted file events))))
 residents_begun file events is script =
-    let bare = booted_is_bare file events is.some_console is.consoles is.printers (omega (arith, is.segments)) script in
+    let bare = booted_is_bare file events is.some_console is.consoles is.printers (omega (arith, is.segments)) script (memory_new file.segments is.some_segment is.segments is.each_segment) in
     let so = boots file events (booted file events) refl in
     let first = interpreting_begun file.consoles (booted file events) bare.whole so.queues so.room in
     let all = terminals_begun file.consoles (with_interpreting file.consoles (begun_by_interpreter (booted file events))) first.whole (omega (arith, so.consoles, first.consoles)) in
@@ -57,7 +58,7 @@ pub opened_handed : (file : MachineFile) (events : List Timed) → IsMachine fil
 unfolding opened with_residents
 opened_handed file events is script =
     let afterwards = with_terminals file.consoles (with_interpreting file.consoles (begun_by_interpreter (booted file events))) in
-    let bare = booted_is_bare file events is.some_console is.consoles is.printers (omega (arith, is.segments)) script in
+    let bare = booted_is_bare file events is.some_console is.consoles is.printers (omega (arith, is.segments)) script (memory_new file.segments is.some_segment is.segments is.each_segment) in
     let begun = residents_begun file events is script in
     no_completions_picked afterwards (dispatched (picked false) afterwards.kernel) refl
     (record { answered = begun.completed ∙ bare.no_completions.answered; written = begun.records ∙ bare.no_completions.written; paid = λ idle. begun.owed ∙ bare.no_completions.paid (ap (λ (d : DiskService). d.served) (sym begun.disk) ∙ idle) })

@@ -1,12 +1,11 @@
 -- A file call that a process has made is done at once, or waits for the disk: what becomes of the system, of files, and of what is
 -- written; and where it stopped.
-use Rattle.std.proofs.Common.{◌≡◌, ◌∙◌, ℕ, ◌+◌, ◌*◌, ◌<◌, ◌≤◌, ◌==◌, ◌&&◌, ◌||◌, Bool, true, false, if◌then◌else◌, List, [], Option, Some, None, IsSome, IfSome, Result, Ok, Err, OnOk, OnErr, IfOk, IfErr, refl, sym, ap, subst, arith}
+use Rattle.std.proofs.Common.{◌≡◌, ◌∙◌, ℕ, ◌+◌, ◌*◌, ◌<◌, ◌≤◌, ◌==◌, ◌&&◌, ◌||◌, Bool, true, false, if◌then◌else◌, List, Option, Some, None, IfSome, Result, Ok, Err, OnOk, IfErr, refl, sym, ap, subst, arith}
 use Rattle.std.specs.Prelude.{is_some, is_none, option_map}
 use Rattle.std.proofs.lemmas.Bool.{false≢true}
 use Rattle.std.proofs.lemmas.Bool.Decides.{nat_tests}
 use Rattle.mpm_base.specs.Calls.{Answer}
 use Rattle.mpm_port.specs.Disks.{Disks}
-use Rattle.mpm_port.specs.Causes.{HasCause}
 use Rattle.mpm_procs.specs.Table.{call_of}
 use Rattle.mpm_service.specs.Disk.{is_last_step}
 use Rattle.mpm_service.specs.declared.service.Served.{Served}
@@ -36,7 +35,6 @@ use Rattle.mpm_machine.specs.FileCalls.{IsToldOf, outcome_in, told_of, concluded
 use Rattle.mpm_machine.specs.DiskStep.{is_done_at_once, with_kernel, file_called, done_at_once, files_called, told_at_gate}
 use Rattle.mpm_machine.specs.Holding.{IsOwn, HoldsDrives}
 use Rattle.mpm_machine.specs.Failing.{HaveImagesOf, FailsWithin, working_if, turns_done}
-use Rattle.mpm_machine.specs.Mounting.{HasNoDrive}
 use Rattle.mpm_machine.specs.After.{StopsBy, HasCalled, HasToldAtGate, HasStoppedAtGate}
 use Rattle.mpm_machine.proofs.KeepingLaws.{ready_unserved, concluded_serves}
 use Rattle.mpm_machine.proofs.TurnLaws.{worked_on}
@@ -232,7 +230,7 @@ once_still (Ok a) p old kept kept' disks disks' files reply extended done apart 
 once_still (Err fault) p old kept kept' disks disks' files reply extended done apart c stands =
     on_write fault _ (once_stands p old kept' disks' files reply extended done (comes p old kept kept' disks disks' files reply extended apart c stands))
 
-no_disk_fault : (fault : StepFault) (P : Type 0) → fault ≡ WriteFault → OnDiskFault fault P
+pub no_disk_fault : (fault : StepFault) (P : Type 0) → fault ≡ WriteFault → OnDiskFault fault P
 no_disk_fault WriteFault P is = tt
 no_disk_fault DiskFault P is = absurd (cc)
 

@@ -1,8 +1,7 @@
 -- What holds of drives, of what is kept of file calls and of those at the disk holds behind what a step begins with, and the disk serves
 -- the same call, in turns of as many steps.
-use Rattle.std.proofs.Common.{◌≡◌, ◌∙◌, ℕ, ◌+◌, ◌<◌, ◌==◌, Bool, true, false, if◌then◌else◌, Option, Some, None, IfSome, is_some, refl, sym, ap, subst, arith, eqb-true}
+use Rattle.std.proofs.Common.{◌≡◌, ◌∙◌, ℕ, ◌+◌, ◌<◌, Bool, true, false, if◌then◌else◌, Option, Some, None, IfSome, is_some, refl, sym, ap, subst, arith, eqb-true}
 use Rattle.std.proofs.lemmas.Bool.{false≢true}
-use Rattle.mpm_base.specs.Calls.{Taken}
 use Rattle.mpm_base.specs.declared.functions.TheConstants.{CHAIN_TO_PROGRAM}
 use Rattle.mpm_base.proofs.Choices.{either}
 use Rattle.mpm_port.specs.Disks.{Disks}
@@ -20,7 +19,7 @@ use Rattle.mpm_bdos.specs.Direct.{Directly}
 use Rattle.mpm_bdos.specs.Functions.{function_of}
 use Rattle.mpm_bdos.specs.Serving.{Kept}
 use Rattle.mpm_machine.specs.declared.system.System.{System}
-use Rattle.mpm_machine.specs.State.{Change, IsWhole, silent}
+use Rattle.mpm_machine.specs.State.{Change, IsWhole}
 use Rattle.mpm_machine.specs.Holding.{AreFiled, HoldsDrives}
 use Rattle.mpm_machine.specs.Sending.{chains}
 use Rattle.mpm_machine.specs.Serving.{keeping, popped}
@@ -28,7 +27,7 @@ use Rattle.mpm_machine.specs.Residing.{asked_by}
 use Rattle.mpm_machine.specs.Finishing.{completion_dequeued, command_let_in, all_answered}
 use Rattle.mpm_machine.specs.Step.{coming, begun_by, counted}
 use Rattle.mpm_machine.specs.FileCalls.{file_caller, made_by, call_made, concluded}
-use Rattle.mpm_machine.specs.DiskStep.{is_done_at_once, with_kernel, file_called}
+use Rattle.mpm_machine.specs.DiskStep.{is_done_at_once, file_called}
 use Rattle.mpm_machine.specs.Stepping.{begun_alone, begun_with, begun_as}
 use Rattle.mpm_machine.proofs.WholeStepLaws.{whole_counted, coming_may, whole_after_begun}
 use Rattle.mpm_machine.proofs.FileLaws.{makes}

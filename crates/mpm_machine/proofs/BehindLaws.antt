@@ -1,8 +1,7 @@
 -- For which drives the images stand behind a step whose disk's step they allow, also where its sink failed: nothing behind a turn's work
 -- changes an image.
-use Rattle.std.proofs.Common.{◌≡◌, ◌∙◌, ◌-◌, ℕ, Bool, true, false, List, [], ◌∷◌, Option, Some, None, is_some, option_map, if◌then◌else◌, inl, inr, refl, sym, ap, subst, arith}
+use Rattle.std.proofs.Common.{◌≡◌, ◌∙◌, ◌-◌, ℕ, Bool, true, false, List, Option, Some, None, is_some, option_map, inl, inr, refl, sym, ap, subst, arith}
 use Rattle.std.specs.Prelude.{◌⊎◌, slice_index_or, slice_set, unwrap_or}
-use Rattle.std.specs.List.{range_with_len}
 use Rattle.std.proofs.lemmas.Bool.{false≢true}
 use Rattle.std.proofs.lemmas.List.{set-get_or}
 use Rattle.mpm_port.specs.Disks.{Disks}
@@ -21,7 +20,7 @@ use Rattle.mpm_bdos.specs.Direct.{Directly}
 use Rattle.mpm_bdos.specs.Filing.{Filing, Situation}
 use Rattle.mpm_bdos.specs.Functions.{function_of}
 use Rattle.mpm_bdos.specs.Jobs.{call_turns, job_of}
-use Rattle.mpm_bdos.specs.Outcomes.{file_call, drives_after, left_by, without_search}
+use Rattle.mpm_bdos.specs.Outcomes.{file_call, drives_after}
 use Rattle.mpm_bdos.specs.Serving.{Kept, StandEach}
 use Rattle.mpm_bdos.specs.Subjects.{drive_number, blank_drive, drive_at}
 use Rattle.mpm_bdos.specs.Turns.{told_images}
@@ -29,7 +28,7 @@ use Rattle.mpm_bdos.proofs.NextTurns.{job_drives, idle_drives}
 use Rattle.mpm_bdos.proofs.ServedLaws.{job_mounted}
 use Rattle.mpm_bdos.proofs.ServingLaws.{stand_at_last}
 use Rattle.mpm_machine.specs.declared.system.System.{System}
-use Rattle.mpm_machine.specs.Files.{Files, Between, Within, AreWithin, drives_in, turns_ended, StandsServed, StandsWorked, left_each, owes, all_left, given_back}
+use Rattle.mpm_machine.specs.Files.{Files, Between, Within, AreWithin, drives_in, turns_ended, StandsServed, StandsWorked, given_back}
 use Rattle.mpm_machine.specs.State.{Change, silent}
 use Rattle.mpm_machine.specs.DiskStep.{step_passed, disk_served, files_served, all_paid, entered_by, call_entered, within_call, files_entered_by, files_entered, turns_within}
 use Rattle.mpm_machine.specs.FileCalls.{situation_of}
@@ -37,9 +36,10 @@ use Rattle.mpm_machine.specs.Failing.{HaveImages}
 use Rattle.mpm_machine.specs.After.{EndKeeps}
 use Rattle.mpm_machine.specs.Stepping.{Telling, nothing_told, told_within, paid_after, entered_after, ended_after, rest_of, telling_then, files_paid, files_then, files_rest}
 use Rattle.mpm_machine.proofs.KeepingLaws.{ends_serve}
-use Rattle.mpm_machine.proofs.TurnLaws.{last_turn_serves}
+use Rattle.mpm_machine.proofs.TurnLaws.{last_turn_serves, drives_left}
 use Rattle.mpm_machine.proofs.ServeLaws.{IsNotLast, over_served, over_files, over_serves, works_within, silent_served, same_served, turn_goes_on, not_between, none_behind}
 use Rattle.mpm_machine.proofs.EnterLaws.{none_served, files_kept, worked_between, entered_so, files_so, nobody_enters, files_stay}
+use Rattle.mpm_machine.proofs.StandingLaws.{within_by}
 
 -- the drives that files say stand, where files do
 
@@ -58,12 +58,6 @@ stand_in (Some call) kept disks (Within s) stands =
 record StandIn (kept : Kept) (disks : Option Disks) (served : Option Served) (files : Files) : Type 0 where
   pub within : AreWithin served files
   pub stand : StandEach (told_images disks) kept.mounted (drives_in served files)
-
-within_by : (served : Option Served) (kept : Kept) (disks : Option Disks) (files : Files) → StandsServed served kept disks files → AreWithin served files
-within_by None kept disks (Between filing) stands = tt
-within_by None kept disks (Within s) stands = absurd stands
-within_by (Some call) kept disks (Between filing) stands = absurd stands
-within_by (Some call) kept disks (Within s) stands = tt
 
 stands_so : (served : Option Served) (kept : Kept) (disks : Option Disks) (files : Files) → StandsServed served kept disks files → StandIn kept disks served files
 stands_so served kept disks files stands = record { within = within_by served kept disks files stands; stand = stand_in served kept disks files stands }
@@ -118,21 +112,9 @@ served_stands told old kept disks files stands = elim (none_or old.kernel.disk.s
   ]
 ]
 
--- who gives back leaves the drives
-
-drives_if : (gone : Bool) (p : ℕ) (filing : Filing) → (if gone then without_search (left_by filing p) p else filing).drives ≡ filing.drives
-unfolding left_by without_search
-drives_if true p filing = refl
-drives_if false p filing = refl
-
-drives_each : (gone : ℕ → Bool) (ps : List ℕ) (filing : Filing) → (left_each gone ps filing).drives ≡ filing.drives
-unfolding left_each
-drives_each gone [] filing = refl
-drives_each gone (p ∷ ps) filing = drives_each gone ps _ ∙ drives_if (gone p) p filing
-
 drives_given : (owed : List Bool) (served : Option Served) (files : Files) → drives_in served (given_back owed files) ≡ drives_in served files
-unfolding drives_in all_left
-drives_given owed served (Between filing) = drives_each (owes owed) (range_with_len 0 32) filing
+unfolding drives_in
+drives_given owed served (Between filing) = drives_left owed filing
 drives_given owed served (Within s) = refl
 
 -- the call that enters finds them

@@ -1,6 +1,6 @@
 -- Who is at the disk keeps his call through what the running process does, through the file call that it makes, and through the
 -- answers of the held calls that were completed.
-use Rattle.std.proofs.Common.{◌≡◌, ◌≢◌, ◌∙◌, ℕ, ◌<◌, Bool, true, false, List, [], Option, Some, None, IfSome, refl, sym, ap, subst}
+use Rattle.std.proofs.Common.{◌≡◌, ◌≢◌, ◌∙◌, ℕ, ◌<◌, List, Option, Some, None, IfSome, refl, sym, ap, subst}
 use Rattle.std.proofs.lemmas.Bool.{false≢true}
 use Rattle.z80_regs.specs.Outcome.{Outcome as Instructed}
 use Rattle.z80_ext.specs.Instruction.{actions_of}
@@ -8,7 +8,7 @@ use Rattle.mpm_base.specs.Calls.{Taken, Answer}
 use Rattle.mpm_base.specs.declared.call.Outcome.{Outcome}
 use Rattle.mpm_base.specs.declared.call.Outcome.TheVariants.{Done, Held, Retry, Ended}
 use Rattle.mpm_base.proofs.Choices.{either}
-use Rattle.mpm_procs.specs.Table.{lives, Lives, process_in, call_of, lowest_free, added}
+use Rattle.mpm_procs.specs.Table.{lives, Lives, process_in, call_of, lowest_free}
 use Rattle.mpm_procs.specs.declared.process.NewProcess.{NewProcess}
 use Rattle.mpm_procs.specs.declared.process.Process.{Process}
 use Rattle.mpm_procs.proofs.MapLaws.{free_is_dead, process_added_other, call_added_other}
@@ -34,21 +34,20 @@ use Rattle.mpm_cli.specs.declared.act.Act.{Act}
 use Rattle.mpm_cli.specs.declared.act.Act.TheVariants.{Ask, Place, Patch, Begin, Give}
 use Rattle.mpm_residents.specs.declared.native.Native.{Native}
 use Rattle.mpm_residents.specs.Natives.{native_in, native_call, native_act}
-use Rattle.mpm_bdos.specs.Direct.{Directly}
 use Rattle.mpm_machine.specs.declared.system.System.{System}
 use Rattle.mpm_machine.specs.State.{Change, IsWhole, speaking}
 use Rattle.mpm_machine.specs.Calling.{asking}
-use Rattle.mpm_machine.specs.Sending.{chains, let_in}
+use Rattle.mpm_machine.specs.Sending.{chains}
 use Rattle.mpm_machine.specs.Serving.{asked, keeping, popped, returning, said_by, served_to_all}
 use Rattle.mpm_machine.specs.Loading.{is_console, begun_for, begins, handed_over}
 use Rattle.mpm_machine.specs.Residing.{asked_by, native_outcome, calling_step, tells, telling_step, handing_step, native_step, resided}
 use Rattle.mpm_machine.specs.Finishing.{completion_dequeued, command_let_in, finished_or_ended, answered_from, all_answered}
 use Rattle.mpm_machine.specs.Step.{illegal, instructed, executed, instruction_at, acted_at, acted_by, gate_before, running_segment, acted, begun_by, counted}
 use Rattle.mpm_machine.specs.FileCalls.{made_by, call_made}
-use Rattle.mpm_machine.proofs.WholeLaws.{whole_speaking, keeps_call, keeps_asked}
+use Rattle.mpm_machine.proofs.WholeLaws.{whole_speaking, keeps_asked}
 use Rattle.mpm_machine.proofs.ActedLaws.{whole_to_all}
 use Rattle.mpm_machine.proofs.SendingLaws.{lets_in}
-use Rattle.mpm_machine.proofs.WholeStepLaws.{whole_counted, whole_dequeued, lives_in_time}
+use Rattle.mpm_machine.proofs.WholeStepLaws.{whole_dequeued, lives_in_time}
 use Rattle.mpm_machine.proofs.KeepingLaws.{given_disk, let_in_disk}
 use Rattle.mpm_machine.proofs.CallsLaws.{KeepsCalls, SystemKeepsCalls, calls_stay, calls_same, calls_then, calls_nothing, calls_changed, waits_not, at_disk_lives, calls_ended, calls_spoke, calls_dequeued, calls_finished, calls_all_finished}
 use Rattle.mpm_machine.proofs.CallsStepLaws.{IsApart, ready_apart, calls_kept, calls_keeping, calls_to_all, calls_event, calls_gate_step}

@@ -8,7 +8,7 @@ use Rattle.mpm_base.proofs.Choices.{either}
 use Rattle.mpm_procs.specs.Table.{Table, Lives, process_in, call_of, with_call}
 use Rattle.mpm_procs.specs.declared.process.Process.{Process}
 use Rattle.mpm_procs.proofs.MapLaws.{call_after}
-use Rattle.mpm_dispatcher.specs.Dispatch.{IsReady, ready}
+use Rattle.mpm_dispatcher.specs.Dispatch.{IsReady}
 use Rattle.mpm_queues.specs.Queues.{waits}
 use Rattle.mpm_service.specs.Disk.{DiskService, turned, turn_answer, served_process, begun}
 use Rattle.mpm_service.specs.declared.service.Turn.{Turn}

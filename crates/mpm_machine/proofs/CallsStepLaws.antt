@@ -1,29 +1,26 @@
 -- Who is at the disk keeps his call through what a step begins with: an event, or what the running process does, who isn't at the disk.
-use Rattle.std.proofs.Common.{◌≡◌, ◌≢◌, ◌∙◌, ℕ, ◌<◌, ◌==◌, ◌&&◌, ◌||◌, not, Bool, true, false, if◌then◌else◌, List, [], ◌∷◌, Option, Some, None, is_some, IfSome, refl, sym, ap, subst}
+use Rattle.std.proofs.Common.{◌≡◌, ◌≢◌, ◌∙◌, ℕ, ◌<◌, ◌==◌, ◌&&◌, not, Bool, true, false, if◌then◌else◌, List, Option, Some, None, IfSome, refl, ap}
+use Rattle.mpm_base.specs.Lists.{in_width}
 use Rattle.mpm_base.specs.Calls.{Taken, Answer}
 use Rattle.mpm_base.specs.declared.call.Outcome.{Outcome}
 use Rattle.mpm_base.specs.declared.call.Outcome.TheVariants.{Done, Held, Retry, Ended}
 use Rattle.mpm_base.specs.declared.functions.TheConstants.{ABSOLUTE_MEMORY_REQUEST, RELOCATABLE_MEMORY_REQUEST, MEMORY_FREE, CREATE_PROCESS, CHAIN_TO_PROGRAM, SEND_CLI_COMMAND, PARSE_FILENAME, ABORT_SPECIFIED_PROCESS, SYSTEM_DATA_ADDRESS, RETURN_PROCESS_DESCRIPTOR_ADDRESS}
 use Rattle.mpm_base.proofs.Choices.{either}
-use Rattle.mpm_procs.specs.Table.{Table, Lives, process_in, call_of, lowest_free}
-use Rattle.mpm_procs.specs.declared.process.NewProcess.{NewProcess}
+use Rattle.mpm_procs.specs.Table.{Lives, process_in, call_of}
 use Rattle.mpm_procs.specs.declared.process.Process.{Process}
 use Rattle.mpm_procs.proofs.MapLaws.{lives_after, process_after}
 use Rattle.mpm_script.specs.declared.event.Event.{Event}
 use Rattle.mpm_service.specs.Places.{at_disk}
-use Rattle.mpm_dispatcher.specs.Dispatch.{IsReady, admitted, in_slot}
-use Rattle.mpm_kernel.specs.Kernel.{Kernel, IsSound, is_resident, dispatched}
+use Rattle.mpm_dispatcher.specs.Dispatch.{IsReady}
+use Rattle.mpm_kernel.specs.Kernel.{Kernel, IsSound, is_resident}
 use Rattle.mpm_kernel.specs.Called.{Called}
 use Rattle.mpm_kernel.specs.Calls.{called}
-use Rattle.mpm_kernel.specs.Consoling.{abort_taken, given}
-use Rattle.mpm_kernel.specs.Columns.{spoke}
+use Rattle.mpm_kernel.specs.Consoling.{abort_taken}
 use Rattle.mpm_kernel.specs.Ending.{discharged}
 use Rattle.mpm_kernel.specs.Events.{MayCome, happened}
 use Rattle.mpm_kernel.proofs.AbortLaws.{sound_abort_taken}
 use Rattle.mpm_xdos.specs.Procedures.{entered}
 use Rattle.mpm_kernel.proofs.SoundLaws.{sound_call, procs_happened}
-use Rattle.mpm_kernel.proofs.GivingLaws.{procs_gave}
-use Rattle.mpm_kernel.proofs.HomeLaws.{keeps_call}
 use Rattle.mpm_kernel.proofs.DiskStays.{disk_happened}
 use Rattle.mpm_xdos.specs.Aborting.{waits_to_end, with_abort_due, target, abort_done}
 use Rattle.mpm_xdos.specs.Creating.{created, home_base}
@@ -33,7 +30,7 @@ use Rattle.mpm_interrupts.specs.Interrupts.{due_taken}
 use Rattle.mpm_machine.specs.declared.system.System.{System}
 use Rattle.mpm_machine.specs.State.{IsWhole, speaking}
 use Rattle.mpm_machine.specs.Calling.{Served as Attended, with_kept}
-use Rattle.mpm_machine.specs.Sending.{passed_after, sent, sending, chaining, has_interpreter, framed, renamed, in_room, chained, may_send}
+use Rattle.mpm_machine.specs.Sending.{sent, sending, chaining, has_interpreter, framed, renamed, chained, may_send}
 use Rattle.mpm_machine.specs.Serving.{aborted, aborting, aborting_this, asked, keeping, reserving, releasing, creating, parsing, served_to_all, served, with_regs, string_of, said_by, popped, is_entry, with_entry, fulfilling, answering_call, recorded, replied, completing, outcome_of, gate_step}
 use Rattle.mpm_machine.specs.Step.{unhalted, key_aborted, happened_to, event_come, interrupted}
 use Rattle.mpm_machine.proofs.WholeLaws.{keeps_call as keeps_asked_call}
@@ -84,7 +81,7 @@ calls_sending : (interprets : Bool) (p : ℕ) (kernel : Kernel) → IsSound kern
 unfolding sending
 calls_sending interprets p kernel s h apart =
     let call = call_of kernel.dispatcher.procs p in
-    called_by kernel (may_send interprets call kernel) _ _ (calls_sent SEND_CLI_COMMAND (in_room 130 call.bytes) p kernel s h apart) (calls_nothing kernel)
+    called_by kernel (may_send interprets call kernel) _ _ (calls_sent SEND_CLI_COMMAND (in_width 130 call.bytes) p kernel s h apart) (calls_nothing kernel)
 
 calls_chaining : (interprets : Bool) (p : ℕ) (kernel : Kernel) → IsSound kernel → Lives kernel.dispatcher.procs p → IsApart p kernel
     → KeepsCalls kernel (chaining interprets p kernel).kernel

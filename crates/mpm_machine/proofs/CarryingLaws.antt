@@ -1,12 +1,11 @@
 -- The call in service as it is carried to its end: the turns that are left to it, its answer, the ends that are then due, and the records.
-use Rattle.std.proofs.Common.{◌≡◌, ◌∙◌, ℕ, ◌+◌, Bool, true, false, if◌then◌else◌, List, [], ◌∷◌, ◌++◌, Option, Some, None, refl, sym, ap, subst, arith}
+use Rattle.std.proofs.Common.{◌≡◌, ◌∙◌, ℕ, ◌+◌, Bool, List, [], ◌++◌, Option, Some, None, refl, sym, ap, subst, arith}
 use Rattle.std.specs.Prelude.{Result, Ok, Err, IsOk, IfSome, option_map}
-use Rattle.std.specs.List.{range_with_len}
 use Rattle.mpm_port.specs.Causes.{HasCause}
 use Rattle.mpm_port.specs.Disks.{Disks}
 use Rattle.mpm_mount.specs.Drives.{Drive}
 use Rattle.mpm_mount.specs.Directories.{Directory}
-use Rattle.mpm_procs.specs.Table.{Table, process_in, call_of}
+use Rattle.mpm_procs.specs.Table.{Table, call_of}
 use Rattle.mpm_service.specs.Ahead.{left_to, turns_left, unserved}
 use Rattle.mpm_service.specs.Disk.{DiskService, served_process}
 use Rattle.mpm_service.specs.Places.{is_call_of}
@@ -19,9 +18,9 @@ use Rattle.mpm_output.specs.Outside.{Outside, TheSink}
 use Rattle.mpm_output.specs.Writing.{Wrote, Stopped}
 use Rattle.mpm_output.proofs.WritingLaws.{wrote_after, fails_within, fails_before, stopped_cause}
 use Rattle.mpm_bdos.specs.Direct.{Directly}
-use Rattle.mpm_bdos.specs.Filing.{Filing, Situation}
+use Rattle.mpm_bdos.specs.Filing.{Situation}
 use Rattle.mpm_bdos.specs.Jobs.{call_turns}
-use Rattle.mpm_bdos.specs.Outcomes.{file_call, left_by, without_search}
+use Rattle.mpm_bdos.specs.Outcomes.{file_call}
 use Rattle.mpm_bdos.specs.Serving.{Kept as Filed, InService, StandEach, Serves, filing_of}
 use Rattle.mpm_bdos.specs.Turns.{told_images, without_work}
 use Rattle.mpm_bdos.proofs.Answerable.{still_entered}
@@ -29,7 +28,7 @@ use Rattle.mpm_bdos.proofs.ServingLaws.{stand_at_last}
 use Rattle.mpm_machine.specs.declared.system.System.{System}
 use Rattle.mpm_machine.specs.State.{Change, IsWhole}
 use Rattle.mpm_machine.specs.After.{IsOfCall, IsToldIn, EndKeeps}
-use Rattle.mpm_machine.specs.Files.{Files, Between, Within, StandsBetween, StandsServed, StandsForFiles, filing_in, left_each, owes, all_left, given_back}
+use Rattle.mpm_machine.specs.Files.{Files, Between, Within, StandsBetween, StandsServed, StandsForFiles, filing_in, all_left, given_back}
 use Rattle.mpm_machine.specs.Holding.{IsOwn}
 use Rattle.mpm_machine.specs.FileCalls.{concluded}
 use Rattle.mpm_machine.specs.Due.{with_ends}
@@ -37,11 +36,12 @@ use Rattle.mpm_machine.specs.Step.{recorded_behind, records_out}
 use Rattle.mpm_machine.specs.DiskStep.{ready_again, call_over, told_of_call, all_paid}
 use Rattle.mpm_machine.specs.Failing.{Working, HaveImages}
 use Rattle.mpm_machine.specs.Settling.{turns_passed, over_at_end, ended_at_end, ended_with, files_at_end, carried_out, HasCarried, left_of, IsEndBy}
-use Rattle.mpm_machine.proofs.WholeLaws.{whole_kernel}
+use Rattle.mpm_machine.proofs.WholeLaws.{whole_kernel, whole_written}
+use Rattle.mpm_machine.proofs.WholeStepLaws.{whole_with_ends}
+use Rattle.mpm_machine.proofs.DiskStepLaws.{whole_all_paid}
 use Rattle.mpm_machine.proofs.RecordsLaws.{recorded_after}
 use Rattle.mpm_machine.proofs.KeepingLaws.{finishing_disk, concluded_serves, ends_serve}
-use Rattle.mpm_machine.proofs.TurnLaws.{paid_stands}
-use Rattle.mpm_machine.proofs.SettlingLaws.{stands_idle}
+use Rattle.mpm_machine.proofs.TurnLaws.{stands_idle, paid_stands, drives_left}
 
 -- the call in service, with the turns that are left to it
 
@@ -130,6 +130,13 @@ unfolding ended_with ended_at_end all_paid
 ended_system told p before one two three four a b c d =
     d ∙ ap (λ (s : System). all_paid s) c ∙ ap (λ (s : System). all_paid (records_out (with_ends s)).system) (b ∙ ap (λ (s : System). all_paid s) a)
 
+-- what is whole stays so
+pub whole_at_end : (one two three four : System) → IsWhole one → two ≡ all_paid one → three ≡ (records_out (with_ends two)).system → four ≡ all_paid three → IsWhole four
+whole_at_end one two three four w b c d =
+    let paid : IsWhole two = subst IsWhole (sym b) (whole_all_paid one w) in
+    let ended : IsWhole three = whole_written (with_ends two) three (whole_with_ends two paid) c in
+    subst IsWhole (sym d) (whole_all_paid three ended)
+
 pub ended_wrote : (told : Directly) (p : ℕ) (before one two : System) (o m n : Outside) → one ≡ (over_at_end told p before).system → two ≡ all_paid one
     → Wrote o m (over_at_end told p before).emitted → Wrote m n (records_out (with_ends two)).emitted → Wrote o n (ended_with told p before).emitted
 unfolding ended_at_end
@@ -152,22 +159,6 @@ stopped_last told p before one two o m n a b first last =
     subst (Stopped o n) (sym (ended_records told p before))
     (fails_within TheSink o m n (over_at_end told p before).emitted (recorded_behind (ended_at_end told p before).records []) [] first
     (subst (λ (s : System). Stopped m n (records_out (with_ends s)).emitted) two_is last))
-
--- who gives back leaves the drives as they are
-
-drives_if : (gone : Bool) (p : ℕ) (filing : Filing) → (if gone then without_search (left_by filing p) p else filing).drives ≡ filing.drives
-unfolding left_by without_search
-drives_if true p filing = refl
-drives_if false p filing = refl
-
-drives_each : (gone : ℕ → Bool) (ps : List ℕ) (filing : Filing) → (left_each gone ps filing).drives ≡ filing.drives
-unfolding left_each
-drives_each gone [] filing = refl
-drives_each gone (p ∷ ps) filing = drives_each gone ps _ ∙ drives_if (gone p) p filing
-
-pub drives_left : (owed : List Bool) (filing : Filing) → (all_left owed filing).drives ≡ filing.drives
-unfolding all_left
-drives_left owed filing = drives_each (owes owed) (range_with_len 0 32) filing
 
 -- so the images stand for what the call leaves on the drives, whether the sink fails or not
 pub end_images : (disks : Option Disks) (kept : Filed) (mounted : List (Option Directory)) (s : Situation) (told : Directly) (before : System)
@@ -288,6 +279,12 @@ unfolding over_at_end
 told_wrote o m n p system before one two told is a b wrote records =
     ended_wrote told p before one two o m n (a ∙ ap (λ (x : System). (call_over told p x).system) is) b
     (subst (λ (x : System). Wrote o m (call_over told p x).emitted) is wrote) records
+
+pub told_system : (p : ℕ) (system before one two three four : System) (told : Directly) → system ≡ turns_passed before → one ≡ (call_over told p system).system → two ≡ all_paid one
+    → three ≡ (records_out (with_ends two)).system → four ≡ all_paid three → four ≡ (ended_with told p before).system
+unfolding over_at_end
+told_system p system before one two three four told is a b c d =
+    ended_system told p before one two three four (a ∙ ap (λ (x : System). (call_over told p x).system) is) b c d
 
 pub ends_told : (p : ℕ) (system before : System) (told : Directly) → system ≡ turns_passed before → IsOfCall (Some p) told system → IsToldIn (Some p) told system
     → IsEndBy (Some p) before (ended_with told p before)

@@ -76,7 +76,7 @@ aborting_alike (Some other) p system =
     either (λ (s : Served). SameBytes system.memory s.system.memory) (other == p && not (waits_to_end system.kernel p)) _ _
     (λ _. same_bytes_itself system.memory) (λ _. aborted_alike other system)
 
-to_all_alike : (call : Taken) (p : ℕ) (system : System) → SameBytes system.memory (served_to_all call p system).system.memory
+pub to_all_alike : (call : Taken) (p : ℕ) (system : System) → SameBytes system.memory (served_to_all call p system).system.memory
 unfolding served_to_all reserving releasing
 to_all_alike call p system =
     let f = call.function in
@@ -188,7 +188,7 @@ key_alike : (aborts : Option ℕ) (system : System) → SameBytes system.memory 
 key_alike None system = same_bytes_itself system.memory
 key_alike (Some p) system = aborted_alike p (record system { kernel = abort_taken system.kernel })
 
-event_alike : (event : Event) (system : System) → SameBytes system.memory (interrupted event system).system.memory
+pub event_alike : (event : Event) (system : System) → SameBytes system.memory (interrupted event system).system.memory
 unfolding interrupted event_come
 event_alike event system =
     let timed = record system { interrupts = due_taken system.steps system.interrupts } in
@@ -227,7 +227,7 @@ instruction_leaves (Some outcome) p seg system other at leaves = leaves
 
 -- the segments of others
 
-elsewhere_at : (gate : Option Gate) (p seg : ℕ) (system : System) (other at : ℕ) → other ≢ seg → at < 49152
+pub elsewhere_at : (gate : Option Gate) (p seg : ℕ) (system : System) (other at : ℕ) → other ≢ seg → at < 49152
     → byte_at (acted_at gate p seg system).system.memory other at ≡ byte_at system.memory other at
 unfolding returning
 elsewhere_at (Some End) p seg system other at apart below = reads_alike system.memory _ (ended_alike p system) other at

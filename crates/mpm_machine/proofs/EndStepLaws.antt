@@ -1,5 +1,5 @@
 -- The rest of a step as the code makes it: the disk's step, the ends that are due with the records, what is given back, and who runs.
-use Rattle.std.proofs.Common.{◌≡◌, ◌∙◌, ◌++◌, ◌<◌, ℕ, Bool, true, false, List, [], Option, Some, None, IfSome, is_some, refl, sym, ap, subst}
+use Rattle.std.proofs.Common.{◌≡◌, ◌∙◌, ◌++◌, ◌<◌, ℕ, Bool, true, false, List, [], Option, Some, None, IfSome, is_some, refl, sym, ap, subst, arith}
 use Rattle.std.proofs.lemmas.List.{append-nil}
 use Rattle.mpm_port.specs.Disks.{Disks}
 use Rattle.mpm_dispatcher.specs.Dispatch.{picked}
@@ -76,7 +76,7 @@ pub has_ended : (instruction : Bool) (o m n : Outside) (old served ended paid ne
     → new ≡ record paid { kernel = with_dispatcher (picked instruction) paid.kernel } → HasEndedStep instruction o n old new
 has_ended instruction o m n old served ended paid new has ends wrote pays picks =
     let done = rest_done instruction has.telling o m n old served new has.system has.wrote wrote (ended_so instruction served ended paid new ends pays picks) in
-    record { telling = has.telling; of_call = has.of_call; tells = has.tells; system = done.0; wrote = done.1 }
+    record { telling = has.telling; some = has.some; of_call = has.of_call; tells = has.tells; system = done.0; wrote = done.1 }
 
 -- by what is on the drives
 
@@ -219,7 +219,7 @@ serving_stopped instruction files o n old stopped = served_stops instruction (te
 pub serving_stops : (instruction : Bool) (o n : Outside) (old : System) → HasStoppedServing o n old → HasEndedToStop instruction o n old
 serving_stops instruction o n old stopped =
     let telling : Telling = record { at_gate = nothing_told; at_disk = stopped.told; turns = 1 } in
-    record { telling = telling; of_call = stopped.of_call; tells = stopped.tells; stops = served_stops instruction telling o n old stopped.stops }
+    record { telling = telling; some = omega arith; of_call = stopped.of_call; tells = stopped.tells; stops = served_stops instruction telling o n old stopped.stops }
 
 pub ending_stopped : (instruction : Bool) (files : Files) (o m n : Outside) (old served : System) (kept : Kept) (disks : Option Disks) → HasServedTo files o m old served kept disks
     → Stopped m n (records_out (with_ends served)).emitted → Stopped o n (rest_of instruction (telling_then nothing_told old files) (silent old)).emitted
@@ -230,6 +230,7 @@ pub ended_stops : (instruction : Bool) (o m n : Outside) (old served : System) �
     → HasEndedToStop instruction o n old
 ended_stops instruction o m n old served has stopped = record {
   telling = has.telling;
+  some = has.some;
   of_call = has.of_call;
   tells = has.tells;
   stops = ends_stop instruction has.telling o m n old served has.system has.wrote stopped;

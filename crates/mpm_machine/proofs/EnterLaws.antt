@@ -15,7 +15,7 @@ use Rattle.mpm_service.specs.declared.service.Turn.TheVariants.{Idle, Passing, W
 use Rattle.mpm_mount.specs.Drives.{Drive}
 use Rattle.mpm_kernel.specs.Kernel.{Kernel, IsSound}
 use Rattle.mpm_kernel.specs.Disk.{with_disk}
-use Rattle.mpm_kernel.proofs.UnitLaws.{first_is_there}
+use Rattle.mpm_dispatcher.proofs.ReadyLaws.{first_is_in}
 use Rattle.mpm_output.specs.Outside.{Outside}
 use Rattle.mpm_output.specs.Writing.{Wrote}
 use Rattle.mpm_output.proofs.WritingLaws.{wrote_nothing}
@@ -39,7 +39,9 @@ use Rattle.mpm_machine.specs.After.{IsOfCall, IsToldIn, HasServedTo, HasPassed, 
 use Rattle.mpm_machine.proofs.DiskStepLaws.{whole_passed, whole_call_entered, whole_all_paid}
 use Rattle.mpm_machine.proofs.CallsLaws.{SystemKeepsCalls, calls_same, calls_then, calls_disk_served, calls_call_entered, at_disk_lives}
 use Rattle.mpm_machine.proofs.HoldingLaws.{filed_still}
-use Rattle.mpm_machine.proofs.TurnLaws.{who, entered_first, paid_stands, entry_stands}
+use Rattle.mpm_machine.proofs.FilingLaws.{named_by}
+use Rattle.mpm_machine.proofs.ServeLaws.{somebody}
+use Rattle.mpm_machine.proofs.TurnLaws.{who, stands_idle, entered_first, paid_stands, entry_stands}
 
 -- where nobody is in service
 
@@ -58,11 +60,6 @@ pub files_so : (system : System) (files : Files) (turn : Turn) → system.kernel
 unfolding files_entered
 files_so system files turn none answer =
     ap (λ (served : Option ℕ). files_entered_unless served system files) (nobody_served system.kernel.disk none) ∙ ap (λ (t : Turn). files_entered_by t system files) answer
-
-stands_idle : (disk : DiskService) (kept : Kept) (disks : Option Disks) (filing : Filing) → disk.served ≡ None → StandsBetween kept disks filing → StandsForFiles disk kept disks (Between filing)
-stands_idle disk kept disks filing none stands = record {
-  stands = subst (λ (served : Option Served). StandsServed served kept disks (Between filing)) (sym none) stands;
-}
 
 -- the first that waits enters
 
@@ -87,9 +84,9 @@ enters_ok old filing function p turns kept kept' disks starts none calls stands 
       subst (λ (f : Files). StandsForFiles (begun (turned old.kernel.disk) turns) kept' disks f) (sym files) here,
     )
 
-pub has_entered : (old : System) (p turns : ℕ) → turn_answer old.kernel.disk ≡ Starts p → old.kernel.disk.served ≡ None
+pub has_entered : (old : System) (p turns : ℕ) → 0 < turns → turn_answer old.kernel.disk ≡ Starts p → old.kernel.disk.served ≡ None
     → HasEnteredCall old (with_kernel (with_disk (λ disk. begun disk turns)) (step_passed old))
-has_entered old p turns starts none = record { turns = turns; is = sym (entered_so turns old (Starts p) none starts) }
+has_entered old p turns some starts none = record { turns = turns; some = some; is = sym (entered_so turns old (Starts p) none starts) }
 
 -- the next call enters where nobody is in service
 
@@ -123,7 +120,7 @@ waits_at disk p waits = omega (arith, one_if_true (in_list p disk.waiting) waits
 
 starts_at : (disk : DiskService) (p : ℕ) → turn_answer disk ≡ Starts p → 0 < at_disk disk p
 unfolding turn_answer
-starts_at disk p starts = waits_at disk p (first_is_there disk.waiting p (starts_first disk.turn_steps disk.served (first_of disk.waiting) p starts))
+starts_at disk p starts = waits_at disk p (first_is_in disk.waiting p (starts_first disk.turn_steps disk.served (first_of disk.waiting) p starts))
 
 pub starts_whole : (old : System) (kernel : Kernel) → kernel ≡ with_disk turned old.kernel → IsWhole old → IsWhole (record old { kernel = kernel })
 starts_whole old kernel is w = subst (λ (k : Kernel). IsWhole (record old { kernel = k })) (sym is) (whole_passed old w)
@@ -137,10 +134,6 @@ starts_filed old kernel p is starts filed =
     subst (λ (k : Kernel). is_some (function_of (call_of k.dispatcher.procs p).function) ≡ true) (sym is) (filed p (starts_at old.disk p starts))
 
 -- so it enters
-
-some_function : (found : Option FileFunction) → is_some found ≡ true → (function : FileFunction) × (found ≡ Some function)
-some_function None some = absurd (false≢true some)
-some_function (Some function) some = (function, refl)
 
 pub record Begins (p turns : ℕ) (old : System) (kept kept' : Kept) : Type 0 where
   pub turns_are : (disks : Option Disks) (filing : Filing) (function : FileFunction) → function_of (call_of old.kernel.dispatcher.procs p).function ≡ Some function
@@ -166,14 +159,14 @@ pub enters_so : (old new : System) (p turns : ℕ) (kept kept' : Kept) (disks : 
 enters_so old new p turns kept kept' disks files is starts none filed begins stands =
     enters_by old new kept kept' disks files none stands
     (λ filing between.
-    let its = some_function (function_of (call_of old.kernel.dispatcher.procs p).function) (filed p (starts_at old.kernel.disk p starts)) in
+    let its = named_by (function_of (call_of old.kernel.dispatcher.procs p).function) (filed p (starts_at old.kernel.disk p starts)) in
     let so = enters_ok old filing its.0 p turns kept kept' disks starts none its.1 between (begins.turns_are disks filing its.0 its.1 between) begins.some
     (begins.serves disks filing its.0 its.1 between) in
     (is ∙ so.0, subst (λ (system : System). StandsForFiles system.kernel.disk kept' disks (files_entered old (Between filing))) (sym is) so.1))
 
 pub has_entered_so : (old new : System) (p turns : ℕ) → new ≡ with_kernel (with_disk (λ disk. begun disk turns)) (step_passed old) → turn_answer old.kernel.disk ≡ Starts p
-    → old.kernel.disk.served ≡ None → HasEnteredCall old new
-has_entered_so old new p turns is starts none = subst (HasEnteredCall old) (sym is) (has_entered old p turns starts none)
+    → old.kernel.disk.served ≡ None → 0 < turns → HasEnteredCall old new
+has_entered_so old new p turns is starts none some = subst (HasEnteredCall old) (sym is) (has_entered old p turns some starts none)
 
 pub enters_whole : (old new : System) → IsWhole old → HasEnteredCall old new → IsWhole new
 enters_whole old new w has = subst IsWhole (sym has.is) (whole_call_entered has.turns old w)
@@ -185,7 +178,7 @@ unfolding turn_answer turned begun
 owns_entered old new p turns kept kept' is starts none filed begins =
     let disk = old.kernel.disk in
     let procs = old.kernel.dispatcher.procs in
-    let its = some_function (function_of (call_of procs p).function) (filed p (starts_at disk p starts)) in
+    let its = named_by (function_of (call_of procs p).function) (filed p (starts_at disk p starts)) in
     subst (λ (system : System). OwnsService system.kernel kept'.service) (sym is)
     (subst (λ (served : Option Served). IfSome served (λ (call : Served). IsOwn procs call.p kept'.service))
     (sym (entered_first disk.turn_steps disk.served (first_of disk.waiting) p turns none starts))
@@ -253,7 +246,7 @@ pub unserved_own : (kernel : Kernel) (service : Option InService) → kernel.dis
 unserved_own kernel service none = subst (λ (served : Option Served). IfSome served (λ (call : Served). IsOwn kernel.dispatcher.procs call.p service)) (sym none) tt
 
 pub has_entered_none : (old : System) → old.kernel.disk.served ≡ None → StartsNobody (turn_answer old.kernel.disk) → HasEnteredCall old (step_passed old)
-has_entered_none old none nobody = record { turns = 0; is = sym (entered_so 0 old Idle none (stays_idle old.kernel.disk none nobody)) }
+has_entered_none old none nobody = record { turns = 1; some = omega arith; is = sym (entered_so 1 old Idle none (stays_idle old.kernel.disk none nobody)) }
 
 pub has_entered_nobody : (old : System) (kernel : Kernel) → kernel ≡ with_disk turned old.kernel → old.kernel.disk.served ≡ None → StartsNobody (turn_answer old.kernel.disk)
     → HasEnteredCall old (record old { kernel = kernel })
@@ -307,21 +300,13 @@ paid_own system paid kept kept' is rest own =
 
 -- it goes on where one is in service
 
-some_process : (served : Option Served) → is_some served ≡ true → (p : ℕ) × (option_map (λ (call : Served). call.p) served ≡ Some p)
-some_process None some = absurd (false≢true some)
-some_process (Some call) some = (call.p, refl)
-
-process_served : (disk : DiskService) → is_some disk.served ≡ true → (p : ℕ) × (served_process disk ≡ Some p)
-unfolding served_process
-process_served disk some = some_process disk.served some
-
 pub nobody_enters : (turns : ℕ) (system : System) → is_some system.kernel.disk.served ≡ true → call_entered turns system ≡ system
 unfolding call_entered
-nobody_enters turns system some = ap (λ (served : Option ℕ). entered_unless served turns system) (process_served system.kernel.disk some).1
+nobody_enters turns system some = ap (λ (served : Option ℕ). entered_unless served turns system) (somebody system.kernel.disk some).1
 
 pub files_stay : (system : System) (files : Files) → is_some system.kernel.disk.served ≡ true → files_entered system files ≡ files
 unfolding files_entered
-files_stay system files some = ap (λ (served : Option ℕ). files_entered_unless served system files) (process_served system.kernel.disk some).1
+files_stay system files some = ap (λ (served : Option ℕ). files_entered_unless served system files) (somebody system.kernel.disk some).1
 
 pub goes_on : (system : System) (kept : Kept) (disks : Option Disks) (files : Files) → is_some system.kernel.disk.served ≡ true → StandsForFiles system.kernel.disk kept disks files
     → Entered system system kept disks files
@@ -331,7 +316,7 @@ goes_on system kept disks files some stands = (
 )
 
 pub has_entered_still : (old : System) → is_some old.kernel.disk.served ≡ true → HasEnteredCall old old
-has_entered_still old some = record { turns = 0; is = sym (nobody_enters 0 old some) }
+has_entered_still old some = record { turns = 1; some = omega arith; is = sym (nobody_enters 1 old some) }
 
 -- so the disk made its step
 
@@ -357,10 +342,11 @@ entered_behind passed paid new kept kept' kept'' disks files is stands rest same
     (subst (λ (system : System). StandsForFiles system.kernel.disk kept' disks (given_back passed.owed files)) (sym is)
     (pays passed kept kept' disks files stands rest same left)))
 
-pub has_served : (turns : ℕ) (o n : Outside) (old passed new : System) (has : HasPassed o n old passed) → new ≡ call_entered turns (all_paid passed) → HasServed o n old new
+pub has_served : (turns : ℕ) (o n : Outside) (old passed new : System) (has : HasPassed o n old passed) → 0 < turns → new ≡ call_entered turns (all_paid passed) → HasServed o n old new
 unfolding entered_after
-has_served turns o n old passed new has is = record {
+has_served turns o n old passed new has some is = record {
   telling = record { at_gate = nothing_told; at_disk = has.told; turns = turns };
+  some = some;
   of_call = has.of_call;
   tells = has.tells;
   system = is ∙ ap (λ (system : System). call_entered turns (all_paid system)) has.system;

@@ -42,13 +42,14 @@ use Rattle.mpm_machine.specs.FileCalls.{looked_at, situation_of}
 use Rattle.mpm_machine.specs.Failing.{working_at_once, working_if, turns_done, HaveImages, HaveImagesOf, IsWithin, FailsWithin, StopsOn, StopsWithImages}
 use Rattle.mpm_machine.proofs.FilingLaws.{named_by, situation_is}
 
--- the call's drive within a turn: what the call doesn't name is as before it
+-- the call's drive within a turn: what the call doesn't name is as before it, and records are seen as some number of its units leaves them,
+-- no fewer than had ended
 
-pub within_contained : (call : Situation) (ended : ℕ) (files : Drive) (within : IsWithin call ended files) → IsContained (drive_at call) within.job 0 files
-within_contained call ended files within =
-    among_all (IsContained (drive_at call) within.job 0) (units_done (drive_at call) within.job within.turn)
+pub within_contained : (call : Situation) (ended most : ℕ) (files : Drive) (within : IsWithin call ended most files) → IsContained (drive_at call) within.job ended files
+within_contained call ended most files within =
+    among_all (IsContained (drive_at call) within.job ended) (units_done (drive_at call) within.job within.turn)
     (stages (unit_at (drive_at call) within.job within.turn) (units_done (drive_at call) within.job within.turn)) files
-    (turn_contained (drive_at call) within.job 0 within.turn (omega arith)) within.among
+    (turn_contained (drive_at call) within.job ended within.turn within.since) within.among
 
 -- a place, and each other one
 
@@ -161,17 +162,17 @@ same_number : (one other : ℕ) → Some one ≡ Some other → other ≡ one
 same_number one other same = cc
 
 fails_stand : (disks now : Option Disks) (old new : List (Option Directory)) (call : Situation) (drives : List (Option Drive)) (ended most : ℕ) → AreBehind call drives
-    → FailsSince now call ended → KeepsImages (Some (drive_number call)) old disks now
+    → (fails : FailsSince now call ended) → fails.turn < ended + most → KeepsImages (Some (drive_number call)) old disks now
     → ((number : ℕ) → option_map labelled (directory_at new number) ≡ option_map labelled (directory_at old number)) → StandEach (told_images disks) old drives
     → HaveImagesOf (FailsWithin (Some (record { call = call; ended = ended; most = most }))) now new
-fails_stand disks now old new call drives ended most behind fails images labels stand =
+fails_stand disks now old new call drives ended most behind fails before images labels stand =
     let stops = fails.stops in
     let found = stops.contained.within in
     let number = drive_number call in
     let d = found.directory in
-    let within : IsWithin call ended found.files =
-    record { job = stops.job; its = stops.its; turn = stops.contained.turn; since = omega (arith, fails.since, stops.contained.since); among = found.among } in
-    let kind : (drive_at call).kind ≡ d.kind = sym (within_contained call ended found.files within).keeps.kind ∙ kind_of found.stands.image d found.files found.stands.stands in
+    let within : IsWithin call ended most found.files =
+    record { job = stops.job; its = stops.its; turn = fails.turn; since = fails.since; before = before; among = found.among } in
+    let kind : (drive_at call).kind ≡ d.kind = sym (within_contained call ended most found.files within).keeps.kind ∙ kind_of found.stands.image d found.files found.stands.stands in
     let told : told_image now number ≡ Some found.stands.image = ap (told_image now) (sym found.here) ∙ found.stands.told in
     let changes : Changes disks now old new drives number d found.files = record {
       label = call_label (told_images disks) old call drives behind stand ∙ ap (λ n. Some (n, (drive_at call).kind)) (sym found.here) ∙ ap (λ k. Some (d.drive, k)) kind;
@@ -193,24 +194,26 @@ at_once_fails : (disks now : Option Disks) (old new : List (Option Directory)) (
     → ((number : ℕ) → option_map labelled (directory_at new number) ≡ option_map labelled (directory_at old number)) → StandEach (told_images disks) old call.filing.drives
     → HaveImagesOf (FailsWithin (Some (working_at_once call))) now new
 at_once_fails disks now old new call fails alone labels stand =
-    fails_stand disks now old new call call.filing.drives 0 (call_turns call) (behind_nothing call fails.stops.job fails.stops.its) fails alone.images labels stand
+    fails_stand disks now old new call call.filing.drives 0 (call_turns call) (behind_nothing call fails.stops.job fails.stops.its) fails (omega (arith, fails.its)) alone.images labels stand
 
 -- and one in service, in its turns from one on
-pub turns_fail : (disks now : Option Disks) (old : Kept) (new : List (Option Directory)) (call : Situation) (ended most : ℕ) → Serves (told_images disks) old call ended → FailsSince now call ended
+pub turns_fail : (disks now : Option Disks) (old : Kept) (new : List (Option Directory)) (call : Situation) (ended most : ℕ) → Serves (told_images disks) old call ended
+    → (fails : FailsSince now call ended) → fails.turn < ended + most
     → KeepsImages (drive_served old.service) old.mounted disks now
     → ((number : ℕ) → option_map labelled (directory_at new number) ≡ option_map labelled (directory_at old.mounted number))
     → HaveImagesOf (FailsWithin (Some (record { call = call; ended = ended; most = most }))) now new
-turns_fail disks now old new call ended most serves fails images labels =
+turns_fail disks now old new call ended most serves fails before images labels =
     let on : drive_served old.service ≡ Some (drive_number call) = ap drive_served serves.there ∙ ap (λ n. Some n) serves.is.drive in
-    fails_stand disks now old.mounted new call (drives_after call ended) ended most (behind_turns call ended fails.stops.job fails.stops.its) fails
+    fails_stand disks now old.mounted new call (drives_after call ended) ended most (behind_turns call ended fails.stops.job fails.stops.its) fails before
     (subst (λ drive. KeepsImages drive old.mounted disks now) on images) labels serves.stand
 
-pub turn_fails : (disks now : Option Disks) (old : Kept) (new : List (Option Directory)) (call : Situation) (j most : ℕ) → Serves (told_images disks) old call j → j < call_turns call
+pub turn_fails : (disks now : Option Disks) (old : Kept) (new : List (Option Directory)) (call : Situation) (j : ℕ) → Serves (told_images disks) old call j → j < call_turns call
     → StopsWithin now call j → KeepsImages (drive_served old.service) old.mounted disks now
     → ((number : ℕ) → option_map labelled (directory_at new number) ≡ option_map labelled (directory_at old.mounted number))
-    → HaveImagesOf (FailsWithin (Some (record { call = call; ended = j; most = most }))) now new
-turn_fails disks now old new call j most serves below stops images labels =
-    turns_fail disks now old new call j most serves (record { turn = j; since = omega arith; its = below; stops = stops }) images labels
+    → HaveImagesOf (FailsWithin (Some (record { call = call; ended = j; most = 1 }))) now new
+turn_fails disks now old new call j serves below stops images labels =
+    let next : j < j + 1 = omega arith in
+    turns_fail disks now old new call j 1 serves (record { turn = j; since = omega arith; its = below; stops = stops }) next images labels
 
 -- a call that a process keeps
 

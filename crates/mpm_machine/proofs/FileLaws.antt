@@ -4,7 +4,7 @@ use Rattle.std.specs.Prelude.{is_some, is_none}
 use Rattle.std.proofs.lemmas.Bool.{false≢true}
 use Rattle.mpm_base.proofs.Choices.{either}
 use Rattle.mpm_base.specs.Calls.{Answer}
-use Rattle.mpm_procs.specs.Table.{lives, Lives, process_in, call_of}
+use Rattle.mpm_procs.specs.Table.{Lives, process_in, call_of}
 use Rattle.mpm_procs.specs.declared.process.Process.{Process}
 use Rattle.mpm_procs.proofs.MapLaws.{lives_below, lives_changed, process_changed, call_after}
 use Rattle.mpm_banks.specs.Memory.{byte_at}

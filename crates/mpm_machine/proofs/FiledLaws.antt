@@ -51,7 +51,7 @@ made_memory (Some seg) native p system here = refl
 made_memory None None p system here = ap (λ o. (asked_by o p system).memory) here
 made_memory None (Some native) p system here = ap (λ o. (asked_by o p system).memory) here
 
-call_memory : (p : ℕ) (system : System) → (call_made p system).memory ≡ system.memory
+pub call_memory : (p : ℕ) (system : System) → (call_made p system).memory ≡ system.memory
 unfolding call_made
 call_memory p system = made_memory (process_in system.kernel.dispatcher.procs p).seg _ p (counted system) refl
 

@@ -1,5 +1,5 @@
 -- A step of the machine is what it begins with and the rest of it, by what its file calls may tell, and by what is on the drives.
-use Rattle.std.proofs.Common.{◌≡◌, ◌∙◌, ℕ, Bool, true, ◌++◌, List, [], Option, Some, None, refl, sym, ap, subst}
+use Rattle.std.proofs.Common.{◌≡◌, ◌∙◌, ℕ, Bool, true, ◌++◌, List, [], Option, Some, None, refl, sym, ap, subst, arith}
 use Rattle.mpm_port.specs.Disks.{Disks}
 use Rattle.mpm_procs.specs.Table.{call_of}
 use Rattle.mpm_render.specs.Outputs.{Output}
@@ -18,7 +18,7 @@ use Rattle.mpm_machine.specs.FileCalls.{file_caller, told_of}
 use Rattle.mpm_machine.specs.DiskStep.{process_over}
 use Rattle.mpm_machine.specs.Failing.{does_work}
 use Rattle.mpm_machine.specs.Stepping.{Telling, begun_as, is_instruction, entered_after, ended_after, rest_of, step_with, nothing_told, told_first, files_begun, before_disk, telling_then, telling_of, files_rest, stepped}
-use Rattle.mpm_machine.specs.After.{IsOfCall, made_in, IsToldIn, IsMade, HasStepped, HasSteppedTo, HasStopped, StopsBy, HasBegunStep, HasBegunTo, HasBegunToStop, HasEndedStep, HasEndedTo, HasEndedToStop}
+use Rattle.mpm_machine.specs.After.{IsOfCall, made_in, IsToldIn, HasStepped, HasSteppedTo, HasStopped, StopsBy, HasBegunStep, HasBegunTo, HasBegunToStop, HasEndedStep, HasEndedTo, HasEndedToStop}
 use Rattle.mpm_machine.proofs.RestLaws.{rest_emitted}
 use Rattle.mpm_machine.proofs.FileStepLaws.{is_made}
 use Rattle.mpm_machine.proofs.ToldLaws.{something_told}
@@ -93,7 +93,7 @@ has_stepped instruction o m n old middle new w handed begun ended =
     let is = whole_system instruction begun.told ended.telling old middle new begun.instruction_is begun.system ended.system in
     record {
       emitted = change.emitted;
-      is = is_made telling old (record { system = new; emitted = change.emitted }) w handed begun.of_call (subst P begun.system ended.of_call) begun.tells
+      is = is_made telling old (record { system = new; emitted = change.emitted }) ended.some w handed begun.of_call (subst P begun.system ended.of_call) begun.tells
           (subst Q begun.system ended.tells) (change_is new change is);
       wrote = wrote_same o n _ change.emitted (whole_emitted instruction begun.told ended.telling old middle begun.instruction_is begun.system)
           (wrote_after o m n (begun_as begun.told old).emitted (rest_of instruction ended.telling (silent middle)).emitted begun.wrote ended.wrote);
@@ -119,7 +119,7 @@ begun_has_stopped fault o n old w handed works begun =
     let i = is_instruction (file_caller old) old in
     record {
       change = change;
-      is = is_made telling old change w handed begun.of_call any.of_call begun.tells any.tells refl;
+      is = is_made telling old change (omega arith) w handed begun.of_call any.of_call begun.tells any.tells refl;
       stops = stops_same fault o n _ change.emitted (whole_emitted i begun.told rest old middle refl refl)
           (stops_before fault o n (begun_as begun.told old).emitted (rest_of i rest (silent middle)).emitted begun.stops);
       works = works;
@@ -141,7 +141,7 @@ ended_has_stopped instruction o m n old middle w handed begun ended =
     let Q : System → Type 0 = λ s. IsToldIn (process_over s) ended.telling.at_disk s in
     record {
       change = change;
-      is = is_made telling old change w handed begun.of_call (subst P begun.system ended.of_call) begun.tells (subst Q begun.system ended.tells) refl;
+      is = is_made telling old change ended.some w handed begun.of_call (subst P begun.system ended.of_call) begun.tells (subst Q begun.system ended.tells) refl;
       stops = fails_same TheSink o n _ change.emitted (whole_emitted instruction begun.told ended.telling old middle begun.instruction_is begun.system)
           (fails_within TheSink o m n (begun_as begun.told old).emitted (rest_of instruction ended.telling (silent middle)).emitted [] begun.wrote ended.stops);
       works = tt;

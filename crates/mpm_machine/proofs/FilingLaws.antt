@@ -1,10 +1,10 @@
 -- A file call in a step: what becomes of its caller, what it comes to, and what those leave who end in the step.
-use Rattle.std.proofs.Common.{◌≡◌, ◌∙◌, ℕ, suc, ◌+◌, ◌-◌, ◌<◌, ◌==◌, ◌&&◌, not, Bool, true, false, List, [], ◌∷◌, Option, Some, None, IsSome, IfSome, Result, Ok, Err, IfOk, length, if◌then◌else◌, refl, ap, sym, subst, arith, eqb-true}
-use Rattle.std.specs.Prelude.{is_none, find, option_map, slice_index_or}
+use Rattle.std.proofs.Common.{◌≡◌, ◌∙◌, ℕ, suc, ◌+◌, ◌-◌, ◌<◌, ◌==◌, ◌&&◌, Bool, true, false, List, [], ◌∷◌, Option, Some, None, IsSome, IfSome, Result, Ok, Err, IfOk, if◌then◌else◌, refl, ap, sym, subst, arith, eqb-true}
+use Rattle.std.specs.Prelude.{is_none, find, option_map}
 use Rattle.std.specs.List.{AllByRecursion, range_with_len}
 use Rattle.mpm_base.specs.Calls.{Taken, Answer, answering}
 use Rattle.mpm_port.specs.Disks.{Disks}
-use Rattle.mpm_procs.specs.Table.{Table, lives, process_in, call_of}
+use Rattle.mpm_procs.specs.Table.{lives, process_in, call_of}
 use Rattle.mpm_procs.specs.declared.process.Process.{Process}
 use Rattle.mpm_clock.specs.declared.moment.Moment.{Moment}
 use Rattle.mpm_clock.specs.Times.{moment_of}
@@ -34,7 +34,7 @@ use Rattle.mpm_mount.specs.Directories.{Directory}
 use Rattle.mpm_machine.specs.Files.{StandsBetween, left_each, owes, all_left}
 use Rattle.mpm_machine.specs.Mounting.{HasNoDrive}
 use Rattle.mpm_machine.specs.Filed.{IsOutcome, left_if}
-use Rattle.mpm_machine.specs.FileCalls.{looked_at, entering, situation_of, directly, outcome_by, outcome_in, change_of, told_by, told_of}
+use Rattle.mpm_machine.specs.FileCalls.{looked_at, entering, situation_of, outcome_by, outcome_in, change_of, told_by, told_of}
 
 -- a row of a table of numbers
 

@@ -83,12 +83,12 @@ goes_begun (Some event) system may w a = goes_interrupted event system may w a
 
 -- the held calls that were completed are answered: a process in slot 0 that is handed out read a command
 
-goes_finished : (seg : Option ℕ) (p : ℕ) (system : System) (i : Interprets system) → (0 ≡ p → IsHandedOut system i) → Interprets (finished seg p system)
+pub goes_finished : (seg : Option ℕ) (p : ℕ) (system : System) (i : Interprets system) → (0 ≡ p → IsHandedOut system i) → Interprets (finished seg p system)
 goes_finished None zero system i out = (let handed = out refl in interprets_taken system _ i handed.other handed.none)
 goes_finished None (suc q) system i out = interprets_another system _ q i
 goes_finished (Some seg) p system i out = goes_fulfilling _ _ p seg system i
 
-goes_dequeued : (system : System) → Interprets system → Interprets (completion_dequeued system)
+pub goes_dequeued : (system : System) → Interprets system → Interprets (completion_dequeued system)
 goes_dequeued system i =
     goes_kernel system _ (beside_handed_out 0 system.kernel) (ap (λ (u : Consoles). length u.consoles) (units_handed_out system.kernel))
     (same_place system.kernel (handed_out system.kernel) (disk_handed_out system.kernel)) (λ k x. awaits_handed_out k 0 system.kernel x) i
@@ -105,7 +105,7 @@ few_awaited : (b : Bool) (places : ℕ) → places ≤ 1 → (if b then 1 else p
 few_awaited true places few = omega arith
 few_awaited false places few = few
 
-handed_out_gone : (system : System) → IsWhole system → (i : Interprets system) → first_completed system.kernel.dispatcher.completed ≡ Some 0 → at_disk system.kernel.disk 0 ≡ 0
+pub handed_out_gone : (system : System) → IsWhole system → (i : Interprets system) → first_completed system.kernel.dispatcher.completed ≡ Some 0 → at_disk system.kernel.disk 0 ≡ 0
 handed_out_gone system w i first =
     let few = few_awaited (is_reading i.acting.cli.row) (at_disk system.kernel.disk 0) (omega (arith, w.sound.once 0)) in
     ready_not_at_disk system.kernel 0 w.sound (i.awaits.at_once (omega (arith, few, some_first 0 system.kernel.dispatcher.completed first)))
@@ -134,7 +134,7 @@ handed_in PlaceBasePage system first a = absurd (none_handed_out 0 0 system.kern
 handed_in Begin system first a = absurd (none_handed_out 0 0 system.kernel first a refl)
 
 -- it awaited no more
-handed_behind : (p : ℕ) (system : System) → IsWhole system → (i : Interprets system) (after : System) (b : Interprets after)
+pub handed_behind : (p : ℕ) (system : System) → IsWhole system → (i : Interprets system) (after : System) (b : Interprets after)
     → first_completed system.kernel.dispatcher.completed ≡ Some p → after.residents ≡ system.residents
     → (AwaitsNothing (handed_out system.kernel) → AwaitsNothing after.kernel) → 0 ≡ p → IsHandedOut after b
 handed_behind p system w i after b first same awaits is =
@@ -160,15 +160,15 @@ goes_finishing (p ∷ ps) system w is a =
 pub goes_all_finished : (system : System) → IsWhole system → Interprets system → Interprets (all_finished system)
 goes_all_finished system w a = goes_finishing system.kernel.dispatcher.completed system w refl a
 
-goes_let_in : (p : ℕ) (system : System) → IsWhole system → Interprets system → Interprets (command_let_in p system)
+pub goes_let_in : (p : ℕ) (system : System) → IsWhole system → Interprets system → Interprets (command_let_in p system)
 goes_let_in p system w a =
     either (λ (k : Kernel). Interprets (record system { kernel = k })) (is_command p system.kernel) _ system.kernel (λ _. goes_passed p system w a) (λ _. a)
 
-none_let_in : (p : ℕ) (system : System) → IsWhole system → AwaitsNothing system.kernel → AwaitsNothing (command_let_in p system).kernel
+pub none_let_in : (p : ℕ) (system : System) → IsWhole system → AwaitsNothing system.kernel → AwaitsNothing (command_let_in p system).kernel
 none_let_in p system w a =
     either AwaitsNothing (is_command p system.kernel) _ system.kernel (λ _. none_passed p system w a) (λ _. a)
 
-goes_finished_or_ended : (p : ℕ) (system : System) → IsWhole system → Lives system.kernel.dispatcher.procs p → (i : Interprets system) → (0 ≡ p → IsHandedOut system i)
+pub goes_finished_or_ended : (p : ℕ) (system : System) → IsWhole system → Lives system.kernel.dispatcher.procs p → (i : Interprets system) → (0 ≡ p → IsHandedOut system i)
     → Interprets (finished_or_ended p system)
 goes_finished_or_ended p system w h i out =
     either Interprets (chains p system.kernel) _ _ (λ chain. goes_ended p system w h (not_chaining p system i.acting chain) i)
@@ -192,13 +192,13 @@ goes_all_answered system w a = goes_from (first_completed system.kernel.dispatch
 
 -- the ends that are due come
 
-not_due : (p : ℕ) (system : System) → IsActing system → is_due system.kernel p ≡ true → 0 ≢ p
+pub not_due : (p : ℕ) (system : System) → IsActing system → is_due system.kernel p ≡ true → 0 ≢ p
 not_due p system a due = λ is.
     let aborted = (and_parts (is_aborted system.kernel.dispatcher.procs p) _ due).0 in
     let put_off : (process_in system.kernel.dispatcher.procs p).abort_due ≡ true = (and_parts (lives system.kernel.dispatcher.procs p) _ aborted).1 in
     false≢true (sym a.goes_on ∙ ap (λ n. (process_in system.kernel.dispatcher.procs n).abort_due) is ∙ put_off)
 
-goes_if_due : (p : ℕ) (system : System) → IsWhole system → Interprets system → Interprets (ended_if_due p system)
+pub goes_if_due : (p : ℕ) (system : System) → IsWhole system → Interprets system → Interprets (ended_if_due p system)
 unfolding ended_if_due
 goes_if_due p system w a =
     either Interprets (is_due system.kernel p) _ _

@@ -95,7 +95,7 @@ others_over p system w other last i =
     lives_it : (p h : ℕ) → Lives system.kernel.dispatcher.procs p → Some p ≡ Some h → Lives system.kernel.dispatcher.procs h
     lives_it p h living is = (let same : p ≡ h = cc in subst (Lives system.kernel.dispatcher.procs) same living)
 
-files_over : (p : ℕ) (system : System) → IsWhole system → turn_answer system.kernel.disk ≡ Work p true → Interprets system → FilesAt p (ready_again p (step_passed system))
+pub files_over : (p : ℕ) (system : System) → IsWhole system → turn_answer system.kernel.disk ≡ Work p true → Interprets system → FilesAt p (ready_again p (step_passed system))
 files_over zero system w last i = own_over system w last i
 files_over (suc q) system w last i =
     let other : 0 ≢ suc q = λ e. absurd (cc) in

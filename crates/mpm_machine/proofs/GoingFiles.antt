@@ -108,7 +108,7 @@ goes_file_replied : (reply : Answer) (p : ℕ) (system : System) → FilesAt p s
 unfolding file_replied
 goes_file_replied reply p system f = goes_reply_by (process_in system.kernel.dispatcher.procs p).seg reply p system f
 
-goes_told : (error : Extended) (p : ℕ) (system : System) → FilesAt p system → FilesAt p (error_told error p system).system
+pub goes_told : (error : Extended) (p : ℕ) (system : System) → FilesAt p system → FilesAt p (error_told error p system).system
 unfolding error_told speaking spoke
 goes_told error p system f =
     same_files p system (error_told error p system).system f (goes_spoke (process_in system.kernel.dispatcher.procs p).console _ system f.interprets) refl refl refl refl
@@ -138,7 +138,7 @@ goes_answered_by : (error : Option Extended) (reply : Answer) (p : ℕ) (system 
 goes_answered_by None reply p system w h f = goes_file_replied reply p system f
 goes_answered_by (Some error) reply p system w h f = goes_met error reply p system w h f
 
-files_with_caller : (change : CallerChange) (p : ℕ) (system : System) → FilesAt p system → FilesAt p (with_caller change p system)
+pub files_with_caller : (change : CallerChange) (p : ℕ) (system : System) → FilesAt p system → FilesAt p (with_caller change p system)
 unfolding with_caller
 files_with_caller Stays p system f = f
 files_with_caller (Selects drive) p system f = same_files p system _ f (goes_caller (Selects drive) p system f.interprets) refl refl refl refl

@@ -26,7 +26,7 @@ use Rattle.mpm_procs.proofs.MapLaws.{free_is_dead, lives_added_other, process_ad
 use Rattle.mpm_procs.specs.Table.{lives, Lives, process_in, call_of, lowest_free, added}
 use Rattle.mpm_procs.specs.declared.process.NewProcess.{NewProcess}
 use Rattle.mpm_procs.specs.declared.process.Process.{Process}
-use Rattle.mpm_residents.specs.Natives.{native_in, native_call, interprets, interprets_if_there}
+use Rattle.mpm_residents.specs.Natives.{native_in, native_call, interprets_if_there}
 use Rattle.mpm_residents.specs.declared.native.Native.{Native}
 use Rattle.mpm_residents.specs.declared.native.Native.TheVariants.{Tmp, Cli}
 use Rattle.mpm_machine.proofs.ActedLaws.{whole_to_all}
@@ -65,8 +65,9 @@ use Rattle.mpm_queues.specs.declared.queues.QueueOutcome.{QueueOutcome}
 use Rattle.mpm_queues.specs.declared.queues.QueueOutcome.TheVariants.{Done as Passed, NotNow}
 use Rattle.mpm_machine.proofs.GoingOn.{acts_with, acts_took, another, own_call}
 use Rattle.mpm_machine.proofs.GoingParts.{same_place, goes_at_gate, goes_said, goes_spoke, goes_taking, goes_to_all, goes_ended, own_asked, others_call}
+use Rattle.mpm_machine.proofs.SizeLaws.{sizes_with_bytes}
 use Rattle.mpm_machine.proofs.HomeLaws.{keeps_same, keeps_both, keeps_released, keeps_occupied}
-use Rattle.mpm_machine.proofs.InterpretingLaws.{same_resident}
+use Rattle.mpm_machine.proofs.InterpretingLaws.{no_terminal, same_resident}
 use Rattle.mpm_machine.proofs.KeepingLaws.{given_disk, begun_for_disk}
 use Rattle.mpm_machine.proofs.OwnLaws.{KeepsOwn, AwaitsNothing, awaits_now, own_itself, own_same, is_reserving, interprets_with, interprets_taken, interprets_reserved, awaits_less}
 
@@ -349,7 +350,7 @@ begun_memory : (memory : Memory) (seg address base n : ℕ) → IsHome memory n 
 begun_memory memory seg address base n home =
     let bytes = 0 ∷ base ∷ [] in
     let written = with_bytes memory seg address bytes in
-    (keeps_both memory written (occupied written seg) (keeps_same memory written (same_segments_with_bytes bytes memory seg address)) (keeps_occupied written seg)).all n home
+    (keeps_both memory written (occupied written seg) (keeps_same memory written (same_segments_with_bytes bytes memory seg address) (sizes_with_bytes bytes memory seg address)) (keeps_occupied written seg)).all n home
 
 begun_count : (memory : Memory) (seg address base : ℕ) → length (occupied (with_bytes memory seg address (0 ∷ base ∷ [])) seg).segments ≡ length memory.segments
 begun_count memory seg address base =
@@ -559,9 +560,6 @@ goes_asks call p system keeps w h ready other a =
     let done = whole_to_all call p system keeps w h ready in
     either (λ (change : Change). Interprets change.system) (tells (native_in system.residents p) call) _ _ (λ _. goes_taking _ p _ other (goes_text call system a))
     (λ _. goes_native _ _ call p _ done.whole done.lives other (goes_to_all call p system w h ready other a))
-
-no_terminal : (o : Native) (cli : Interpreter) → interprets o ≡ false → Some o ≡ Some (Cli cli) → ⊥
-no_terminal o cli not is = false≢true (sym not ∙ ap interprets_if_there is)
 
 its_own : (p : ℕ) (cli : Interpreter) (system : System) (i : Interprets system) → native_in system.residents p ≡ Some (Cli cli) → (0 ≡ p) × (cli ≡ i.acting.cli)
 its_own p cli system i is =

@@ -2,6 +2,7 @@
 -- reserved, and awaits what it awaited.
 use Rattle.std.proofs.Common.{ℕ, ◌≡◌, ◌≢◌, ◌∙◌, zero, suc, ◌==◌, ◌&&◌, not, Bool, true, false, List, length, Option, Some, None, refl, sym, ap, subst, arith}
 use Rattle.mpm_base.proofs.Choices.{either}
+use Rattle.mpm_base.specs.Lists.{in_width}
 use Rattle.mpm_base.specs.Calls.{Taken, Answer}
 use Rattle.mpm_base.specs.declared.call.Outcome.{Outcome as Ended_how}
 use Rattle.mpm_base.specs.declared.call.Outcome.TheVariants.{Done, Held, Retry, Ended}
@@ -36,7 +37,7 @@ use Rattle.mpm_machine.specs.Calling.{Served, asking, calling, served_by}
 use Rattle.mpm_machine.specs.Ending.{ended}
 use Rattle.mpm_machine.specs.Interpreting.{sets_or_chains, Interprets}
 use Rattle.mpm_machine.specs.Residing.{taking}
-use Rattle.mpm_machine.specs.Sending.{framed, passed, passed_after, console_sent, may_pass, sent, may_send, sending, chaining, chained, in_room, has_interpreter}
+use Rattle.mpm_machine.specs.Sending.{framed, passed, passed_after, console_sent, may_pass, sent, may_send, sending, chaining, chained, has_interpreter}
 use Rattle.mpm_machine.specs.Serving.{asked, aborted, aborting, aborting_this, answering_call, completing, creating, fulfilling, gate_step, is_entry, keeping, outcome_of, parsing, popped, recorded, releasing, replied, reply_at_entry, reserving, returning, said_by, served, served_to_all, string_of, with_entry}
 use Rattle.mpm_machine.specs.State.{IsWhole, speaking}
 use Rattle.mpm_machine.specs.Step.{acted_at, executed, illegal, instructed, instruction_at}
@@ -233,7 +234,7 @@ unfolding sending
 goes_sending b p system w h ready other a =
     let call = call_of system.kernel.dispatcher.procs p in
     either (λ (c : Called). Interprets (served_by c system).system) (may_send b call system.kernel) _ _
-    (λ _. goes_sent SEND_CLI_COMMAND (in_room 130 call.bytes) p system w h ready other a) (λ _. a)
+    (λ _. goes_sent SEND_CLI_COMMAND (in_width 130 call.bytes) p system w h ready other a) (λ _. a)
 
 goes_chaining : (b : Bool) (p : ℕ) (system : System) → IsWhole system → Lives system.kernel.dispatcher.procs p → IsReady system.kernel.dispatcher p → 0 ≢ p → Interprets system
     → Interprets (served_by (chaining b p system.kernel) system).system

@@ -27,7 +27,7 @@ use Rattle.mpm_machine.specs.declared.system.System.{System}
 
 -- what it begins with
 
-goes_begun_with : (caller : Option ℕ) (told : Directly) (system : System) → IsWhole system → IfSome caller (λ p. Lives system.kernel.dispatcher.procs p)
+pub goes_begun_with : (caller : Option ℕ) (told : Directly) (system : System) → IsWhole system → IfSome caller (λ p. Lives system.kernel.dispatcher.procs p)
     → IfSome caller (λ p. IsReady system.kernel.dispatcher p) → IfSome caller (λ p. calls_files p system ≡ true) → Interprets system
     → Interprets (begun_with caller told system).system
 goes_begun_with None told system w h ready files i =
@@ -42,11 +42,11 @@ file_calls comes None system = tt
 file_calls comes (Some p) system =
     either (λ (o : Option ℕ). IfSome o (λ q. calls_files q system ≡ true)) (calls_files p system && not comes) (Some p) None (λ is. (and_parts (calls_files p system) _ is).0) (λ _. tt)
 
-caller_files : (system : System) → IfSome (file_caller system) (λ p. calls_files p system ≡ true)
+pub caller_files : (system : System) → IfSome (file_caller system) (λ p. calls_files p system ≡ true)
 unfolding file_caller
 caller_files system = file_calls (is_some (coming (counted system))) system.kernel.dispatcher.running system
 
-goes_begun_as : (told : Directly) (system : System) → IsWhole system → Interprets system → Interprets (begun_as told system).system
+pub goes_begun_as : (told : Directly) (system : System) → IsWhole system → Interprets system → Interprets (begun_as told system).system
 unfolding begun_as
 goes_begun_as told system w i =
     goes_all_answered (begun_with (file_caller system) told system).system (whole_begun told system w)
@@ -79,11 +79,11 @@ interprets_stepped before behind old new w stepped i =
 
 -- a run of them
 
-record HasGone (system : System) : Type 0 where
+pub record HasGone (system : System) : Type 0 where
   pub whole : IsWhole system
   pub interprets : Interprets system
 
-goes_steps : (n : ℕ) (old : System) (change : Change) → IsWhole old → Interprets old → AreSteps n old change → HasGone change.system
+pub goes_steps : (n : ℕ) (old : System) (change : Change) → IsWhole old → Interprets old → AreSteps n old change → HasGone change.system
 unfolding AreSteps
 goes_steps zero old change w i is = subst (λ (c : Change). HasGone c.system) (sym is) (record { whole = w; interprets = i })
 goes_steps (suc n) old change w i steps =

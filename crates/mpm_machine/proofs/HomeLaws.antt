@@ -6,7 +6,7 @@ use Rattle.std.proofs.lemmas.List.{length-map, length-set, get_or-map}
 use Rattle.mpm_base.proofs.Choices.{either}
 use Rattle.mpm_base.specs.Calls.{Answer}
 use Rattle.z80_regs.specs.Outcome.{Action}
-use Rattle.mpm_banks.specs.Memory.{Memory, no_segment, SameSegments, segment_of}
+use Rattle.mpm_banks.specs.Memory.{Memory, IsMemory, no_segment, SameSegments, segment_of}
 use Rattle.mpm_banks.specs.MemoryLaws.{field_stays}
 use Rattle.mpm_banks.specs.Actions.{memory_after}
 use Rattle.mpm_banks.specs.declared.segment.Segment.{Segment}
@@ -23,11 +23,13 @@ use Rattle.mpm_kernel.specs.Ending.{discharged}
 use Rattle.mpm_xdos.specs.Ending.{is_home, vacated_if_empty, memory_without}
 use Rattle.mpm_processor.specs.Gates.{IsHome}
 use Rattle.mpm_machine.specs.State.{IsOccupied}
+use Rattle.mpm_machine.proofs.SizeLaws.{SameSizes, memory_allocated, memory_released, memory_same, sizes_after, sizes_placed}
 
--- what was a home, is one, and what was lived in, is
+-- what was a home, is one, what was lived in, is, and memory has its segments
 pub record KeepsHomes (old new : Memory) : Type 0 where
   pub all : (seg : ℕ) → IsHome old seg → IsHome new seg
   pub lived : (seg : ℕ) → IsHome old seg → IsOccupied old seg → IsOccupied new seg
+  pub memory : IsMemory old → IsMemory new
 
 -- a segment is a home where its place and its size are those of one
 same_home : (old new : Memory) (seg : ℕ) → length new.segments ≡ length old.segments → (segment_of new seg).base ≡ (segment_of old seg).base
@@ -39,26 +41,28 @@ same_home old new seg count base pages home = record {
 }
 
 pub keeps_itself : (memory : Memory) → KeepsHomes memory memory
-keeps_itself memory = record { all = λ seg home. home; lived = λ seg home h. h }
+keeps_itself memory = record { all = λ seg home. home; lived = λ seg home h. h; memory = λ is. is }
 
 pub keeps_both : (old middle new : Memory) → KeepsHomes old middle → KeepsHomes middle new → KeepsHomes old new
 keeps_both old middle new first second = record {
   all = λ seg home. second.all seg (first.all seg home);
   lived = λ seg home h. second.lived seg (first.all seg home) (first.lived seg home h);
+  memory = λ is. second.memory (first.memory is);
 }
 
-pub keeps_same : (old new : Memory) → SameSegments old new → KeepsHomes old new
-keeps_same old new same = record {
+pub keeps_same : (old new : Memory) → SameSegments old new → SameSizes old new → KeepsHomes old new
+keeps_same old new same sizes = record {
   all = λ seg home. same_home old new seg same.count (same.base seg) (same.pages seg) home;
   lived = λ seg home h. same.allocation seg ∙ h;
+  memory = λ is. memory_same old new same sizes is;
 }
 
 -- bytes change
 pub keeps_placed : (answer : Answer) (word seg : ℕ) (memory : Memory) → KeepsHomes memory (placed answer word seg memory)
-keeps_placed answer word seg memory = keeps_same memory _ (placed_segments answer word seg memory)
+keeps_placed answer word seg memory = keeps_same memory _ (placed_segments answer word seg memory) (sizes_placed answer word seg memory)
 
 pub keeps_acted : (actions : List Action) (seg : ℕ) (memory : Memory) → KeepsHomes memory (memory_after actions seg memory)
-keeps_acted actions seg memory = keeps_same memory _ (same_segments_after actions seg memory)
+keeps_acted actions seg memory = keeps_same memory _ (same_segments_after actions seg memory) (sizes_after actions seg memory)
 
 -- segments change hands
 
@@ -82,6 +86,7 @@ keeps_allocated memory seg allocation stays = record {
         subst (IsOccupied (allocated memory seg allocation)) (sym same) there
     | inr apart ↦ lived_elsewhere memory seg allocation other apart h
   ];
+  memory = λ is. memory_allocated memory seg allocation is;
 }
 
 pub keeps_occupied : (memory : Memory) (seg : ℕ) → KeepsHomes memory (occupied memory seg)
@@ -140,6 +145,7 @@ keeps_all_released memory owner =
           (ap (λ (s : Segment). s.base) (at seg home) ∙ (freed_place owner (segment_of memory seg)).0)
           (ap (λ (s : Segment). s.pages) (at seg home) ∙ (freed_place owner (segment_of memory seg)).1) home;
       lived = λ seg home h. ap (λ (s : Segment). s.allocation) (at seg home) ∙ freed_lived owner (segment_of memory seg) h;
+      memory = λ is. memory_released memory owner is;
     }
 
 -- a process ends: its segment stays lived in where somebody else lives there
@@ -158,10 +164,16 @@ lived_vacated memory procs (Some seg) other home h =
     either (λ (m : Memory). IsOccupied m other) (is_home procs seg) _ _ (λ _. h)
     (λ empty. lived_elsewhere memory seg Free other (λ same. false≢true (sym empty ∙ ap (is_home procs) (sym same) ∙ home)) h)
 
--- what an end leaves: each home, and each segment in which somebody still lives
+memory_vacated : (memory : Memory) (procs : Table) (seg : Option ℕ) → IsMemory memory → IsMemory (vacated_if_empty memory procs seg)
+unfolding vacated_if_empty
+memory_vacated memory procs None is = is
+memory_vacated memory procs (Some seg) is = either IsMemory (is_home procs seg) _ _ (λ _. is) (λ _. memory_allocated memory seg Free is)
+
+-- what an end leaves: each home, each segment in which somebody still lives, and memory with its segments
 pub record LeavesHomes (old new : Memory) (procs : Table) : Type 0 where
   pub all : (seg : ℕ) → IsHome old seg → IsHome new seg
   pub lived : (seg : ℕ) → IsHome old seg → is_home procs seg ≡ true → IsOccupied old seg → IsOccupied new seg
+  pub memory : IsMemory old → IsMemory new
 
 pub leaves_without : (memory : Memory) (kernel : Kernel) (p : ℕ) → LeavesHomes memory (memory_without memory kernel p) (discharged kernel p).dispatcher.procs
 unfolding memory_without
@@ -172,4 +184,5 @@ leaves_without memory kernel p =
     record {
       all = λ other home. places_vacated (all_released memory p) procs seg other (released.all other home);
       lived = λ other home there h. lived_vacated (all_released memory p) procs seg other there (released.lived other home h);
+      memory = λ is. memory_vacated (all_released memory p) procs seg (released.memory is);
     }

@@ -1,8 +1,7 @@
 -- Steps in which nothing is done, as no process runs and none is ready.
-use Rattle.std.proofs.Common.{◌≡◌, ◌∙◌, ℕ, zero, suc, ◌+◌, ◌<◌, false, Option, Some, None, option_map, refl, sym, ap, subst, arith, add-one}
+use Rattle.std.proofs.Common.{◌≡◌, ◌∙◌, ℕ, zero, suc, ◌+◌, ◌<◌, false, None, refl, sym, ap, subst, arith, add-one}
 use Rattle.mpm_service.specs.Disk.{DiskService}
-use Rattle.mpm_service.specs.Ahead.{passed_on, passed_by}
-use Rattle.mpm_service.specs.declared.service.Served.{Served}
+use Rattle.mpm_service.specs.Ahead.{passed_by}
 use Rattle.mpm_kernel.specs.Kernel.{Kernel}
 use Rattle.mpm_kernel.specs.Disk.{with_disk}
 use Rattle.mpm_kernel.proofs.DiskLaws.{sound_passed_by}
@@ -10,7 +9,7 @@ use Rattle.mpm_kernel.proofs.HomeLaws.{homes_stay}
 use Rattle.mpm_bdos.specs.Direct.{Directly}
 use Rattle.mpm_machine.specs.declared.system.System.{System}
 use Rattle.mpm_machine.specs.State.{State, Change, IsWhole, NoCompletions, NobodyAborted, silent}
-use Rattle.mpm_machine.specs.Files.{Files, Between, Within, AreWithin}
+use Rattle.mpm_machine.specs.Files.{Files, AreWithin}
 use Rattle.mpm_machine.specs.Step.{acted_by, acted, running_segment, at_instruction, counted, dispatched}
 use Rattle.mpm_machine.specs.DiskStep.{process_over}
 use Rattle.mpm_machine.specs.Stepping.{Telling, begun_as, step_with, nothing_told}
@@ -20,7 +19,7 @@ use Rattle.mpm_machine.proofs.WholeLaws.{whole_kernel, whole_steps}
 use Rattle.mpm_machine.proofs.FileStepLaws.{nobody_calls, is_made_still}
 use Rattle.mpm_machine.proofs.PlainLaws.{plain_next, files_still}
 use Rattle.mpm_machine.proofs.QuietLaws.{none_comes, begun_quiet, step_quiet, picked_same}
-use Rattle.mpm_machine.proofs.PassingLaws.{still_ahead, passes_on, passes_nothing, fewer_pass, nobody_over, rest_still}
+use Rattle.mpm_machine.proofs.PassingLaws.{still_ahead, passes_on, passes_nothing, fewer_pass, nobody_over, rest_still, none_before, within_on}
 
 -- nothing is done
 
@@ -36,10 +35,6 @@ pub record Idles (system : System) (n : ℕ) : Type 0 where
   pub none_deferred : system.abort_deferred ≡ false
   pub quiet : Quiet n system
   pub passing : CanPass n system.kernel.disk
-
-none_before : (served : Option Served) (n : ℕ) → option_map (passed_on n) served ≡ None → served ≡ None
-none_before None n is = refl
-none_before (Some call) n is = absurd (cc)
 
 handed_idle : (system : System) (steps n : ℕ) → NoCompletions system → NoCompletions (record system { steps = steps; kernel = with_disk (passed_by n) system.kernel })
 unfolding passed_by
@@ -64,12 +59,6 @@ over_idle told system n on =
     ap (λ (c : Change). process_over c.system)
     (begun_quiet told (later system n) begun (nobody_calls (later system n) idle.running) (none_comes begun (on.quiet n (omega arith))) (nothing_acted begun idle.running) on.no_completions.answered)
     ∙ nobody_over begun (still_ahead n system.kernel.disk on.passing)
-
-within_on : (served : Option Served) (files : Files) (n : ℕ) → AreWithin served files → AreWithin (option_map (passed_on n) served) files
-within_on None (Between filing) n within = tt
-within_on None (Within s) n within = absurd within
-within_on (Some call) (Between filing) n within = absurd within
-within_on (Some call) (Within s) n within = tt
 
 idle_within : (system : System) (files : Files) (n : ℕ) → AreWithin system.kernel.disk.served files → AreWithin (passed_by n system.kernel.disk).served files
 unfolding passed_by

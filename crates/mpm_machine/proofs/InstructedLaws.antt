@@ -46,7 +46,7 @@ only_ready actions devices =
 
 -- a step that is an instruction does that alone
 
-runs_listed : (outcome : Option Outcome) (p seg : ℕ) (system : System) → IsSome outcome → executed outcome p seg system ≡ silent (instructed outcome p seg system)
+pub runs_listed : (outcome : Option Outcome) (p seg : ℕ) (system : System) → IsSome outcome → executed outcome p seg system ≡ silent (instructed outcome p seg system)
 unfolding executed
 runs_listed None p seg system some = absurd (cc)
 runs_listed (Some outcome) p seg system some = refl

@@ -1,9 +1,9 @@
 -- Where an interpreter acts in a machine, no test of what it hands over refuses but for a slot or a segment that isn't free, and
 -- what it hands over comes into the segment that it has reserved.
-use Rattle.std.proofs.Common.{◌≡◌, ◌≢◌, ◌∙◌, ℕ, ◌+◌, ◌-◌, ◌*◌, ◌%◌, ◌<◌, ◌≤◌, ◌&&◌, Bool, true, if◌then◌else◌, List, length, min, Option, Some, None, is_some, refl, sym, ap, subst, arith}
+use Rattle.std.proofs.Common.{◌≡◌, ◌≢◌, ◌∙◌, ℕ, ◌+◌, ◌-◌, ◌*◌, ◌%◌, ◌<◌, ◌≤◌, ◌&&◌, Bool, true, if◌then◌else◌, List, length, min, Option, Some, None, is_some, refl, sym, ap, subst, arith, false}
 use Rattle.std.proofs.Math.Nat.{mod-eq_of_lt}
 use Rattle.std.specs.Prelude.{nat_lt, nat_le}
-use Rattle.std.proofs.lemmas.Bool.{and_parts}
+use Rattle.std.proofs.lemmas.Bool.{and_parts, false≢true}
 use Rattle.std.proofs.lemmas.Bool.Decides.{nat_tests}
 use Rattle.z80_regs.specs.Words.{onward}
 use Rattle.mpm_base.specs.Calls.{Taken}
@@ -30,7 +30,7 @@ use Rattle.mpm_cli.specs.declared.table.Message.TheVariants.{NoMemory}
 use Rattle.mpm_cli.specs.declared.table.Row.{Row}
 use Rattle.mpm_cli.specs.declared.table.Row.TheVariants.{ReadCommand, OpenQueue, WriteQueue, SetUser, OpenRelocatable, OpenAbsolute, ReadHeader, ComputeSize, SetUserZero, Reserve, Place, Patch, ReadOn, Free, CloseAfter, Close, Tell, Give, PlaceBasePage, Begin}
 use Rattle.mpm_cli.proofs.StandingLaws.{hands_at, counts_at}
-use Rattle.mpm_residents.specs.Natives.{native_in, native_act, native_call, interprets_if_there}
+use Rattle.mpm_residents.specs.Natives.{native_in, native_act, native_call, interprets_if_there, interprets}
 use Rattle.mpm_residents.specs.declared.native.Native.{Native}
 use Rattle.mpm_residents.specs.declared.native.Native.TheVariants.{Tmp, Cli}
 use Rattle.mpm_processor.specs.Gates.{IsHome}
@@ -191,6 +191,9 @@ own_at Give memory cli seg at s has hands = absurd hands
 
 pub same_resident : (one other : Interpreter) → Some (Cli one) ≡ Some (Cli other) → one ≡ other
 same_resident one other is = cc
+
+pub no_terminal : (native : Native) (cli : Interpreter) → interprets native ≡ false → Some native ≡ Some (Cli cli) → ⊥
+no_terminal native cli not is = false≢true (sym not ∙ ap interprets_if_there is)
 
 own_by : (native : Native) (who : ℕ) (system : System) (i : Interprets system) (seg at : ℕ) → native_in system.residents who ≡ Some native
     → HandsAt (native_act native) (length (native_call native).bytes) seg at → IsOwn system.memory seg at

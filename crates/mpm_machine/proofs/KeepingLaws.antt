@@ -4,6 +4,7 @@ use Rattle.std.proofs.Common.{◌≡◌, ◌∙◌, ℕ, ◌+◌, ◌==◌, ◌&
 use Rattle.std.proofs.lemmas.Bool.{false≢true}
 use Rattle.std.specs.List.{range_with_len}
 use Rattle.z80_regs.specs.Outcome.{Outcome as Instructed}
+use Rattle.mpm_base.specs.Lists.{in_width}
 use Rattle.mpm_base.specs.Calls.{Taken, Answer}
 use Rattle.mpm_base.specs.declared.call.Outcome.{Outcome}
 use Rattle.mpm_base.specs.declared.call.Outcome.TheVariants.{Done, Held, Retry, Ended}
@@ -43,7 +44,7 @@ use Rattle.mpm_machine.specs.declared.system.System.{System}
 use Rattle.mpm_machine.specs.State.{Change, speaking}
 use Rattle.mpm_machine.specs.Ending.{ended}
 use Rattle.mpm_machine.specs.Calling.{Served as Attended, with_kept, asking}
-use Rattle.mpm_machine.specs.Sending.{chains, may_pass, passed, passed_after, sent, sending, chaining, is_command, let_in, has_interpreter, framed, renamed, console_sent, may_send, in_room, chained}
+use Rattle.mpm_machine.specs.Sending.{chains, may_pass, passed, passed_after, sent, sending, chaining, is_command, let_in, has_interpreter, framed, renamed, console_sent, may_send, chained}
 use Rattle.mpm_machine.specs.Serving.{aborted, aborting, aborting_this, asked, keeping, reserving, releasing, creating, parsing, served_to_all, served, said_by, popped, replied, recorded, answering_call, with_entry, fulfilling, completing, outcome_of, gate_step, returning, is_entry, string_of}
 use Rattle.mpm_machine.specs.Finishing.{finished, completion_dequeued, finishing, all_finished, command_let_in, finished_or_ended, answered_from, all_answered}
 use Rattle.mpm_machine.specs.Due.{is_due, ended_if_due, due_terminated, with_ends}
@@ -159,7 +160,7 @@ sending_disk : (interprets : Bool) (p : ℕ) (kernel : Kernel) → (sending inte
 unfolding sending
 sending_disk interprets p kernel =
     let call = call_of kernel.dispatcher.procs p in
-    called_if kernel.disk (may_send interprets call kernel) _ _ (sent_disk SEND_CLI_COMMAND (in_room 130 call.bytes) p kernel) refl
+    called_if kernel.disk (may_send interprets call kernel) _ _ (sent_disk SEND_CLI_COMMAND (in_width 130 call.bytes) p kernel) refl
 
 chaining_disk : (interprets : Bool) (p : ℕ) (kernel : Kernel) → (chaining interprets p kernel).kernel.disk ≡ kernel.disk
 unfolding chaining

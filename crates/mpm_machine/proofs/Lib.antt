@@ -1,6 +1,7 @@
 pub mod InterruptLaws
 pub mod ChangeLaws
 pub mod SayingLaws
+pub mod SizeLaws
 pub mod HomeLaws
 pub mod EntryLaws
 pub mod RecordsLaws
@@ -15,6 +16,10 @@ pub mod CallLaws
 pub mod ResidingLaws
 pub mod PlacedLaws
 pub mod LoadingLaws
+pub mod LoadedLaws
+pub mod LoadedRows
+pub mod LoadedParts
+pub mod LoadedSteps
 pub mod SendingLaws
 pub mod ActedLaws
 pub mod WholeStepLaws

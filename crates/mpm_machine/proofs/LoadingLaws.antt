@@ -13,9 +13,9 @@ use Rattle.mpm_banks.specs.declared.range.Range.{Range}
 use Rattle.mpm_banks.specs.declared.segment.Allocation.TheVariants.{Occupied}
 use Rattle.mpm_banks.proofs.WrittenBytes.{with_bytes_unwritten, with_bytes_other_segment, same_segments_with_bytes}
 use Rattle.mpm_banks.proofs.RangeBytes.{range_bytes_is, put_range_is}
-use Rattle.mpm_banks.proofs.WindowLaws.{same_segments_put_range}
 use Rattle.mpm_banks.proofs.SegmentLaws.{allocation_of_allocated, reads_alike, same_bytes_allocated}
-use Rattle.mpm_prl.specs.Relocation.{relocated, relocated_byte}
+use Rattle.mpm_prl.specs.Relocation.{relocated}
+use Rattle.mpm_prl.proofs.Laws.{length_relocated}
 use Rattle.mpm_procs.specs.Table.{Lives, lives, process_in, lowest_free}
 use Rattle.mpm_procs.specs.declared.process.NewProcess.{NewProcess}
 use Rattle.mpm_procs.proofs.MapLaws.{free_below, lives_added}
@@ -29,22 +29,28 @@ use Rattle.mpm_processor.specs.Gates.{IsHome}
 use Rattle.mpm_machine.specs.declared.system.System.{System}
 use Rattle.mpm_machine.specs.State.{IsOccupied, IsWhole}
 use Rattle.mpm_machine.specs.Loading.{placing, moved, may_move, moving, is_console, giving, may_live, is_slot, begun_for, begins, beginning, ChangesOnly}
+use Rattle.mpm_machine.proofs.SizeLaws.{sizes_with_bytes}
 use Rattle.mpm_machine.proofs.HomeLaws.{KeepsHomes, keeps_itself, keeps_same, keeps_both, keeps_occupied}
 use Rattle.mpm_machine.proofs.PlacedLaws.{homes_begun}
 use Rattle.mpm_machine.proofs.WholeLaws.{nobody_more, whole_kernel, whole_memory}
 
 -- bytes change, and no segment's place or size, nor who has it
 pub whole_placing : (seg address : ℕ) (bytes : List ℕ) (system : System) → IsWhole system → IsWhole (placing seg address bytes system)
-whole_placing seg address bytes system w = whole_memory system _ w (keeps_same _ _ (same_segments_with_bytes bytes system.memory seg address))
+whole_placing seg address bytes system w = whole_memory system _ w (keeps_same _ _ (same_segments_with_bytes bytes system.memory seg address) (sizes_with_bytes bytes system.memory seg address))
 
-keeps_moved : (range : Option Range) (marks : List ℕ) (page : ℕ) (memory : Memory) → KeepsHomes memory (moved range marks page memory)
-keeps_moved None marks page memory = keeps_itself memory
-keeps_moved (Some range) marks page memory = keeps_same memory _ (same_segments_put_range memory range _)
+keeps_moved : (seg address count : ℕ) (range : Option Range) (marks : List ℕ) (page : ℕ) (memory : Memory) → range_of memory seg address count ≡ range
+    → KeepsHomes memory (moved range marks page memory)
+keeps_moved seg address count None marks page memory is = keeps_itself memory
+keeps_moved seg address count (Some range) marks page memory is =
+    let bytes = relocated (range_bytes memory range) marks page in
+    let size : length bytes ≡ count = length_relocated (range_bytes memory range) marks page ∙ ap length (range_bytes_is memory seg address count range is) ∙ length-map-range_with_len _ 0 count in
+    subst (KeepsHomes memory) (sym (put_range_is memory seg address count range bytes is size))
+    (keeps_same memory _ (same_segments_with_bytes bytes memory seg address) (sizes_with_bytes bytes memory seg address))
 
 pub whole_moving : (seg address count : ℕ) (marks : List ℕ) (page : ℕ) (system : System) → IsWhole system → IsWhole (moving seg address count marks page system)
 whole_moving seg address count marks page system w =
     either (λ (memory : Memory). IsWhole (record system { memory = memory })) (may_move count marks) _ system.memory
-    (λ _. whole_memory system _ w (keeps_moved (range_of system.memory seg address count) marks page system.memory)) (λ _. w)
+    (λ _. whole_memory system _ w (keeps_moved seg address count (range_of system.memory seg address count) marks page system.memory refl)) (λ _. w)
 
 -- a console passes on
 gave_whole : (console p : ℕ) (old : System) → IsWhole old → console < length old.kernel.units.consoles
@@ -73,7 +79,7 @@ begun_whole old p q seg address base new w below home is free =
     let written = with_bytes old.memory seg address (0 ∷ base ∷ []) in
     let laid = same_segments_with_bytes (0 ∷ base ∷ []) old.memory seg address in
     let memory = occupied written seg in
-    let keeps : KeepsHomes old.memory memory = keeps_both _ written _ (keeps_same _ _ laid) (keeps_occupied written seg) in
+    let keeps : KeepsHomes old.memory memory = keeps_both _ written _ (keeps_same _ _ laid (sizes_with_bytes (0 ∷ base ∷ []) old.memory seg address)) (keeps_occupied written seg) in
     let begun = dispatched (admitted q new) old.kernel in
     let kernel = given new.console (Some p) (Some q) begun in
     let same : kernel.dispatcher.procs ≡ begun.dispatcher.procs = procs_gave new.console (Some p) (Some q) begun in
@@ -88,6 +94,7 @@ begun_whole old p q seg address base new w below home is free =
       sound = sound_gave new.console (Some p) (Some q) begun (sound_admitted old.kernel q new w.sound free below) below
           (lives_added old.kernel.dispatcher.procs q new (free_below old.kernel.dispatcher.procs q free));
       live = live_kept old.kernel kernel (completed_gave new.console (Some p) (Some q) begun) kept w.live;
+      memory = keeps.memory w.memory;
       script = w.script;
       settled = λ off. nobody_more old.kernel kernel
           (λ r due. aborts_admitted old.kernel q new w.sound.slots free r (ap (λ procs. is_aborted procs r) (sym same) ∙ due)) (w.settled off);
@@ -145,10 +152,6 @@ changes_written seg address bytes old now is =
       rest = λ at apart. with_bytes_unwritten bytes old seg address at apart;
     })
 
-moved_length : (code marks : List ℕ) (page : ℕ) → length (relocated code marks page) ≡ length code
-unfolding relocated
-moved_length code marks page = length-map-range_with_len (relocated_byte code marks page) 0 (length code)
-
 changes_in_range : (range : Option Range) (seg address count : ℕ) (marks : List ℕ) (page : ℕ) (memory : Memory) → range_of memory seg address count ≡ range
     → ChangesOnly seg address count memory (moved range marks page memory)
 changes_in_range None seg address count marks page memory is = changes_nothing seg address count memory memory refl
@@ -156,7 +159,7 @@ changes_in_range (Some range) seg address count marks page memory is =
     let code = range_bytes memory range in
     let new = relocated code marks page in
     let size : length new ≡ count =
-    moved_length code marks page
+    length_relocated code marks page
     ∙ ap (λ (bytes : List ℕ). length bytes) (range_bytes_is memory seg address count range is)
     ∙ length-map-range_with_len (λ k. byte_at memory seg (onward address k)) 0 count in
     subst (λ n. ChangesOnly seg address n memory (put_range memory range new)) size

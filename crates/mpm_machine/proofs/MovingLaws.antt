@@ -1,8 +1,7 @@
 -- Steps that are instructions of one process.
-use Rattle.std.proofs.Common.{◌≡◌, ◌∙◌, ℕ, zero, suc, ◌+◌, ◌<◌, ◌≤◌, false, ◌&&◌, Option, Some, None, option_map, IsSome, is_some, inl, inr, length, refl, sym, ap, subst, arith, add-one, set-set, get_or-set_same}
+use Rattle.std.proofs.Common.{◌≡◌, ◌∙◌, ℕ, zero, suc, ◌+◌, ◌<◌, ◌≤◌, false, ◌&&◌, Option, Some, None, is_some, inl, inr, length, refl, sym, ap, subst, arith, add-one, set-set, get_or-set_same}
 use Rattle.std.proofs.lemmas.Bool.{cases_eq}
 use Rattle.z80_regs.specs.declared.regs.Regs.{Regs}
-use Rattle.z80_regs.specs.Outcome.{Outcome}
 use Rattle.z80_ext.specs.Instruction.{instruction, registers_after, actions_of}
 use Rattle.mpm_base.specs.declared.devices.Devices.{Devices}
 use Rattle.mpm_ready.specs.Order.{first_of}
@@ -26,23 +25,23 @@ use Rattle.mpm_machine.specs.State.{State, Change, IsWhole, NobodyAborted, silen
 use Rattle.mpm_machine.specs.Serving.{with_regs}
 use Rattle.mpm_machine.specs.Step.{instructed, executed, instruction_at, acted_at, gate_before, acted_by, acted, running_segment, at_instruction, coming, counted, dispatched as step_dispatched}
 use Rattle.mpm_machine.specs.FileCalls.{file_caller}
-use Rattle.mpm_machine.specs.Files.{Files, Between, Within, AreWithin}
+use Rattle.mpm_machine.specs.Files.{AreWithin}
 use Rattle.mpm_machine.specs.DiskStep.{process_over}
 use Rattle.mpm_machine.specs.Stepping.{Telling, begun_as, step_with, nothing_told}
 use Rattle.mpm_bdos.specs.Direct.{Directly}
 use Rattle.mpm_service.specs.Disk.{DiskService}
-use Rattle.mpm_service.specs.Ahead.{passed_on, passed_by}
-use Rattle.mpm_service.specs.declared.service.Served.{Served}
+use Rattle.mpm_service.specs.Ahead.{passed_by}
 use Rattle.mpm_kernel.proofs.DiskLaws.{sound_passed_by}
 use Rattle.mpm_machine.specs.After.{next, after, AreSteps}
 use Rattle.mpm_interrupts.specs.Interrupts.{due}
 use Rattle.mpm_machine.specs.Moving.{Moved, view_of, with_view, RunsOn, Quiet, CanPass}
 use Rattle.mpm_machine.proofs.HomeLaws.{KeepsHomes, keeps_itself, keeps_both, keeps_acted}
+use Rattle.mpm_machine.proofs.InstructedLaws.{runs_listed}
 use Rattle.mpm_machine.proofs.WholeLaws.{same_regs, whole_kernel, whole_memory, whole_regs, whole_steps}
 use Rattle.mpm_machine.proofs.FileStepLaws.{gateless, is_made_still}
 use Rattle.mpm_machine.proofs.PlainLaws.{plain_next, files_still}
 use Rattle.mpm_machine.proofs.QuietLaws.{none_comes, begun_quiet, step_quiet, picked_same}
-use Rattle.mpm_machine.proofs.PassingLaws.{still_ahead, passes_on, passes_nothing, fewer_pass, nobody_over, rest_still}
+use Rattle.mpm_machine.proofs.PassingLaws.{still_ahead, passes_on, passes_nothing, fewer_pass, nobody_over, rest_still, none_before, within_on}
 
 -- a view that a process already has, and one after another
 
@@ -99,11 +98,6 @@ ran_view system p seg n view below =
     ∙ ap (λ (k : Kernel). record system { steps = system.steps + n + 1; kernel = k; memory = next.memory }) (regs_twice kernel p view.regs next.regs below)
     ∙ ap (λ steps. record system { steps = steps; kernel = with_regs kernel p next.regs; memory = next.memory }) (omega arith)
 
-instructed_some : (outcome : Option Outcome) (p seg : ℕ) (system : System) → IsSome outcome → executed outcome p seg system ≡ silent (instructed outcome p seg system)
-unfolding executed
-instructed_some None p seg system some = absurd (cc)
-instructed_some (Some outcome) p seg system some = refl
-
 -- no gate stands there
 
 runs_view : (system : System) (p n : ℕ) (view : View) → system.kernel.dispatcher.running ≡ Some p → (with_view system p view n).kernel.dispatcher.running ≡ Some p
@@ -142,7 +136,7 @@ acted_view system p seg n view below on can =
     ∙ ap (λ segment. acted_by (Some p) segment begun) home
     ∙ ap (λ (g : Option Gate). acted_at g p seg begun) gate
     ∙ ap (λ outcome. executed outcome p seg begun) there
-    ∙ instructed_some (instruction_in seg view) p seg begun can.listed
+    ∙ runs_listed (instruction_in seg view) p seg begun can.listed
     ∙ ap silent (ran_view system p seg n view below)
 
 -- no interrupt comes where none is due
@@ -173,10 +167,6 @@ unfolding with_view
 settled_view system p n view below none = nobody_view system.kernel view.devices (passed_by n system.kernel.disk) p view.regs below none
 
 -- no call is in service behind steps that passed where none was before
-none_before : (served : Option Served) (n : ℕ) → option_map (passed_on n) served ≡ None → served ≡ None
-none_before None n is = refl
-none_before (Some call) n is = absurd (cc)
-
 handed_unpassed : (system : System) (p n : ℕ) (view : View) → NoCompletions system → NoCompletions (unpassed system p view n)
 unfolding passed_by
 handed_unpassed system p n view none =
@@ -235,12 +225,6 @@ keeps_moved (suc n) seg view =
     keeps_both view.memory before.memory _ (keeps_moved n seg view) (keeps_acted (actions_of (instruction_in seg before)) seg before.memory)
 
 -- files stay as they are in them
-within_on : (served : Option Served) (files : Files) (n : ℕ) → AreWithin served files → AreWithin (option_map (passed_on n) served) files
-within_on None (Between filing) n within = tt
-within_on None (Within s) n within = absurd within
-within_on (Some call) (Between filing) n within = absurd within
-within_on (Some call) (Within s) n within = tt
-
 unpassed_within : (s : State) (p n : ℕ) (view : View) → AreWithin s.system.kernel.disk.served s.files → AreWithin (unpassed s.system p view n).kernel.disk.served s.files
 unfolding passed_by
 unpassed_within s p n view within = within_on s.system.kernel.disk.served s.files n within

@@ -1,6 +1,6 @@
 -- After each step nobody's end by an abort is due: the ends that are due come by rising slot, and none makes that of a lower
 -- slot due, since it takes nobody's message of a mutual exclusion queue.
-use Rattle.std.proofs.Common.{◌≡◌, ◌≢◌, ◌∙◌, ℕ, zero, suc, ◌+◌, ◌<◌, Bool, true, false, not, ◌&&◌, ◌||◌, List, [], ◌∷◌, Option, Some, None, inl, inr, refl, sym, ap, subst, arith}
+use Rattle.std.proofs.Common.{◌≡◌, ◌≢◌, ◌∙◌, ℕ, zero, suc, ◌+◌, ◌<◌, Bool, true, false, not, ◌&&◌, ◌||◌, List, [], ◌∷◌, Option, Some, None, inl, inr, refl, sym, ap, arith}
 use Rattle.std.proofs.lemmas.Bool.{false≢true, cases_eq, cases_lt}
 use Rattle.std.specs.List.{range_with_len}
 use Rattle.std.specs.Prelude.{is_some}
@@ -26,7 +26,7 @@ use Rattle.mpm_kernel.proofs.DiskLaws.{served_discharged}
 use Rattle.mpm_xdos.specs.Aborting.{waits_to_end}
 use Rattle.mpm_xdos.specs.Procedures.{entering, entered}
 use Rattle.mpm_machine.specs.declared.system.System.{System}
-use Rattle.mpm_machine.specs.State.{Change, IsWhole, NobodyAborted}
+use Rattle.mpm_machine.specs.State.{IsWhole, NobodyAborted}
 use Rattle.mpm_machine.specs.Ending.{ended}
 use Rattle.mpm_machine.specs.Serving.{is_entry, with_entry, reply_at_entry, fulfilling, answering_call, recorded, replied}
 use Rattle.mpm_machine.specs.Finishing.{finished, completion_dequeued, finishing, all_finished}

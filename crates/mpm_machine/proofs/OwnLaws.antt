@@ -131,7 +131,7 @@ own_vacated memory procs None lived = own_itself memory
 own_vacated memory procs (Some seg) lived =
     either (KeepsOwn memory) (is_home procs seg) _ _ (λ _. own_itself memory) (λ _. own_allocated memory seg Nobodys (λ own. absurd (lived seg refl own)))
 
-occupied_or_own : (allocation : Allocation) → allocation ≡ Occupied → allocation ≡ Reserved 0 → ⊥
+pub occupied_or_own : (allocation : Allocation) → allocation ≡ Occupied → allocation ≡ Reserved 0 → ⊥
 occupied_or_own allocation lived own = apart (sym own ∙ lived) where
   apart : Reserved 0 ≡ Occupied → ⊥
   apart e = absurd (cc)

@@ -1,11 +1,11 @@
 -- So many steps of a run in which the disk's only pass: how many there may be, and what they leave of those at the disk and of calls.
-use Rattle.std.proofs.Common.{◌≡◌, ◌∙◌, ℕ, ◌+◌, ◌<◌, ◌≤◌, Bool, true, Option, Some, None, IfSome, option_map, is_some, unwrap_or, refl, sym, ap, subst, arith}
+use Rattle.std.proofs.Common.{◌≡◌, ◌∙◌, ℕ, ◌+◌, ◌<◌, ◌≤◌, Option, Some, None, IfSome, option_map, is_some, unwrap_or, refl, sym, ap, subst, arith}
 use Rattle.z80_regs.specs.declared.regs.Regs.{Regs}
 use Rattle.mpm_base.specs.Calls.{Taken}
 use Rattle.mpm_base.specs.declared.devices.Devices.{Devices}
 use Rattle.mpm_port.specs.Disks.{Disks}
 use Rattle.mpm_ready.specs.Order.{first_of}
-use Rattle.mpm_procs.specs.Table.{Table, Lives, process_in, call_of, with_process}
+use Rattle.mpm_procs.specs.Table.{Table, Lives, process_in, with_process}
 use Rattle.mpm_procs.specs.declared.process.Process.{Process}
 use Rattle.mpm_procs.proofs.MapLaws.{call_after}
 use Rattle.mpm_service.specs.Disk.{DiskService, HasBegun}
@@ -42,6 +42,11 @@ quiet_passes disk result n is turn few = record {
 
 pub passes_within : (n : ℕ) (disk : DiskService) → CanPass n disk → IfSome disk.served (λ call. call.passed + n < disk.turn_steps)
 passes_within n disk can = can.within
+
+-- how many steps a turn has stays
+pub turn_steps_passed : (n : ℕ) (old new : DiskService) → new ≡ passed_by n old → new.turn_steps ≡ old.turn_steps
+unfolding passed_by
+turn_steps_passed n old new is = ap (λ (disk : DiskService). disk.turn_steps) is
 
 -- none of them
 pub later_none : (system : System) → system ≡ later system 0

@@ -1,5 +1,5 @@
 -- Steps of the disk that only pass one of a turn, or in which it has no call: how many there are, and what a step with one of them is.
-use Rattle.std.proofs.Common.{◌≡◌, ◌∙◌, ℕ, ◌+◌, ◌-◌, ◌<◌, ◌≤◌, ◌==◌, Bool, true, false, List, [], ◌++◌, Option, Some, None, IfSome, if◌then◌else◌, option_map, refl, sym, ap, subst, arith}
+use Rattle.std.proofs.Common.{◌≡◌, ◌∙◌, ℕ, ◌+◌, ◌-◌, ◌<◌, ◌≤◌, ◌==◌, Bool, true, false, List, [], ◌++◌, Option, Some, None, IfSome, if◌then◌else◌, option_map, refl, sym, ap, arith}
 use Rattle.std.proofs.lemmas.Bool.{false≢true}
 use Rattle.std.proofs.lemmas.Bool.Decides.{nat_tests}
 use Rattle.std.specs.Prelude.{option_and_then}
@@ -15,6 +15,7 @@ use Rattle.mpm_machine.specs.declared.system.System.{System}
 use Rattle.mpm_machine.specs.Owing.{nobody_owes}
 use Rattle.mpm_machine.specs.State.{Change, silent, NoCompletions, NobodyAborted}
 use Rattle.mpm_machine.specs.Due.{with_ends}
+use Rattle.mpm_machine.specs.Files.{Files, Between, Within, AreWithin}
 use Rattle.mpm_machine.specs.Step.{dispatched, with_records}
 use Rattle.mpm_machine.specs.DiskStep.{step_passed, disk_served, over_by, process_over, owed_then, all_paid, call_entered}
 use Rattle.mpm_machine.specs.Stepping.{Telling, entered_after, ended_after, rest_of}
@@ -87,7 +88,7 @@ fewer_can n most disk few can = record { within = fewer disk.served disk.turn_st
 
 -- the rest of a step in which the disk does nothing else, nobody's end is due, and nothing is to be given back
 
-paid_now : (system : System) (served : Option Served) → system.kernel.disk.served ≡ served → (served ≡ None → system.owed ≡ nobody_owes) → all_paid system ≡ system
+pub paid_now : (system : System) (served : Option Served) → system.kernel.disk.served ≡ served → (served ≡ None → system.owed ≡ nobody_owes) → all_paid system ≡ system
 unfolding all_paid
 paid_now system None is nobody =
     ap (λ (o : Option Served). record system { owed = owed_then o system.owed }) is ∙ ap (λ (owed : List Bool). record system { owed = owed }) (sym (nobody refl))
@@ -180,3 +181,15 @@ rest_still instruction telling system none nobody off still =
     ap (λ (s : System). F s (disk_served telling.at_disk system).emitted) ended
     ∙ ap (F passed) (says_by_whom (served_process system.kernel.disk) telling.at_disk system refl still)
     ∙ ap (dispatched instruction) (nothing_out passed none.written)
+
+-- a call that is in service goes on so, and none begins; and files are within one as they were
+
+pub none_before : (served : Option Served) (n : ℕ) → option_map (passed_on n) served ≡ None → served ≡ None
+none_before None n is = refl
+none_before (Some call) n is = absurd (cc)
+
+pub within_on : (served : Option Served) (files : Files) (n : ℕ) → AreWithin served files → AreWithin (option_map (passed_on n) served) files
+within_on None (Between filing) n within = tt
+within_on None (Within s) n within = absurd within
+within_on (Some call) (Between filing) n within = absurd within
+within_on (Some call) (Within s) n within = tt

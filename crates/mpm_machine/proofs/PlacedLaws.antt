@@ -7,7 +7,7 @@ use Rattle.std.proofs.lemmas.List.Elements.{All-cons, All-nil}
 use Rattle.std.proofs.lemmas.List.Sums.{sum_by-cons, sum_by-set, count_by-le-length}
 use Rattle.mpm_base.specs.declared.number.Name8.{Name8}
 use Rattle.mpm_base.specs.declared.segment.SegmentSpec.{SegmentSpec}
-use Rattle.mpm_banks.specs.Memory.{Memory, no_segment, HasSegment, SameSegments, segment_of, with_bytes}
+use Rattle.mpm_banks.specs.Memory.{Memory, IsMemory, no_segment, HasSegment, SameSegments, segment_of, with_bytes}
 use Rattle.mpm_banks.specs.MemoryLaws.{same_segments_both}
 use Rattle.mpm_banks.proofs.WrittenBytes.{same_segments_with_bytes}
 use Rattle.mpm_banks.specs.Allocations.{new_segment, new_memory, allocated, occupied, spec_of}
@@ -19,13 +19,13 @@ use Rattle.mpm_procs.specs.Opening.{opening}
 use Rattle.mpm_procs.specs.declared.process.NewProcess.{NewProcess}
 use Rattle.mpm_procs.proofs.CountLaws.{living_added, full_from_none}
 use Rattle.mpm_procs.proofs.MapLaws.{nobody_lives, free_below, free_is_dead, lives_added, lives_added_other, process_added, process_added_other}
-use Rattle.std.specs.List.{AllByRecursion}
 use Rattle.mpm_service.specs.Disk.{DiskService}
 use Rattle.mpm_kernel.specs.Disk.{in_turns}
 use Rattle.mpm_kernel.proofs.DiskLaws.{sound_in_turns}
-use Rattle.mpm_kernel.specs.Kernel.{Kernel, CompletedLive, is_aborted, new_kernel, dispatched}
+use Rattle.mpm_kernel.specs.Kernel.{Kernel, is_aborted, new_kernel, dispatched}
 use Rattle.mpm_dispatcher.specs.Dispatch.{admitted, picked, new_dispatcher}
 use Rattle.mpm_kernel.proofs.SoundLaws.{sound_new, sound_admitted, sound_picked}
+use Rattle.mpm_kernel.proofs.Staying.{nobody}
 use Rattle.mpm_kernel.specs.Consoling.{given}
 use Rattle.mpm_kernel.proofs.GivingLaws.{sound_gave, procs_gave, completed_gave, consoles_gave}
 use Rattle.mpm_kernel.proofs.EnsuredLaws.{many_new}
@@ -46,6 +46,7 @@ use Rattle.mpm_command.specs.BasePages.{base_page}
 use Rattle.mpm_machine.specs.Opening.{laid_out, placed_process, moment_of, booted, program_file, is_lived_in, is_occupied, IsBare, MayPlace, with_placed, opening_system}
 use Rattle.mpm_machine.proofs.KeepingLaws.{given_disk}
 use Rattle.mpm_machine.proofs.WholeLaws.{nobody_more}
+use Rattle.mpm_machine.proofs.SizeLaws.{SameSizes, memory_new, sizes_with_bytes}
 use Rattle.mpm_machine.proofs.HomeLaws.{KeepsHomes, keeps_same, keeps_both, keeps_occupied}
 
 -- a program that is laid out changes bytes alone
@@ -59,6 +60,16 @@ same_segments_laid_out memory seg program =
     same_segments_both memory second _
     (same_segments_both memory first second (same_segments_with_bytes (base_page page []) memory seg (256 * base)) (same_segments_with_bytes program first seg (256 * base + 256)))
     (same_segments_with_bytes _ second seg (256 * page - 2))
+
+sizes_laid_out : (memory : Memory) (seg : ℕ) (program : List ℕ) → SameSizes memory (laid_out memory seg program)
+unfolding laid_out
+sizes_laid_out memory seg program space =
+    let base = (segment_of memory seg).base in
+    let page = last_page memory seg in
+    let first = with_bytes memory seg (256 * base) (base_page page []) in
+    let second = with_bytes first seg (256 * base + 256) program in
+    sizes_with_bytes (0 ∷ base ∷ []) second seg (256 * page - 2) space ∙ sizes_with_bytes program first seg (256 * base + 256) space
+    ∙ sizes_with_bytes (base_page page []) memory seg (256 * base) space
 
 pub laid_out_is_there : (memory : Memory) (seg : ℕ) (program : List ℕ) → HasSegment memory seg → HasSegment (laid_out memory seg program) seg
 laid_out_is_there memory seg program there = omega (arith, (same_segments_laid_out memory seg program).count, there)
@@ -82,11 +93,6 @@ homes_begun P kernel p seg new slots free is home homes q other living there = e
       (ap (λ x. x.seg) (sym (process_added_other kernel.dispatcher.procs p q new another)) ∙ there)
 ]
 
-nobody_completed : (kernel : Kernel) → kernel.dispatcher.completed ≡ [] → CompletedLive kernel
-nobody_completed kernel none =
-    let P : List ℕ → Type 0 = λ ps. AllByRecursion (λ p. Lives kernel.dispatcher.procs p) ps in
-    subst P (sym none) tt
-
 pub whole_placed : (system : System) (p seg : ℕ) (name : Name8) (priority console : ℕ) (program : List ℕ) → MayPlace system seg console (length program)
     → lowest_free system.kernel.dispatcher.procs ≡ Some p → IsWhole (with_placed system p seg name priority console program)
 unfolding with_placed placed_process
@@ -95,7 +101,7 @@ whole_placed system p seg name priority console program may free =
     let new = placed_process (spec_of system.memory seg) seg name priority console in
     let memory = laid_out system.memory seg program in
     let keeps : KeepsHomes system.memory (occupied memory seg) =
-    keeps_both _ memory _ (keeps_same _ _ (same_segments_laid_out system.memory seg program)) (keeps_occupied memory seg) in
+    keeps_both _ memory _ (keeps_same _ _ (same_segments_laid_out system.memory seg program) (sizes_laid_out system.memory seg program)) (keeps_occupied memory seg) in
     let begun = dispatched (admitted p new) system.kernel in
     let kernel = given console None (Some p) begun in
     let same : (dispatched (picked false) kernel).dispatcher.procs ≡ begun.dispatcher.procs = procs_gave console None (Some p) begun in
@@ -109,7 +115,8 @@ whole_placed system p seg name priority console program may free =
     record {
       sound = sound_picked kernel false (sound_gave console None (Some p) begun (sound_admitted system.kernel p new w.sound free may.has_console) may.has_console
           (lives_added system.kernel.dispatcher.procs p new (free_below system.kernel.dispatcher.procs p free)));
-      live = nobody_completed (dispatched (picked false) kernel) (completed_gave console None (Some p) begun ∙ may.bare.no_completions.answered);
+      live = nobody (dispatched (picked false) kernel) (completed_gave console None (Some p) begun ∙ may.bare.no_completions.answered);
+      memory = keeps.memory w.memory;
       script = w.script;
       settled = λ off. nobody_more system.kernel (dispatched (picked false) kernel)
           (λ q due. aborts_admitted system.kernel p new w.sound.slots free q (ap (λ procs. is_aborted procs q) (sym same) ∙ due)) (w.settled off);
@@ -117,9 +124,11 @@ whole_placed system p seg name priority console program may free =
       lived = λ q other living there. lived q other (alive q living) (ap (λ procs. (process_in procs q).seg) (sym same) ∙ there);
     }
 
-whole_booted : (file : MachineFile) (events : List Timed) → 1 ≤ file.consoles → file.consoles ≤ 8 → file.printers ≤ 4 → All IsTimed events → IsWhole (booted file events)
+whole_booted : (file : MachineFile) (events : List Timed) → 1 ≤ file.consoles → file.consoles ≤ 8 → file.printers ≤ 4 → All IsTimed events → IsMemory (new_memory file.segments)
+    → IsWhole (booted file events)
 unfolding booted new_kernel new_dispatcher
-whole_booted file events some few printers script = record {
+whole_booted file events some few printers script memory = record {
+  memory = memory;
   live = tt;
   script = script;
   settled = λ off p. ap (λ b. b && (process_in no_processes p).abort_due) (nobody_lives p);
@@ -225,10 +234,10 @@ placed_is_bare old kernel memory laid new p seg name priority console program ma
     subst IsBare (sym whole) (bare_placed old p seg name priority console program may free)
 
 pub booted_is_bare : (file : MachineFile) (events : List Timed) → 1 ≤ file.consoles → file.consoles ≤ 8 → file.printers ≤ 4 → length file.segments ≤ 16
-    → All IsTimed events → IsBare (booted file events)
+    → All IsTimed events → IsMemory (new_memory file.segments) → IsBare (booted file events)
 unfolding booted new_kernel new_dispatcher new_memory living no_processes
-booted_is_bare file events some few printers count script = record {
-  whole = whole_booted file events some few printers script;
+booted_is_bare file events some few printers count script memory = record {
+  whole = whole_booted file events some few printers script memory;
   no_completions = record { answered = refl; written = refl; paid = λ _. refl };
   start = refl;
   few = omega (arith, length-map file.segments new_segment, count);
@@ -246,7 +255,7 @@ may_place_booted file events seg console size some few printers count script fit
     let none : SegmentSpec = record { base = 0; pages = 0 } in
     let at : segment_of (new_memory segments) seg ≡ new_segment (get_or segments seg none) = get_or-map new_segment segments seg none no_segment h in
     record {
-      bare = booted_is_bare file events some few printers count script;
+      bare = booted_is_bare file events some few printers count script (memory_new segments (omega (arith, h)) count fit);
       home = home_bare segments seg fit h;
       empty = ap is_occupied at;
       has_console = let P : ℕ → Type 0 = λ n. console < n in subst P (sym (many_new file.consoles file.printers (moment_of file))) has_console;
@@ -263,7 +272,7 @@ may_place_again system p seg name priority console program other next size may f
     let memory = laid_out system.memory seg program in
     let same = same_segments_laid_out system.memory seg program in
     let there : segment_of (occupied memory seg) other ≡ segment_of memory other = segment_of_allocated memory seg other Occupied apart in
-    let keeps : KeepsHomes system.memory (occupied memory seg) = keeps_both _ memory _ (keeps_same _ _ same) (keeps_occupied memory seg) in
+    let keeps : KeepsHomes system.memory (occupied memory seg) = keeps_both _ memory _ (keeps_same _ _ same (sizes_laid_out system.memory seg program)) (keeps_occupied memory seg) in
     record {
       bare = bare_placed system p seg name priority console program may free;
       home = keeps.all other again.home;
@@ -288,12 +297,12 @@ pub may_place_program : (size : ℕ) → size ≤ 48512 → MayPlace (booted pro
 may_place_program size h = may_place_first [] size (All-nil IsTimed) h
 
 pub booted_parts : (file : MachineFile) (events : List Timed) (interrupts : Interrupts) (kernel : Kernel) (memory : Memory) (residents : List Native)
-    (records : List Completion) (owed : List Bool) → 1 ≤ file.consoles → file.consoles ≤ 8 → file.printers ≤ 4 → length file.segments ≤ 16 → All IsTimed events
+    (records : List Completion) (owed : List Bool) → 1 ≤ file.consoles → file.consoles ≤ 8 → file.printers ≤ 4 → length file.segments ≤ 16 → All IsTimed events → IsMemory (new_memory file.segments)
     → interrupts ≡ record { tick_every = file.tick_every; ticks = 0; script = events }
     → kernel ≡ in_turns file.disk_turn (new_kernel file.consoles file.printers (moment_of file)) → memory ≡ new_memory file.segments → residents ≡ [] → records ≡ [] → owed ≡ nobody_owes
     → IsBare (record { steps = 0; interrupts = interrupts; kernel = kernel; memory = memory; abort_deferred = false; residents = residents; records = records; owed = owed })
 unfolding booted
-booted_parts file events interrupts kernel memory residents records owed some few printers count script is was there none no_records nobody =
+booted_parts file events interrupts kernel memory residents records owed some few printers count script fit is was there none no_records nobody =
     let booting = booted file events in
     let whole : record { steps = 0; interrupts = interrupts; kernel = kernel; memory = memory; abort_deferred = false; residents = residents; records = records; owed = owed } ≡ booting =
     ap (λ (r : List Native). record booting { interrupts = interrupts; kernel = kernel; memory = memory; residents = r; records = records; owed = owed }) none
@@ -302,7 +311,7 @@ booted_parts file events interrupts kernel memory residents records owed some fe
     ∙ ap (λ (i : Interrupts). record booting { interrupts = i; kernel = kernel; memory = memory }) is
     ∙ ap (λ (k : Kernel). record booting { kernel = k; memory = memory }) was
     ∙ ap (λ (m : Memory). record booting { memory = m }) there in
-    subst IsBare (sym whole) (booted_is_bare file events some few printers count script)
+    subst IsBare (sym whole) (booted_is_bare file events some few printers count script fit)
 
 pub booted_program : (file : MachineFile) (events : List Timed) (machine : System) → machine ≡ booted file events → file ≡ program_file → events ≡ []
     → machine ≡ booted program_file []

@@ -1,5 +1,5 @@
 -- A step in which no file call is made, nothing is given back and the disk only passes leaves files and drives as they are.
-use Rattle.std.proofs.Common.{◌≡◌, ◌∙◌, ℕ, zero, suc, Bool, true, false, List, [], ◌∷◌, ◌++◌, Option, Some, None, slice_index_or, replicate, if◌then◌else◌, refl, ap, sym, subst}
+use Rattle.std.proofs.Common.{◌≡◌, ◌∙◌, ℕ, zero, suc, Bool, true, false, List, [], ◌∷◌, ◌++◌, Option, Some, None, slice_index_or, replicate, if◌then◌else◌, refl, ap}
 use Rattle.std.proofs.lemmas.Bool.{false≢true}
 use Rattle.std.specs.List.{range_with_len}
 use Rattle.mpm_service.specs.Disk.{served_process, turn_answer}
@@ -17,7 +17,7 @@ use Rattle.mpm_machine.specs.Files.{Files, Between, Within, AreWithin, left_each
 use Rattle.mpm_machine.specs.FileCalls.{file_caller}
 use Rattle.mpm_machine.specs.DiskStep.{disk_served, all_paid, files_over, files_served_by, files_served, files_entered_by, files_entered_unless, files_entered, step_passed}
 use Rattle.mpm_machine.specs.Moving.{is_still}
-use Rattle.mpm_machine.specs.Stepping.{Telling, begun_as, nothing_told, told_first, files_begun_by, files_begun, before_disk, told_within, paid_after, files_paid, files_then, telling_then, telling_of, step_with, stepped, files_rest}
+use Rattle.mpm_machine.specs.Stepping.{Telling, nothing_told, told_first, files_begun_by, files_begun, before_disk, told_within, paid_after, files_paid, files_then, telling_then, telling_of, step_with, stepped, files_rest}
 use Rattle.mpm_machine.specs.After.{next}
 use Rattle.mpm_machine.proofs.QuietLaws.{begun_quiet, served_still, served_nobody}
 use Rattle.mpm_machine.proofs.PassingLaws.{paid_passed, paid_already, still_serves, ended_still}

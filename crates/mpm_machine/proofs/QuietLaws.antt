@@ -1,5 +1,5 @@
 -- A step in which no event comes, and in which nobody's held call is completed.
-use Rattle.std.proofs.Common.{◌≡◌, ◌∙◌, ℕ, Bool, true, false, [], Option, Some, None, if◌then◌else◌, refl, ap}
+use Rattle.std.proofs.Common.{◌≡◌, ◌∙◌, ℕ, Bool, true, [], Option, Some, None, refl, ap}
 use Rattle.std.proofs.lemmas.Bool.{false≢true}
 use Rattle.mpm_service.specs.Disk.{served_process, turn_answer}
 use Rattle.mpm_service.specs.declared.service.Turn.{Turn}
@@ -8,7 +8,6 @@ use Rattle.mpm_bdos.specs.Direct.{Directly}
 use Rattle.mpm_ready.specs.Order.{first_of}
 use Rattle.mpm_ready.specs.Tables.{list_at}
 use Rattle.mpm_dispatcher.proofs.ReadyLaws.{same_runner}
-use Rattle.mpm_script.specs.declared.event.Event.{Event}
 use Rattle.mpm_dispatcher.specs.Dispatch.{ready, picked, first_completed}
 use Rattle.mpm_kernel.specs.Kernel.{Kernel, dispatched as with_dispatcher}
 use Rattle.mpm_interrupts.specs.Interrupts.{due}
@@ -21,16 +20,13 @@ use Rattle.mpm_machine.specs.DiskStep.{step_passed, over_after, served_by, disk_
 use Rattle.mpm_machine.specs.Moving.{is_still}
 use Rattle.mpm_machine.specs.Stepping.{Telling, begun_with, begun_as, is_instruction, rest_of, step_with}
 use Rattle.mpm_machine.proofs.FinishLaws.{answered_nobody}
+use Rattle.mpm_machine.proofs.InterruptLaws.{none_due}
 
 -- no interrupt comes where none is due
 
-comes_not : (lets : Bool) (event : Option Event) → event ≡ None → (if lets then event else None) ≡ None
-comes_not true event e = e
-comes_not false event e = refl
-
 pub none_comes : (system : System) → due system.steps system.interrupts ≡ None → coming system ≡ None
 unfolding coming
-none_comes system none = comes_not (lets_in system.kernel.dispatcher.running system.kernel) (due system.steps system.interrupts) none
+none_comes system none = none_due (lets_in system.kernel.dispatcher.running system.kernel) (due system.steps system.interrupts) none
 
 -- where no event comes and no file call is made, and what the running process does says nothing and completes nobody, the step is that,
 -- and the rest of it

@@ -103,7 +103,7 @@ same_native Held reply one other p system function word text = refl
 same_native Retry reply one other p system function word text = refl
 
 -- no call changes the residents
-residents_stay : (call : Taken) (p : ℕ) (system : System) → (served_to_all call p system).system.residents ≡ system.residents
+pub residents_stay : (call : Taken) (p : ℕ) (system : System) → (served_to_all call p system).system.residents ≡ system.residents
 unfolding served_to_all reserving releasing
 residents_stay call p system =
     let f = call.function in

@@ -3,6 +3,7 @@ use Rattle.std.proofs.Common.{◌≡◌, ◌≢◌, ◌∙◌, ℕ, ◌<◌, ◌
 use Rattle.std.specs.Prelude.{nat_lt}
 use Rattle.std.proofs.lemmas.Bool.{and_parts}
 use Rattle.std.proofs.lemmas.Bool.Decides.{nat_tests}
+use Rattle.mpm_base.specs.Lists.{in_width}
 use Rattle.mpm_base.specs.Calls.{Taken, Answer}
 use Rattle.mpm_base.specs.declared.call.Outcome.{Outcome}
 use Rattle.mpm_base.specs.declared.call.Outcome.TheVariants.{Done, Held, Retry, Ended}
@@ -22,7 +23,7 @@ use Rattle.mpm_kernel.proofs.GivingLaws.{sound_gave, procs_gave, completed_gave}
 use Rattle.mpm_machine.specs.declared.system.System.{System}
 use Rattle.mpm_machine.specs.State.{IsWhole}
 use Rattle.mpm_machine.specs.Calling.{asking, calling, served_by}
-use Rattle.mpm_machine.specs.Sending.{in_room, chained, framed, console_sent, may_pass, passed, passed_after, sent, may_send, sending, chaining, is_command, let_in}
+use Rattle.mpm_machine.specs.Sending.{chained, framed, console_sent, may_pass, passed, passed_after, sent, may_send, sending, chaining, is_command, let_in}
 use Rattle.mpm_machine.proofs.WholeLaws.{StaysWhole, StaysServed, stays_as_served, Keeps, keeps_asked, whole_calling, whole_kernel}
 
 -- a process keeps another call
@@ -110,7 +111,7 @@ unfolding sending
 whole_sending interprets p system w h ready is =
     let call = call_of system.kernel.dispatcher.procs p in
     either (λ (c : Called). StaysServed p system (served_by c system).system) (may_send interprets call system.kernel) _ _
-    (λ _. whole_sent SEND_CLI_COMMAND (in_room 130 call.bytes) p system w h ready (sym is) (λ e. absurd (omega (arith, e))))
+    (λ _. whole_sent SEND_CLI_COMMAND (in_width 130 call.bytes) p system w h ready (sym is) (λ e. absurd (omega (arith, e))))
     (λ _. stays_as_served p system system (record { whole = w; lives = h; call = refl }))
 
 pub whole_chaining : (interprets : Bool) (p : ℕ) (system : System) → IsWhole system → Lives system.kernel.dispatcher.procs p → IsReady system.kernel.dispatcher p

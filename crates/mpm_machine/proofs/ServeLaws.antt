@@ -288,7 +288,7 @@ some_served : (served : Option Served) → is_some served ≡ true → (q : ℕ)
 some_served None some = absurd (false≢true some)
 some_served (Some call) some = (call.p, refl)
 
-somebody : (disk : DiskService) → is_some disk.served ≡ true → (q : ℕ) × (served_process disk ≡ Some q)
+pub somebody : (disk : DiskService) → is_some disk.served ≡ true → (q : ℕ) × (served_process disk ≡ Some q)
 unfolding served_process
 somebody disk some = some_served disk.served some
 

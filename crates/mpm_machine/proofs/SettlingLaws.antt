@@ -1,5 +1,5 @@
 -- The end of a run: what was written and what the images stand for, where it came through and where it stopped.
-use Rattle.std.proofs.Common.{◌≡◌, ◌∙◌, ℕ, suc, ◌+◌, ◌<◌, ◌≤◌, Bool, true, false, List, [], ◌∷◌, ◌++◌, Option, Some, None, Result, Ok, Err, inl, inr, refl, sym, ap, subst, arith}
+use Rattle.std.proofs.Common.{◌≡◌, ◌∙◌, ℕ, suc, ◌+◌, ◌<◌, Bool, List, [], ◌∷◌, ◌++◌, Option, Some, None, Result, Ok, Err, inl, inr, refl, sym, ap, subst, arith}
 use Rattle.std.proofs.Math.Path.{fun_ext}
 use Rattle.std.specs.Prelude.{OnOk, IfErr, is_some, option_map, unwrap_or}
 use Rattle.mpm_base.proofs.CountLaws.{count_cons}
@@ -13,7 +13,7 @@ use Rattle.mpm_render.specs.Outputs.{Output, rendered, closed}
 use Rattle.mpm_render.specs.Shown.{Kept, Shows, EndsBetween}
 use Rattle.mpm_render.proofs.Grows.{begins_refl, begins_more, widened}
 use Rattle.mpm_output.specs.Outside.{Outside, seen}
-use Rattle.mpm_output.specs.Writing.{Wrote, Stopped}
+use Rattle.mpm_output.specs.Writing.{Wrote}
 use Rattle.mpm_output.proofs.WritingLaws.{rendered_onward, wrote_nothing}
 use Rattle.mpm_service.specs.Disk.{DiskService, no_service, served_process}
 use Rattle.mpm_service.specs.declared.service.Served.{Served}
@@ -25,7 +25,7 @@ use Rattle.mpm_machine.specs.declared.system.System.{System}
 use Rattle.mpm_machine.specs.declared.machine.StepFault.{StepFault}
 use Rattle.mpm_machine.specs.declared.machine.StepFault.TheVariants.{DiskFault, WriteFault}
 use Rattle.mpm_machine.specs.State.{State, silent}
-use Rattle.mpm_machine.specs.Files.{Files, Between, Within, StandsBetween, StandsServed, StandsForFiles, filing_in}
+use Rattle.mpm_machine.specs.Files.{Files, Between, Within, StandsServed, StandsForFiles, filing_in}
 use Rattle.mpm_machine.specs.Faults.{Counts, HaveCause, EndsBy, OnDiskFault}
 use Rattle.mpm_machine.specs.Mounting.{HasNoDrive, KeepsMounted}
 use Rattle.mpm_machine.specs.Failing.{FailsWithin, HaveImages, HaveImagesOf}
@@ -74,6 +74,11 @@ pub carried_shows : (s : State) (o m : Outside) (old new : System) (kept : Filed
 unfolding carried
 carried_shows s o m old new kept disks first same has shows =
     subst (λ (system : System). Shows m.kept m.written ((at_end s.files system).change.emitted ++ s.outputs) first) same (has.wrote.shown s.outputs first shows)
+
+pub carried_system : (s : State) (o m : Outside) (old new : System) (kept : Filed) (disks : Option Disks) → old ≡ s.system → HasCarried s.files o m old new kept disks
+    → new ≡ (carried s).system
+unfolding carried
+carried_system s o m old new kept disks same has = has.system ∙ ap (λ (system : System). (at_end s.files system).change.system) same
 
 carried_stand : (s : State) (o m : Outside) (old new : System) (kept : Filed) (disks now : Option Disks) → old ≡ s.system
     → HasCarried s.files o m old new kept disks → Told SameDisks disks now → StandsServed new.kernel.disk.served kept now (carried s).files
@@ -156,24 +161,25 @@ on_fault DiskFault P Q so p = so p
 
 -- so it is whatever is on the drives
 
-pub ok_closes : {A E : Type 0} (r : Result A E) (o m : Outside) (written : Option (List ℕ)) (old : System) → WritesEnd o m old
+pub ok_closes : {A E : Type 0} (r : Result A E) (o m : Outside) (written : Option (List ℕ)) (old new : System) → WritesEnd o m old new
     → ((outputs : List Output) (first : Option (List ℕ)) → Shows m.kept m.written outputs first → OnOk r (written ≡ appended first (closed m.kept.trace outputs)))
-    → OnOk r (ClosesEnd o written old)
-ok_closes (Err e) o m written old end closes = tt
-ok_closes (Ok x) o m written old end closes = record {
+    → OnOk r (ClosesEnd o written old new)
+ok_closes (Err e) o m written old new end closes = tt
+ok_closes (Ok x) o m written old new end closes = record {
   change = end.change;
   is = end.is;
+  system = end.system;
   closes = λ said first shows.
       subst (λ (t : Bool). written ≡ appended first (closed t (end.change.emitted ++ said))) end.wrote.trace
       (closes (end.change.emitted ++ said) first (end.wrote.shown said first shows));
 }
 
-pub err_closes : {A : Type 0} (r : Result A StepFault) (o m n : Outside) (old : System) → WritesEnd o m old
+pub err_closes : {A : Type 0} (r : Result A StepFault) (o m n : Outside) (old new : System) → WritesEnd o m old new
     → ((outputs : List Output) (first : Option (List ℕ)) → Shows m.kept m.written outputs first
     → IfErr r (λ fault. EndsBy fault n.written first (rendered m.kept.trace outputs) (closed m.kept.trace outputs)))
-    → IfErr r (λ fault. OnDiskFault fault (n ≡ m)) → IfErr r (λ fault. StopsSettling fault o n old)
-err_closes (Ok x) o m n old end ends same = tt
-err_closes (Err WriteFault) o m n old end ends same = record {
+    → IfErr r (λ fault. OnDiskFault fault (n ≡ m)) → IfErr r (λ fault. StopsSettling fault o n old new)
+err_closes (Ok x) o m n old new end ends same = tt
+err_closes (Err WriteFault) o m n old new end ends same = record {
   change = end.change;
   is = end.is;
   stops = λ said first shows.
@@ -181,16 +187,16 @@ err_closes (Err WriteFault) o m n old end ends same = record {
       subst (λ (t : Bool). EndsBetween n.written first (rendered t said) (closed t all)) end.wrote.trace
       (ends_from n.written first m.kept.trace end.change.emitted said (closed m.kept.trace all) (ends all first (end.wrote.shown said first shows)));
 }
-err_closes (Err DiskFault) o m n old end ends same =
-    inr (record { change = end.change; is = end.is; wrote = subst (λ (seen : Outside). Wrote o seen end.change.emitted) (sym same) end.wrote })
+err_closes (Err DiskFault) o m n old new end ends same =
+    inr (record { change = end.change; is = end.is; system = end.system; wrote = subst (λ (seen : Outside). Wrote o seen end.change.emitted) (sym same) end.wrote })
 
-pub stops_settling : (fault : StepFault) (o m : Outside) (old : System) → StopsEnd fault o m old → StopsSettling fault o m old
-stops_settling WriteFault o m old stops = record {
+pub stops_settling : (fault : StepFault) (o m : Outside) (old new : System) → StopsEnd fault o m old → StopsSettling fault o m old new
+stops_settling WriteFault o m old new stops = record {
   change = stops.change;
   is = stops.is;
   stops = λ said first shows. ends_closed m.written first o.kept.trace said (stops.change.emitted ++ said) (stops.stops.part said first shows);
 }
-stops_settling DiskFault o m old same = inl same
+stops_settling DiskFault o m old new same = inl same
 
 -- what is left of the drives
 
@@ -252,13 +258,7 @@ pub nobody_yet : (disk : DiskService) (turn_steps : ℕ) → disk ≡ no_service
 unfolding no_service
 nobody_yet disk turn_steps is = ap (λ (d : DiskService). d.served) is
 
--- where no call is in service, what stands between two calls stands for files
-pub stands_idle : (disk : DiskService) (kept : Filed) (disks : Option Disks) (filing : Filing) → disk.served ≡ None → StandsBetween kept disks filing
-    → StandsForFiles disk kept disks (Between filing)
-stands_idle disk kept disks filing none stands =
-    record { stands = subst (λ (o : Option Served). StandsServed o kept disks (Between filing)) (sym none) stands }
-
--- and nothing is carried
+-- where no call is in service nothing is carried
 
 nobody : (served : Option Served) → option_map (λ (call : Served). call.p) served ≡ None → served ≡ None
 nobody None none = refl
@@ -283,9 +283,9 @@ nothing_carried (Between filing) o system kept disks none stands = record { syst
 nothing_carried (Within s) o system kept disks none stands =
     absurd (none_within system.kernel.disk.served kept disks s (nobody_served system none) stands.stands)
 
-pub nothing_ends : (o : Outside) (system : System) → served_process system.kernel.disk ≡ None → WritesEnd o o system
+pub nothing_ends : (o : Outside) (system : System) → served_process system.kernel.disk ≡ None → WritesEnd o o system system
 nothing_ends o system none =
-    subst (λ (call : Option ℕ). WritesEndOf call o o system) (sym none) (record { change = silent system; is = refl; wrote = wrote_nothing o })
+    subst (λ (call : Option ℕ). WritesEndOf call o o system system) (sym none) (record { change = silent system; is = refl; system = refl; wrote = wrote_nothing o })
 
 -- by the result of what came last
 

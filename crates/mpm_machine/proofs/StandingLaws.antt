@@ -56,7 +56,7 @@ step_shows old disks fault o n s first stops stands =
     shows_here fault o n (stepped old.system s.files).change.emitted s first (stops s.files stands.files) stands.system.shown
 
 -- files are within a call as the disk serves one
-within_by : (served : Option Served) (kept : Kept) (disks : Option Disks) (files : Files) → StandsServed served kept disks files → AreWithin served files
+pub within_by : (served : Option Served) (kept : Kept) (disks : Option Disks) (files : Files) → StandsServed served kept disks files → AreWithin served files
 within_by None kept disks (Between filing) stands = tt
 within_by None kept disks (Within s) stands = absurd stands
 within_by (Some call) kept disks (Between filing) stands = absurd stands

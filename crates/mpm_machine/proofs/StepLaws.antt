@@ -1,5 +1,5 @@
 -- What a step begins with in which no file call is made.
-use Rattle.std.proofs.Common.{◌≡◌, ◌∙◌, ℕ, ◌+◌, ◌≤◌, Bool, true, false, List, [], Option, Some, None, Result, Ok, Err, is_some, length, refl, sym, ap, subst, arith}
+use Rattle.std.proofs.Common.{◌≡◌, ◌∙◌, ℕ, ◌+◌, ◌≤◌, Bool, false, List, [], Option, Some, None, Result, Ok, Err, is_some, length, refl, sym, ap, subst, arith}
 use Rattle.std.proofs.lemmas.List.{append-nil}
 use Rattle.mpm_script.specs.declared.event.Event.{Event}
 use Rattle.mpm_machine.specs.declared.system.System.{System}
@@ -10,8 +10,7 @@ use Rattle.mpm_port.specs.Disks.{Disks}
 use Rattle.mpm_render.specs.Outputs.{Output}
 use Rattle.mpm_bdos.specs.Direct.{Directly}
 use Rattle.mpm_bdos.specs.Serving.{Kept}
-use Rattle.mpm_machine.specs.declared.machine.StepFault.{StepFault}
-use Rattle.mpm_machine.specs.declared.machine.StepFault.TheVariants.{DiskFault, WriteFault}
+use Rattle.mpm_machine.specs.declared.machine.StepFault.TheVariants.{WriteFault}
 use Rattle.mpm_machine.specs.State.{Change, HasRoomForAll}
 use Rattle.mpm_machine.specs.Faults.{Counts, HaveCause, itself}
 use Rattle.mpm_machine.specs.Files.{Files, StandsWorked}

@@ -1,6 +1,6 @@
 -- A step, by what its file calls come to: the system stays whole, nobody is left to be answered, and nobody's end is due; and what an
 -- instruction and another call do in it.
-use Rattle.std.proofs.Common.{◌≡◌, ◌∙◌, ℕ, Bool, false, not, ◌&&◌, Option, Some, None, if◌then◌else◌, refl, ap}
+use Rattle.std.proofs.Common.{◌≡◌, ◌∙◌, ℕ, Bool, false, not, ◌&&◌, Option, Some, None, if◌then◌else◌, ap}
 use Rattle.std.specs.Prelude.{is_some}
 use Rattle.mpm_procs.specs.Table.{process_in}
 use Rattle.mpm_machine.specs.declared.system.System.{System}

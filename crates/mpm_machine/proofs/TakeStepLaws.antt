@@ -1,6 +1,6 @@
 -- A step as the code makes it: the disk's work, what it begins with, and the rest of it. Which of them works on a drive, and for which
 -- drives the images stand where one stopped.
-use Rattle.std.proofs.Common.{◌≡◌, ◌∙◌, ℕ, ◌+◌, ◌*◌, ◌<◌, ◌≤◌, ◌==◌, ◌&&◌, ◌||◌, Bool, true, false, List, [], Option, Some, None, Result, Ok, Err, OnOk, OnErr, IfErr, refl, sym, ap, subst, arith}
+use Rattle.std.proofs.Common.{◌≡◌, ◌∙◌, ℕ, ◌+◌, ◌*◌, ◌<◌, ◌≤◌, ◌==◌, ◌&&◌, ◌||◌, Bool, true, false, List, Option, Some, None, Result, Ok, Err, refl, sym, ap, subst, arith}
 use Rattle.std.specs.Prelude.{is_some, is_none}
 use Rattle.std.proofs.lemmas.Bool.{and_parts, false≢true}
 use Rattle.std.proofs.lemmas.Bool.Decides.{nat_tests}
@@ -9,11 +9,9 @@ use Rattle.mpm_port.specs.Causes.{Rose, HasCause}
 use Rattle.mpm_procs.specs.Table.{call_of}
 use Rattle.mpm_service.specs.Disk.{turn_answer, HasBegun}
 use Rattle.mpm_service.specs.declared.service.Served.{Served}
-use Rattle.mpm_mount.specs.Drives.{Drive}
 use Rattle.mpm_mount.specs.Directories.{Directory}
 use Rattle.mpm_kernel.specs.Kernel.{Kernel}
 use Rattle.mpm_bdos.specs.declared.functions.FileFunction.{FileFunction}
-use Rattle.mpm_bdos.specs.Filing.{Filing, Situation}
 use Rattle.mpm_bdos.specs.Functions.{function_of}
 use Rattle.mpm_bdos.specs.Serving.{Kept, directory_at}
 use Rattle.mpm_bdos.specs.Turns.{FitsDrives, has_work}
@@ -24,7 +22,6 @@ use Rattle.mpm_machine.specs.State.{IsWhole, silent}
 use Rattle.mpm_machine.specs.Faults.{Counts, HasFailed, HaveCause, itself, OnDiskFault, OnWriteFault}
 use Rattle.mpm_machine.specs.Files.{Files, Between, Within, StandsServed, StandsForFiles, StandsWorked, drives_in}
 use Rattle.mpm_machine.specs.FileCalls.{file_caller, call_made}
-use Rattle.mpm_machine.specs.DiskStep.{is_done_at_once}
 use Rattle.mpm_machine.specs.Stepping.{is_instruction, nothing_told, told_first, before_disk, files_begun, telling_then, files_rest, rest_of}
 use Rattle.mpm_machine.specs.Holding.{AreFiled, OwnsService, HoldsDrives}
 use Rattle.mpm_machine.specs.Mounting.{HasNoDrive}

@@ -1,7 +1,8 @@
 -- What stands for files along the disk's step: a turn's work, the step of the disk, the answer of a call that is over, what is paid, and
 -- the entry of the next call.
-use Rattle.std.proofs.Common.{◌≡◌, ◌∙◌, ℕ, suc, ◌+◌, ◌-◌, ◌<◌, ◌==◌, Bool, true, false, if◌then◌else◌, List, Option, Some, None, option_map, refl, sym, ap, subst, arith}
+use Rattle.std.proofs.Common.{◌≡◌, ◌∙◌, ℕ, suc, ◌+◌, ◌-◌, ◌<◌, ◌==◌, Bool, true, false, if◌then◌else◌, List, Option, Some, None, option_map, refl, sym, ap, subst, arith, [], ◌∷◌}
 use Rattle.std.proofs.lemmas.Bool.{false≢true}
+use Rattle.std.specs.List.{range_with_len}
 use Rattle.std.proofs.lemmas.Bool.Decides.{nat_tests}
 use Rattle.mpm_port.specs.Disks.{Disks}
 use Rattle.mpm_procs.specs.Table.{call_of}
@@ -16,10 +17,11 @@ use Rattle.mpm_bdos.specs.declared.functions.FileFunction.{FileFunction}
 use Rattle.mpm_bdos.specs.Filing.{Filing, Situation}
 use Rattle.mpm_bdos.specs.Functions.{function_of}
 use Rattle.mpm_bdos.specs.Jobs.{call_turns}
+use Rattle.mpm_bdos.specs.Outcomes.{left_by, without_search}
 use Rattle.mpm_bdos.specs.Serving.{Kept, StandEach, Serves, filing_of}
 use Rattle.mpm_bdos.specs.Turns.{told_images}
 use Rattle.mpm_machine.specs.declared.system.System.{System}
-use Rattle.mpm_machine.specs.Files.{Files, Between, Within, one_more, StandsServed, StandsForFiles, StandsWorkedBy, StandsWorked, given_back, all_left}
+use Rattle.mpm_machine.specs.Files.{Files, Between, Within, one_more, StandsBetween, StandsServed, StandsForFiles, StandsWorkedBy, StandsWorked, given_back, all_left, left_each, owes}
 use Rattle.mpm_machine.specs.Failing.{is_work}
 use Rattle.mpm_machine.specs.FileCalls.{situation_of}
 use Rattle.mpm_machine.specs.DiskStep.{all_paid, step_passed, within_call, entered_by, entering_call}
@@ -74,7 +76,7 @@ pub nothing_to_work : (disk : DiskService) (kept : Kept) (disks : Option Disks) 
 unfolding turn_answer
 nothing_to_work disk kept disks files none s = record { stands = unworked disk.turn_steps disk.served (first_of disk.waiting) kept disks files none s.stands }
 
-none_works : (first : Option ℕ) (turn_steps : ℕ) → is_work (answer_by turn_steps None first) ≡ true → ⊥
+pub none_works : (first : Option ℕ) (turn_steps : ℕ) → is_work (answer_by turn_steps None first) ≡ true → ⊥
 none_works None turn_steps some = false≢true some
 none_works (Some p) turn_steps some = false≢true some
 
@@ -215,6 +217,28 @@ unfolding all_paid
 paid_stands system kept kept' disks files stands none rest left = record {
   stands = subst (λ (o : Option Served). StandsServed o kept' disks (given_back system.owed files)) (sym none)
       (paid_by system.owed kept kept' disks files (subst (λ (o : Option Served). StandsServed o kept disks files) none stands.stands) rest left);
+}
+
+-- who gives back leaves the drives as they are
+
+drives_if : (gone : Bool) (p : ℕ) (filing : Filing) → (if gone then without_search (left_by filing p) p else filing).drives ≡ filing.drives
+unfolding left_by without_search
+drives_if true p filing = refl
+drives_if false p filing = refl
+
+drives_each : (gone : ℕ → Bool) (ps : List ℕ) (filing : Filing) → (left_each gone ps filing).drives ≡ filing.drives
+unfolding left_each
+drives_each gone [] filing = refl
+drives_each gone (p ∷ ps) filing = drives_each gone ps _ ∙ drives_if (gone p) p filing
+
+pub drives_left : (owed : List Bool) (filing : Filing) → (all_left owed filing).drives ≡ filing.drives
+unfolding all_left
+drives_left owed filing = drives_each (owes owed) (range_with_len 0 32) filing
+
+-- where no call is in service, what stands between two calls stands for files
+pub stands_idle : (disk : DiskService) (kept : Kept) (disks : Option Disks) (filing : Filing) → disk.served ≡ None → StandsBetween kept disks filing → StandsForFiles disk kept disks (Between filing)
+stands_idle disk kept disks filing none stands = record {
+  stands = subst (λ (served : Option Served). StandsServed served kept disks (Between filing)) (sym none) stands;
 }
 
 none_between : (served : Option Served) (kept : Kept) (disks : Option Disks) (filing : Filing) → StandsServed served kept disks (Between filing) → served ≡ None

@@ -18,12 +18,19 @@ use Rattle.mpm_kernel.specs.Consoling.{given}
 use Rattle.mpm_kernel.specs.Waiting.{completion_reply}
 use Rattle.mpm_cli.specs.declared.act.Act.{Act}
 use Rattle.mpm_cli.specs.declared.act.Act.TheVariants.{Ask, Place, Patch, Begin, Give}
-use Rattle.mpm_residents.specs.Natives.{native_call}
+use Rattle.mpm_residents.specs.Natives.{native_call, native_act}
 use Rattle.mpm_residents.specs.declared.native.Native.{Native}
 use Rattle.mpm_machine.specs.declared.system.System.{System}
+use Rattle.mpm_machine.specs.State.{Change}
+use Rattle.mpm_machine.specs.Calling.{asking}
 use Rattle.mpm_machine.specs.Serving.{served_to_all}
 use Rattle.mpm_machine.specs.Loading.{moved, may_move, is_console, may_live, is_slot, begun_for, begins, beginning, handed_over, handed_value}
-use Rattle.mpm_machine.specs.Contained.{DiffersInBytes, ServedAlike}
+use Rattle.mpm_machine.specs.Residing.{native_step, resided}
+use Rattle.mpm_machine.specs.Finishing.{all_answered}
+use Rattle.mpm_machine.specs.Step.{acted_by, acted, running_segment, instruction_by, at_instruction, begun_by, instruction_unless, then_also, counted}
+use Rattle.mpm_machine.specs.FileCalls.{file_caller}
+use Rattle.mpm_machine.specs.Stepping.{Telling, begun_with, begun_as, is_instruction, rest_of, step_with}
+use Rattle.mpm_machine.specs.Contained.{DiffersInBytes, ServedAlike, Resides, ResidedByValue}
 use Rattle.mpm_machine.proofs.ServedLaws.{to_all_alike, allocated_alike}
 
 pub resided_by_value : (native : Native) (p : ℕ) (one other : System) → DiffersInBytes one other
@@ -123,3 +130,42 @@ handed_alike (Give console) bytes p one other d = record {
   residents = d.residents;
   segments = d.segments;
 }
+
+-- a step in which a resident acts is that of its row
+
+resident_acts : (system : System) (p : ℕ) (native : Native) → Resides system p native
+    → acted (counted system) ≡ native_step (native_act native) (native_call native) p (asking p (native_call native) (counted system))
+unfolding acted
+resident_acts system p native i =
+    let here = counted system in
+    ap (λ running. acted_by running (running_segment running here) here) i.runs
+    ∙ ap (λ home. acted_by (Some p) home here) i.home
+    ∙ ap (λ found. resided found p here) i.acts
+
+no_instruction_of : (system : System) (p : ℕ) (native : Native) → Resides system p native → at_instruction (counted system) ≡ false
+unfolding at_instruction
+no_instruction_of system p native i =
+    let here = counted system in
+    ap (λ running. instruction_by running (running_segment running here) here) i.runs ∙ ap (λ home. instruction_by (Some p) home here) i.home
+
+step_resides : (telling : Telling) (system : System) (p : ℕ) (native : Native) → file_caller system ≡ None → Resides system p native
+    → step_with telling system
+    ≡ rest_of false telling (then_also (native_step (native_act native) (native_call native) p (asking p (native_call native) (counted system))) all_answered)
+unfolding step_with begun_as
+step_resides telling system p native none i =
+    let here = counted system in
+    ap (λ caller. rest_of (is_instruction caller system) telling (then_also (begun_with caller telling.at_gate system) all_answered)) none
+    ∙ ap (λ event. rest_of (instruction_unless event here) telling (then_also (begun_by event here) all_answered)) i.quiet
+    ∙ ap (λ b. rest_of b telling (then_also (acted here) all_answered)) (no_instruction_of system p native i)
+    ∙ ap (λ change. rest_of false telling (then_also change all_answered)) (resident_acts system p native i)
+
+pub resided_with : (telling : Telling) (p : ℕ) (native : Native) (system : System) → Resides system p native → file_caller system ≡ None
+    → ResidedByValue telling p native system (step_with telling system).system
+resided_with telling p native system i none =
+    let asks = asking p (native_call native) (counted system) in
+    record {
+      call = λ other d. resided_by_value native p asks other d;
+      hands = λ other d. handed_by_value (native_act native) asks other d;
+      leaves = λ other d. handed_alike (native_act native) (native_call native).bytes p asks other d;
+      is = ap (λ (change : Change). change.system) (step_resides telling system p native none i);
+    }

@@ -1,5 +1,5 @@
 -- A whole system stays whole through what a process does: its instruction, its call, its end.
-use Rattle.std.proofs.Common.{◌≡◌, ◌≢◌, ◌∙◌, ◌<◌, ℕ, ◌&&◌, ◌||◌, Bool, true, false, not, List, [], ◌∷◌, Option, Some, None, ◌==◌, if◌then◌else◌, refl, sym, ap, subst, IsNone, length, arith}
+use Rattle.std.proofs.Common.{◌≡◌, ◌≢◌, ◌∙◌, ◌<◌, ℕ, ◌&&◌, ◌||◌, Bool, true, false, not, List, [], Option, Some, None, ◌==◌, if◌then◌else◌, refl, sym, ap, subst, IsNone, length, arith}
 use Rattle.std.proofs.lemmas.Bool.{false≢true, or_right, eq-eqb}
 use Rattle.std.proofs.lemmas.Bool.Decides.{nat_tests}
 use Rattle.std.proofs.lemmas.List.{set-get_or}
@@ -82,6 +82,7 @@ whole_kernel system kernel w s live homes = record {
   live = live;
   script = w.script;
   settled = λ off. nobody_more system.kernel kernel homes.aborts (w.settled off);
+  memory = w.memory;
   homes = λ p seg h home. let there = homes.all p seg h home in w.homes there.who seg there.lives there.home;
   lived = λ p seg h home. let there = homes.all p seg h home in w.lived there.who seg there.lives there.home;
 }
@@ -94,20 +95,21 @@ whole_memory system memory w keeps = record {
   live = w.live;
   script = w.script;
   settled = w.settled;
+  memory = keeps.memory w.memory;
   homes = λ p seg h home. keeps.all seg (w.homes p seg h home);
   lived = λ p seg h home. keeps.lived seg (w.homes p seg h home) (w.lived p seg h home);
 }
 
 -- more steps are counted
 pub whole_steps : (system : System) (steps : ℕ) → IsWhole system → IsWhole (record system { steps = steps })
-whole_steps system steps w = record { sound = w.sound; live = w.live; homes = w.homes; lived = w.lived; script = w.script; settled = w.settled }
+whole_steps system steps w = record { sound = w.sound; live = w.live; homes = w.homes; lived = w.lived; memory = w.memory; script = w.script; settled = w.settled }
 
 -- other records are kept
 pub whole_records : (system : System) (records : List Completion) → IsWhole system → IsWhole (record system { records = records })
-whole_records system records w = record { sound = w.sound; live = w.live; homes = w.homes; lived = w.lived; script = w.script; settled = w.settled }
+whole_records system records w = record { sound = w.sound; live = w.live; homes = w.homes; lived = w.lived; memory = w.memory; script = w.script; settled = w.settled }
 
 pub whole_owed : (system : System) (owed : List Bool) → IsWhole system → IsWhole (record system { owed = owed })
-whole_owed system owed w = record { sound = w.sound; live = w.live; homes = w.homes; lived = w.lived; script = w.script; settled = w.settled }
+whole_owed system owed w = record { sound = w.sound; live = w.live; homes = w.homes; lived = w.lived; memory = w.memory; script = w.script; settled = w.settled }
 
 pub whole_written : (answered written : System) → IsWhole answered → written ≡ (records_out answered).system → IsWhole written
 whole_written answered written w is = subst IsWhole (sym is) (whole_records answered [] w)
@@ -195,6 +197,7 @@ whole_ended p system w h =
       live = whole.live;
       script = w.script;
       settled = whole.settled;
+      memory = leaves.memory w.memory;
       homes = λ q seg living there. leaves.all seg (whole.homes q seg living there);
       lived = λ q seg living there.
           leaves.lived seg (whole.homes q seg living there)
@@ -377,6 +380,7 @@ whole_resident waits p system w = record {
   live = w.live;
   homes = w.homes;
   lived = w.lived;
+  memory = w.memory;
   script = w.script;
   settled = λ off. w.settled (or_neither system.abort_deferred waits off);
 }
@@ -391,6 +395,7 @@ whole_abort_deferred p system w h =
       sound = sound_process system.kernel p process w.sound h refl refl refl refl;
       live = live_kept system.kernel kernel refl (λ q living. lives_changed system.kernel.dispatcher.procs p q process ∙ living) w.live;
       script = w.script;
+      memory = w.memory;
       settled = λ off. absurd (false≢true (sym off));
       homes = λ q seg living home. let lived = there q seg living home in w.homes lived.who seg lived.lives lived.home;
       lived = λ q seg living home. let lived = there q seg living home in w.lived lived.who seg lived.lives lived.home;
@@ -497,4 +502,4 @@ keeps_asked p call system w h =
     }
 
 pub whole_residents : (system : System) (residents : List Native) → IsWhole system → IsWhole (record system { residents = residents })
-whole_residents system residents w = record { sound = w.sound; live = w.live; homes = w.homes; lived = w.lived; script = w.script; settled = w.settled }
+whole_residents system residents w = record { sound = w.sound; live = w.live; homes = w.homes; lived = w.lived; memory = w.memory; script = w.script; settled = w.settled }

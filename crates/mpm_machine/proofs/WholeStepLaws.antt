@@ -31,7 +31,7 @@ use Rattle.mpm_machine.specs.Step.{counted, lets_in, coming, unhalted, key_abort
 use Rattle.mpm_machine.proofs.InterruptLaws.{due_may}
 use Rattle.mpm_interrupts.proofs.InterruptLaws.{script_after_due}
 use Rattle.mpm_machine.proofs.FinishLaws.{first_finished, left_completed}
-use Rattle.mpm_machine.proofs.WholeLaws.{whole_kernel, whole_steps, whole_records, whole_regs, whole_ended, aborted_by, aborted_is, ends_at_once, abort_deferred_is, whole_abort_deferred, whole_resident, whole_residents, whole_fulfilling}
+use Rattle.mpm_machine.proofs.WholeLaws.{whole_kernel, whole_steps, whole_regs, whole_ended, aborted_by, aborted_is, ends_at_once, abort_deferred_is, whole_abort_deferred, whole_resident, whole_residents, whole_fulfilling}
 use Rattle.mpm_machine.proofs.SendingLaws.{LetsIn, lets_in as lets_command_in, lives_let_in}
 use Rattle.mpm_machine.proofs.ActedLaws.{whole_acted}
 
@@ -45,7 +45,7 @@ whole_unhalted (Some p) system w e =
 
 whole_interrupts : (system : System) (interrupts : Interrupts) → IsWhole system → All IsTimed interrupts.script
     → IsWhole (record system { interrupts = interrupts })
-whole_interrupts system interrupts w script = record { sound = w.sound; live = w.live; homes = w.homes; lived = w.lived; script = script; settled = w.settled }
+whole_interrupts system interrupts w script = record { sound = w.sound; live = w.live; homes = w.homes; lived = w.lived; memory = w.memory; script = script; settled = w.settled }
 
 pub whole_due : (system : System) (interrupts : Interrupts) → IsWhole system → interrupts ≡ due_taken system.steps system.interrupts
     → IsWhole (record system { interrupts = interrupts })
@@ -242,6 +242,7 @@ whole_noted system w = record {
   live = w.live;
   homes = w.homes;
   lived = w.lived;
+  memory = w.memory;
   script = w.script;
   settled = λ off. elim (either_off system.abort_deferred _ off) [
     | inl was ↦ w.settled was

@@ -1,8 +1,7 @@
 -- What a step begins with in which a process makes a file call: the call is made, it is done at once or waits, and the held calls that
 -- this completed are answered.
-use Rattle.std.proofs.Common.{◌≡◌, ◌∙◌, ℕ, ◌+◌, ◌*◌, ◌≤◌, ◌&&◌, Bool, true, false, List, [], Option, Some, None, IfSome, refl, sym, ap, subst, arith}
+use Rattle.std.proofs.Common.{◌≡◌, ◌∙◌, ℕ, ◌+◌, ◌*◌, ◌≤◌, ◌&&◌, true, false, List, [], Option, Some, None, IfSome, refl, sym, ap, subst, arith}
 use Rattle.std.specs.Prelude.{is_some}
-use Rattle.std.proofs.lemmas.Bool.{false≢true}
 use Rattle.mpm_port.specs.Disks.{Disks}
 use Rattle.mpm_procs.specs.Table.{Lives, process_in, call_of}
 use Rattle.mpm_service.specs.declared.service.Served.{Served}
@@ -37,6 +36,7 @@ use Rattle.mpm_machine.proofs.DiskStepLaws.{whole_file_called}
 use Rattle.mpm_machine.proofs.FiledLaws.{caller_lives, caller_ready}
 use Rattle.mpm_machine.proofs.KeepingLaws.{ServesSame, same_then}
 use Rattle.mpm_machine.proofs.TurnLaws.{worked_on}
+use Rattle.mpm_machine.proofs.AtGateLaws.{no_disk_fault}
 use Rattle.mpm_machine.proofs.BegunLaws.{made_serves, called_serves, filed_called, keeps_answered}
 
 -- who makes it lives, and is ready
@@ -183,10 +183,6 @@ gate_still WriteFault p old made kept disks files caller is stands =
     (worked_on made.kernel.disk old.kernel.disk kept disks (files_called p made files) (sym serves.served) (sym serves.steps) stands)
 
 -- where a call is in service, no drive fails, and none is called
-
-no_disk_fault : (fault : StepFault) (P : Type 0) → fault ≡ WriteFault → OnDiskFault fault P
-no_disk_fault WriteFault P is = tt
-no_disk_fault DiskFault P is = absurd (cc)
 
 pub gate_apart : (p : ℕ) (old made : System) → made ≡ call_made p old → is_some old.kernel.disk.served ≡ true → is_some made.kernel.disk.served ≡ true
 gate_apart p old made is some =

@@ -25,6 +25,7 @@ use Rattle.mpm_machine.specs.DiskStep.{owed_then, all_paid}
 use Rattle.mpm_machine.specs.Owing.{nobody_owes}
 use Rattle.mpm_machine.specs.Failing.{Working, is_work, working_turn, working_turn_of, works_in_turn, HaveImagesOf, FailsWithin}
 use Rattle.mpm_machine.proofs.FailingLaws.{turn_fails}
+use Rattle.mpm_machine.proofs.TurnLaws.{none_works}
 
 -- whether a call is in service, as it is asked
 
@@ -99,10 +100,6 @@ no_work_here disk answer is never = ap is_work (sym is) ∙ idle_answer answer n
 
 -- where a drive failed in it
 
-no_work : (first : Option ℕ) (turn_steps : ℕ) → is_work (answer_by turn_steps None first) ≡ true → ⊥
-no_work None turn_steps some = false≢true some
-no_work (Some p) turn_steps some = false≢true some
-
 pub its_working : (call : Served) (turn : Turn) (s : Situation) → is_work turn ≡ true → working_turn (Some call) turn s ≡ Some (record { call = s; ended = turns_ended call s; most = 1 })
 its_working call Idle s some = absurd (false≢true some)
 its_working call Passing s some = absurd (false≢true some)
@@ -121,11 +118,11 @@ failed_by turn_steps (Some call) first disks now old new s some stands stops ima
     let ended : stands.turns ≡ turns_ended call s = omega (arith, stands.left) in
     subst (λ (w : Option Working). HaveImagesOf (FailsWithin w) now new) (sym (its_working call (answer_by turn_steps (Some call) first) s some))
     (subst (λ (n : ℕ). HaveImagesOf (FailsWithin (Some (record { call = s; ended = n; most = 1 }))) now new) ended
-    (turn_fails disks now old new s stands.turns 1 stands.serves below (stops stands.turns stands.serves below) images labels))
+    (turn_fails disks now old new s stands.turns stands.serves below (stops stands.turns stands.serves below) images labels))
 
 never_between : (turn_steps : ℕ) (served : Option Served) (first : Option ℕ) (disks : Option Disks) (old : Kept) (filing : Filing) → is_work (answer_by turn_steps served first) ≡ true
     → StandsServed served old disks (Between filing) → ⊥
-never_between turn_steps None first disks old filing some stands = no_work first turn_steps some
+never_between turn_steps None first disks old filing some stands = none_works first turn_steps some
 never_between turn_steps (Some call) first disks old filing some stands = stands
 
 pub turn_failed : (disks now : Option Disks) (system : System) (old : Kept) (new : List (Option Directory)) (files : Files) → is_work (turn_answer system.kernel.disk) ≡ true
@@ -143,7 +140,7 @@ turn_failed disks now system old new (Within s) some stands stops images labels 
 -- it works in a turn exactly where its step has work
 
 works_by : (turn_steps : ℕ) (served : Option Served) (first : Option ℕ) → is_work (answer_by turn_steps served first) ≡ true → is_some served ≡ true
-works_by turn_steps None first some = absurd (no_work first turn_steps some)
+works_by turn_steps None first some = absurd (none_works first turn_steps some)
 works_by turn_steps (Some call) first some = refl
 
 pub has_served : (disk : DiskService) → is_work (turn_answer disk) ≡ true → is_some disk.served ≡ true

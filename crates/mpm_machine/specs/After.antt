@@ -8,6 +8,7 @@ use Rattle.mpm_output.specs.Outside.{Outside}
 use Rattle.mpm_output.specs.Writing.{Wrote, Stopped}
 use Rattle.mpm_bdos.specs.Direct.{Directly}
 use Rattle.mpm_bdos.specs.Serving.{Kept as Filed}
+use Rattle.mpm_residents.specs.declared.native.Native.{Native}
 use Rattle.mpm_machine.specs.declared.system.System.{System}
 use Rattle.mpm_machine.specs.declared.machine.StepFault.{StepFault}
 use Rattle.mpm_machine.specs.declared.machine.StepFault.TheVariants.{DiskFault, WriteFault}
@@ -20,7 +21,7 @@ use Rattle.mpm_machine.specs.FileCalls.{file_caller, call_made, situation_of, ou
 use Rattle.mpm_machine.specs.DiskStep.{process_over, file_called, call_over, call_entered, disk_served, told_of_call, turns_within}
 use Rattle.mpm_machine.specs.Stepping.{Telling, begun_as, is_instruction, rest_of, step_with, nothing_told, before_disk, files_begun, told_within, paid_after, entered_after, files_then, telling_then, files_rest, Stepped, stepped}
 use Rattle.mpm_machine.specs.Failing.{does_work}
-use Rattle.mpm_machine.specs.Contained.{IsContainedBy, Instructs, OnlyInstructed, Calls, DiffersInBytes, ServedByValue}
+use Rattle.mpm_machine.specs.Contained.{IsContainedBy, Instructs, OnlyInstructed, Calls, DiffersInBytes, ServedByValue, Resides, ResidedByValue}
 
 -- what a step that was made of a state leaves
 abbrev pub having : Stepped → List Output → State
@@ -54,6 +55,7 @@ pub record IsStep (old : System) (change : Change) : Type 0 where
   pub contained : IsContainedBy telling old change.system
   pub instruction : (p seg : ℕ) → Instructs old p seg → OnlyInstructed telling p old change.system
   pub calls : (p seg : ℕ) → Calls old p seg → file_caller old ≡ None → ServedByValue telling p seg old change.system
+  pub resides : (p : ℕ) (native : Native) → Resides old p native → file_caller old ≡ None → ResidedByValue telling p native old change.system
 
 -- a change behind another
 abbrev pub followed : Change → Change → Change
@@ -90,6 +92,7 @@ EntersByValue system =
 
 pub record IsMade (old : System) (change : Change) : Type 0 where
   pub step : IsStep old change
+  pub some : 0 < step.telling.turns
   pub at_gate : IsToldIn (file_caller old) step.telling.at_gate (made_in (file_caller old) old)
   pub at_disk : IsToldIn (process_over (begun_as step.telling.at_gate old).system) step.telling.at_disk (begun_as step.telling.at_gate old).system
   pub filed : IsFiledByValue (file_caller old) step.telling.at_gate (made_in (file_caller old) old)
@@ -134,9 +137,10 @@ pub record HasBegunTo (files : Files) (before behind : Outside) (old new : Syste
   pub wrote : Wrote before behind (before_disk old files).emitted
   pub stands : StandsWorked new.kernel.disk kept disks (files_begun old files)
 
--- the rest of a step was done, by what the call may tell that is over
+-- the rest of a step was done, by what the call may tell that is over; who enters service has turns
 pub record HasEndedStep (instruction : Bool) (before behind : Outside) (old new : System) : Type 0 where
   pub telling : Telling
+  pub some : 0 < telling.turns
   pub of_call : IsOfCall (process_over old) telling.at_disk old
   pub tells : IsToldIn (process_over old) telling.at_disk old
   pub system : new ≡ (rest_of instruction telling (silent old)).system
@@ -177,6 +181,7 @@ pub record HasBegunToStop (fault : StepFault) (before behind : Outside) (old : S
 -- the rest of a step did
 pub record HasEndedToStop (instruction : Bool) (before behind : Outside) (old : System) : Type 0 where
   pub telling : Telling
+  pub some : 0 < telling.turns
   pub of_call : IsOfCall (process_over old) telling.at_disk old
   pub tells : IsToldIn (process_over old) telling.at_disk old
   pub stops : Stopped before behind (rest_of instruction telling (silent old)).emitted
@@ -220,6 +225,7 @@ pub record HasStoppedServing (before behind : Outside) (old : System) : Type 0 w
 
 pub record HasServed (before behind : Outside) (old new : System) : Type 0 where
   pub telling : Telling
+  pub some : 0 < telling.turns
   pub of_call : IsOfCall (process_over old) telling.at_disk old
   pub tells : IsToldIn (process_over old) telling.at_disk old
   pub system : new ≡ entered_after telling old
@@ -240,9 +246,10 @@ pub record HasStoppedAnswering (p : ℕ) (before behind : Outside) (old : System
   pub tells : IsToldIn (Some p) told old
   pub stops : Stopped before behind (call_over told p old).emitted
 
--- the first call that waited entered service, if one did, for some number of turns
+-- the first call that waited entered service, if one did, for some number of turns, at least one
 pub record HasEnteredCall (old new : System) : Type 0 where
   pub turns : ℕ
+  pub some : 0 < turns
   pub is : new ≡ call_entered turns old
 
 -- of what is kept of file calls, the rest of a step leaves the directories and what is cached

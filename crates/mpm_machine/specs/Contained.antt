@@ -15,8 +15,10 @@ use Rattle.mpm_kernel.specs.Waiting.{completion_reply}
 use Rattle.mpm_machine.specs.declared.system.System.{System}
 use Rattle.mpm_processor.specs.declared.gate.Gate.{Gate}
 use Rattle.mpm_processor.specs.declared.gate.Gate.TheVariants.{End, Call, Return}
-use Rattle.mpm_machine.specs.Calling.{Served}
-use Rattle.mpm_machine.specs.Serving.{with_regs, asked, keeping, served, string_of, said_by, popped, reply_at_entry, after_echo, outcome_of}
+use Rattle.mpm_machine.specs.Calling.{Served, asking}
+use Rattle.mpm_machine.specs.Serving.{with_regs, asked, keeping, served, served_to_all, string_of, said_by, popped, reply_at_entry, after_echo, outcome_of}
+use Rattle.mpm_machine.specs.Loading.{handed_over, handed_value}
+use Rattle.mpm_machine.specs.Residing.{native_step}
 use Rattle.mpm_machine.specs.Ending.{ended}
 use Rattle.mpm_machine.specs.Finishing.{finished, completion_dequeued, command_let_in, finished_or_ended, all_answered}
 use Rattle.mpm_machine.specs.Sending.{chains}
@@ -210,3 +212,23 @@ pub record ServedByValue (telling : Telling) (p seg : ℕ) (old new : System) : 
       → ServedAlike done (served (asked p seg (counted old)) p other)
   pub is : new ≡ (rest_of false telling (then_also (after_echo (asked p seg (counted old)) p done.system
       (outcome_of done.outcome done.reply (asked p seg (counted old)) p seg done.system)) all_answered)).system
+
+-- no event comes in this step, and the process that runs has no segment: a resident acts
+pub record Resides (system : System) (p : ℕ) (native : Native) : Type 0 where
+  pub quiet : coming (counted system) ≡ None
+  pub runs : system.kernel.dispatcher.running ≡ Some p
+  pub home : (process_in system.kernel.dispatcher.procs p).seg ≡ None
+  pub acts : native_in system.residents p ≡ Some native
+
+-- it did what its row says: whatever bytes had stood in memory then, its call would be served alike, and what it hands over would be
+-- answered alike, and leave systems that differ in bytes alone; then what was completed was answered, and then came the rest of the step
+pub record ResidedByValue (telling : Telling) (p : ℕ) (native : Native) (old new : System) : Type 0 where
+  pub call : (other : System) → DiffersInBytes (asking p (native_call native) (counted old)) other
+      → ServedAlike (served_to_all (native_call native) p (asking p (native_call native) (counted old))) (served_to_all (native_call native) p other)
+  pub hands : (other : System) → DiffersInBytes (asking p (native_call native) (counted old)) other
+      → handed_value (native_act native) other ≡ handed_value (native_act native) (asking p (native_call native) (counted old))
+  pub leaves : (other : System) → DiffersInBytes (asking p (native_call native) (counted old)) other
+      → DiffersInBytes (handed_over (native_act native) (native_call native).bytes p (asking p (native_call native) (counted old)))
+      (handed_over (native_act native) (native_call native).bytes p other)
+  pub is : new ≡ (rest_of false telling (then_also (native_step (native_act native) (native_call native) p
+      (asking p (native_call native) (counted old))) all_answered)).system

@@ -1,6 +1,6 @@
 -- What the images stand for where a step stopped. (A drive that fails in a call on files leaves it within a turn: MP/M II
 -- Programmer's Guide, "BDOS Error Handling".)
-use Rattle.std.specs.Prelude.{◌≡◌, ℕ, ◌≤◌, ◌&&◌, ◌||◌, Bool, true, false, List, Option, Some, None, is_some, option_map, slice_set, if◌then◌else◌}
+use Rattle.std.specs.Prelude.{◌≡◌, ℕ, ◌+◌, ◌<◌, ◌≤◌, ◌&&◌, ◌||◌, Bool, true, false, List, Option, Some, None, is_some, option_map, slice_set, if◌then◌else◌}
 use Rattle.mpm_port.specs.Disks.{Disks}
 use Rattle.mpm_procs.specs.Table.{call_of}
 use Rattle.mpm_mount.specs.Drives.{Drive}
@@ -98,21 +98,23 @@ pub record HaveImagesOf (Are : List (Option Drive) → Type 0) (disks : Option D
   pub are : Are drives
   pub images : HaveImages disks mounted drives
 
--- what is on the drive of a call within a turn, from some turn on: what there was before it, or one of those that its unit goes through
-pub record IsWithin (call : Situation) (ended : ℕ) (files : Drive) : Type 0 where
+-- what is on the drive of a call within one of the next turns, behind those that ended: what there was before it, or one of those that
+-- its unit goes through
+pub record IsWithin (call : Situation) (ended most : ℕ) (files : Drive) : Type 0 where
   pub job : Job
   pub its : job_of call ≡ Some job
   pub turn : ℕ
   pub since : ended ≤ turn
+  pub before : turn < ended + most
   pub among : IsAmong (units_done (drive_at call) job turn) (stages (unit_at (drive_at call) job turn) (units_done (drive_at call) job turn)) files
 
--- a drive failed as a step worked on the drive of a call: that is within a turn that had not ended before, and each other one as the call
--- found it
+-- a drive failed as a step worked on the drive of a call: that is within one of the turns that the step does, and each other one as the
+-- call found it
 pub record FailsWithin (working : Option Working) (drives : List (Option Drive)) : Type 0 where
   pub found : Working
   pub is : working ≡ Some found
   pub files : Drive
-  pub within : IsWithin found.call found.ended files
+  pub within : IsWithin found.call found.ended found.most files
   pub drives_are : drives ≡ slice_set found.call.filing.drives (drive_number found.call) (Some files)
 
 -- what is on the drives where a step stopped: where the sink failed, what the images stand for behind it

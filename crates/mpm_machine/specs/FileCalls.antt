@@ -1,6 +1,6 @@
 -- File calls: which process makes one in a step, what it comes to, and how it is answered. (MP/M II Programmer's Guide, "BDOS
 -- Function Calls", "BDOS Error Handling"; functions 13, "Reset Disk System", and 14, "Select Disk".)
-use Rattle.std.specs.Prelude.{◌≡◌, ℕ, ◌%◌, Bool, true, false, not, List, [], ◌∷◌, Option, Some, None, is_some, is_none, option_map, slice_index_or, ◌==◌, ◌&&◌, ◌||◌, if◌then◌else◌}
+use Rattle.std.specs.Prelude.{◌≡◌, ℕ, ◌%◌, Bool, false, not, Option, Some, None, is_some, is_none, option_map, ◌==◌, ◌&&◌, ◌||◌, if◌then◌else◌}
 use Rattle.z80_regs.specs.Words.{word_of}
 use Rattle.mpm_base.specs.Calls.{Taken, Answer, answering}
 use Rattle.mpm_base.specs.declared.functions.TheConstants.{RESET_DISK_SYSTEM, SELECT_DISK}

@@ -10,6 +10,7 @@ pub mod Calling
 pub mod Sending
 pub mod Serving
 pub mod Loading
+pub mod Loaded
 pub mod Residing
 pub mod Slots
 pub mod Interpreting

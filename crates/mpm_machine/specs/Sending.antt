@@ -1,7 +1,7 @@
 -- Commands that processes send to the command line interpreter: function 150, and function 47, whose process ends then. (MP/M II
 -- Programmer's Guide, "Function 150: Send CLI Command", "Function 47: Chain to Program".)
-use Rattle.std.specs.Prelude.{ℕ, ◌+◌, ◌*◌, ◌%◌, ◌==◌, ◌&&◌, ◌||◌, Bool, nat_lt, min, if◌then◌else◌, List, ◌∷◌, ◌++◌, length, take, drop, Some}
-use Rattle.mpm_base.specs.Lists.{zeros}
+use Rattle.std.specs.Prelude.{ℕ, ◌+◌, ◌*◌, ◌%◌, ◌==◌, ◌&&◌, ◌||◌, Bool, nat_lt, if◌then◌else◌, List, ◌∷◌, ◌++◌, length, Some}
+use Rattle.mpm_base.specs.Lists.{zeros, in_width}
 use Rattle.mpm_base.specs.Calls.{Taken, Answer, answering, byte_in}
 use Rattle.mpm_base.specs.declared.call.Outcome.{Outcome}
 use Rattle.mpm_base.specs.declared.call.Outcome.TheVariants.{Done, Held, Retry, Ended}
@@ -16,14 +16,10 @@ use Rattle.mpm_residents.specs.Natives.{native_in, interprets_if_there}
 use Rattle.mpm_machine.specs.declared.system.System.{System}
 use Rattle.mpm_machine.specs.Calling.{with_kept}
 
--- so many bytes: the first of those that are there, and zeros behind them
-abbrev pub in_room : ℕ → List ℕ → List ℕ
-in_room room bytes = take (min (length bytes) room) bytes ++ drop (min (length bytes) room) (zeros room)
-
 -- a message of the command queue has 130 bytes: the user and the drive in one, the console, the text, and zeros; what function 47
 -- sends has the user, the drive and the console of its process
 abbrev pub chained : Process → List ℕ → List ℕ
-chained process text = (16 * (process.user % 16) + process.drive % 16) ∷ process.console ∷ in_room 128 text
+chained process text = (16 * (process.user % 16) + process.drive % 16) ∷ process.console ∷ in_width 128 text
 
 -- the call as it is written to the command queue, which is queue 0, so that its pointer is 1: the message behind the block
 abbrev pub framed : List ℕ → Taken → Taken
@@ -67,7 +63,7 @@ may_send interprets call kernel = interprets && nat_lt (byte_in call 1) (length 
 unfoldable pub sending : Bool → ℕ → Kernel → Called
 sending interprets p kernel =
     let call = call_of kernel.dispatcher.procs p in
-    if may_send interprets call kernel then sent SEND_CLI_COMMAND (in_room 130 call.bytes) p kernel else valued failure_code kernel
+    if may_send interprets call kernel then sent SEND_CLI_COMMAND (in_width 130 call.bytes) p kernel else valued failure_code kernel
 
 -- function 47: its process ends as the message goes in, and at once where no interpreter acts
 abbrev pub ended_if_done : Outcome → Outcome

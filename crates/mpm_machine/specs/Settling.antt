@@ -112,10 +112,11 @@ IsEndBy (Some p) old change = IsEndOf p old change
 abbrev pub IsEnd : System → Change → Type 0
 IsEnd old change = IsEndBy (served_process old.kernel.disk) old change
 
--- that was written, or a first part of it, as it is of a call or of none
-pub record WritesEndOf (call : Option ℕ) (before behind : Outside) (old : System) : Type 0 where
+-- that was done and written, or a first part of it was written, as it is of a call or of none
+pub record WritesEndOf (call : Option ℕ) (before behind : Outside) (old new : System) : Type 0 where
   pub change : Change
   pub is : IsEndBy call old change
+  pub system : new ≡ change.system
   pub wrote : Wrote before behind change.emitted
 
 pub record StopsEndOf (call : Option ℕ) (before behind : Outside) (old : System) : Type 0 where
@@ -123,8 +124,8 @@ pub record StopsEndOf (call : Option ℕ) (before behind : Outside) (old : Syste
   pub is : IsEndBy call old change
   pub stops : Stopped before behind change.emitted
 
-abbrev pub WritesEnd : Outside → Outside → System → Type 0
-WritesEnd before behind old = WritesEndOf (served_process old.kernel.disk) before behind old
+abbrev pub WritesEnd : Outside → Outside → System → System → Type 0
+WritesEnd before behind old new = WritesEndOf (served_process old.kernel.disk) before behind old new
 
 -- where a drive failed nothing of it was
 abbrev pub StopsEnd : StepFault → Outside → Outside → System → Type 0
@@ -132,9 +133,10 @@ StopsEnd WriteFault before behind old = StopsEndOf (served_process old.kernel.di
 StopsEnd DiskFault before behind old = behind ≡ before
 
 -- behind it unfinished lines were closed
-pub record ClosesEnd (before : Outside) (written : Option (List ℕ)) (old : System) : Type 0 where
+pub record ClosesEnd (before : Outside) (written : Option (List ℕ)) (old new : System) : Type 0 where
   pub change : Change
   pub is : IsEnd old change
+  pub system : new ≡ change.system
   pub closes : (said : List Output) (first : Option (List ℕ)) → Shows before.kept before.written said first
       → written ≡ appended first (closed before.kept.trace (change.emitted ++ said))
 
@@ -145,6 +147,6 @@ pub record StopsClosing (before : Outside) (written : Option (List ℕ)) (old : 
   pub stops : (said : List Output) (first : Option (List ℕ)) → Shows before.kept before.written said first
       → EndsBetween written first (rendered before.kept.trace said) (closed before.kept.trace (change.emitted ++ said))
 
-abbrev pub StopsSettling : StepFault → Outside → Outside → System → Type 0
-StopsSettling WriteFault before behind old = StopsClosing before behind.written old
-StopsSettling DiskFault before behind old = (behind ≡ before) ⊎ WritesEnd before behind old
+abbrev pub StopsSettling : StepFault → Outside → Outside → System → System → Type 0
+StopsSettling WriteFault before behind old new = StopsClosing before behind.written old
+StopsSettling DiskFault before behind old new = (behind ≡ before) ⊎ WritesEnd before behind old new

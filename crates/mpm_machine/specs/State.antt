@@ -1,6 +1,6 @@
 -- The machine as a kernel model: its state, and when a machine stands for a state.
 use Rattle.std.specs.Prelude.{◌≡◌, ◌<◌, ◌≤◌, ◌+◌, ℕ, false, List, [], All, Option, Some, None, length}
-use Rattle.mpm_banks.specs.Memory.{Memory, segment_of}
+use Rattle.mpm_banks.specs.Memory.{Memory, IsMemory, segment_of}
 use Rattle.mpm_banks.specs.declared.segment.Allocation.TheVariants.{Occupied}
 use Rattle.mpm_procs.specs.Table.{Lives, process_in}
 use Rattle.mpm_processor.specs.Gates.{IsHome}
@@ -78,12 +78,13 @@ abbrev pub NobodyAborted : Kernel → Type 0
 NobodyAborted kernel = (p : ℕ) → is_aborted kernel.dispatcher.procs p ≡ false
 
 -- what is so of the system within a step and after it: the kernel is sound, whose held calls were completed lives, each
--- process's segment exists and is nobody's to reserve, the script has events that there may be, and it is known where no end
--- by an abort is put off
+-- process's segment exists and is nobody's to reserve, memory has its segments, each with as many bytes as its pages have, the
+-- script has events that there may be, and it is known where no end by an abort is put off
 pub record IsWhole (system : System) : Type 0 where
   pub sound : IsSound system.kernel
   pub live : CompletedLive system.kernel
   pub homes : (p seg : ℕ) → Lives system.kernel.dispatcher.procs p → (process_in system.kernel.dispatcher.procs p).seg ≡ Some seg → IsHome system.memory seg
   pub lived : (p seg : ℕ) → Lives system.kernel.dispatcher.procs p → (process_in system.kernel.dispatcher.procs p).seg ≡ Some seg → IsOccupied system.memory seg
+  pub memory : IsMemory system.memory
   pub script : All IsTimed system.interrupts.script
   pub settled : system.abort_deferred ≡ false → NobodyAborted system.kernel

@@ -10,6 +10,7 @@ impl System {
 
     /// Function 157: aborts the process that the call names. One that aborts itself ends as by function 143, unless its end is
     /// put off.
+    #[inline(never)]
     #[tactic(auto, unfolding(crate::specs::Serving::aborting))]
     pub fn abort(&mut self, p: Pid, reply: &mut Reply) -> Outcome
         requires whole { IsWhole self.old }

@@ -76,6 +76,7 @@ impl System {
     }
 
     /// Takes the call that a process asks at the gate: what it reads is kept, and an EI takes effect.
+    #[inline(always)]
     #[tactic(auto, using(mpm_procs::proofs::MapLaws::lives_changed), unfolding(crate::specs::Serving::keeping, crate::specs::Serving::asked))]
     pub fn take_call(&mut self, p: Pid, seg: Seg)
         requires whole { IsWhole self.old }
@@ -92,6 +93,7 @@ impl System {
     }
 
     /// Does the call that a process keeps.
+    #[inline(always)]
     #[tactic(auto, using(crate::proofs::TakenLaws::few_descriptors, crate::proofs::TakenLaws::short_text), unfolding(crate::specs::Serving::served))]
     fn serve(&mut self, p: Pid, reply: &mut Reply) -> Outcome
         requires whole { IsWhole self.old }
@@ -115,6 +117,7 @@ impl System {
     }
 
     /// Does the call that a process keeps, of those that residents make too.
+    #[inline(always)]
     #[tactic(auto, unfolding(crate::specs::Serving::served_to_all))]
     pub fn serve_to_all(&mut self, p: Pid, reply: &mut Reply) -> Outcome
         requires whole { IsWhole self.old }
@@ -135,6 +138,7 @@ impl System {
     }
 
     /// Functions 128 and 129: reserves a segment, of the base page that the call gives or of any.
+    #[inline(never)]
     #[tactic(auto, using(mpm_banks::proofs::SegmentLaws::reserved_is_there, mpm_banks::proofs::SegmentLaws::spec_of_reserved), unfolding(crate::specs::Serving::reserving))]
     fn reserve(&mut self, p: Pid, absolute: bool, reply: &mut Reply) -> Outcome
         requires lives { Lives self.old.kernel.dispatcher.procs p }
@@ -157,6 +161,7 @@ impl System {
     }
 
     /// Function 130: frees a segment that the process reserved.
+    #[inline(never)]
     #[tactic(auto, unfolding(crate::specs::Serving::releasing))]
     fn release(&mut self, p: Pid, reply: &mut Reply) -> Outcome
         requires lives { Lives self.old.kernel.dispatcher.procs p }
@@ -187,6 +192,7 @@ impl System {
     }
 
     /// Function 144: creates processes in the segment of the one that asks.
+    #[inline(never)]
     #[tactic(auto, using(crate::proofs::WholeLaws::segment_is_there), unfolding(crate::specs::Serving::creating))]
     fn create(&mut self, p: Pid, reply: &mut Reply) -> Outcome
         requires whole { IsWhole self.old }
@@ -201,6 +207,7 @@ impl System {
     }
 
     /// Function 154: tells the system data page.
+    #[inline(never)]
     fn tell_system(&self, reply: &mut Reply) -> Outcome
         ensures outcome { result ≡ (telling_system self.now).outcome }
         ensures reply { reply.new ≡ (telling_system self.now).reply }
@@ -210,6 +217,7 @@ impl System {
     }
 
     /// Function 156: tells the descriptor of the process that asks.
+    #[inline(never)]
     fn tell_descriptor(&self, p: Pid, reply: &mut Reply) -> Outcome
         requires lives { Lives self.now.kernel.dispatcher.procs p }
         ensures outcome { result ≡ (telling_descriptor p self.now).outcome }
@@ -297,8 +305,30 @@ impl System {
         self.speak_byte(p, render, sink)
     }
 
-    /// What a call of a process other than function 9 writes comes out: a byte, at its console or its printer.
+    /// What a call of a process other than function 9 writes comes out: a byte, at its console or its printer. Mostly it writes none.
+    #[inline(always)]
     pub fn speak_byte<S: Sink>(
+        &mut self,
+        p: Pid,
+        render: &mut Render,
+        sink: &mut S,
+    ) -> Result<(), Failed>
+        requires whole { IsWhole self.old }
+        requires lives { Lives self.old.kernel.dispatcher.procs p }
+        requires byte { (call_of self.old.kernel.dispatcher.procs p).function ≢ PRINT_STRING }
+        ensures system { (string : List ℕ) → OnOk result (self.new ≡ (said_by (call_of self.old.kernel.dispatcher.procs p) string p self.old).system) }
+        ensures wrote { (string : List ℕ) → Writes S.written S.faults render.old sink.old render.new sink.new (said_by (call_of self.old.kernel.dispatcher.procs p) string p self.old).emitted result }
+    {
+        let call = self.kernel.kept_call(p);
+        if functions::DIRECT_CONSOLE_IO < call.function {
+            return Ok(());
+        }
+        self.speak_low(p, render, sink)
+    }
+
+    /// The same of a call whose number may be that of a function that writes.
+    #[inline(never)]
+    fn speak_low<S: Sink>(
         &mut self,
         p: Pid,
         render: &mut Render,

@@ -14,6 +14,7 @@ impl System {
 
     /// The ends by an abort that were put off and are due come, and the records of the step's calls come out. Nothing else is said from
     /// here on, so that those of each part come out as it is over.
+    #[inline(always)]
     pub fn end_all<S: Sink>(
         &mut self,
         reply: &mut Reply,
@@ -29,6 +30,7 @@ impl System {
     }
 
     /// The ends by an abort that were put off and are due come, by slot.
+    #[inline(always)]
     #[tactic(auto, unfolding(crate::specs::Due::with_ends))]
     fn end_due<S: Sink>(
         &mut self,
@@ -49,6 +51,7 @@ impl System {
     }
 
     /// The processes whose end is due end, by slot. The held calls that an end completes are answered before the next.
+    #[inline(never)]
     fn end_each_due<S: Sink>(
         &mut self,
         reply: &mut Reply,
@@ -93,22 +96,6 @@ impl System {
     /// The records of completed calls come out, in order: mostly there are none.
     #[inline(always)]
     pub fn write_records<S: Sink>(
-        &mut self,
-        render: &mut Render,
-        sink: &mut S,
-    ) -> Result<(), Failed>
-        ensures system { OnOk result (self.new ≡ (records_out self.old).system) }
-        ensures wrote { Writes S.written S.faults render.old sink.old render.new sink.new (records_out self.old).emitted result }
-    {
-        if self.records.has_some() {
-            return self.write_each_record(render, sink);
-        }
-        Ok(())
-    }
-
-    /// The same where there are some.
-    #[inline(never)]
-    fn write_each_record<S: Sink>(
         &mut self,
         render: &mut Render,
         sink: &mut S,

@@ -27,9 +27,10 @@ impl System {
     ghost use Rattle.std.specs.Prelude.{is_none};
     ghost use Rattle.mpm_bdos.specs.declared.refusals.Extended.{Extended};
     ghost use Rattle.mpm_bdos.specs.Outcomes.{Resets};
-    ghost use Rattle.mpm_machine.specs.FileCalls.{at_gate, first_dma, called_next, made_by, calls_files, file_caller, call_made, told_of, change_of, with_caller, file_replied, error_told, answered_or_ended, told_then, error_met, concluded};
+    ghost use Rattle.mpm_machine.specs.FileCalls.{first_dma, called_next, is_file_number, made_by, calls_files, file_caller, call_made, told_of, change_of, with_caller, file_replied, error_told, answered_or_ended, told_then, error_met, concluded};
 
     /// The process that makes a file call in the next step, if one does.
+    #[inline(always)]
     #[tactic(auto, using(mpm_kernel::proofs::SoundLaws::runner_lives), unfolding(crate::specs::FileCalls::file_caller))]
     pub fn file_caller(&self) -> Option<Pid>
         requires whole { IsWhole self.now }
@@ -50,41 +51,46 @@ impl System {
     }
 
     /// Whether a process calls a function on files and drives as it goes on.
+    #[inline(always)]
     #[tactic(auto, unfolding(crate::specs::FileCalls::calls_files))]
     fn calls_files(&self, p: Pid) -> bool
         requires whole { IsWhole self.now }
         requires lives { Lives self.now.kernel.dispatcher.procs p }
         ensures { result ≡ calls_files p self.now }
     {
-        match self.called_next(p) {
+        match self.kernel.segment(p) {
+            Some(seg) => self.calls_files_at_gate(p, seg),
+            None => self.asks_for_files(p),
+        }
+    }
+
+    /// The same of a resident, by what it fills in.
+    fn asks_for_files(&self, p: Pid) -> bool
+        ensures { result ≡ is_file_number (called_next None p self.now) }
+    {
+        match self.residents.function(p) {
             Some(number) => is_of_files(number),
             None => false,
         }
     }
 
-    /// The number of the function that a process calls as it goes on, if it calls one.
-    fn called_next(&self, p: Pid) -> Option<u8>
-        requires whole { IsWhole self.now }
-        requires lives { Lives self.now.kernel.dispatcher.procs p }
-        ensures { result ≡ called_next (process_in self.now.kernel.dispatcher.procs p).seg p self.now }
-    {
-        match self.kernel.segment(p) {
-            Some(seg) => self.called_at_gate(p, seg),
-            None => self.residents.function(p),
-        }
-    }
-
-    /// The same of a process of a segment: it calls one where it stands at the gate of calls.
-    fn called_at_gate(&self, p: Pid, seg: Seg) -> Option<u8>
+    /// The same of a process of a segment: it calls one where it stands at the gate of calls. Its register C is asked first, as a
+    /// look for the gate takes longer.
+    #[inline(always)]
+    #[tactic(auto, using(crate::proofs::FileStepLaws::no_file_called))]
+    fn calls_files_at_gate(&self, p: Pid, seg: Seg) -> bool
         requires lives { Lives self.now.kernel.dispatcher.procs p }
         requires home { IsHome self.now.memory seg }
-        ensures { result ≡ at_gate (gate_before p seg self.now) (process_in self.now.kernel.dispatcher.procs p).regs.c }
+        ensures { result ≡ is_file_number (called_next (Some seg) p self.now) }
     {
+        if !is_of_files(self.kernel.regs(p).c) {
+            return false;
+        }
         match self.gate(p, seg) {
-            Some(Gate::Call) => Some(self.kernel.regs(p).c),
-            Some(Gate::End) => None,
-            Some(Gate::Return) => None,
-            None => None,
+            Some(Gate::Call) => true,
+            Some(Gate::End) => false,
+            Some(Gate::Return) => false,
+            None => false,
         }
     }
 
@@ -289,6 +295,7 @@ impl System {
 }
 
 /// Whether a number is that of a call on files and drives.
+#[inline(always)]
 #[tactic(auto, unfolding(crate::specs::FileCalls::is_of_files))]
 fn is_of_files(number: u8) -> bool
     ensures { result ≡ is_file_function number }

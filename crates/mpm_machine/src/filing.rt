@@ -28,20 +28,8 @@ use mpm_procs::Process;
 use mpm_service::Turn;
 use std::sync::ledger::Ledger;
 
-/// Gives back what those had open and marked who ended and owe it: mostly nobody does.
-#[inline(always)]
+/// Gives back what those had open and marked who ended and owe it, slot by slot.
 pub(crate) fn give_back(bdos: &mut Bdos, owed: &Owed)
-    ensures filing { (drives : List (Option Drive)) → filing_of bdos.new drives ≡ all_left owed.now (filing_of bdos.old drives) }
-    ensures rest { bdos.new ≡ record bdos.old { opens = bdos.new.opens; marks = bdos.new.marks; searches = bdos.new.searches } }
-{
-    if owed.has_some() {
-        give_back_each(bdos, owed);
-    }
-}
-
-/// The same where some do, slot by slot.
-#[inline(never)]
-fn give_back_each(bdos: &mut Bdos, owed: &Owed)
     ensures filing { (drives : List (Option Drive)) → filing_of bdos.new drives ≡ all_left owed.now (filing_of bdos.old drives) }
     ensures rest { bdos.new ≡ record bdos.old { opens = bdos.new.opens; marks = bdos.new.marks; searches = bdos.new.searches } }
 {
@@ -171,6 +159,7 @@ fn call_directly(system: &System, bdos: &Bdos, p: Pid, reply: &mut Reply) -> Opt
 }
 
 /// The call of a process enters service, in the situation of this moment: how many turns it takes.
+#[inline(never)]
 pub(crate) fn start_call(system: &System, bdos: &mut Bdos, p: Pid) -> u32
     requires whole { IsWhole system.now }
     requires lives { Lives system.now.kernel.dispatcher.procs p }

@@ -1,4 +1,4 @@
-ghost use Rattle.std.specs.Prelude.{◌≡◌, ℕ, ◌+◌, ◌-◌, ◌*◌, ◌<◌, ◌≤◌, ◌&&◌, false, List, [], Option, Some, None, IfOk, OnOk, IfErr, MatchOption, length, option_map};
+ghost use Rattle.std.specs.Prelude.{◌≡◌, ℕ, ◌+◌, ◌-◌, ◌*◌, ◌<◌, ◌≤◌, ◌&&◌, false, List, [], Option, Some, None, IfOk, OnOk, IfErr, OnErr, MatchOption, length, option_map};
 ghost use Rattle.mpm_script.specs.declared.line.TheConstants.{GREATEST_STEP};
 ghost use Rattle.mpm_port.specs.Texts.{appended};
 
@@ -447,6 +447,9 @@ impl Machine {
         ensures still { n ≡ 0 → drives.new ≡ drives.old }
         ensures none { HasNoDrive self.old.bdos.mounted → drives.new ≡ drives.old }
         ensures unfailing { HasNoDrive self.old.bdos.mounted → IfErr result (λ error. error.fault ≡ StepFault.WriteFault) }
+
+        // Where turns have steps, a step calls a drive at most 20 times.
+        ensures few { 0 < self.old.system.kernel.disk.turn_steps → steps.new ≤ steps.old + 20 * n }
     {
         let mut done = 0;
         while done < n {
@@ -498,6 +501,9 @@ impl Machine {
         ensures bare { HasNoDrive self.old.bdos.mounted → HasNoDrive self.new.bdos.mounted }
         ensures none { HasNoDrive self.old.bdos.mounted → drives.new ≡ drives.old }
         ensures unfailing { HasNoDrive self.old.bdos.mounted → IfErr result (λ error. error.fault ≡ StepFault.WriteFault) }
+        ensures calls { 0 < self.old.system.kernel.disk.turn_steps → IfOk result (λ more. steps.new ≤ steps.old + 20 * more) }
+        ensures last_calls { 0 < self.old.system.kernel.disk.turn_steps → OnErr result (steps.new ≤ steps.old + 20 * most) }
+        ensures turn_steps { OnOk result (self.new.system.kernel.disk.turn_steps ≡ self.old.system.kernel.disk.turn_steps) }
     {
         let done = self.run_on(most);
         if done == most {
@@ -511,6 +517,7 @@ impl Machine {
     }
 
     /// Instructions of the running process, at most so many, each of which is a step. Answers how many were done.
+    #[inline(always)]
     fn run_on(&mut self, most: u64) -> u64
         requires whole { IsWhole self.old.system }
         requires no_completions { NoCompletions self.old.system }

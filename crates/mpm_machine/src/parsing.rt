@@ -12,6 +12,7 @@ impl System {
     ghost use Rattle.mpm_machine.specs.Serving.{parsing};
 
     /// Function 152: parses the file name of which the call gives the address.
+    #[inline(never)]
     #[tactic(auto, unfolding(crate::specs::Serving::parsing))]
     pub fn parse(&mut self, p: Pid, reply: &mut Reply) -> Outcome
         requires lives { Lives self.old.kernel.dispatcher.procs p }

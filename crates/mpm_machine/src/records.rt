@@ -1,9 +1,8 @@
-ghost use Rattle.std.specs.Prelude.{◌≡◌, ◌↔◌, ◌<◌, false, [], ◌∷◌, ◌++◌, length};
+ghost use Rattle.std.specs.Prelude.{◌≡◌, ◌<◌, [], ◌∷◌, ◌++◌, length};
 ghost use Rattle.mpm_output.specs.Writing.{Writes};
 ghost use Rattle.mpm_render.specs.Outputs.{Completed};
 ghost use Rattle.mpm_machine.specs.Step.{recorded_behind};
 
-use arrayvec::ArrayVec;
 use mpm_port::{Failed, Sink};
 use mpm_render::Render;
 use std::marker::Model;
@@ -46,20 +45,23 @@ impl Record {
     }
 }
 
-/// The records of the calls that this step completed and that aren't written yet, in order: at most one by what the step begins
-/// with, 65 behind it, and 64 by an end; one more by a call whose last turn is over.
+/// The records of the calls that this step completed and that aren't written yet, in order: the first `count` of `items`. There are at
+/// most one by what the step begins with, 65 behind it, and 64 by an end; one more by a call whose last turn is over.
 #[derive(Drop)]
 pub(crate) struct Records {
-    items: ArrayVec<Record, 131>,
+    count: u8,
+    items: [Record; 131],
 }
 
 impl Model for Records {
-    ghost use Rattle.std.specs.Prelude.{List};
+    ghost use Rattle.std.specs.Prelude.{◌≤◌, List, take};
     ghost use Rattle.mpm_render.specs.Completions.{Completion};
 
     ghost Value = { List Completion };
 
-    ghost view = { λ r. r.items.items };
+    ghost view = { λ r. take r.count r.items };
+
+    ghost invariant = { λ r. (r.count ≤ 131) };
 }
 
 impl Records {
@@ -68,16 +70,9 @@ impl Records {
         ensures { result ≡ [] }
     {
         Records {
-            items: ArrayVec::new(),
+            count: 0,
+            items: Default::default(),
         }
-    }
-
-    /// Whether there are some.
-    #[inline]
-    pub fn has_some(&self) -> bool
-        ensures { (result ≡ false) ↔ (self.now ≡ []) }
-    {
-        !self.items.is_empty()
     }
 
     /// One more, behind the others.
@@ -85,14 +80,15 @@ impl Records {
         requires { length self.old < 131 }
         ensures { self.new ≡ self.old ++ call ∷ [] }
     {
-        self.items.push(call);
+        self.items[usize::from(self.count)] = call;
+        self.count += 1;
     }
 
     /// They come out, in order.
     pub fn write<S: Sink>(&self, render: &mut Render, sink: &mut S) -> Result<(), Failed>
         ensures { Writes S.written S.faults render.old sink.old render.new sink.new (recorded_behind self.now []) result }
     {
-        for call in self.items.as_slice() {
+        for call in self.as_slice() {
             if let Err(Failed) = call.write(render, sink) {
                 return Err(Failed);
             }
@@ -100,10 +96,17 @@ impl Records {
         Ok(())
     }
 
+    /// All of them, in order.
+    fn as_slice(&self) -> &[Record]
+        ensures { result.now ≡ self.now }
+    {
+        &self.items[..usize::from(self.count)]
+    }
+
     /// None are left.
     pub fn clear(&mut self)
         ensures { self.new ≡ [] }
     {
-        self.items.clear();
+        self.count = 0;
     }
 }

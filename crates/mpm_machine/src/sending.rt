@@ -1,10 +1,10 @@
 ghost use Rattle.std.specs.Prelude.{◌≡◌};
 ghost use Rattle.mpm_procs.specs.Table.{Lives, call_of};
 ghost use Rattle.mpm_dispatcher.specs.Dispatch.{IsReady};
-ghost use Rattle.mpm_machine.specs.Sending.{in_room as fitted, chained as chained_by, framed as framed_with, ended_if_done as end_of, chains as is_chain};
+ghost use Rattle.mpm_machine.specs.Sending.{chained as chained_by, framed as framed_with, ended_if_done as end_of, chains as is_chain};
 
 use crate::system::System;
-use mpm_base::{Call, FAILURE_CODE, Outcome, Pid, Reply, functions};
+use mpm_base::{Call, FAILURE_CODE, Outcome, Pid, Reply, functions, in_width};
 use mpm_procs::Process;
 
 /// The slot of the command line interpreter.
@@ -22,6 +22,7 @@ impl System {
     ghost use Rattle.mpm_machine.specs.Sending.{framed, renamed, passed, passed_after, sent, has_interpreter, sending, chaining, let_in};
 
     /// Function 150: a process sends a command to the command line interpreter.
+    #[inline(never)]
     #[tactic(auto, unfolding(crate::specs::Sending::sending))]
     pub fn send_command(&mut self, p: Pid, reply: &mut Reply) -> Outcome
         requires whole { IsWhole self.old }
@@ -33,7 +34,7 @@ impl System {
     {
         let call = self.kernel.kept_call(p);
         let console = call.byte(1);
-        let message: [u8; 130] = in_room(call.taken());
+        let message: [u8; 130] = in_width(call.taken());
         if self.residents.interprets(INTERPRETER) && console < self.kernel.consoles() {
             self.send(functions::SEND_CLI_COMMAND, &message, p, reply)
         } else {
@@ -43,6 +44,7 @@ impl System {
     }
 
     /// Function 47: a process sends a command, and ends.
+    #[inline(never)]
     #[tactic(auto, unfolding(crate::specs::Sending::chaining))]
     pub fn chain(&mut self, p: Pid, reply: &mut Reply) -> Outcome
         requires whole { IsWhole self.old }
@@ -162,22 +164,11 @@ fn rename(call: &mut Call, function: u8)
     call.function = function;
 }
 
-/// The first bytes of some, and zeros behind them.
-#[tactic(auto, unfolding(mpm_base::specs::Lists::zeros))]
-fn in_room<const N: usize>(bytes: &[u8]) -> [u8; N]
-    ensures { result ≡ fitted N bytes.now }
-{
-    let mut all = [0; N];
-    let size = bytes.len().min(N);
-    all[..size].copy_from_slice(&bytes[..size]);
-    all
-}
-
 /// The message of a text to which a process chains: its user, its drive and its console, and the text.
 fn chained(process: &Process, text: &[u8]) -> [u8; 130]
     ensures { result ≡ chained_by process.now text.now }
 {
-    let text: [u8; 128] = in_room(text);
+    let text: [u8; 128] = in_width(text);
     let mut message = [0; 130];
     message[2..].copy_from_slice(&text);
     message[1] = process.console;

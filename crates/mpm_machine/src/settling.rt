@@ -22,7 +22,7 @@ impl Machine {
     ghost use Rattle.mpm_bdos.specs.Filing.{Situation};
     ghost use Rattle.mpm_bdos.specs.Jobs.{call_turns};
     ghost use Rattle.mpm_bdos.specs.Serving.{Serves};
-    ghost use Rattle.mpm_bdos.specs.Syncing.{mounted_count};
+    ghost use Rattle.mpm_bdos.specs.Syncing.{AreSynced, mounted_count};
     ghost use Rattle.mpm_bdos.specs.Turns.{FitsDrives, told_images};
     ghost use Rattle.mpm_machine.specs.declared.system.System.{System};
     ghost use Rattle.mpm_machine.specs.State.{State, StandsWithDrives, IsWhole, NoCompletions};
@@ -49,22 +49,26 @@ impl Machine {
         requires holds { HoldsDrives D.attached D.disks self.old.system.kernel self.old.bdos drives.old }
         ensures ok { (s : State) (first : Option (List ℕ)) → StandsWithDrives self.old render.old (S.written sink.old) (D.disks drives.old) s first
             → OnOk result (S.written sink.new ≡ appended first (closed render.old.trace (carried s).outputs)) }
+        ensures system { (s : State) (first : Option (List ℕ)) → StandsWithDrives self.old render.old (S.written sink.old) (D.disks drives.old) s first
+            → OnOk result (self.new.system ≡ (carried s).system) }
+        ensures whole { OnOk result (IsWhole self.new.system) }
         ensures files { (s : State) (first : Option (List ℕ)) → StandsWithDrives self.old render.old (S.written sink.old) (D.disks drives.old) s first
             → OnOk result (StandsForFiles self.new.system.kernel.disk self.new.bdos (D.disks drives.new) (carried s).files) }
         ensures err { (s : State) (first : Option (List ℕ)) → StandsWithDrives self.old render.old (S.written sink.old) (D.disks drives.old) s first
             → IfErr result (λ fault. StopsAtEnd fault render.new (S.written sink.new) (D.disks drives.new) self.new.bdos.mounted s first) }
 
-        // Whatever is on the drives: what the end writes is what the call in service may tell brings about.
-        ensures end { OnOk result (ClosesEnd (seen S.written S.faults render.old sink.old) (S.written sink.new) self.old.system) }
-        ensures stops { IfErr result (λ fault. StopsSettling fault (seen S.written S.faults render.old sink.old) (seen S.written S.faults render.new sink.new) self.old.system) }
+        // Whatever is on the drives: what the end does and writes is what the call in service may tell brings about.
+        ensures end { OnOk result (ClosesEnd (seen S.written S.faults render.old sink.old) (S.written sink.new) self.old.system self.new.system) }
+        ensures stops { IfErr result (λ fault. StopsSettling fault (seen S.written S.faults render.old sink.old) (seen S.written S.faults render.new sink.new) self.old.system self.new.system) }
         ensures trace { render.new.trace ≡ render.old.trace }
         ensures cause { HaveCause itself (counts S.faults D.faults sink.old drives.old) (counts S.faults D.faults sink.new drives.new) result }
         ensures keeps { KeepsMounted (D.disks drives.old) (D.disks drives.new) self.old.bdos.mounted self.new.bdos.mounted }
 
-        // Each turn that is left calls a drive at most 20 times, and each drive is synced by one call. Where no call is in service no
-        // image changes.
+        // Behind a success each mounted drive is synced. Each turn that is left calls a drive at most 20 times, and each drive is synced
+        // by one call. Where no call is in service no image changes.
+        ensures synced { OnOk result (AreSynced (D.unsynced drives.new) self.new.bdos.mounted) }
         ensures calls { steps.new ≤ steps.old + 20 * turns_left self.old.system.kernel.disk + mounted_count self.old.bdos.mounted }
-        ensures synced { self.old.system.kernel.disk.served ≡ None → OnOk result (steps.new ≡ steps.old + mounted_count self.old.bdos.mounted) }
+        ensures all { self.old.system.kernel.disk.served ≡ None → OnOk result (steps.new ≡ steps.old + mounted_count self.old.bdos.mounted) }
         ensures idle { self.old.system.kernel.disk.served ≡ None → SameDrives D.attached D.disks D.failed_names drives.old drives.new }
         ensures names { D.failed_names drives.new ≡ D.failed_names drives.old }
         ensures attached { (number : ℕ) → D.attached drives.new number ≡ D.attached drives.old number }
@@ -95,8 +99,10 @@ impl Machine {
         ensures trace { render.new.trace ≡ render.old.trace }
         ensures cause { HaveCause itself (counts S.faults D.faults sink.old drives.old) (counts S.faults D.faults sink.new drives.new) result }
         ensures calls { steps.new ≤ steps.old + mounted_count self.now.bdos.mounted }
-        ensures synced { OnOk result (steps.new ≡ steps.old + mounted_count self.now.bdos.mounted) }
-        ensures synced_first { IfErr result (λ fault. OnWriteFault fault (steps.new ≡ steps.old + mounted_count self.now.bdos.mounted)) }
+        ensures all { OnOk result (steps.new ≡ steps.old + mounted_count self.now.bdos.mounted) }
+        ensures all_first { IfErr result (λ fault. OnWriteFault fault (steps.new ≡ steps.old + mounted_count self.now.bdos.mounted)) }
+        ensures synced { OnOk result (AreSynced (D.unsynced drives.new) self.now.bdos.mounted) }
+        ensures synced_first { IfErr result (λ fault. OnWriteFault fault (AreSynced (D.unsynced drives.new) self.now.bdos.mounted)) }
         ensures drives { SameDrives D.attached D.disks D.failed_names drives.old drives.new }
         ensures none { mounted_count self.now.bdos.mounted ≡ 0 → drives.new ≡ drives.old }
     {
@@ -124,7 +130,8 @@ impl Machine {
             → OnOk result (HasCarried files (seen S.written S.faults render.old sink.old) (seen S.written S.faults render.new sink.new) self.old.system self.new.system self.new.bdos (D.disks drives.new)) }
         ensures err { (files : Files) → StandsForFiles self.old.system.kernel.disk self.old.bdos (D.disks drives.old) files
             → IfErr result (λ fault. StopsCarrying fault files (seen S.written S.faults render.old sink.old) (seen S.written S.faults render.new sink.new) self.old.system self.new.bdos.mounted (D.disks drives.new)) }
-        ensures end { OnOk result (WritesEnd (seen S.written S.faults render.old sink.old) (seen S.written S.faults render.new sink.new) self.old.system) }
+        ensures whole { OnOk result (IsWhole self.new.system) }
+        ensures end { OnOk result (WritesEnd (seen S.written S.faults render.old sink.old) (seen S.written S.faults render.new sink.new) self.old.system self.new.system) }
         ensures stops { IfErr result (λ fault. StopsEnd fault (seen S.written S.faults render.old sink.old) (seen S.written S.faults render.new sink.new) self.old.system) }
         ensures trace { render.new.trace ≡ render.old.trace }
         ensures cause { HaveCause itself (counts S.faults D.faults sink.old drives.old) (counts S.faults D.faults sink.new drives.new) result }
@@ -162,7 +169,8 @@ impl Machine {
             → OnOk result (HasCarried files (seen S.written S.faults render.old sink.old) (seen S.written S.faults render.new sink.new) self.old.system self.new.system self.new.bdos (D.disks drives.new)) }
         ensures err { (files : Files) → StandsForFiles self.old.system.kernel.disk self.old.bdos (D.disks drives.old) files
             → IfErr result (λ fault. StopsCarrying fault files (seen S.written S.faults render.old sink.old) (seen S.written S.faults render.new sink.new) self.old.system self.new.bdos.mounted (D.disks drives.new)) }
-        ensures end { OnOk result (WritesEnd (seen S.written S.faults render.old sink.old) (seen S.written S.faults render.new sink.new) self.old.system) }
+        ensures whole { OnOk result (IsWhole self.new.system) }
+        ensures end { OnOk result (WritesEnd (seen S.written S.faults render.old sink.old) (seen S.written S.faults render.new sink.new) self.old.system self.new.system) }
         ensures stops { IfErr result (λ fault. StopsEnd fault (seen S.written S.faults render.old sink.old) (seen S.written S.faults render.new sink.new) self.old.system) }
         ensures trace { render.new.trace ≡ render.old.trace }
         ensures cause { HaveCause itself (counts S.faults D.faults sink.old drives.old) (counts S.faults D.faults sink.new drives.new) result }
@@ -196,7 +204,8 @@ impl Machine {
             → OnOk result (HasCarried (Within s) (seen S.written S.faults render.old sink.old) (seen S.written S.faults render.new sink.new) before self.new.system self.new.bdos disks) }
         ensures err { (disks : Option Disks) (s : Situation) (before : System) → Serves (told_images disks) self.old.bdos s (call_turns s) → s.caller.process ≡ p → self.old.system ≡ turns_passed before
             → OnErr result (Stopped (seen S.written S.faults render.old sink.old) (seen S.written S.faults render.new sink.new) (carried_out s before).change.emitted × HaveImages disks self.new.bdos.mounted (filing_in (carried_out s before).files).drives) }
-        ensures end { (before : System) → self.old.system ≡ turns_passed before → OnOk result (WritesEndOf (Some p) (seen S.written S.faults render.old sink.old) (seen S.written S.faults render.new sink.new) before) }
+        ensures whole { OnOk result (IsWhole self.new.system) }
+        ensures end { (before : System) → self.old.system ≡ turns_passed before → OnOk result (WritesEndOf (Some p) (seen S.written S.faults render.old sink.old) (seen S.written S.faults render.new sink.new) before self.new.system) }
         ensures stops { (before : System) → self.old.system ≡ turns_passed before → OnErr result (StopsEndOf (Some p) (seen S.written S.faults render.old sink.old) (seen S.written S.faults render.new sink.new) before) }
         ensures trace { render.new.trace ≡ render.old.trace }
         ensures cause { HasCause (S.faults sink.old) (S.faults sink.new) result }

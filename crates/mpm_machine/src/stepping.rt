@@ -378,8 +378,24 @@ impl Machine {
             .end_file_call(p, extended, &mut self.reply, render, sink)
     }
 
-    /// Where no call is in service, those who ended give back what they had open and marked.
+    /// Where no call is in service, those who ended give back what they had open and marked: mostly nobody did.
+    #[inline(always)]
     pub(crate) fn pay(&mut self)
+        ensures system { self.new.system ≡ all_paid self.old.system }
+        ensures reply { self.new.reply ≡ self.old.reply }
+        ensures rest { self.new.bdos ≡ record self.old.bdos { opens = self.new.bdos.opens; marks = self.new.bdos.marks; searches = self.new.bdos.searches } }
+        ensures served { IsSome self.old.system.kernel.disk.served → self.new ≡ self.old }
+        ensures filing { self.old.system.kernel.disk.served ≡ None → (drives : List (Option Drive))
+            → filing_of self.new.bdos drives ≡ all_left self.old.system.owed (filing_of self.old.bdos drives) }
+    {
+        if self.system.owed.has_some() {
+            self.pay_back();
+        }
+    }
+
+    /// The same where somebody may have ended.
+    #[inline(never)]
+    fn pay_back(&mut self)
         ensures system { self.new.system ≡ all_paid self.old.system }
         ensures reply { self.new.reply ≡ self.old.reply }
         ensures rest { self.new.bdos ≡ record self.old.bdos { opens = self.new.bdos.opens; marks = self.new.bdos.marks; searches = self.new.bdos.searches } }
@@ -394,6 +410,7 @@ impl Machine {
     }
 
     /// Where no call is in service, the first that waits enters it, if one does.
+    #[inline(always)]
     fn enter_call(&mut self)
         requires whole { IsWhole self.old.system }
         requires begun { HasBegun self.old.system.kernel.disk }

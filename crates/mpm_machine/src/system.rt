@@ -56,6 +56,7 @@ impl System {
     /// Steps at most so many, that need no look at anything between them. Answers how many were done. They are instructions of
     /// the running process, up to a gate or an unlisted opcode, as long as it runs on; where no process runs and none is
     /// ready, nothing is done in them.
+    #[inline(always)]
     pub fn run_on(&mut self, most: u64) -> u64
         requires whole { IsWhole self.old }
         requires no_completions { NoCompletions self.old }
@@ -200,6 +201,7 @@ impl System {
 
     /// What a step begins with: the event that comes, or else what the running process does. Answers whether that was an
     /// instruction.
+    #[inline(always)]
     fn begin<S: Sink>(
         &mut self,
         reply: &mut Reply,

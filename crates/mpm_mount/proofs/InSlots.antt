@@ -3,7 +3,7 @@ use Rattle.std.proofs.Common.{◌≡◌, ℕ, suc, ◌+◌, ◌*◌, ◌/◌, �
 use Rattle.std.specs.Prelude.{is_some, nat_le}
 use Rattle.std.specs.List.{list_any}
 use Rattle.std.specs.FinMap.{get}
-use Rattle.std.proofs.lemmas.Bool.{false≢true, both_ways}
+use Rattle.std.proofs.lemmas.Bool.{false≢true, both_ways, true_from_ne_false}
 use Rattle.std.proofs.lemmas.Option.{same_Some}
 use Rattle.std.proofs.lemmas.List.{length-map}
 use Rattle.mpm_base.specs.declared.kind.Kind.{Kind}
@@ -45,10 +45,6 @@ sizes_at image d files slot stands inside =
     subst (λ (e : Entry). HasSizes e) (sym is) (entry_sizes (slot_bytes sectors slot) wide size)
 
 -- each entry that a drive has is in a slot
-pub passes : (b : Bool) → (b ≡ false → ⊥) → b ≡ true
-passes true fails = refl
-passes false fails = absurd (fails refl)
-
 any_step : (p : Entry → Bool) (e : Entry) (es : List Entry) (b : Bool) → p e ≡ b → (b || list_any p es) ≡ true
     → (list_any p es ≡ true → (k : ℕ) × (k < length es) × (p (get_or es k Free) ≡ true)) → (k : ℕ) × (k < length (e ∷ es)) × (p (get_or (e ∷ es) k Free) ≡ true)
 any_step p e es true here has so = (0, omega arith, here)
@@ -62,7 +58,7 @@ pub in_slot : (image : List ℕ) (d : Directory) (files : Drive) (name : EntryNa
     → (slot : ℕ) × IsFound (sectors_of image d.kind) d files name slot
 in_slot image d files name stands there =
     let sectors = sectors_of image d.kind in
-    let has : list_any (is_named d.kind name) d.entries ≡ true = passes (list_any (is_named d.kind name) d.entries) (λ none.
+    let has : list_any (is_named d.kind name) d.entries ≡ true = true_from_ne_false (list_any (is_named d.kind name) d.entries) (λ none.
     let gone : get files.extents name ≡ None = ap (λ (drive : Drive). get drive.extents name) stands.drive ∙ extent_nowhere sectors d.kind d.entries name none in
     both_ways (is_some (get files.extents name)) (ap is_some gone) there) in
     let at = any_in (is_named d.kind name) d.entries has in

@@ -5,10 +5,10 @@ use Rattle.std.specs.List.{filter}
 use Rattle.std.specs.List as lists
 use Rattle.std.specs.declared.cmp.Ordering.{Ordering}
 use Rattle.std.specs.Ordering.{is_eq, eq_by_cmp}
-use Rattle.std.specs.Cmp.{IsTotalOrder, tied_itself}
+use Rattle.std.specs.Cmp.{IsTotalOrder, tied_itself, both_ways as same_tests}
 use Rattle.std.specs.Cmp.Lexicographic.{bytes_decides}
 use Rattle.std.specs.FinMap.{get, entries, get-entries, find}
-use Rattle.std.proofs.lemmas.Bool.{true≢false, false≢true, both_ways, eqb-true}
+use Rattle.std.proofs.lemmas.Bool.{true≢false, false≢true, both_ways, eqb-true, true_from_ne_false}
 use Rattle.std.proofs.lemmas.Option.{same_Some}
 use Rattle.std.proofs.lemmas.List.{length-map, get_or-map, ext_get_or}
 use Rattle.mpm_names.specs.Matching.{byte_fits, fits_at, does_match}
@@ -26,7 +26,7 @@ use Rattle.mpm_mount.specs.Searching.{search_of, is_sought, IsLeast, IsNext, IsU
 use Rattle.mpm_mount.proofs.UsedBlocks.{or_last}
 use Rattle.mpm_mount.proofs.Replaced.{and_all}
 use Rattle.mpm_mount.proofs.Orders.{entry_total}
-use Rattle.mpm_mount.proofs.InSlots.{sizes_at, passes, in_slot}
+use Rattle.mpm_mount.proofs.InSlots.{sizes_at, in_slot}
 use Rattle.mpm_mount.proofs.NextFound.{there_too, is_sought_pair, next_none, next_found}
 
 -- the name of each entry that a drive has is one of eleven bytes
@@ -58,7 +58,7 @@ same_name : (pattern bytes : List ℕ) → IsUnambiguous pattern → length byte
 same_name pattern bytes one size does =
     ext_get_or 0 (plain bytes) (plain pattern) (plain_size bytes size ∙ sym (plain_size pattern one.size)) (λ k less.
     let h : k < 11 = omega (arith, plain_size bytes size) in
-    let fits : fits_at pattern (plain bytes) k ≡ true = passes (fits_at pattern (plain bytes) k) (λ off. both_ways (does_match pattern (plain bytes)) (misfit pattern (plain bytes) k h off) does) in
+    let fits : fits_at pattern (plain bytes) k ≡ true = true_from_ne_false (fits_at pattern (plain bytes) k) (λ off. both_ways (does_match pattern (plain bytes)) (misfit pattern (plain bytes) k h off) does) in
     plain_again bytes k (omega arith)
     ∙ sym (byte_same (get_or pattern k 0) (get_or (plain bytes) k 0) (one.marks k h) fits)
     ∙ sym (plain_at pattern k (omega (arith, one.size))))
@@ -69,14 +69,9 @@ name_fits pattern bytes one size same =
     same_fits (get_or pattern k 0) (get_or (plain bytes) k 0)
     (sym (plain_at pattern k (omega (arith, one.size))) ∙ sym (ap (λ xs. get_or xs k 0) same) ∙ plain_again bytes k (omega arith)))
 
-same_bools : (a b : Bool) → (a ≡ true → b ≡ true) → (b ≡ true → a ≡ true) → a ≡ b
-same_bools true b one two = sym (one refl)
-same_bools false true one two = two refl
-same_bools false false one two = refl
-
 fits_name : (pattern bytes : List ℕ) → IsUnambiguous pattern → length bytes ≡ 11 → does_match pattern (plain bytes) ≡ bytes_eq (plain bytes) (plain pattern)
 fits_name pattern bytes one size =
-    same_bools (does_match pattern (plain bytes)) (bytes_eq (plain bytes) (plain pattern))
+    same_tests (does_match pattern (plain bytes)) (bytes_eq (plain bytes) (plain pattern))
     (λ does. (bytes_decides (plain bytes) (plain pattern)).1 (same_name pattern bytes one size does))
     (λ same. name_fits pattern bytes one size ((bytes_decides (plain bytes) (plain pattern)).0 same))
 

@@ -1,11 +1,11 @@
 -- What the calls of a device leave of what it tells.
-use Rattle.std.proofs.Common.{◌≡◌, ℕ, ◌+◌, ◌*◌, ◌<◌, ◌≤◌, List, refl, sym, ap, subst, ◌∙◌, arith}
+use Rattle.std.proofs.Common.{◌≡◌, ℕ, ◌+◌, ◌*◌, ◌<◌, List, refl, ap, ◌∙◌, arith}
 use Rattle.std.specs.Prelude.{Option, Some, None, is_some}
 use Rattle.std.proofs.lemmas.Bool.{true≢false}
 use Rattle.mpm_base.specs.declared.kind.Kind.{Kind}
 use Rattle.mpm_base.specs.declared.kind.Kind.TheVariants.{Ibm3740, Hd4, Hd8}
-use Rattle.mpm_blocks.specs.Geometries.{geometry_of, image_sectors, logical_sectors}
-use Rattle.mpm_port.specs.Disks.{Disks, SameDisks, Told, IsInside}
+use Rattle.mpm_blocks.specs.Geometries.{geometry_of, logical_sectors}
+use Rattle.mpm_port.specs.Disks.{Disks, SameDisks, Told}
 use Rattle.mpm_mount.specs.Mounting.{SameDrives}
 
 pub same_told : (told : Option Disks) → Told SameDisks told told
@@ -42,11 +42,3 @@ pub directory_sector : (kind : Kind) (sector : ℕ) → 4 * sector < (geometry_o
 directory_sector Ibm3740 sector h = omega arith
 directory_sector Hd4 sector h = omega arith
 directory_sector Hd8 sector h = omega arith
-
-sector_inside : (kind : Kind) (place : ℕ) → place < image_sectors kind → 128 * place + 128 ≤ (geometry_of kind).bytes
-sector_inside Ibm3740 place h = omega arith
-sector_inside Hd4 place h = omega arith
-sector_inside Hd8 place h = omega arith
-
-pub is_inside : (kind : Kind) (size : Option ℕ) (place : ℕ) → size ≡ Some (geometry_of kind).bytes → place < image_sectors kind → IsInside size place
-is_inside kind size place is h = subst (λ (s : Option ℕ). IsInside s place) (sym is) (sector_inside kind place h)

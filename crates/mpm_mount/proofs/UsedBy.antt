@@ -17,7 +17,7 @@ use Rattle.mpm_mount.specs.Faults.{block_at, has_at, holds, is_outside, is_taken
 use Rattle.mpm_mount.specs.Directories.{is_used, used_blocks}
 use Rattle.mpm_mount.specs.Using.{IsUsedBy, is_of, Claims, clashes}
 use Rattle.mpm_mount.proofs.Ranges.{or_none, any_same, map_same, map_at}
-use Rattle.mpm_mount.proofs.UsedBlocks.{inside_at}
+use Rattle.mpm_mount.proofs.UsedBlocks.{inside_at, claims_none_bit}
 
 pub used_size : (kind : Kind) (entries : List Entry) → length (used_blocks kind entries) ≡ last_block kind + 1
 unfolding used_blocks
@@ -81,16 +81,11 @@ used_behind kind earlier entry before now by so =
     (so.used 0 ∙ or_none (maps.is_used before 0) ∙ used_at kind earlier before 0 by (omega arith) ∙ zero_used kind earlier)
 
 -- an entry that has no blocks
-claims_nothing_bit : (was other : Bool) → was ≡ (was || (other && false))
-claims_nothing_bit true other = refl
-claims_nothing_bit false true = refl
-claims_nothing_bit false false = refl
-
 pub claims_nothing : (kind : Kind) (entry : Entry) (blocks : Blocks) → ((block : ℕ) → holds kind block entry ≡ false) → Claims kind entry blocks blocks
 claims_nothing kind entry blocks none = record {
   kind = refl;
   size = refl;
-  used = λ block. claims_nothing_bit (maps.is_used blocks block) (not (block == 0)) ∙ ap (λ b. maps.is_used blocks block || (not (block == 0) && b)) (sym (none block));
+  used = λ block. claims_none_bit (maps.is_used blocks block) (not (block == 0)) ∙ ap (λ b. maps.is_used blocks block || (not (block == 0) && b)) (sym (none block));
 }
 
 -- what is taken is what was used

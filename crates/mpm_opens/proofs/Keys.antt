@@ -1,8 +1,9 @@
 -- Files are one where their keys are, and which modes exclude each other goes both ways.
-use Rattle.std.proofs.Common.{◌≡◌, ◌∙◌, ℕ, Bool, true, false, ◌==◌, ◌&&◌, List, sym, refl, ap, arith}
+use Rattle.std.proofs.Common.{◌≡◌, ◌∙◌, ℕ, true, ◌==◌, ◌&&◌, List, refl, ap, arith}
 use Rattle.std.specs.Prelude.{bytes_eq}
 use Rattle.std.proofs.lemmas.Bool.Decides.{nat_tests}
 use Rattle.std.proofs.lemmas.Slice.Eq.{bytes_eq-Decides}
+use Rattle.std.specs.Cmp.{both_ways}
 use Rattle.mpm_opens.specs.declared.kinds.FileKey.{FileKey}
 use Rattle.mpm_opens.specs.declared.kinds.Mode.{Mode}
 use Rattle.mpm_opens.specs.declared.kinds.Mode.TheVariants.{Locked, Unlocked, ReadOnly}
@@ -35,14 +36,9 @@ file_is_itself a =
     ∙ ap (λ b. b && bytes_eq a.name a.name) (is_itself a.user) ∙ name
 
 -- a test that follows from one the other way round is it
-one_test : (a b : Bool) → (a ≡ true → b ≡ true) → (b ≡ true → a ≡ true) → a ≡ b
-one_test true b there back = sym (there refl)
-one_test false true there back = back refl
-one_test false false there back = refl
-
 pub same_file_back : (a b : FileKey) → is_same_file a b ≡ is_same_file b a
 same_file_back a b =
-    one_test (is_same_file a b) (is_same_file b a)
+    both_ways (is_same_file a b) (is_same_file b a)
     (λ e. ap (λ x. is_same_file b x) (same_file a b e) ∙ file_is_itself b)
     (λ e. ap (λ x. is_same_file a x) (same_file b a e) ∙ file_is_itself a)
 

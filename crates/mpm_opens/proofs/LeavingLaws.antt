@@ -1,6 +1,6 @@
 -- What is left after a process gives back files, closes one, or frees a record: its own is gone, and all else is as it was.
 use Rattle.std.proofs.Common.{◌≡◌, ◌≢◌, ◌∙◌, ℕ, zero, suc, ◌<◌, ◌≤◌, Bool, true, false, not, ◌==◌, ◌&&◌, if◌then◌else◌, List, [], ◌∷◌, Option, Some, None, length, filter, get_or, set, sym, refl, ap, arith}
-use Rattle.std.specs.Prelude.{IsSome, count_by, nat_lt, option_map}
+use Rattle.std.specs.Prelude.{IsSome, count_by, nat_lt}
 use Rattle.std.specs.List.{find}
 use Rattle.std.proofs.lemmas.Bool.{false≢true}
 use Rattle.std.proofs.lemmas.Bool.Decides.{nat_tests}
@@ -18,6 +18,7 @@ use Rattle.mpm_opens.proofs.Keys.{equal_numbers, is_itself, same_file, file_is_i
 use Rattle.mpm_opens.proofs.Listing.{both, some_same, count_set, count_filter, counts_where_any, find_kept, found_counts, not_found_where_none, none_where_not_found}
 use Rattle.mpm_opens.proofs.ItemLaws.{at_same, at_other, stands_within, place_left}
 use Rattle.mpm_opens.proofs.OpeningLaws.{live_stands}
+use Rattle.mpm_opens.proofs.LockLaws.{whose}
 
 -- what is found and isn't left leaves fewer that pass
 dropped_step : {X : Type 0} (test keep : X → Bool) (x y : X) (ys : List X) (a b : Bool) → test y ≡ a → keep y ≡ b → keep x ≡ false
@@ -57,9 +58,6 @@ no_owner p true = refl
 no_owner p false = refl
 
 -- a process's locks that pass a test are given back, one that says of each lock on a record whether it leaves
-abbrev whose : Option RecordLock → Option ℕ
-whose lock = option_map (λ l. l.owner) lock
-
 owner_without : (on keep : RecordLock → Bool) (locks : List RecordLock) (p : ℕ) (leaves : Bool) → count_by on locks ≤ 1
     → ((lock : RecordLock) → on lock ≡ true → keep lock ≡ not ((lock.owner == p) && leaves))
     → whose (find on (filter keep locks)) ≡ owner_left leaves p (whose (find on locks))

@@ -130,7 +130,8 @@ owners_had locks p file number other n has = by_test (is_record file number othe
         ap (λ f. owner_of locks f n) (same.0) ∙ ap (owner_of locks file) (same.1) ∙ has
     by_test false e = refl
 
-abbrev whose : Option RecordLock → Option ℕ
+-- the process that owns a lock, if there is one
+abbrev pub whose : Option RecordLock → Option ℕ
 whose lock = option_map (λ l. l.owner) lock
 
 abbrev new_lock : ℕ → FileKey → ℕ → RecordLock

@@ -1,5 +1,5 @@
 -- The drives over memory.
-use Rattle.std.specs.Prelude.{◌≡◌, ◌≢◌, ℕ, List, [], Option, Some, None, IsSomeAnd, option_map, unwrap_or, is_some, not, Bool, ◌||◌, if◌then◌else◌, length, Result, Ok, Err, IfSome}
+use Rattle.std.specs.Prelude.{◌≡◌, ◌≢◌, ℕ, false, true, List, [], replicate, slice_set, slice_index_or, Option, Some, None, IsSomeAnd, option_map, unwrap_or, is_some, not, Bool, ◌||◌, if◌then◌else◌, length, Result, Ok, Err, IfSome}
 use Rattle.std.proofs.Common.{ap, subst}
 use Rattle.mpm_port.specs.Calls.{Calls, one_more, next_is_listed, after_call, listing}
 use Rattle.mpm_port.specs.Causes.{names_with}
@@ -9,22 +9,31 @@ use Rattle.mpm_port.specs.declared.named.Named.{Named}
 use Rattle.mpm_port.specs.declared.links.Link.{Link}
 use Rattle.mpm_port.specs.declared.files.FetchError.{FetchError}
 
--- the images, the attached drives, the names on which attach answered that it failed, oldest first, the calls, and the
--- count of faults
+-- the images, the attached drives, the names on which attach answered that it failed, oldest first, the calls, the count of
+-- faults, and of each drive by its number whether a write to it was asked for since it was last attached or synced
 pub record MemoryDisks : Type 0 where
   pub images : List Named
   pub links : List Link
   pub failed : List (List ℕ)
   pub calls : Calls
   pub faults : ℕ
+  pub unsynced : List Bool
+
+-- no write was asked for, to none of the 256 drives
+unfoldable pub none_unsynced : List Bool
+none_unsynced = replicate 256 false
 
 -- no image is there, and no drive is attached
 abbrev pub no_disks : MemoryDisks
-no_disks = record { images = []; links = []; failed = []; calls = record { done = 0; failing = [] }; faults = 0 }
+no_disks = record { images = []; links = []; failed = []; calls = record { done = 0; failing = [] }; faults = 0; unsynced = none_unsynced }
 
 -- the images by their names, and the name that each attached drive was attached by
 abbrev pub disks_of : MemoryDisks → Disks
 disks_of table = record { image = contents_of table.images; name_of = name_of_drive table.links }
+
+-- whether a write to a drive was asked for since it was last attached or synced
+abbrev pub is_unsynced : MemoryDisks → ℕ → Bool
+is_unsynced table drive = slice_index_or table.unsynced drive false
 
 -- the size of an attached drive: attached images do not change their size
 abbrev pub size_of : MemoryDisks → ℕ → Option ℕ
@@ -59,7 +68,7 @@ attach_fails table name = next_is_listed table.calls || not (is_some (contents_o
 -- after an attach with this answer
 unfoldable pub after_attach : {A : Type 0} → MemoryDisks → ℕ → List ℕ → Result A FetchError → MemoryDisks
 after_attach table drive name (Ok _) =
-    record table { links = with_drive table.links drive name; calls = after_call table.calls }
+    record table { links = with_drive table.links drive name; calls = after_call table.calls; unsynced = slice_set table.unsynced drive false }
 after_attach table drive name (Err refusal) =
     record table { failed = names_with table.failed name refusal; calls = after_call table.calls }
 
@@ -75,8 +84,18 @@ unfoldable pub images_with_sector : MemoryDisks → ℕ → ℕ → List ℕ →
 images_with_sector table drive sector bytes =
     with_contents table.images (unwrap_or (name_of_drive table.links drive) []) (with_sector (unwrap_or (image_of (disks_of table) drive) []) sector bytes)
 
+-- a write to a drive is asked for
+abbrev pub asking_write : MemoryDisks → ℕ → MemoryDisks
+asking_write table drive = record table { unsynced = slice_set table.unsynced drive true }
+
 -- after a write to a sector of an attached drive: where its number is listed it fails and writes nothing
 unfoldable pub after_write : MemoryDisks → ℕ → ℕ → List ℕ → MemoryDisks
 after_write table drive sector bytes = if next_is_listed table.calls
+    then after_access (asking_write table drive)
+    else record (after_access (asking_write table drive)) { images = images_with_sector table drive sector bytes }
+
+-- after a sync of an attached drive: where its number is listed it fails
+unfoldable pub after_sync : MemoryDisks → ℕ → MemoryDisks
+after_sync table drive = if next_is_listed table.calls
     then after_access table
-    else record (after_access table) { images = images_with_sector table drive sector bytes }
+    else record (after_access table) { unsynced = slice_set table.unsynced drive false }

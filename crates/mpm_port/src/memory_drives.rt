@@ -1,8 +1,8 @@
-ghost use Rattle.std.specs.Prelude.{◌≡◌, ◌≢◌, ◌⊎◌, ◌↔◌, ◌≤◌, ℕ, false, List, Some, IsSome, IfSome, IfOk, OnOk, OnErr, Err, is_ok, IsErr, IsTrue, IsOk, if◌then◌else◌};
+ghost use Rattle.std.specs.Prelude.{◌≡◌, ◌≢◌, ◌⊎◌, ◌↔◌, ◌≤◌, ℕ, true, false, List, Some, IsSome, IfSome, IfOk, OnOk, OnErr, Err, is_ok, IsErr, IsTrue, IsOk, if◌then◌else◌};
 ghost use Rattle.mpm_port.specs.Calls.{next_is_listed};
 ghost use Rattle.mpm_port.specs.Causes.{HasCause, Rose, names_after};
 ghost use Rattle.mpm_port.specs.Disks.{IsInside, SameDisks, Attaches, Writes, Told, image_of, sector_of};
-ghost use Rattle.mpm_port.specs.MemoryDisks.{no_disks, disks_of, size_of, IsFree, with_image, listing_call, attach_fails, after_attach, after_access, after_write, sizes_told};
+ghost use Rattle.mpm_port.specs.MemoryDisks.{no_disks, disks_of, size_of, is_unsynced, IsFree, with_image, listing_call, attach_fails, after_attach, after_access, after_write, after_sync, sizes_told};
 ghost use Rattle.mpm_port.specs.Named.{contents_of};
 
 use crate::calls::Schedule;
@@ -23,6 +23,7 @@ pub struct MemoryDrives {
     failed: FailedNames,
     calls: Schedule,
     faults: u64,
+    unsynced: [bool; 256],
 }
 
 impl Model for MemoryDrives {
@@ -30,12 +31,12 @@ impl Model for MemoryDrives {
 
     ghost Value = { MemoryDisks };
 
-    ghost view = { λ d. record { images = d.images; links = d.links; failed = d.failed; calls = d.calls; faults = d.faults } };
+    ghost view = { λ d. record { images = d.images; links = d.links; failed = d.failed; calls = d.calls; faults = d.faults; unsynced = d.unsynced } };
 }
 
 impl MemoryDrives {
     /// No image is there, no drive is attached, and no call is to fail.
-    #[tactic(auto, using(crate::proofs::Shelves::no_name))]
+    #[tactic(auto, using(crate::proofs::Shelves::no_name), unfolding(crate::specs::MemoryDisks::none_unsynced))]
     pub fn new(alloc: Global) -> MemoryDrives
         ensures empty { result ≡ no_disks }
         ensures free { (name : List ℕ) → IsFree result name }
@@ -46,6 +47,7 @@ impl MemoryDrives {
             failed: FailedNames::new(alloc),
             calls: Schedule::new(alloc),
             faults: 0,
+            unsynced: [false; 256],
         }
     }
 
@@ -78,6 +80,7 @@ impl MemoryDrives {
         ensures names { self.new.failed ≡ self.old.failed }
         ensures images { self.new.images ≡ self.old.images }
         ensures links { self.new.links ≡ self.old.links }
+        ensures unsynced { self.new.unsynced ≡ self.old.unsynced }
     {
         let listed = self.calls.begin();
         if listed {
@@ -106,13 +109,15 @@ impl Drives for MemoryDrives {
 
     ghost disks = { λ d. Some (disks_of d) };
 
+    ghost unsynced = { is_unsynced };
+
     ghost faults = { λ d. d.faults };
 
     ghost failed_names = { λ d. d.failed };
 
     ghost sizes = { sizes_told };
 
-    #[tactic(auto, using(crate::proofs::Shelves::name_of_here, crate::proofs::Shelves::name_of_other), unfolding(crate::specs::MemoryDisks::after_attach, crate::specs::MemoryDisks::attach_fails))]
+    #[tactic(auto, using(crate::proofs::Shelves::name_of_here, crate::proofs::Shelves::name_of_other, crate::proofs::Flags::flag_here, crate::proofs::Flags::flag_other), unfolding(crate::specs::MemoryDisks::after_attach, crate::specs::MemoryDisks::attach_fails))]
     fn attach(&mut self, drive: u8, name: &str) -> Result<(), FetchError>
         ensures after { self.new ≡ after_attach self.old drive name.now result }
         ensures failed { result ≡ Err FetchError.Failed → IsTrue (attach_fails self.old name.now) }
@@ -124,13 +129,19 @@ impl Drives for MemoryDrives {
         ensures disks { OnOk result (Told (Attaches drive name.now (size_of self.new drive)) (Some (disks_of self.old)) (Some (disks_of self.new))) }
         ensures err { OnErr result (size_of self.new drive ≡ size_of self.old drive) }
         ensures same { OnErr result (Told SameDisks (Some (disks_of self.old)) (Some (disks_of self.new))) }
+        ensures fresh { OnOk result (is_unsynced self.new drive ≡ false) }
+        ensures unsynced { OnErr result (is_unsynced self.new drive ≡ is_unsynced self.old drive) }
+        ensures beside { (other : ℕ) → other ≢ drive → is_unsynced self.new other ≡ is_unsynced self.old other }
     {
         let listed = self.calls.begin();
         if listed || self.images.get(name.as_bytes()).is_none() {
             return Err(self.failed.refuse(name));
         }
         match self.links.set(drive, name.as_bytes()) {
-            Ok(()) => Ok(()),
+            Ok(()) => {
+                self.unsynced[usize::from(drive)] = false;
+                Ok(())
+            }
             Err(_) => Err(FetchError::OutOfMemory),
         }
     }
@@ -144,6 +155,7 @@ impl Drives for MemoryDrives {
         ensures names { self.new.failed ≡ self.old.failed }
         ensures drives { (other : ℕ) → size_of self.new other ≡ size_of self.old other }
         ensures disks { Told SameDisks (Some (disks_of self.old)) (Some (disks_of self.new)) }
+        ensures unsynced { (other : ℕ) → is_unsynced self.new other ≡ is_unsynced self.old other }
     {
         if self.is_failing() {
             return Err(Failed);
@@ -162,6 +174,7 @@ impl Drives for MemoryDrives {
         ensures names { self.new.failed ≡ self.old.failed }
         ensures drives { (other : ℕ) → size_of self.new other ≡ size_of self.old other }
         ensures disks { Told SameDisks (Some (disks_of self.old)) (Some (disks_of self.new)) }
+        ensures unsynced { (other : ℕ) → is_unsynced self.new other ≡ is_unsynced self.old other }
     {
         if self.is_failing() {
             return Err(Failed);
@@ -171,7 +184,7 @@ impl Drives for MemoryDrives {
         Ok(())
     }
 
-    #[tactic(auto, using(crate::proofs::Shelves::sizes_kept), unfolding(crate::specs::MemoryDisks::after_write, crate::specs::MemoryDisks::after_access, crate::specs::MemoryDisks::images_with_sector))]
+    #[tactic(auto, using(crate::proofs::Shelves::sizes_kept, crate::proofs::Flags::flag_here, crate::proofs::Flags::flag_other), unfolding(crate::specs::MemoryDisks::after_write, crate::specs::MemoryDisks::after_access, crate::specs::MemoryDisks::images_with_sector))]
     fn write(&mut self, drive: u8, sector: u32, bytes: &[u8; 128]) -> Result<(), Failed>
         requires { IsInside (size_of self.old drive) sector }
         ensures after { self.new ≡ after_write self.old drive sector bytes.now }
@@ -182,7 +195,10 @@ impl Drives for MemoryDrives {
         ensures cause { HasCause self.old.faults self.new.faults result }
         ensures names { self.new.failed ≡ self.old.failed }
         ensures drives { (other : ℕ) → size_of self.new other ≡ size_of self.old other }
+        ensures unsynced { is_unsynced self.new drive ≡ true }
+        ensures beside { (other : ℕ) → other ≢ drive → is_unsynced self.new other ≡ is_unsynced self.old other }
     {
+        self.unsynced[usize::from(drive)] = true;
         if self.is_failing() {
             return Err(Failed);
         }
@@ -193,20 +209,23 @@ impl Drives for MemoryDrives {
         Ok(())
     }
 
+    #[tactic(auto, using(crate::proofs::Flags::flag_here, crate::proofs::Flags::flag_other), unfolding(crate::specs::MemoryDisks::after_sync, crate::specs::MemoryDisks::after_access))]
     fn sync(&mut self, drive: u8) -> Result<(), Failed>
         requires { IsSome (size_of self.old drive) }
-        ensures after { self.new ≡ after_access self.old }
+        ensures after { self.new ≡ after_sync self.old drive }
         ensures fails { IsErr result ↔ IsTrue (next_is_listed self.old.calls) }
         ensures cause { HasCause self.old.faults self.new.faults result }
         ensures names { self.new.failed ≡ self.old.failed }
         ensures drives { (other : ℕ) → size_of self.new other ≡ size_of self.old other }
         ensures disks { Told SameDisks (Some (disks_of self.old)) (Some (disks_of self.new)) }
+        ensures synced { OnOk result (is_unsynced self.new drive ≡ false) }
+        ensures unsynced { OnErr result (is_unsynced self.new drive ≡ is_unsynced self.old drive) }
+        ensures beside { (other : ℕ) → other ≢ drive → is_unsynced self.new other ≡ is_unsynced self.old other }
     {
-        let _ = drive;
         if self.is_failing() {
-            Err(Failed)
-        } else {
-            Ok(())
+            return Err(Failed);
         }
+        self.unsynced[usize::from(drive)] = false;
+        Ok(())
     }
 }

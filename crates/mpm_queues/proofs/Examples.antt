@@ -1,9 +1,9 @@
 -- Worked examples, by computation.
 use Rattle.std.proofs.Common.{◌≡◌, ℕ, [], ◌∷◌, ◌++◌, Some, None, refl}
-use Rattle.mpm_base.specs.Lists.{zeros}
+use Rattle.mpm_base.specs.Lists.{zeros, in_width}
 use Rattle.mpm_base.specs.Calls.{no_call}
 use Rattle.mpm_base.specs.declared.number.Name8.{Name8}
-use Rattle.mpm_queues.specs.Queue.{Queue, first_message, read_by, held_by, shortened, with_message, message_of, in_width}
+use Rattle.mpm_queues.specs.Queue.{Queue, first_message, read_by, held_by, shortened, with_message, message_of}
 use Rattle.mpm_queues.specs.Queues.{no_queues, make_error, lowest}
 use Rattle.mpm_queues.specs.declared.queues.MakeRefused.TheVariants.{NoQueueRoom, BadCount}
 

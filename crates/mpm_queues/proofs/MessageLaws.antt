@@ -8,8 +8,10 @@ use Rattle.std.proofs.lemmas.Bool.Decides.{nat_tests}
 use Rattle.std.specs.List.{AllByRecursion}
 use Rattle.std.proofs.lemmas.List.{take-append-le, drop-append-le, length-drop, length-take, length-append, length-replicate, take-replicate, take-take, append-nil, append_assoc, take_all, drop_all}
 use Rattle.circular_buffer.specs.Buffer.{Buffer, buffer}
+use Rattle.mpm_base.specs.Lists.{in_width}
 use Rattle.mpm_base.specs.declared.number.Name8.{Name8}
-use Rattle.mpm_queues.specs.Queue.{shortened, first_message, with_message, in_width}
+use Rattle.mpm_base.proofs.Widths.{length_in_width}
+use Rattle.mpm_queues.specs.Queue.{shortened, first_message, with_message}
 use Rattle.mpm_queues.specs.Messages.{parted, queue_of, IsStore}
 
 -- as many as are counted
@@ -131,12 +133,6 @@ room_for width count stored bytes store some =
     let few = store.few in
     let capacity = store.capacity in
     omega arith
-
-pub length_in_width : (width : ℕ) (bytes : List ℕ) → length (in_width width bytes) ≡ width
-unfolding in_width
-length_in_width width bytes =
-    let both : length (in_width width bytes) ≡ length (take width bytes) + length (replicate {A = ℕ} (width - length bytes) 0) = length-append (take width bytes) (replicate (width - length bytes) 0) in
-    omega (arith, length-take width bytes, length-replicate {A = ℕ} (width - length bytes) 0)
 
 pub store_longer : (width count stored : ℕ) (bytes new : Buffer ℕ) (message : List ℕ) → IsStore width count stored bytes → stored < count → new ≡ buffer (bytes.items ++ in_width width message) bytes.capacity → IsStore width count (stored + 1) new
 store_longer width count stored bytes new message store some is =

@@ -5,8 +5,8 @@ use Rattle.std.proofs.lemmas.Bool.Decides.{nat_tests}
 use Rattle.std.proofs.lemmas.List.{length-append, length-drop}
 use Rattle.mpm_base.specs.Calls.{Taken}
 use Rattle.mpm_base.specs.declared.number.Name8.{Name8}
+use Rattle.mpm_base.proofs.Widths.{length_in_width}
 use Rattle.mpm_queues.specs.Queue.{Queue, new_queue, no_queue, is_drained, is_full, is_exclusive, first_message, held_by, shortened, read_by, with_message, message_of, IsProper}
-use Rattle.mpm_queues.proofs.MessageLaws.{length_in_width}
 
 -- a message has its queue's length
 pub length_message : (width : ℕ) (call : Taken) → length (message_of width call) ≡ width

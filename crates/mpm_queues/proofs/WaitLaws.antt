@@ -1,8 +1,8 @@
 -- Who waits after each call: only its own process, and the one whose wait it ends, come to wait or cease to. And who holds a
 -- message.
-use Rattle.std.proofs.Common.{◌≡◌, ◌≢◌, ◌∙◌, ℕ, ◌+◌, ◌<◌, Bool, true, false, not, cond, List, Option, Some, None, ◌&&◌, ◌||◌, ◌⊎◌, inl, inr, refl, sym, ap, subst, arith}
+use Rattle.std.proofs.Common.{◌≡◌, ◌≢◌, ◌∙◌, ℕ, ◌+◌, ◌<◌, Bool, true, false, not, cond, List, Option, Some, None, ◌&&◌, inl, inr, refl, sym, ap, subst, arith}
 use Rattle.std.specs.Option.{option_map_or}
-use Rattle.std.proofs.lemmas.Bool.{false≢true, cases_Bool, cases_eq, ne_eqb}
+use Rattle.std.proofs.lemmas.Bool.{false≢true, cases_Bool, cases_eq, ne_eqb, or_cases}
 use Rattle.mpm_base.specs.declared.number.Name8.{Name8}
 use Rattle.mpm_ready.specs.Order.{Member, in_list}
 use Rattle.mpm_ready.specs.Tables.{list_of, removed, IsTable}
@@ -23,7 +23,8 @@ pub waits_nowhere : (t : Queues) (p : ℕ) → WaitsNowhere t p → waits t p �
 unfolding waits
 waits_nowhere t p none = ap one_at none
 
-none_of : (o : Option ℕ) → one_at o ≡ 0 → o ≡ None
+-- who is at no list is at none
+pub none_of : (o : Option ℕ) → one_at o ≡ 0 → o ≡ None
 none_of None is = refl
 none_of (Some list) is = absurd (omega (arith, is))
 
@@ -36,18 +37,14 @@ unfolding waits
 one_of t p list is = ap one_at is
 
 -- who waits at a queue waits at one, has a number below 32, and waits at no other
-either : (a b : Bool) → (a || b) ≡ true → (a ≡ true) ⊎ (b ≡ true)
-either true b h = inl refl
-either false b h = inr h
-
 pub waits_one : (t : Queues) (q p : ℕ) → IsSound t → waits_at t q p ≡ true → waits t p ≡ 1
-waits_one t q p sound there = elim (either (in_list p (readers_of t q)) (in_list p (writers_of t q)) there) [
+waits_one t q p sound there = elim (or_cases (in_list p (readers_of t q)) (in_list p (writers_of t q)) there) [
   | inl reads ↦ one_of t p q (list_of_known t.waiters p q sound.table reads)
   | inr writes ↦ one_of t p (32 + q) (list_of_known t.waiters p (32 + q) sound.table writes)
 ]
 
 pub waiter_below : (t : Queues) (q p : ℕ) → IsSound t → waits_at t q p ≡ true → p < 32
-waiter_below t q p sound there = elim (either (in_list p (readers_of t q)) (in_list p (writers_of t q)) there) [
+waiter_below t q p sound there = elim (or_cases (in_list p (readers_of t q)) (in_list p (writers_of t q)) there) [
   | inl reads ↦ slot_has (λ s. s < 32) (readers_of t q) p (sound.table.slots q) reads
   | inr writes ↦ slot_has (λ s. s < 32) (writers_of t q) p (sound.table.slots (32 + q)) writes
 ]

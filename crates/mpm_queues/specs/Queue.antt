@@ -1,7 +1,8 @@
 -- One message queue. (MP/M II Programmer's Guide, "Function 134: Make Queue", "Function 137: Read Queue", "Function 139:
 -- Write Queue", "Mutual Exclusion Queues".)
-use Rattle.std.specs.Prelude.{◌≡◌, ℕ, ◌-◌, ◌*◌, ◌≤◌, Bool, true, List, [], ◌∷◌, ◌++◌, Option, Some, None, ◌&&◌, ◌==◌, length, take, drop, replicate, slice_index, slice_index_or, if◌then◌else◌}
+use Rattle.std.specs.Prelude.{◌≡◌, ℕ, ◌*◌, ◌≤◌, Bool, true, List, [], ◌∷◌, ◌++◌, Option, Some, None, ◌&&◌, ◌==◌, length, drop, replicate, slice_index, slice_index_or, if◌then◌else◌}
 use Rattle.std.specs.List.{AllByRecursion}
+use Rattle.mpm_base.specs.Lists.{in_width}
 use Rattle.mpm_base.specs.Calls.{Taken}
 use Rattle.mpm_base.specs.declared.number.Name8.{Name8}
 
@@ -54,10 +55,6 @@ read_by p queue = held_by p (shortened queue)
 -- a message is written: it goes in last, and nobody holds it
 unfoldable pub with_message : List ℕ → Queue → Queue
 with_message message queue = record queue { messages = queue.messages ++ message ∷ []; holder = None }
-
--- so many bytes: the first of those that are there, and zeros for those that lack
-unfoldable pub in_width : ℕ → List ℕ → List ℕ
-in_width width bytes = take width bytes ++ replicate (width - length bytes) 0
 
 -- where a message stands in the bytes of a call: behind its user queue control block of twelve bytes
 abbrev pub block_size : ℕ

@@ -1,6 +1,7 @@
 ghost use Rattle.std.specs.Prelude.{◌≡◌, ◌+◌, ◌*◌, ◌≤◌, ◌++◌, Some, None, false, length, drop, replicate, IfOk};
 ghost use Rattle.circular_buffer.specs.Buffer.{buffer};
-ghost use Rattle.mpm_queues.specs.Queue.{no_queue, new_queue, is_drained, is_full, is_exclusive, first_message, shortened, held_by, read_by, with_message, in_width, message_of, with_given, block_size};
+ghost use Rattle.mpm_base.specs.Lists.{in_width};
+ghost use Rattle.mpm_queues.specs.Queue.{no_queue, new_queue, is_drained, is_full, is_exclusive, first_message, shortened, held_by, read_by, with_message, message_of, with_given, block_size};
 
 use crate::OutOfMemory;
 use crate::blocks::BLOCK_SIZE;
@@ -203,7 +204,7 @@ fn behind_block(call: &Call) -> &[u8]
 }
 
 /// Keeps of a call's bytes the twelve of its user queue control block alone.
-#[tactic(auto, unfolding(crate::specs::Queue::in_width))]
+#[tactic(auto, unfolding(mpm_base::specs::Lists::in_width))]
 fn keep_block(call: &mut Call)
     ensures { call.new ≡ record call.old { bytes = in_width block_size call.old.bytes } }
 {
@@ -213,7 +214,7 @@ fn keep_block(call: &mut Call)
 }
 
 /// Puts a message of so many bytes behind the others: what is there of it, and zeros for what lacks.
-#[tactic(auto, unfolding(crate::specs::Queue::in_width))]
+#[tactic(auto, unfolding(mpm_base::specs::Lists::in_width))]
 fn append(bytes: &mut HeapCircularBuffer<u8>, message: &[u8], width: usize)
     requires { length bytes.old.items + width ≤ bytes.old.capacity }
     ensures { bytes.new ≡ buffer (bytes.old.items ++ in_width width message.now) bytes.old.capacity }

@@ -184,7 +184,8 @@ list_of_inserted_other lists list member slot table below small none apart =
       | inr found ↦ list_of_known (inserted lists list member) slot found.0 (table_inserted lists list member table below small none) (same found.0 ∙ in_its_list lists slot found.0 found.1) ∙ sym found.1
     ]
 
-not_itself : (b x : Bool) → b ≡ true → (not b && x) ≡ false
+-- a test that asks for something not to be so fails where it is
+pub not_itself : (b x : Bool) → b ≡ true → (not b && x) ≡ false
 not_itself true x h = refl
 not_itself false x h = absurd (false≢true h)
 

@@ -1,8 +1,9 @@
 -- What a line means that is typed at a terminal. (MP/M II User's Guide, "Terminal Message Processor"; Programmer's Guide,
 -- "Function 150: Send CLI Command".)
-use Rattle.std.specs.Prelude.{ℕ, ◌-◌, ◌<◌, Bool, not, ◌==◌, ◌&&◌, ◌||◌, if◌then◌else◌, List, length, take, drop, map, slice_index, position, take_while, bytes_eq, codes, decimal, Option, Some, None}
+use Rattle.std.specs.Prelude.{ℕ, ◌-◌, ◌<◌, Bool, not, ◌==◌, ◌&&◌, if◌then◌else◌, List, length, take, drop, map, slice_index, position, take_while, bytes_eq, codes, decimal, Option, Some, None}
 use Rattle.std.specs.Char.{is_ascii_alphabetic, to_ascii_uppercase, to_ascii_lowercase}
 use Rattle.std.specs.List.{range_with_len, prefix_len, suffix_len}
+use Rattle.mpm_base.specs.Texts.{ends_text}
 use Rattle.mpm_residents.specs.declared.line.LineForm.{LineForm}
 use Rattle.mpm_residents.specs.declared.line.LineForm.TheVariants.{Empty, Drive, User, Command}
 
@@ -60,9 +61,9 @@ IsForm (Drive drive) = drive < 26
 IsForm (User user) = user < 16
 IsForm _ = Unit {0}
 
--- 00h and CR end the text of a command
+-- the text of a command goes on with a byte
 abbrev pub is_text : ℕ → Bool
-is_text byte = not (byte == 0 || byte == 13)
+is_text byte = not (ends_text byte)
 
 unfoldable pub command_text : List ℕ → List ℕ
 command_text line = take_while is_text (stripped line)

@@ -3,8 +3,7 @@
 -- Command", "Function 9: Print String", "Function 10: Read Console Buffer", "Function 14: Select Disk", "Function 32: Set/Get
 -- User Code".)
 use Rattle.std.specs.Prelude.{ℕ, ◌+◌, ◌*◌, ◌%◌, ◌<◌, ◌==◌, if◌then◌else◌, List, [], ◌∷◌, ◌++◌, take, drop, slice_index_or, codes, decimal}
-use Rattle.mpm_base.specs.Lists.{zeros}
-use Rattle.mpm_base.specs.Calls.{Taken, Answer}
+use Rattle.mpm_base.specs.Calls.{Taken, Answer, asking}
 use Rattle.mpm_base.specs.declared.functions.TheConstants.{CONSOLE_OUTPUT, PRINT_STRING, READ_CONSOLE_BUFFER, SELECT_DISK, SET_GET_USER_CODE, ATTACH_CONSOLE, SEND_CLI_COMMAND}
 use Rattle.mpm_residents.specs.Lines.{form_of, command_text}
 use Rattle.mpm_residents.specs.declared.line.LineForm.{LineForm}
@@ -23,10 +22,6 @@ pub record Terminal : Type 0 where
 -- it begins as user 0 on drive A
 unfoldable pub opening : ℕ → Terminal
 opening console = record { console = console; user = 0; drive = 0; row = Attach; line = [] }
-
--- a call by its function, its parameter, and its bytes
-abbrev pub asking : ℕ → ℕ → List ℕ → Taken
-asking function word bytes = record { function = function; word = word; dma = 0; fcb = zeros 36; bytes = bytes }
 
 -- the user's number, the drive's letter and `>`
 abbrev pub prompt : Terminal → List ℕ

@@ -4,6 +4,7 @@ ghost use Rattle.mpm_residents.specs.Lines.{is_space, without_front as without_l
 ghost use Rattle.mpm_residents.specs.Terminals.{row_after as row_of};
 
 use itoa::Buffer;
+use mpm_base::ends_text;
 
 /// What a line asks for.
 #[derive(Clone, Copy, Debug, PartialEq, Eq)]
@@ -57,7 +58,7 @@ fn text_length(text: &[u8]) -> usize
     ensures within { result ≤ length text.now }
 {
     for (place, byte) in text.iter().enumerate() {
-        if *byte == 0 || *byte == b'\r' {
+        if ends_text(*byte) {
             return place;
         }
     }

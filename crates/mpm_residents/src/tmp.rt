@@ -61,7 +61,8 @@ impl Tmp {
     ghost use Rattle.std.specs.Prelude.{◌≡◌, ◌≤◌};
     ghost use Rattle.mpm_base.specs.declared.functions.TheConstants.{PRINT_STRING, SEND_CLI_COMMAND};
     ghost use Rattle.mpm_residents.specs.Lines.{form_of};
-    ghost use Rattle.mpm_residents.specs.Terminals.{opening, asking, prompt, command_of, next_call, took as behind, line_in, row_after as row_of, IsRow};
+    ghost use Rattle.mpm_base.specs.Calls.{asking};
+    ghost use Rattle.mpm_residents.specs.Terminals.{opening, prompt, command_of, next_call, took as behind, line_in, row_after as row_of, IsRow};
 
     /// The processor of a console: user 0 on drive A, and no console attached yet.
     #[tactic(auto, unfolding(crate::specs::Terminals::opening))]

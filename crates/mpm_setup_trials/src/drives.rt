@@ -156,10 +156,11 @@ fn the_first_drive_that_cannot_be_mounted_is_told(rt: HostRuntime) -> Result<(),
 struct Noting {
     synced: [u8; 4],
     count: usize,
+    unsynced: [bool; 256],
 }
 
 impl Drives for Noting {
-    ghost use Rattle.std.specs.Prelude.{◌≡◌, ℕ, List, [], Option, Some, None, IfSome};
+    ghost use Rattle.std.specs.Prelude.{◌≡◌, ℕ, false, List, [], Option, Some, None, IfSome, slice_index_or};
     ghost use Rattle.std.proofs.Common.{subst};
     ghost use Rattle.mpm_port.specs.Disks.{Disks};
 
@@ -167,13 +168,16 @@ impl Drives for Noting {
 
     ghost disks = { λ _. None };
 
+    ghost unsynced = { λ d drive. slice_index_or d.unsynced drive false };
+
     ghost faults = { λ _. 0 };
 
     ghost failed_names = { λ _. [] };
 
     ghost sizes = { λ _ _ _ _ told size. absurd (subst (λ (disks : Option Disks). IfSome disks (λ _. ⊥)) told tt) };
 
-    fn attach(&mut self, _drive: u8, _name: &str) -> Result<(), FetchError> {
+    fn attach(&mut self, drive: u8, _name: &str) -> Result<(), FetchError> {
+        self.unsynced[usize::from(drive)] = false;
         Ok(())
     }
 
@@ -186,11 +190,13 @@ impl Drives for Noting {
         Ok(())
     }
 
-    fn write(&mut self, _drive: u8, _sector: u32, _bytes: &[u8; 128]) -> Result<(), Failed> {
+    fn write(&mut self, drive: u8, _sector: u32, _bytes: &[u8; 128]) -> Result<(), Failed> {
+        self.unsynced[usize::from(drive)] = true;
         Ok(())
     }
 
     fn sync(&mut self, drive: u8) -> Result<(), Failed> {
+        self.unsynced[usize::from(drive)] = false;
         if self.count < 4 {
             self.synced[self.count] = drive;
             self.count += 1;
@@ -205,6 +211,7 @@ fn each_drive_is_synced_once_by_letter(rt: HostRuntime) -> Result<(), Fail> {
     let mut drives = Noting {
         synced: [0xFF; 4],
         count: 0,
+        unsynced: [false; 256],
     };
     assert_eq!(rt; mount(rt.alloc(), &file, &mut drives), Ending::Synced);
     assert_eq!(rt; drives.synced, [0, 2, 0xFF, 0xFF]);

@@ -25,7 +25,7 @@ use Rattle.mpm_machine.specs.Files.{StandsBetween}
 use Rattle.mpm_machine.specs.Mounting.{HasMounted, HasDrives, HasNoDrive, untouched}
 use Rattle.mpm_machine.proofs.MountedLaws.{none_mounted}
 use Rattle.mpm_machine.proofs.DriveLaws.{nothing_mounted}
-use Rattle.mpm_machine.proofs.SettlingLaws.{stands_idle}
+use Rattle.mpm_machine.proofs.TurnLaws.{stands_idle}
 use Rattle.mpm_top.proofs.Placing.{mounted_stand, none_on, none_stand}
 use Rattle.mpm_drives.specs.Stopping.{Failures, StopsAt, IsFirst, Stops}
 use Rattle.mpm_top.specs.Runs.{Host, Failed, system_of, script_name, drives_listed, begun, input_of, Holds, Scripted, Starts, StartsOf, Begins, BeginsOf, Unread, LacksScript, LacksDrive, Ends, EndsAfter, IsNoMachine, IsRefusal, IsEarly, status_of, UnlessDiskFault}

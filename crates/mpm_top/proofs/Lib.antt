@@ -4,6 +4,7 @@ pub mod Examples
 pub mod EndingLaws
 pub mod Placing
 pub mod Naming
+pub mod Syncing
 pub mod DataLaws
 pub mod SeedFiles
 pub mod SeedImages

@@ -1,5 +1,5 @@
 -- Laws of a run from its beginning to its end.
-use Rattle.std.proofs.Common.{◌≡◌, ◌∙◌, ◌<◌, ◌≤◌, ◌-◌, ℕ, zero, suc, Bool, List, [], ◌∷◌, ◌++◌, length, Option, Some, None, Result, Ok, Err, refl, sym, ap, subst, inl, inr, arith}
+use Rattle.std.proofs.Common.{◌≡◌, ◌∙◌, ◌<◌, ◌≤◌, ◌-◌, ℕ, zero, suc, Bool, List, [], ◌∷◌, ◌++◌, length, Option, Result, Ok, Err, refl, sym, ap, subst, inl, inr, arith}
 use Rattle.std.specs.Prelude.{OnOk, OnErr}
 use Rattle.std.proofs.lemmas.List.{append-nil}
 use Rattle.mpm_port.specs.Causes.{Rose, HasCause}
@@ -16,10 +16,9 @@ use Rattle.mpm_machine.specs.declared.machine.Machine.{Machine}
 use Rattle.mpm_machine.specs.declared.machine.StepFault.{StepFault}
 use Rattle.mpm_machine.specs.declared.machine.StepFault.TheVariants.{WriteFault as SinkFailed, DiskFault as SyncFailed}
 use Rattle.mpm_machine.specs.Faults.{Counts, HasFailed}
-use Rattle.mpm_machine.specs.State.{State, Change, StandsWithDrives, silent}
-use Rattle.mpm_machine.specs.Files.{Between, StandsForFiles, drives_in}
+use Rattle.mpm_machine.specs.State.{State, Change, StandsWithDrives}
+use Rattle.mpm_machine.specs.Files.{Between, StandsForFiles}
 use Rattle.mpm_machine.specs.Mounting.{untouched}
-use Rattle.mpm_machine.specs.Stepping.{stepped}
 use Rattle.mpm_machine.specs.Failing.{HaveImages, StopsOn}
 use Rattle.mpm_machine.specs.Settling.{carried, StopsAtEnd, ClosesEnd, StopsSettling}
 use Rattle.mpm_machine.specs.After.{next, after, AreSteps, HasStoppedIn, ShowsBefore, EndsInStep}
@@ -194,10 +193,10 @@ stopped_early fault step status is early = early_by fault step (subst IsEarly is
 
 -- what was written, by the steps of the system alone
 
-pub writes_steps : (trace : Bool) (steps : ℕ) (o : Outside) (old new : System) (emitted : List Output) (first written : Option (List ℕ)) → o.kept.trace ≡ trace
-    → AreSteps steps old (record { system = new; emitted = emitted }) → Shows o.kept o.written (emitted ++ []) first → ClosesEnd o written new
+pub writes_steps : (trace : Bool) (steps : ℕ) (o : Outside) (old new last : System) (emitted : List Output) (first written : Option (List ℕ)) → o.kept.trace ≡ trace
+    → AreSteps steps old (record { system = new; emitted = emitted }) → Shows o.kept o.written (emitted ++ []) first → ClosesEnd o written new last
     → WritesSteps trace steps old first written
-writes_steps trace steps o old new emitted first written traces are shows end = record {
+writes_steps trace steps o old new last emitted first written traces are shows end = record {
   change = record { system = new; emitted = emitted };
   are = are;
   end = end.change;
@@ -255,11 +254,11 @@ stopped_inside SyncFailed steps step trace o q old first written before now stop
 
 -- or at the end, behind all of them
 
-pub stopped_behind : (fault : StepFault) (steps : ℕ) (trace : Bool) (o n : Outside) (old new : System) (emitted : List Output) (first written : Option (List ℕ)) (before now : ℕ)
+pub stopped_behind : (fault : StepFault) (steps : ℕ) (trace : Bool) (o n : Outside) (old new last : System) (emitted : List Output) (first written : Option (List ℕ)) (before now : ℕ)
     → AreSteps steps old (record { system = new; emitted = emitted }) → o.kept.trace ≡ trace → Shows o.kept o.written emitted first → (fault ≡ SinkFailed → written ≡ n.written)
-    → ((s : State) → ShowsBefore fault n.kept n.written s first → ClosesAfter fault trace s first written before now) → StopsSettling fault o n new
+    → ((s : State) → ShowsBefore fault n.kept n.written s first → ClosesAfter fault trace s first written before now) → StopsSettling fault o n new last
     → StopsSteps fault trace steps old first written before now steps
-stopped_behind SinkFailed steps trace o n old new emitted first written before now are traces shows same closes stops =
+stopped_behind SinkFailed steps trace o n old new last emitted first written before now are traces shows same closes stops =
     let all : List Output = stops.change.emitted ++ emitted in
     inr (record {
       is = refl;
@@ -272,14 +271,14 @@ stopped_behind SinkFailed steps trace o n old new emitted first written before n
             (subst (λ (t : Bool). EndsBetween n.written first (rendered t emitted) (closed t all)) traces (stops.stops emitted first shows));
       };
     })
-stopped_behind SyncFailed steps trace o n old new emitted first written before now are traces shows same closes (inl still) =
+stopped_behind SyncFailed steps trace o n old new last emitted first written before now are traces shows same closes (inl still) =
     inr (record {
       is = refl;
       change = record { system = new; emitted = emitted };
       are = are;
       text = inl (closes (record (begun new []) { outputs = emitted }) (subst (λ (seen : Outside). Shows seen.kept seen.written emitted first) (sym still) shows));
     })
-stopped_behind SyncFailed steps trace o n old new emitted first written before now are traces shows same closes (inr end) =
+stopped_behind SyncFailed steps trace o n old new last emitted first written before now are traces shows same closes (inr end) =
     inr (record {
       is = refl;
       change = record { system = new; emitted = emitted };

@@ -1,5 +1,5 @@
 -- With what a command begins, and what it writes, by the machine's model.
-use Rattle.std.specs.Prelude.{◌≡◌, ◌≢◌, ℕ, ◌+◌, ◌-◌, ◌<◌, ◌≤◌, ◌⊎◌, Bool, true, List, [], ◌∷◌, ◌++◌, Option, Some, None, Result, Ok, Err, length, MatchOption, ⊤, option_map, option_and_then, slice_index_or, nat_lt, if◌then◌else◌}
+use Rattle.std.specs.Prelude.{◌≡◌, ◌≢◌, ℕ, ◌+◌, ◌-◌, ◌<◌, ◌≤◌, ◌⊎◌, Bool, true, false, List, [], ◌∷◌, ◌++◌, Option, Some, None, Result, Ok, Err, length, MatchOption, ⊤, option_map, option_and_then, slice_index_or, nat_lt, if◌then◌else◌}
 use Rattle.std.specs.List.{AllByRecursion}
 use Rattle.std.specs.Option.{option_map_or}
 use Rattle.mpm_port.specs.Causes.{Rose}
@@ -12,6 +12,7 @@ use Rattle.mpm_script.specs.Scripts.{script_of}
 use Rattle.mpm_machine_file.specs.declared.lists.DriveSpec.{DriveSpec}
 use Rattle.mpm_machine_file.specs.MachineFiles.{machine_of_text}
 use Rattle.mpm_mount.specs.declared.errors.ImageFault.{ImageFault as FaultOfImage}
+use Rattle.mpm_mount.specs.Directories.{Directory}
 use Rattle.mpm_mount.specs.Drives.{Drive}
 use Rattle.mpm_mount.specs.Images.{files_of}
 use Rattle.mpm_drives.specs.declared.error.BootError.{BootError}
@@ -20,9 +21,9 @@ use Rattle.mpm_drives.specs.Images.{ToldImage, Untold, Missing, Bytes, Images, i
 use Rattle.mpm_drives.specs.Mounted.{NumberedDrive, AreDrivesOf, AreTold, number_of, placed}
 use Rattle.mpm_drives.specs.Stopping.{Failures, Stops}
 use Rattle.mpm_machine.specs.declared.system.System.{System}
-use Rattle.mpm_bdos.specs.Serving.{Kept as Filed}
+use Rattle.mpm_bdos.specs.Serving.{Kept as Filed, directory_at}
 use Rattle.mpm_machine.specs.State.{State, Change}
-use Rattle.mpm_machine.specs.Files.{Files, Between, StandsForFiles, drives_in, filing_in}
+use Rattle.mpm_machine.specs.Files.{Between, StandsForFiles, drives_in, filing_in}
 use Rattle.mpm_machine.specs.Mounting.{HasDrives, HasNoDrive, untouched}
 use Rattle.mpm_machine.specs.Opening.{opening_system, opened}
 use Rattle.mpm_machine.specs.After.{after, AreSteps, IsMade, EndsInStep}
@@ -204,12 +205,25 @@ StopsWriting trace steps old first written step =
     StopsInside SinkFailed (λ said more. EndsBetween written first (rendered trace said) (rendered trace (more ++ said))) steps step old
     ⊎ StopsBehind (λ system said. BehindEnd (λ all. EndsBetween written first (rendered trace said) (closed trace all)) system said) steps step old
 
--- what was written is the text of steps of the first system; where the images of its drives are told, it is the closed text of the
--- outputs of all steps and of the end, and the images that are left stand for what is on the drives behind it
-pub record WritesAll (host : Host) (left : Images) (command : Command) (first written : Option (List ℕ)) : Type 0 where
+-- a drive that isn't mounted is attached as it was
+abbrev pub AttachesMounted : (ℕ → Option ℕ) → (ℕ → Option ℕ) → List (Option Directory) → Type 0
+AttachesMounted before behind mounted = (number : ℕ) → directory_at mounted number ≡ None → behind number ≡ before number
+
+-- each drive of a machine file is synced: no write to it was asked for since
+abbrev pub AreSyncedOf : (ℕ → Bool) → List DriveSpec → Type 0
+AreSyncedOf unsynced specs = AllByRecursion (λ spec. unsynced (number_of spec) ≡ false) specs
+
+-- each drive is synced, or attached as it was
+abbrev pub SyncsAttached : (ℕ → Option ℕ) → (ℕ → Option ℕ) → (ℕ → Bool) → Type 0
+SyncsAttached before behind unsynced = (number : ℕ) → (behind number ≡ before number) ⊎ (unsynced number ≡ false)
+
+-- what was written is the text of steps of the first system, and its drives are synced; where their images are told, it is the closed
+-- text of the outputs of all steps and of the end, and the images that are left stand for what is on the drives behind it
+pub record WritesAll (host : Host) (left : Images) (unsynced : ℕ → Bool) (command : Command) (first written : Option (List ℕ)) : Type 0 where
   pub start : State
   pub begins : Begins host command.form command.name start
   pub steps : WritesSteps command.trace command.steps start.system first written
+  pub synced : AreSyncedOf unsynced (drives_listed command.form begins.bytes)
   pub text : AreTold host.images (drives_listed command.form begins.bytes) → written ≡ appended first (closed command.trace (carried (after command.steps start)).outputs)
   pub images : AreTold host.images (drives_listed command.form begins.bytes)
       → StandFor left (drives_listed command.form begins.bytes) (drives_left (after command.steps start))

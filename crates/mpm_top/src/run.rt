@@ -7,6 +7,7 @@ ghost use Rattle.mpm_render.specs.Outputs.{closed};
 ghost use Rattle.mpm_machine_file.specs.declared.lists.DriveSpec.{DriveSpec};
 ghost use Rattle.mpm_drives.specs.Images.{image_named};
 ghost use Rattle.mpm_drives.specs.Mounted.{NumberedDrive, placed};
+ghost use Rattle.mpm_bdos.specs.Syncing.{AreSynced};
 ghost use Rattle.mpm_machine.specs.State.{State, IsWhole, NoCompletions};
 ghost use Rattle.mpm_machine.specs.Files.{Between, StandsForFiles};
 ghost use Rattle.mpm_machine.specs.Holding.{HoldsDrives};
@@ -15,7 +16,7 @@ ghost use Rattle.mpm_machine.specs.Mounting.{HasDrives, HasNoDrive, untouched};
 ghost use Rattle.mpm_machine.specs.After.{after, ShowsBefore};
 ghost use Rattle.mpm_machine.specs.Settling.{carried};
 ghost use Rattle.mpm_top.specs.Words.{Command, texts, command_of};
-ghost use Rattle.mpm_top.specs.Runs.{command_on, input_of as input_said, room_for, script_name, drives_listed, host, failed, begun, drives_left, SameImages, StandFor, StopsRun, ClosesAfter, Causes, stopped_by, WritesAll, WritesSteps, StopsSteps, WritesPart, WritesClosed, Ends, EndsAs, ending, IsRefusal, IsEarly, UnlessWriteFault, UnlessReadFault, UnlessDiskFault};
+ghost use Rattle.mpm_top.specs.Runs.{command_on, input_of as input_said, room_for, script_name, drives_listed, host, failed, begun, drives_left, SameImages, StandFor, StopsRun, ClosesAfter, Causes, stopped_by, SyncsAttached, WritesAll, WritesSteps, StopsSteps, WritesPart, WritesClosed, Ends, EndsAs, ending, IsRefusal, IsEarly, UnlessWriteFault, UnlessReadFault, UnlessDiskFault};
 ghost use Rattle.mpm_top.specs.Seeds.{seeded_of, EndsSeeded};
 
 use crate::boot::boot;
@@ -32,7 +33,7 @@ use std::marker::Brand;
 use std::sync::ledger::{Blank, Ledger};
 
 /// Does what the words after the program's name ask.
-#[tactic(auto, using(crate::proofs::SeedLaws::asks_one, crate::proofs::SeedLaws::unless_read_always, crate::proofs::BootLaws::unless_disk_always))]
+#[tactic(auto, using(crate::proofs::SeedLaws::asks_one, crate::proofs::SeedLaws::unless_read_always, crate::proofs::BootLaws::unless_disk_always, crate::proofs::Syncing::still_attached))]
 pub fn run_words<F: Files, D: Drives, S: Sink>(
     alloc: Global,
     words: &[String],
@@ -46,9 +47,11 @@ pub fn run_words<F: Files, D: Drives, S: Sink>(
     ensures usage_drives { result ≡ Status.Usage → drives.new ≡ drives.old }
 
     // Ran: what the sink was given is exactly the text of the outputs after those steps and the end, to which the call in service is
-    // carried, the images of the names that the machine file lists stand for what is on its drives then, and nothing failed.
+    // carried, the images of the names that the machine file lists stand for what is on its drives then, each of these is synced, and
+    // nothing failed.
     ensures ran { (command : Command) → command_of (texts words.now) ≡ Some command → result ≡ Status.Ran
-        → WritesAll (host F.contents D.disks files.old drives.old) (image_named (D.disks drives.new)) command (S.written sink.old) (S.written sink.new) }
+        → WritesAll (host F.contents D.disks files.old drives.old) (image_named (D.disks drives.new)) (D.unsynced drives.new) command (S.written sink.old) (S.written sink.new) }
+    ensures synced { result ≡ Status.Ran → SyncsAttached (D.attached drives.old) (D.attached drives.new) (D.unsynced drives.new) }
 
     // Every ending has its reason in what the files hold and in the images, or in what failed: MachineFault, ScriptFault,
     // ImageFault, TooLong, ReadFault and DiskFault among them.
@@ -132,7 +135,8 @@ fn run_command<F: Files, D: Drives, S: Sink>(
     requires { asked.steps ≤ GREATEST_STEP }
     ensures usage { result ≢ Status.Usage }
     ensures ran { result ≡ Status.Ran
-        → WritesAll (host F.contents D.disks files.old drives.old) (image_named (D.disks drives.new)) (command_on name.now asked) (S.written sink.old) (S.written sink.new) }
+        → WritesAll (host F.contents D.disks files.old drives.old) (image_named (D.disks drives.new)) (D.unsynced drives.new) (command_on name.now asked) (S.written sink.old) (S.written sink.new) }
+    ensures synced { result ≡ Status.Ran → SyncsAttached (D.attached drives.old) (D.attached drives.new) (D.unsynced drives.new) }
     ensures reason { Ends (host F.contents D.disks files.old drives.old) asked.form name.now
         (failed F.failed_names D.faults D.failed_names files.old drives.old) (failed F.failed_names D.faults D.failed_names files.new drives.new) result }
     ensures names { UnlessReadFault result (F.failed_names files.new ≡ F.failed_names files.old) }
@@ -223,6 +227,8 @@ fn run_to_end<D: Drives, S: Sink, L: Ledger>(
         (S.written sink.old) (S.written sink.new) (S.faults sink.old) (S.faults sink.new) error.step) }
     ensures others { (specs : List DriveSpec) → HasDrives (D.disks drives.old) specs machine.old.bdos.mounted
         → (image : List ℕ) → AllByRecursion (λ spec. spec.image ≢ image) specs → image_named (D.disks drives.new) image ≡ image_named (D.disks drives.old) image }
+    ensures synced { OnOk result (AreSynced (D.unsynced drives.new) machine.old.bdos.mounted) }
+    ensures attached { (number : ℕ) → D.attached drives.new number ≡ D.attached drives.old number }
     ensures within { IfErr result (λ error. error.step ≤ asked.steps) }
     ensures early { IfErr result (λ error. error.step ≡ 0 → SameImages (D.disks drives.old) (D.disks drives.new)) }
     ensures cause { MatchResult result (λ _. counts S.faults D.faults sink.new drives.new ≡ counts S.faults D.faults sink.old drives.old)

@@ -32,7 +32,7 @@ returns-else-is_on_drives-clause-finished c = λ images s moment refusal serves 
     let service : InService = record { caller = c.args.caller.now; function = c.args.function; drive = c.args.drive; call = c.args.call.now; moment = moment; refusal = refusal; work = c.args.work.now; deleted = c.args.deleted.now } in
     granted_named images (serving c.args.mounted.now c.args.protected.now c.args.opens.now c.args.marks.now c.args.searches.now service) service s (option_copied c.get.result) c.reply_on.new.reply c.reply_on.new.opens c.reply_on.new.searches
     refl serves none (sym c.is_on_drives.ensures ∙ c.if-is_on_drives.false) c.requires.caller c.requires.users c.position_of_call.ensures.size c.position_of_call.ensures.low
-    c.get.ensures (λ image d there answering. c.reply_on.ensures.replied image d s.filing.drives c.args.marks.now moment there answering)
+    c.get.ensures.place (λ image d there answering. c.reply_on.ensures.replied image d s.filing.drives c.args.marks.now moment there answering)
 
 pub returns-then-is_on_drives-clause-may : goal.returns-then-is_on_drives-clause-may
 returns-then-is_on_drives-clause-may c =

@@ -3,7 +3,7 @@ use Rattle.std.specs.Prelude.{option_map}
 use Rattle.mpm_mount.specs.Searching.{search_of, IsNext}
 use Rattle.mpm_bdos.specs.Looking.{at_place, entry_found, MissesNothing}
 use Rattle.mpm_bdos.specs.Subjects.{next_in}
-use Rattle.mpm_bdos.proofs.Looked.{kind_stands}
+use Rattle.mpm_files.proofs.Tied.{kind_of}
 use Rattle.mpm_files.proofs.SearchSteps.{fewer_left}
 use Rattle.mpm_bdos.proofs.Behind.{is_sought, search_begins}
 use Rattle.mpm_bdos.proofs.Searched.{next_step, no_step}
@@ -24,7 +24,7 @@ returns-then-is_sought c = λ image drive stands.
     ∙ next_step image d drive c.args.user c.args.pattern.now (is_sought drive.kind c.args.extent behind) c.loop-found.last c.in-Some.found stands
     (subst (IsNext d.kind (search_of d.kind c.args.user c.args.pattern.now c.loop-found.last) d.entries) c.in-Some.is c.next.ensures)
     ∙ ap (λ b. cond b (Some found) (next_in drive c.args.user c.args.pattern.now (is_sought drive.kind c.args.extent behind) (Some found)))
-    (ap (λ kind. is_sought kind c.args.extent behind found) (kind_stands image d drive stands)
+    (ap (λ kind. is_sought kind c.args.extent behind found) (kind_of image d drive stands)
     ∙ ap (λ kind. is_sought kind c.args.extent behind (entry_found kind c.args.user c.in-Some.found)) (sym c.kind-kind.ensures.kind) ∙ sym c.is_sought.ensures ∙ c.if-is_sought.true))
 
 pub loop-found-smaller : goal.loop-found-smaller
@@ -42,7 +42,7 @@ loop-found-preserved c = λ image drive stands.
     ∙ next_step image d drive c.args.user c.args.pattern.now (is_sought drive.kind c.args.extent behind) c.loop-found.last c.in-Some.found stands
     (subst (IsNext d.kind (search_of d.kind c.args.user c.args.pattern.now c.loop-found.last) d.entries) c.in-Some.is c.next.ensures)
     ∙ ap (λ b. cond b (Some found) (next_in drive c.args.user c.args.pattern.now (is_sought drive.kind c.args.extent behind) (Some found)))
-    (ap (λ kind. is_sought kind c.args.extent behind found) (kind_stands image d drive stands)
+    (ap (λ kind. is_sought kind c.args.extent behind found) (kind_of image d drive stands)
     ∙ ap (λ kind. is_sought kind c.args.extent behind (entry_found kind c.args.user c.in-Some.found)) (sym c.kind-kind.ensures.kind) ∙ sym c.is_sought.ensures ∙ c.if-is_sought.false)
 
 pub returns : goal.returns

@@ -15,7 +15,7 @@ returns-clause-all c = λ images drives stand.
     c.drive_of_call-drive.ensures
     ∙ (λ i. unwrap_or (drive_by (c.get-search.ensures i) caller.drive (c.word_of_call-word.ensures i) (c.block_taken-block.ensures.block i) c.args.function) caller.drive)
     in
-    let place = c.get.ensures ∙ ap (directory_at c.args.mounted.now) drive_is in
+    let place = c.get.ensures.place ∙ ap (directory_at c.args.mounted.now) drive_is in
     record {
       enters = subst (λ m. Enters (images number) m s c.entered.result) place
           (c.entered.ensures.all (images number) drives (subst (λ m. StandsFor (images number) m s) (sym place) (stand.each number)) drive_is);

@@ -8,8 +8,8 @@ use Rattle.mpm_files.specs.Counting.{lacks_block}
 use Rattle.mpm_files.specs.Serving.{units_done}
 use Rattle.mpm_files.specs.Standing.{Does}
 use Rattle.mpm_files.proofs.NextDone.{IsDone, does_next, never_next}
-use Rattle.mpm_files.proofs.TestTurns.{tested_now, test_now, stamp_now, writes_now, tests_few, still_passed, first_passed, test_passed, record_held, has_there, not_back, passes}
-use Rattle.mpm_files.proofs.ReadTurns.{read_stands, reading_failed}
+use Rattle.mpm_files.proofs.TestTurns.{test_now, stamp_now, writes_now, tests_few, still_passed, first_passed, test_passed, record_held, has_there, not_back, passes}
+use Rattle.mpm_files.proofs.ReadTurns.{read_now, read_stands, reading_failed}
 use Rattle.mpm_files.proofs.moving.test_next.Goals as goal
 use Rattle.mpm_files.proofs.moving.test_next.Goals.{then-work-via-then-work, then-work-via-else-work+then-n-gt-LAST, then-work-via-else-work+else-n-gt-LAST+then-count-gt16, then-work-via-else-work+else-n-gt-LAST+else-count-gt16+then-work-count}
 
@@ -18,10 +18,10 @@ returns-then-work-clause-testwrite g c = λ kind. elim c.then-work.branch [
   | then-work-via-then-work w ↦
       does_next (g.D.Drives.disks c.args.drives.now) (g.D.Drives.disks c.args.drives.now) c.args.mounted.now c.args.mounted.now c.args.work.now _ _ refl
       (λ image before job j told suits service h. (
-        PassesRecord (file_of_job c.args.work.now.job) (tested_now c.args.work.now),
+        PassesRecord (file_of_job c.args.work.now.job) (read_now c.args.work.now),
         (
           still_passed before job j c.args.work.now service.serving kind h w.if-work.true,
-          passes (g.D.Drives.disks c.args.drives.now) c.args.mounted.now (units_done before job j) (file_of_job c.args.work.now.job) (tested_now c.args.work.now) tt
+          passes (g.D.Drives.disks c.args.drives.now) c.args.mounted.now (units_done before job j) (file_of_job c.args.work.now.job) (read_now c.args.work.now) tt
               (record { image = image; told = told; stands = service.stands }),
         ),
       ))
@@ -44,18 +44,18 @@ pub returns-then-ne-clause-testwrite : goal.returns-then-ne-clause-testwrite
 returns-then-ne-clause-testwrite g c = λ kind.
     does_next (g.D.Drives.disks c.args.drives.now) (g.D.Drives.disks c.read_record.new.drives) c.args.mounted.now c.args.mounted.now c.args.work.now _ _ refl
     (λ image before job j told suits service h.
-    let n : tested_now c.args.work.now ≡ c.saturating_add-n.result = omega (arith, c.if-n-gt-LAST.false, c.saturating_add-n.ensures) in
-    let there : record_of (units_done before job j) (file_of_job c.args.work.now.job) (tested_now c.args.work.now) ≡ Some c.read_record.new.out =
+    let n : read_now c.args.work.now ≡ c.saturating_add-n.result = omega (arith, c.if-n-gt-LAST.false, c.saturating_add-n.ensures) in
+    let there : record_of (units_done before job j) (file_of_job c.args.work.now.job) (read_now c.args.work.now) ≡ Some c.read_record.new.out =
     subst (λ m. lacks_block c.args.mounted.now (file_of_job c.args.work.now.job) m ≡ false → record_of (units_done before job j) (file_of_job c.args.work.now.job) m ≡ Some c.read_record.new.out) (sym n)
     (c.in-Ok.ensures.record image (units_done before job j) told service.stands)
     (record_held image c.args.mounted.now before job j c.args.work.now service.stands service.serving kind h) in
-    let has : has_record (units_done before job j) (file_of_job c.args.work.now.job) (tested_now c.args.work.now) (test_now c.args.work.now).expected ≡ false =
-    has_there (units_done before job j) (file_of_job c.args.work.now.job) (tested_now c.args.work.now) c.read_record.new.out (test_now c.args.work.now).expected there
+    let has : has_record (units_done before job j) (file_of_job c.args.work.now.job) (read_now c.args.work.now) (test_now c.args.work.now).expected ≡ false =
+    has_there (units_done before job j) (file_of_job c.args.work.now.job) (read_now c.args.work.now) c.read_record.new.out (test_now c.args.work.now).expected there
     ∙ ap (bytes_eq c.read_record.new.out) (sym c.bytes_at.ensures) ∙ not_back (bytes_eq c.read_record.new.out c.bytes_at.result) true c.if-ne.ensures in (
-      PassesRecord (file_of_job c.args.work.now.job) (tested_now c.args.work.now),
+      PassesRecord (file_of_job c.args.work.now.job) (read_now c.args.work.now),
       (
         first_passed before job j c.args.work.now service.serving kind h c.if-work.false has,
-        passes (g.D.Drives.disks c.read_record.new.drives) c.args.mounted.now (units_done before job j) (file_of_job c.args.work.now.job) (tested_now c.args.work.now) tt
+        passes (g.D.Drives.disks c.read_record.new.drives) c.args.mounted.now (units_done before job j) (file_of_job c.args.work.now.job) (read_now c.args.work.now) tt
             (read_stands image c.args.mounted.now (units_done before job j) (g.D.Drives.disks c.args.drives.now) (g.D.Drives.disks c.read_record.new.drives) told service.stands c.read_record.ensures.disks),
       ),
     ))
@@ -64,13 +64,13 @@ pub returns-clause-testwrite : goal.returns-clause-testwrite
 returns-clause-testwrite g c = λ kind.
     does_next (g.D.Drives.disks c.args.drives.now) (g.D.Drives.disks c.put_held.new.drives) c.args.mounted.now c.put_held.new.mounted c.args.work.now _ c.put_held.result refl
     (λ image before job j told suits service h.
-    let n : tested_now c.args.work.now ≡ c.saturating_add-n.result = omega (arith, c.if-n-gt-LAST.false, c.saturating_add-n.ensures) in
+    let n : read_now c.args.work.now ≡ c.saturating_add-n.result = omega (arith, c.if-n-gt-LAST.false, c.saturating_add-n.ensures) in
     let held = record_held image c.args.mounted.now before job j c.args.work.now service.stands service.serving kind h in
-    let there : record_of (units_done before job j) (file_of_job c.args.work.now.job) (tested_now c.args.work.now) ≡ Some c.read_record.new.out =
+    let there : record_of (units_done before job j) (file_of_job c.args.work.now.job) (read_now c.args.work.now) ≡ Some c.read_record.new.out =
     subst (λ m. lacks_block c.args.mounted.now (file_of_job c.args.work.now.job) m ≡ false → record_of (units_done before job j) (file_of_job c.args.work.now.job) m ≡ Some c.read_record.new.out) (sym n)
     (c.in-Ok.ensures.record image (units_done before job j) told service.stands) held in
-    let has : has_record (units_done before job j) (file_of_job c.args.work.now.job) (tested_now c.args.work.now) (test_now c.args.work.now).expected ≡ true =
-    has_there (units_done before job j) (file_of_job c.args.work.now.job) (tested_now c.args.work.now) c.read_record.new.out (test_now c.args.work.now).expected there
+    let has : has_record (units_done before job j) (file_of_job c.args.work.now.job) (read_now c.args.work.now) (test_now c.args.work.now).expected ≡ true =
+    has_there (units_done before job j) (file_of_job c.args.work.now.job) (read_now c.args.work.now) c.read_record.new.out (test_now c.args.work.now).expected there
     ∙ ap (bytes_eq c.read_record.new.out) (sym c.bytes_at.ensures) ∙ not_back (bytes_eq c.read_record.new.out c.bytes_at.result) false c.if-ne.ensures in
     let moved : c.args.work.now.moved + 1 ≡ c.saturating_add-work.result =
     omega (arith, c.saturating_add-work.ensures, (tests_few before job j c.args.work.now service.serving kind suits h).moved) in

@@ -5,7 +5,7 @@ use Rattle.mpm_files.specs.Units.{AddsEntry, ClearsBlock}
 use Rattle.mpm_files.specs.Plans.{file_of_job}
 use Rattle.mpm_files.specs.Serving.{units_done}
 use Rattle.mpm_files.proofs.NextDone.{does_next, fails_next, clears_next, never_next}
-use Rattle.mpm_files.proofs.WriteTurns.{number_now, number_small, entry_missing, entry_written, extent_small, entry_gone, entry_room, entry_entered, block_ready, cleared_same}
+use Rattle.mpm_files.proofs.WriteTurns.{number_small, entry_missing, entry_written, extent_small, entry_gone, entry_room, entry_entered, block_ready, cleared_same}
 use Rattle.std.specs.FinMap.{get}
 use Rattle.mpm_mount.specs.Drives.{entry_name}
 use Rattle.mpm_files.specs.Standing.{Does}
@@ -20,19 +20,19 @@ pub returns-in-Entry-clause-write : goal.returns-in-Entry-clause-write
 returns-in-Entry-clause-write g c = λ kind.
     does_next (g.D.Drives.disks c.args.drives.now) (g.D.Drives.disks c.add_entry.new.drives) c.args.mounted.now c.add_entry.new.mounted c.args.work.now _ c.add_entry.result refl
     (λ image before job j told suits service h.
-    let n : number_now c.args.work.now ≡ c.saturating_add-n.result = omega (arith, c.if-n-gt-LAST.false, c.saturating_add-n.ensures, c.from.ensures) in
+    let n : stepping.record_next c.args.work.now ≡ c.saturating_add-n.result = omega (arith, c.if-n-gt-LAST.false, c.saturating_add-n.ensures, c.from.ensures) in
     let missing = entry_missing image c.args.mounted.now before job j c.args.work.now service.stands
     (ap (stepping.step_of c.args.mounted.now c.args.work.now) n ∙ sym c.next_step.ensures ∙ c.in-Entry.is) in
     let written = entry_written before job j c.args.work.now service.serving kind h service.entered missing in (
-      AddsEntry (file_of_job c.args.work.now.job) (number_now c.args.work.now / 128),
+      AddsEntry (file_of_job c.args.work.now.job) (stepping.record_next c.args.work.now / 128),
       (
         written,
         subst (λ m. Does (g.D.Drives.disks c.add_entry.new.drives) c.args.mounted.now.drive c.add_entry.new.mounted (units_done before job j) (AddsEntry (file_of_job c.args.work.now.job) (m / 128)) c.add_entry.result) (sym n)
             (c.add_entry.ensures.does image (units_done before job j) told service.stands
             (subst (λ (q : Job). q.user < 16) (sym service.serving.job_is) suits.user)
             (subst (λ m. m / 128 ≤ 2047) n (extent_small before job j c.args.work.now service.serving kind h suits))
-            (ap (λ m. get (units_done before job j).extents (entry_name (units_done before job j).kind (file_of_job c.args.work.now.job) (m / 128))) (sym n) ∙ entry_gone (units_done before job j) (file_of_job c.args.work.now.job) (number_now c.args.work.now) missing)
-            (entry_room before job j c.args.work.now (number_now c.args.work.now / 128) service.serving kind h written.unit_is)),
+            (ap (λ m. get (units_done before job j).extents (entry_name (units_done before job j).kind (file_of_job c.args.work.now.job) (m / 128))) (sym n) ∙ entry_gone (units_done before job j) (file_of_job c.args.work.now.job) (stepping.record_next c.args.work.now) missing)
+            (entry_room before job j c.args.work.now (stepping.record_next c.args.work.now / 128) service.serving kind h written.unit_is)),
       ),
     ))
 
@@ -46,9 +46,9 @@ returns-in-Ok-clause-write g c = λ kind.
     clears_next (g.D.Drives.disks c.args.drives.now) (g.D.Drives.disks c.clear_block.new.drives) c.args.mounted.now c.args.work.now _ _ (λ image before job j told suits service h.
     let step = ap (stepping.step_of c.args.mounted.now c.args.work.now) (omega (arith, c.if-n-gt-LAST.false, c.saturating_add-n.ensures, c.from.ensures)) ∙ sym c.next_step.ensures ∙ c.in-Block.is in
     record {
-      unit = ClearsBlock (file_of_job c.args.work.now.job) (number_now c.args.work.now);
+      unit = ClearsBlock (file_of_job c.args.work.now.job) (stepping.record_next c.args.work.now);
       done = block_ready image c.args.mounted.now before job j c.args.work.now c.in-Ok.block service kind h step c.in-Ok.ensures.block;
-      same = cleared_same (units_done before job j) (file_of_job c.args.work.now.job) (number_now c.args.work.now);
+      same = cleared_same (units_done before job j) (file_of_job c.args.work.now.job) (stepping.record_next c.args.work.now);
       stands = c.in-Ok.ensures.cleared image (units_done before job j) told service.stands;
       entered = entry_entered image c.args.mounted.now before job j c.args.work.now service.stands step;
     })
@@ -57,9 +57,9 @@ pub returns-in-Err-clause-write : goal.returns-in-Err-clause-write
 returns-in-Err-clause-write g c = λ kind.
     fails_next (g.D.Drives.disks c.args.drives.now) (g.D.Drives.disks c.clear_block.new.drives) c.args.mounted.now c.args.mounted.now c.args.work.now _ _ (λ image before job j told suits service h.
     let step = ap (stepping.step_of c.args.mounted.now c.args.work.now) (omega (arith, c.if-n-gt-LAST.false, c.saturating_add-n.ensures, c.from.ensures)) ∙ sym c.next_step.ensures ∙ c.in-Block.is in (
-      ClearsBlock (file_of_job c.args.work.now.job) (number_now c.args.work.now),
+      ClearsBlock (file_of_job c.args.work.now.job) (stepping.record_next c.args.work.now),
       (
         (block_ready image c.args.mounted.now before job j c.args.work.now _ service kind h step refl).unit_is,
-        (c.in-Err.ensures.does image (units_done before job j) (file_of_job c.args.work.now.job) (number_now c.args.work.now) told service.stands).err,
+        (c.in-Err.ensures.does image (units_done before job j) (file_of_job c.args.work.now.job) (stepping.record_next c.args.work.now) told service.stands).err,
       ),
     ))

@@ -5,17 +5,18 @@ use Rattle.mpm_files.specs.Serving.{stamp_left, units_done}
 use Rattle.mpm_files.specs.Counting.{lacks_entry, lacks_block}
 use Rattle.mpm_files.specs.Standing.{Does}
 use Rattle.mpm_files.proofs.NextDone.{does_next, never_next}
-use Rattle.mpm_files.proofs.WriteTurns.{number_now, bytes_now, stamp_now, record_ready, number_small, few_moved, fresh_ready, entry_there}
+use Rattle.mpm_files.specs.Stepping.{record_next}
+use Rattle.mpm_files.proofs.WriteTurns.{bytes_now, stamp_now, record_ready, number_small, few_moved, fresh_ready, entry_there}
 use Rattle.mpm_files.proofs.moving.write_record.Goals as goal
 
 pub returns-else-lacks_block-clause-write : goal.returns-else-lacks_block-clause-write
 returns-else-lacks_block-clause-write g c = λ kind step.
     does_next (g.D.Drives.disks c.args.drives.now) (g.D.Drives.disks c.put_held.new.drives) c.args.mounted.now c.put_held.new.mounted c.args.work.now _ c.put_held.result refl
     (λ image before job j told suits service h.
-    let n : c.saturating_add-n.result ≡ number_now c.args.work.now = omega (arith, c.if-n-gt-LAST.false, c.saturating_add-n.ensures, c.from.ensures) in
+    let n : c.saturating_add-n.result ≡ record_next c.args.work.now = omega (arith, c.if-n-gt-LAST.false, c.saturating_add-n.ensures, c.from.ensures) in
     let bytes : c.bytes_at.result ≡ bytes_now c.args.work.now = c.bytes_at.ensures ∙ ap (record_at c.args.work.now.job.bytes) c.from-2.ensures in
     let moment : c.stamp.result ≡ stamp_now c.args.work.now = c.stamp.ensures ∙ ap (stamp_left c.args.work.now.job.stamp) c.from-3.ensures in (
-      WritesRecord (file_of_job c.args.work.now.job) (number_now c.args.work.now) (bytes_now c.args.work.now) (stamp_now c.args.work.now),
+      WritesRecord (file_of_job c.args.work.now.job) (record_next c.args.work.now) (bytes_now c.args.work.now) (stamp_now c.args.work.now),
       (
         record_ready image c.args.mounted.now before job j c.args.work.now service.stands service.serving kind h step,
         subst (λ m. Does (g.D.Drives.disks c.put_held.new.drives) c.args.mounted.now.drive c.put_held.new.mounted (units_done before job j)
@@ -32,10 +33,10 @@ pub returns-then-lacks_block-clause-write : goal.returns-then-lacks_block-clause
 returns-then-lacks_block-clause-write g c = λ kind step.
     does_next (g.D.Drives.disks c.args.drives.now) (g.D.Drives.disks c.put_fresh.new.drives) c.args.mounted.now c.put_fresh.new.mounted c.args.work.now _ c.put_fresh.result refl
     (λ image before job j told suits service h.
-    let n : c.saturating_add-n.result ≡ number_now c.args.work.now = omega (arith, c.if-n-gt-LAST.false, c.saturating_add-n.ensures, c.from.ensures) in
+    let n : c.saturating_add-n.result ≡ record_next c.args.work.now = omega (arith, c.if-n-gt-LAST.false, c.saturating_add-n.ensures, c.from.ensures) in
     let bytes : c.bytes_at.result ≡ bytes_now c.args.work.now = c.bytes_at.ensures ∙ ap (record_at c.args.work.now.job.bytes) c.from-2.ensures in
     let moment : c.stamp.result ≡ stamp_now c.args.work.now = c.stamp.ensures ∙ ap (stamp_left c.args.work.now.job.stamp) c.from-3.ensures in (
-      WritesRecord (file_of_job c.args.work.now.job) (number_now c.args.work.now) (bytes_now c.args.work.now) (stamp_now c.args.work.now),
+      WritesRecord (file_of_job c.args.work.now.job) (record_next c.args.work.now) (bytes_now c.args.work.now) (stamp_now c.args.work.now),
       (
         record_ready image c.args.mounted.now before job j c.args.work.now service.stands service.serving kind h step,
         subst (λ m. Does (g.D.Drives.disks c.put_fresh.new.drives) c.args.mounted.now.drive c.put_fresh.new.mounted (units_done before job j)

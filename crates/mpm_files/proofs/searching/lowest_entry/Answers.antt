@@ -4,7 +4,7 @@ use Rattle.mpm_mount.specs.Faults.{plain}
 use Rattle.mpm_mount.specs.Directories.{entry_in}
 use Rattle.mpm_mount.specs.Searching.{search_of, IsNext}
 use Rattle.mpm_files.specs.Lookups.{attributes_at}
-use Rattle.mpm_files.proofs.Lowest.{attributes_behind, attributes_first, lowest_step, no_lower}
+use Rattle.mpm_files.proofs.Lowest.{attributes_behind, attributes_first, lowest_step, no_lower, entry_found}
 use Rattle.mpm_files.proofs.SearchSteps.{fewer_left}
 use Rattle.mpm_files.proofs.searching.lowest_entry.Goals as goal
 
@@ -18,6 +18,13 @@ returns-then-eq-clause-attributes c = λ image files stands.
     ∙ lowest_step image d files c.args.user c.args.name.now c.loop-found.last c.in-Some.found stands c.told-name
     (subst (IsNext d.kind (search_of d.kind c.args.user c.args.name.now c.loop-found.last) d.entries) c.in-Some.is c.next.ensures)
     ∙ ap (λ b. cond b (attributes_at (entry_in d c.in-Some.found.slot)) (attributes_behind files (record { user = c.args.user; name = plain c.args.name.now }) d.kind (Some c.in-Some.found)))
+    (ap (bytes_eq c.in-Some.found.name) (sym c.plain-sought.ensures) ∙ sym c.eq.ensures ∙ c.if-eq.true)
+
+pub returns-then-eq-clause-found : goal.returns-then-eq-clause-found
+returns-then-eq-clause-found c =
+    let d = c.args.mounted.now in
+    entry_found d c.args.user c.args.name.now c.loop-found.last c.in-Some.found
+    (subst (IsNext d.kind (search_of d.kind c.args.user c.args.name.now c.loop-found.last) d.entries) c.in-Some.is c.next.ensures)
     (ap (bytes_eq c.in-Some.found.name) (sym c.plain-sought.ensures) ∙ sym c.eq.ensures ∙ c.if-eq.true)
 
 pub loop-found-smaller : goal.loop-found-smaller

@@ -1,6 +1,6 @@
 use Rattle.std.proofs.Common.{ap, ◌∙◌, length, List, ℕ, arith, ◌≤◌, ◌-◌}
+use Rattle.mpm_base.specs.Lists.{in_width}
 use Rattle.mpm_base.specs.Calls.{Taken}
-use Rattle.mpm_queues.specs.Queue.{in_width}
 use Rattle.mpm_queues.proofs.MessageLaws.{block_kept}
 use Rattle.mpm_queues.proofs.store.keep_block.Goals as goal
 

@@ -3,8 +3,8 @@ use Rattle.mpm_residents.specs.Lines.{is_text}
 use Rattle.mpm_residents.proofs.Runs.{stops_at, runs_through}
 use Rattle.mpm_residents.proofs.line.text_length.Goals as goal
 
-pub returns-then-byte-eq0-clause-count : goal.returns-then-byte-eq0-clause-count
-returns-then-byte-eq0-clause-count c =
+pub returns-then-ends_text-clause-count : goal.returns-then-ends_text-clause-count
+returns-then-ends_text-clause-count c =
     stops_at is_text c.args.text.now c.loop-place.place (omega arith) c.loop-place.invariant (search rules)
 
 pub returns-clause-count : goal.returns-clause-count

@@ -5,6 +5,7 @@ use Rattle.mpm_top.specs.declared.status.Input.{Input}
 use Rattle.mpm_top.specs.declared.words.Form.TheVariants.{Program, Run}
 use Rattle.mpm_top.specs.Runs.{Contents, host, failed, Holds, StartsOf, EndsAfter}
 use Rattle.mpm_top.proofs.BootLaws.{program_names_nothing, starts_with_contents, ends_with_contents, unless_disk_always, either_way, refusal_early}
+use Rattle.mpm_top.proofs.Syncing.{nothing_attached}
 use Rattle.mpm_top.proofs.boot.boot.Goals as goal
 
 pub returns-in-Program-clause-starts : goal.returns-in-Program-clause-starts
@@ -15,6 +16,9 @@ returns-in-Program-clause-starts g c =
     let P : Input → Type 0 = λ input. Holds found.contents input c.args.name.now c.as_slice.result.now in
     starts_with_contents found c.args.form Program c.args.name.now c.as_slice.result.now disks c.boot_program.result c.in-Program.is (subst P c.input.ensures from_file)
     (c.boot_program.ensures.starts found)
+
+pub returns-in-Program-clause-attached : goal.returns-in-Program-clause-attached
+returns-in-Program-clause-attached g c = nothing_attached c.boot_program.result (g.D.Drives.attached c.args.drives.now)
 
 pub returns-in-Program-clause-drive_names : goal.returns-in-Program-clause-drive_names
 returns-in-Program-clause-drive_names g c = either_way c.boot_program.result _ refl

@@ -4,6 +4,7 @@ use Rattle.mpm_drives.specs.Stopping.{Failures}
 use Rattle.mpm_machine.proofs.SettlingLaws.{nobody_yet}
 use Rattle.mpm_top.specs.Runs.{host, failed}
 use Rattle.mpm_top.proofs.BootLaws.{no_machine, names_nothing, script_of_file, starts_of_file, ends_unread, ends_unmounted, unless_disk, unless_disk_always, refusal_early}
+use Rattle.mpm_top.proofs.Syncing.{attaches_mounted}
 use Rattle.mpm_top.proofs.boot.boot_machine.Goals as goal
 
 pub returns-in-Err-Fault-clause-reason : goal.returns-in-Err-Fault-clause-reason
@@ -38,6 +39,11 @@ returns-in-Ok-boot-clause-starts g c =
     c.in-Ok-boot.machine.system (g.D.Drives.attached c.boot.new.drives) (g.D.Drives.disks c.boot.new.drives) c.in-Ok-boot.machine.bdos c.in-Ok.ensures.ok
     c.in-Ok-read_script_of.ensures.scripted c.in-Ok-boot.ensures.opening c.in-Ok-boot.ensures.mounted c.in-Ok-boot.ensures.drives
     (nobody_yet c.in-Ok-boot.machine.system.kernel.disk c.in-Ok.file.disk_turn c.in-Ok-boot.ensures.disk)
+
+pub returns-in-Ok-boot-clause-attached : goal.returns-in-Ok-boot-clause-attached
+returns-in-Ok-boot-clause-attached g c =
+    attaches_mounted c.in-Ok.file.drives (g.D.Drives.attached c.args.drives.now) (g.D.Drives.attached c.boot.new.drives) (g.D.Drives.disks c.args.drives.now) (g.D.Drives.disks c.boot.new.drives)
+    c.in-Ok-boot.machine.bdos.mounted c.boot.ensures.beside c.in-Ok-boot.ensures.drives
 
 pub returns-in-Ok-boot-clause-missing : goal.returns-in-Ok-boot-clause-missing
 returns-in-Ok-boot-clause-missing g c script named missing =

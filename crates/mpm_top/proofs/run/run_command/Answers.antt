@@ -4,6 +4,7 @@ use Rattle.mpm_drives.specs.Images.{image_named}
 use Rattle.mpm_top.specs.Runs.{host, failed, begun, command_on, drives_listed, Causes}
 use Rattle.mpm_top.proofs.RunLaws.{ends_by_fault, disk_closed, writes_part, stopped_early}
 use Rattle.mpm_top.proofs.Naming.{others_told}
+use Rattle.mpm_top.proofs.Syncing.{listed_synced, syncs_attached}
 use Rattle.mpm_top.proofs.run.run_command.Goals as goal
 
 -- all is done
@@ -18,10 +19,18 @@ returns-in-Ok-run_to_end-clause-ran g c is =
       start = begun c.in-Ok.machine.system starts.drives;
       begins = starts.begins;
       steps = c.in-Ok-run_to_end.ensures.steps;
+      synced =
+          listed_synced (g.D.Drives.disks c.boot.new.drives) c.in-Ok.machine.bdos.mounted (g.D.Drives.unsynced c.run_to_end.new.drives)
+          (drives_listed c.args.asked.form starts.begins.bytes) starts.listed.each c.in-Ok-run_to_end.ensures.synced;
       text = λ told. c.in-Ok-run_to_end.ensures.ok starts.drives (starts.files told);
       images = λ told.
           c.in-Ok-run_to_end.ensures.images (drives_listed c.args.asked.form starts.begins.bytes) starts.drives starts.listed (starts.files told);
     }
+
+pub returns-in-Ok-run_to_end-clause-synced : goal.returns-in-Ok-run_to_end-clause-synced
+returns-in-Ok-run_to_end-clause-synced g c is =
+    syncs_attached (g.D.Drives.attached c.args.drives.now) (g.D.Drives.attached c.run_to_end.new.drives) (g.D.Drives.unsynced c.run_to_end.new.drives) c.in-Ok.machine.bdos.mounted
+    (λ number free. c.in-Ok-run_to_end.ensures.attached number ∙ c.in-Ok.ensures.attached number free) c.in-Ok-run_to_end.ensures.synced
 
 pub returns-in-Ok-run_to_end-clause-others : goal.returns-in-Ok-run_to_end-clause-others
 returns-in-Ok-run_to_end-clause-others g c bytes told image apart =

@@ -15,6 +15,7 @@ use Rattle.mpm_drives.proofs.Telling.{images_same}
 use Rattle.mpm_top.specs.Runs.{begun, drives_left, StandFor}
 use Rattle.mpm_top.proofs.RunLaws.{stands_begun, stops_in_step, stops_at_end, closed_alike, sink_stays, causes_stopped, causes_closed, writes_steps, none_run, stopped_inside, stopped_behind}
 use Rattle.mpm_top.proofs.Naming.{stand_behind, stand_settled, others_behind, others_settled}
+use Rattle.mpm_top.proofs.Syncing.{synced_before}
 use Rattle.mpm_top.proofs.run.run_to_end.Goals as goal
 
 -- the run stopped
@@ -95,6 +96,14 @@ returns-in-Ok-settle-clause-images g c specs on has stand =
       stand = settled_stand there c.settle.new.self.system.kernel.disk c.settle.new.self.bdos z (c.in-Ok-settle.ensures.files there first (c.in-Ok.ensures.ok s first stands));
     })
 
+pub returns-in-Ok-settle-clause-synced : goal.returns-in-Ok-settle-clause-synced
+returns-in-Ok-settle-clause-synced g c =
+    synced_before (g.D.Drives.unsynced c.settle.new.drives) c.args.machine.now.bdos.mounted c.settle.new.self.bdos.mounted
+    (λ number. c.in-Ok-settle.ensures.keeps.labels number ∙ c.in-Ok.ensures.keeps.labels number) c.in-Ok-settle.ensures.synced
+
+pub returns-in-Ok-settle-clause-attached : goal.returns-in-Ok-settle-clause-attached
+returns-in-Ok-settle-clause-attached g c number = c.in-Ok-settle.ensures.attached number ∙ c.in-Ok.ensures.attached number
+
 pub returns-in-Ok-settle-clause-others : goal.returns-in-Ok-settle-clause-others
 returns-in-Ok-settle-clause-others g c specs has image apart =
     others_settled (g.D.Drives.disks c.args.drives.now) (g.D.Drives.disks c.run.new.drives) (g.D.Drives.disks c.settle.new.drives) c.args.machine.now.bdos.mounted
@@ -104,8 +113,8 @@ pub returns-in-Ok-settle-clause-steps : goal.returns-in-Ok-settle-clause-steps
 returns-in-Ok-settle-clause-steps g c =
     let first = g.S.Sink.written c.args.sink.now in
     let ran = c.in-Ok.ensures.steps in
-    writes_steps c.args.asked.trace c.args.asked.steps (seen g.S.Sink.written g.S.Sink.faults c.run.new.render c.run.new.sink) c.args.machine.now.system c.run.new.self.system ran.emitted first
-    (g.S.Sink.written c.settle.new.sink) (c.in-Ok.ensures.trace ∙ c.new-render.ensures.trace) ran.steps (ran.wrote.shown [] first (c.new-render.ensures.fresh first))
+    writes_steps c.args.asked.trace c.args.asked.steps (seen g.S.Sink.written g.S.Sink.faults c.run.new.render c.run.new.sink) c.args.machine.now.system c.run.new.self.system
+    c.settle.new.self.system ran.emitted first (g.S.Sink.written c.settle.new.sink) (c.in-Ok.ensures.trace ∙ c.new-render.ensures.trace) ran.steps (ran.wrote.shown [] first (c.new-render.ensures.fresh first))
     c.in-Ok-settle.ensures.end
 
 pub returns-in-Ok-settle-clause-none : goal.returns-in-Ok-settle-clause-none
@@ -145,7 +154,7 @@ returns-clause-stops g c =
     let traces = c.in-Ok.ensures.trace ∙ c.new-render.ensures.trace in
     let shows : Shows c.run.new.render (g.S.Sink.written c.run.new.sink) ran.emitted first =
     subst (λ outputs. Shows c.run.new.render (g.S.Sink.written c.run.new.sink) outputs first) (append-nil ran.emitted) (ran.wrote.shown [] first (c.new-render.ensures.fresh first)) in
-    stopped_behind fault c.args.asked.steps c.args.asked.trace o n c.args.machine.now.system c.run.new.self.system ran.emitted first (g.S.Sink.written c.close-in-Err-settle.new.sink)
+    stopped_behind fault c.args.asked.steps c.args.asked.trace o n c.args.machine.now.system c.run.new.self.system c.settle.new.self.system ran.emitted first (g.S.Sink.written c.close-in-Err-settle.new.sink)
     (g.S.Sink.faults c.args.sink.now) (g.S.Sink.faults c.close-in-Err-settle.new.sink) ran.steps traces shows (λ is. ap g.S.Sink.written (c.close-in-Err-settle.ensures.left is))
     (λ t shown. closed_alike fault c.settle.new.render.trace c.args.asked.trace t first (g.S.Sink.written c.close-in-Err-settle.new.sink) (g.S.Sink.faults c.settle.new.sink)
     (g.S.Sink.faults c.args.sink.now) (g.S.Sink.faults c.close-in-Err-settle.new.sink) (c.in-Err-settle.ensures.trace ∙ traces)
@@ -178,3 +187,6 @@ returns-clause-none g c none = c.in-Err-settle.ensures.none (c.in-Ok.ensures.bar
 
 pub returns-clause-unfailing : goal.returns-clause-unfailing
 returns-clause-unfailing g c none = c.in-Err-settle.ensures.unfailing (c.in-Ok.ensures.bare none)
+
+pub returns-clause-attached : goal.returns-clause-attached
+returns-clause-attached g c number = c.in-Err-settle.ensures.attached number ∙ c.in-Ok.ensures.attached number

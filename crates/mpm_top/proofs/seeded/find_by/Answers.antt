@@ -3,7 +3,8 @@ use Rattle.mpm_port.specs.MemoryDisks.{disks_of, size_of}
 use Rattle.mpm_machine.specs.Mounting.{untouched}
 use Rattle.mpm_drives.specs.Mounted.{placed}
 use Rattle.mpm_top.specs.Seeds.{drive_a}
-use Rattle.mpm_machine.proofs.SettlingLaws.{nobody_yet, stands_idle}
+use Rattle.mpm_machine.proofs.SettlingLaws.{nobody_yet}
+use Rattle.mpm_machine.proofs.TurnLaws.{stands_idle}
 use Rattle.mpm_top.proofs.SeedLaws.{BeginsSeeded, begins_booted, no_image_fault, first_drive, opened_as, are_found}
 use Rattle.mpm_top.proofs.seeded.find_by.Goals as goal
 

@@ -10,12 +10,12 @@ use Rattle.mpm_bdos.proofs.bdos.Bdos.reply.Goals as goal
 pub returns-in-Some-clause-comes : goal.returns-in-Some-clause-comes
 returns-in-Some-clause-comes c = λ images s serves.
     let inside = c.self.inside in
-    let now = c.reply_service.new in
+    let now = c.reply_service-extended.new in
     let old : Kept = record { mounted = inside.mounted; cached = inside.cache; protected = inside.protected; opens = inside.opens; marks = inside.marks; searches = inside.searches; service = inside.service } in
     let service = c.in-Some.service in
-    comes_still images inside.mounted inside.cache now.protected now.opens now.marks now.searches service _ s now.reply c.reply_service.result
-    (c.reply_service.ensures.comes images s
-    (uncached images old service s (call_turns s) (sym c.take.ensures.value ∙ c.in-Some.is)
+    comes_still images inside.mounted inside.cache now.protected now.opens now.marks now.searches service _ s now.reply c.reply_service-extended.result
+    (c.reply_service-extended.ensures.comes images s
+    (uncached images old service s (call_turns s) c.in-Some.is
     (subst (λ (k : Kept). Serves images k s (call_turns s)) (sym c.self.view_is) serves)))
 
 pub returns-in-None-clause-comes : goal.returns-in-None-clause-comes
@@ -23,19 +23,19 @@ returns-in-None-clause-comes c = λ images s serves.
     let inside = c.self.inside in
     let old : Kept = record { mounted = inside.mounted; cached = inside.cache; protected = inside.protected; opens = inside.opens; marks = inside.marks; searches = inside.searches; service = inside.service } in
     let its = subst (λ (k : Kept). Serves images k s (call_turns s)) (sym c.self.view_is) serves in
-    absurd (nothing_some its.service (sym (sym c.take.ensures.value ∙ c.in-None.is) ∙ its.there))
+    absurd (nothing_some its.service (sym c.in-None.is ∙ its.there))
 
 pub returns-in-Some-clause-may : goal.returns-in-Some-clause-may
 returns-in-Some-clause-may c = λ caller function call entered.
-    entered_answers caller function call c.in-Some.service c.reply_service.new.reply c.reply_service.result
-    (subst (HasEntered caller function call) (ap (λ (kept : Kept). kept.service) (sym c.self.view_is) ∙ sym c.take.ensures.value ∙ c.in-Some.is) entered)
-    c.reply_service.ensures.may
+    entered_answers caller function call c.in-Some.service c.reply_service-extended.new.reply c.reply_service-extended.result
+    (subst (HasEntered caller function call) (ap (λ (kept : Kept). kept.service) (sym c.self.view_is) ∙ c.in-Some.is) entered)
+    c.reply_service-extended.ensures.may
 
 pub returns-in-None-clause-may : goal.returns-in-None-clause-may
 returns-in-None-clause-may c = λ caller function call entered.
-    absurd (subst (HasEntered caller function call) (ap (λ (kept : Kept). kept.service) (sym c.self.view_is) ∙ sym c.take.ensures.value ∙ c.in-None.is) entered)
+    absurd (subst (HasEntered caller function call) (ap (λ (kept : Kept). kept.service) (sym c.self.view_is) ∙ c.in-None.is) entered)
 
 pub returns-in-Some-clause-drive : goal.returns-in-Some-clause-drive
 returns-in-Some-clause-drive c = λ drive served.
-    of_served_drive drive c.in-Some.service c.args.self.now.service c.reply_service.result
-    (ap (λ (kept : Kept). kept.service) (sym c.self.view_is) ∙ sym c.take.ensures.value ∙ c.in-Some.is) served c.reply_service.ensures.drive
+    of_served_drive drive c.in-Some.service c.args.self.now.service c.reply_service-extended.result
+    (ap (λ (kept : Kept). kept.service) (sym c.self.view_is) ∙ c.in-Some.is) served c.reply_service-extended.ensures.drive

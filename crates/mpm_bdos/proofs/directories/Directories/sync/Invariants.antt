@@ -1,6 +1,8 @@
-use Rattle.std.proofs.Common.{◌≡◌, ◌+◌, take}
+use Rattle.std.proofs.Common.{◌≡◌, ◌+◌, ℕ, false, None, take}
 use Rattle.mpm_mount.specs.Mounting.{SameDrives}
+use Rattle.mpm_bdos.specs.Serving.{directory_at}
 use Rattle.mpm_bdos.specs.Syncing.{mounted_count}
+use Rattle.mpm_bdos.proofs.SyncLaws.{AreSyncedTo}
 use Rattle.mpm_bdos.proofs.directories.Directories.sync.Given as goal
 
 abbrev pub invariant-loop-place : goal.invariant-loop-place
@@ -9,4 +11,7 @@ invariant-loop-place g l = record {
   same : SameDrives g.D.Drives.attached g.D.Drives.disks g.D.Drives.failed_names l.initial.drives l.drives;
   none : mounted_count (take l.place-index l.self) ≡ 0 → l.drives ≡ l.initial.drives;
   calls : l.steps ≡ l.initial.steps + mounted_count (take l.place-index l.self);
+  synced : AreSyncedTo l.place-index (g.D.Drives.unsynced l.drives) l.self;
+  stay : (number : ℕ) → g.D.Drives.unsynced l.initial.drives number ≡ false → g.D.Drives.unsynced l.drives number ≡ false;
+  beside : (number : ℕ) → directory_at l.self number ≡ None → g.D.Drives.unsynced l.drives number ≡ g.D.Drives.unsynced l.initial.drives number;
 }

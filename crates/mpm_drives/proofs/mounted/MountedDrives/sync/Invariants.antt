@@ -1,5 +1,6 @@
-use Rattle.std.proofs.Common.{◌≡◌, ◌+◌}
+use Rattle.std.proofs.Common.{◌≡◌, ◌+◌, ℕ, false, take}
 use Rattle.mpm_mount.specs.Mounting.{SameDrives}
+use Rattle.mpm_drives.specs.Mounted.{AreSynced}
 use Rattle.mpm_drives.proofs.mounted.MountedDrives.sync.Given as goal
 
 abbrev pub invariant-loop-mounted : goal.invariant-loop-mounted
@@ -8,4 +9,6 @@ invariant-loop-mounted g l = record {
   same : SameDrives g.D.Drives.attached g.D.Drives.disks g.D.Drives.failed_names l.initial.drives l.drives;
   none : l.mounted-index ≡ 0 → l.drives ≡ l.initial.drives;
   calls : l.steps ≡ l.initial.steps + l.mounted-index;
+  synced : AreSynced (g.D.Drives.unsynced l.drives) (take l.mounted-index l.self);
+  stay : (number : ℕ) → g.D.Drives.unsynced l.initial.drives number ≡ false → g.D.Drives.unsynced l.drives number ≡ false;
 }

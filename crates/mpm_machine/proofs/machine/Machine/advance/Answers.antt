@@ -1,4 +1,4 @@
-use Rattle.std.proofs.Common.{sym, ap, subst, arith, ℕ}
+use Rattle.std.proofs.Common.{◌∙◌, sym, ap, subst, arith, ℕ}
 use Rattle.mpm_bdos.specs.Serving.{Kept}
 use Rattle.mpm_machine.specs.declared.system.System.{System}
 use Rattle.mpm_machine.specs.State.{State, StandsWithDrives}
@@ -7,7 +7,7 @@ use Rattle.mpm_machine.proofs.NextLaws.{after_more, ends_in_step, run_silent, ru
 use Rattle.mpm_machine.specs.Mounting.{KeepsMounted}
 use Rattle.mpm_machine.specs.Failing.{StopsWithImages}
 use Rattle.mpm_machine.proofs.DriveLaws.{keeps_still}
-use Rattle.mpm_machine.proofs.PassedLaws.{holds_passed}
+use Rattle.mpm_machine.proofs.PassedLaws.{holds_passed, turn_steps_passed}
 use Rattle.mpm_machine.proofs.StandingLaws.{ran_on}
 use Rattle.mpm_machine.proofs.machine.Machine.advance.Goals as goal
 
@@ -93,3 +93,20 @@ pub returns-then-done-most-clause-holds : goal.returns-then-done-most-clause-hol
 returns-then-done-most-clause-holds g c =
     holds_passed g.D.Drives.attached g.D.Drives.disks c.run_on-done.result c.args.self.now.system.kernel c.run_on-done.new.self.system.kernel
     c.args.self.now.bdos c.run_on-done.new.self.bdos c.args.drives.now c.run_on-done.ensures.disk c.run_on-done.ensures.calls c.run_on-done.ensures.bdos c.requires.holds
+
+pub returns-then-done-most-clause-calls : goal.returns-then-done-most-clause-calls
+returns-then-done-most-clause-calls g c turns = omega arith
+
+pub returns-then-done-most-clause-turn_steps : goal.returns-then-done-most-clause-turn_steps
+returns-then-done-most-clause-turn_steps g c = turn_steps_passed c.run_on-done.result _ _ c.run_on-done.ensures.disk
+
+pub returns-clause-calls : goal.returns-clause-calls
+returns-clause-calls g c turns =
+    omega (arith, c.in_default.ensures.few (omega (arith, turns, turn_steps_passed c.run_on-done.result _ _ c.run_on-done.ensures.disk)))
+
+pub returns-clause-turn_steps : goal.returns-clause-turn_steps
+returns-clause-turn_steps g c = c.in_default.ensures.turn_steps ∙ turn_steps_passed c.run_on-done.result _ _ c.run_on-done.ensures.disk
+
+pub returns-in-Err-clause-last_calls : goal.returns-in-Err-clause-last_calls
+returns-in-Err-clause-last_calls g c turns =
+    omega (arith, c.requires.some, c.in-Err.ensures.few (omega (arith, turns, turn_steps_passed c.run_on-done.result _ _ c.run_on-done.ensures.disk)))

@@ -1,15 +1,13 @@
-use Rattle.std.proofs.Common.{◌≡◌, ◌∙◌, ℕ, true, false, OnOk, IfErr, refl, sym, ap, subst, arith}
+use Rattle.std.proofs.Common.{◌∙◌, OnOk, IfErr, refl, sym, ap, subst, arith}
 use Rattle.std.proofs.lemmas.Bool.{false≢true}
 use Rattle.mpm_procs.specs.Table.{call_of}
 use Rattle.mpm_kernel.specs.Kernel.{Kernel}
 use Rattle.mpm_output.specs.Outside.{seen}
 use Rattle.mpm_bdos.specs.Functions.{function_of}
 use Rattle.mpm_bdos.specs.Serving.{Kept}
-use Rattle.mpm_machine.specs.declared.system.System.{System}
 use Rattle.mpm_machine.specs.Faults.{OnWriteFault}
 use Rattle.mpm_machine.specs.Files.{StandsWorked}
 use Rattle.mpm_machine.specs.Holding.{HoldsDrives}
-use Rattle.mpm_machine.specs.FileCalls.{told_of}
 use Rattle.mpm_machine.specs.DiskStep.{files_called, told_at_gate}
 use Rattle.mpm_machine.specs.After.{HasCalled}
 use Rattle.mpm_machine.proofs.DriveLaws.{keeps_still}

@@ -1,10 +1,11 @@
-use Rattle.std.proofs.Common.{◌≡◌, ◌∙◌, ℕ, ◌+◌, ◌≤◌, Option, Some, refl, sym, ap, subst, arith}
+use Rattle.std.proofs.Common.{◌≡◌, ◌∙◌, ℕ, ◌+◌, ◌<◌, ◌≤◌, Option, refl, sym, ap, subst, arith}
 use Rattle.mpm_output.specs.Outside.{seen}
 use Rattle.mpm_service.specs.Ahead.{left_to}
 use Rattle.mpm_kernel.specs.Kernel.{Kernel}
 use Rattle.mpm_bdos.specs.Serving.{Kept, Serves}
 use Rattle.mpm_bdos.specs.Jobs.{call_turns}
 use Rattle.mpm_bdos.specs.Turns.{FitsDrives, told_images}
+use Rattle.mpm_bdos.specs.AtOnce.{FailsSince}
 use Rattle.mpm_machine.specs.declared.machine.StepFault.TheVariants.{WriteFault}
 use Rattle.mpm_machine.specs.Files.{Files}
 use Rattle.mpm_machine.specs.Holding.{IsOwn}
@@ -42,10 +43,12 @@ returns-in-Err-clause-err g c files stands =
     let kept = c.args.self.now.bdos in
     let its = in_call files disk c.args.p kept disks c.requires.served stands in
     let left = c.do_turns.ensures.left in
-    let few : its.turns + c.finish_disk_call-turns.result ≤ call_turns its.call = omega (arith, its.left, c.finish_disk_call-turns.ensures.turns, all_left_turns disk) in (
+    let few : its.turns + c.finish_disk_call-turns.result ≤ call_turns its.call = omega (arith, its.left, c.finish_disk_call-turns.ensures.turns, all_left_turns disk) in
+    let failed : FailsSince now its.call its.turns = c.in-Err.ensures.err its.call its.turns its.serves few in
+    let before : failed.turn < its.turns + left_to disk.served = omega (arith, its.left, failed.its) in (
       refl,
       subst (λ (working : Option Working). HaveImagesOf (FailsWithin working) now c.do_turns.new.self.mounted) (sym its.left_is)
-          (turns_fail disks now kept c.do_turns.new.self.mounted its.call its.turns (left_to disk.served) its.serves (c.in-Err.ensures.err its.call its.turns its.serves few)
+          (turns_fail disks now kept c.do_turns.new.self.mounted its.call its.turns (left_to disk.served) its.serves failed before
           left.images left.kept.labels),
     )
 
@@ -87,7 +90,7 @@ pub returns-in-Ok-clause-end : goal.returns-in-Ok-clause-end
 returns-in-Ok-clause-end g c =
     let before = seen g.S.Sink.written g.S.Sink.faults c.args.render.now c.args.sink.now in
     let behind = seen g.S.Sink.written g.S.Sink.faults c.end_call.new.render c.end_call.new.sink in
-    subst (λ (call : Option ℕ). WritesEndOf call before behind c.args.self.now.system) (sym c.requires.served)
+    subst (λ (call : Option ℕ). WritesEndOf call before behind c.args.self.now.system c.end_call.new.self.system) (sym c.requires.served)
     (c.in-Ok.ensures.end c.args.self.now.system (ap (λ (k : Kernel). record c.args.self.now.system { kernel = k }) c.finish_disk_call-turns.ensures.kernel))
 
 pub returns-in-Ok-clause-keeps : goal.returns-in-Ok-clause-keeps

@@ -4,7 +4,7 @@ use Rattle.mpm_bdos.specs.Serving.{Kept}
 use Rattle.mpm_machine.specs.State.{IsWhole}
 use Rattle.mpm_machine.specs.Settling.{ended_with}
 use Rattle.mpm_machine.proofs.DiskStepLaws.{whole_all_paid}
-use Rattle.mpm_machine.proofs.CarryingLaws.{Pays, carried_stopped_first, carried_stopped_last, carried_all, told_stopped, told_stopped_last, told_wrote, ends_told, keeps_paid, stopped_behind}
+use Rattle.mpm_machine.proofs.CarryingLaws.{Pays, carried_stopped_first, carried_stopped_last, carried_all, whole_at_end, told_stopped, told_stopped_last, told_wrote, told_system, ends_told, keeps_paid, stopped_behind}
 use Rattle.mpm_machine.proofs.machine.Machine.end_call.Goals as goal
 
 pub answer_call-requires-clause-room : goal.answer_call-requires-clause-room
@@ -73,6 +73,11 @@ returns-clause-ok g c disks s before serves whose is =
     c.end_all.new.self c.pay-2.new.self.system whose is over.0 c.pay.ensures.system c.in_default-end_all.ensures.system c.pay-2.ensures.system over.1 c.in_default-end_all.ensures.wrote.ok over.2
     first last
 
+pub returns-clause-whole : goal.returns-clause-whole
+returns-clause-whole g c =
+    whole_at_end c.answer_call.new.self.system c.pay.new.self.system c.end_all.new.self c.pay-2.new.self.system c.in_default.ensures.whole c.pay.ensures.system
+    c.in_default-end_all.ensures.system c.pay-2.ensures.system
+
 pub returns-clause-end : goal.returns-clause-end
 returns-clause-end g c before is =
     let told = c.in_default.ensures.told in
@@ -80,6 +85,8 @@ returns-clause-end g c before is =
     record {
       change = ended_with told.told c.args.p before;
       is = ends_told c.args.p c.args.self.now.system before told.told is told.of_call told.tells;
+      system = told_system c.args.p c.args.self.now.system before c.answer_call.new.self.system c.pay.new.self.system c.end_all.new.self c.pay-2.new.self.system told.told is told.system
+          c.pay.ensures.system c.in_default-end_all.ensures.system c.pay-2.ensures.system;
       wrote = told_wrote _ m _ c.args.p c.args.self.now.system before c.answer_call.new.self.system c.pay.new.self.system told.told is told.system c.pay.ensures.system told.wrote
           c.in_default-end_all.ensures.wrote.ok;
     }

@@ -48,7 +48,7 @@ returns-in-Starts c =
       some = c.start_call-turns.ensures.some;
     }) in
     let is = begun_is turns old c.turn_disk.new.self c.begin_disk_call.new.self c.turn_disk.ensures.kernel c.begin_disk_call.ensures.kernel in
-    let has = has_entered_so old _ p turns is starts none in
+    let has = has_entered_so old _ p turns is starts none c.start_call-turns.ensures.some in
     record {
       ok = λ disks files stands. enters_so old _ p turns c.args.self.now.bdos new disks files is starts none c.requires.filed begins stands;
       entered = has;

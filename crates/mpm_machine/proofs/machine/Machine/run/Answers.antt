@@ -27,6 +27,8 @@ loop-done-init g c = record {
   bare = λ none. none;
   still = λ zero. refl;
   none = λ none. refl;
+  calls = λ turns. omega arith;
+  turn_steps = refl;
   attached = λ number. refl;
 }
 
@@ -50,6 +52,8 @@ loop-done-preserved g c = record {
   bare = λ none. c.in-Ok.ensures.bare (c.loop-done.invariant.bare none);
   still = λ zero. absurd (omega (arith, zero, c.in-Ok.ensures.some));
   none = λ none. c.in-Ok.ensures.none (c.loop-done.invariant.bare none) ∙ c.loop-done.invariant.none none;
+  calls = λ turns. omega (arith, c.loop-done.invariant.calls turns, c.in-Ok.ensures.calls (omega (arith, turns, c.loop-done.invariant.turn_steps)));
+  turn_steps = c.in-Ok.ensures.turn_steps ∙ c.loop-done.invariant.turn_steps;
   attached = λ number. c.in-Ok.ensures.attached number ∙ c.loop-done.invariant.attached number;
 }
 
@@ -117,3 +121,10 @@ returns-in-Err-clause-keeps g c =
 
 pub returns-clause-interprets : goal.returns-clause-interprets
 returns-clause-interprets g c = interprets_run c.loop-done.done _ _ c.args.self.now.system c.loop-done.self.system c.requires.whole c.loop-done.invariant.ran
+
+pub returns-in-Err-clause-few : goal.returns-in-Err-clause-few
+returns-in-Err-clause-few g c turns =
+    omega (arith, c.loop-done.invariant.calls turns, c.loop-done.invariant.few, c.in-Err.ensures.last_calls (omega (arith, turns, c.loop-done.invariant.turn_steps)))
+
+pub returns-clause-few : goal.returns-clause-few
+returns-clause-few g c turns = omega (arith, c.loop-done.invariant.calls turns, c.loop-done.invariant.few)

@@ -1,4 +1,4 @@
-use Rattle.std.proofs.Common.{◌≡◌, ◌≤◌, ◌<◌, ◌+◌, ◌-◌, ℕ, List, Option}
+use Rattle.std.proofs.Common.{◌≡◌, ◌≤◌, ◌<◌, ◌+◌, ◌-◌, ◌*◌, ℕ, List, Option}
 use Rattle.mpm_output.specs.Outside.{seen}
 use Rattle.mpm_machine.specs.State.{State, IsWhole, NoCompletions, StandsWithDrives}
 use Rattle.mpm_machine.specs.Holding.{HoldsDrives}
@@ -27,6 +27,8 @@ invariant-loop-done g l = record {
   bare : HasNoDrive l.initial.self.bdos.mounted → HasNoDrive l.self.bdos.mounted;
   still : l.done ≡ 0 → l.drives ≡ l.initial.drives;
   none : HasNoDrive l.initial.self.bdos.mounted → l.drives ≡ l.initial.drives;
+  calls : 0 < l.initial.self.system.kernel.disk.turn_steps → l.steps ≤ l.initial.steps + 20 * l.done;
+  turn_steps : l.self.system.kernel.disk.turn_steps ≡ l.initial.self.system.kernel.disk.turn_steps;
   attached : (number : ℕ) → g.D.Drives.attached l.drives number ≡ g.D.Drives.attached l.initial.drives number;
 }
 

@@ -33,7 +33,7 @@ returns-clause-ok g c disks files stands =
 pub returns-clause-step : goal.returns-clause-step
 returns-clause-step g c =
     let has = c.enter_call.ensures.entered in
-    has_served has.turns _ _ c.args.self.now.system c.pass_turn.new.self.system c.enter_call.new.self.system c.in_default.ensures.step
+    has_served has.turns _ _ c.args.self.now.system c.pass_turn.new.self.system c.enter_call.new.self.system c.in_default.ensures.step has.some
     (has.is ∙ ap (call_entered has.turns) c.pay.ensures.system)
 
 pub returns-clause-filed : goal.returns-clause-filed

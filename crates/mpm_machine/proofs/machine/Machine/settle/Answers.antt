@@ -7,7 +7,7 @@ use Rattle.mpm_output.specs.Outside.{seen}
 use Rattle.mpm_output.proofs.WritingLaws.{on_ok_always}
 use Rattle.mpm_machine.specs.Faults.{itself}
 use Rattle.mpm_machine.specs.Settling.{carried}
-use Rattle.mpm_machine.proofs.SettlingLaws.{carried_shows, carried_files, carried_images, stops_carrying, err_seen, err_stops, ok_closes, err_closes, stops_settling, keeps_synced, same_still, same_count, none_counted, sink_alone, cause_behind, ok_so}
+use Rattle.mpm_machine.proofs.SettlingLaws.{carried_shows, carried_system, carried_files, carried_images, stops_carrying, err_seen, err_stops, ok_closes, err_closes, stops_settling, keeps_synced, same_still, same_count, none_counted, sink_alone, cause_behind, ok_so}
 use Rattle.mpm_machine.proofs.machine.Machine.settle.Goals as goal
 
 -- the call in service was carried to its end, and lines are closed
@@ -18,6 +18,13 @@ returns-in-Ok-clause-ok g c s first stands =
     subst P c.in-Ok.ensures.trace
     (c.close.ensures.ok (carried s).outputs first
     (carried_shows s _ _ _ _ _ _ first stands.system.parts (c.in-Ok.ensures.ok s.files stands.files) stands.system.shown))
+
+pub returns-in-Ok-clause-system : goal.returns-in-Ok-clause-system
+returns-in-Ok-clause-system g c s first stands =
+    on_ok_always c.close.result (carried_system s _ _ _ _ _ _ stands.system.parts (c.in-Ok.ensures.ok s.files stands.files))
+
+pub returns-in-Ok-clause-whole : goal.returns-in-Ok-clause-whole
+returns-in-Ok-clause-whole g c = on_ok_always c.close.result c.in-Ok.ensures.whole
 
 pub returns-in-Ok-clause-files : goal.returns-in-Ok-clause-files
 returns-in-Ok-clause-files g c s first stands =
@@ -37,12 +44,12 @@ returns-in-Ok-clause-err g c s first stands =
 
 pub returns-in-Ok-clause-end : goal.returns-in-Ok-clause-end
 returns-in-Ok-clause-end g c =
-    ok_closes c.close.result _ (seen g.S.Sink.written g.S.Sink.faults c.carry.new.render c.carry.new.sink) _ c.args.self.now.system c.in-Ok.ensures.end c.close.ensures.ok
+    ok_closes c.close.result _ (seen g.S.Sink.written g.S.Sink.faults c.carry.new.render c.carry.new.sink) _ c.args.self.now.system c.carry.new.self.system c.in-Ok.ensures.end c.close.ensures.ok
 
 pub returns-in-Ok-clause-stops : goal.returns-in-Ok-clause-stops
 returns-in-Ok-clause-stops g c =
     err_closes c.close.result _ (seen g.S.Sink.written g.S.Sink.faults c.carry.new.render c.carry.new.sink) (seen g.S.Sink.written g.S.Sink.faults c.close.new.render c.close.new.sink)
-    c.args.self.now.system c.in-Ok.ensures.end c.close.ensures.err
+    c.args.self.now.system c.carry.new.self.system c.in-Ok.ensures.end c.close.ensures.err
     (err_seen c.close.result g.S.Sink.written g.S.Sink.faults c.carry.new.render c.close.new.render c.carry.new.sink c.close.new.sink c.close.ensures.unwritten)
 
 pub returns-in-Ok-clause-cause : goal.returns-in-Ok-clause-cause
@@ -55,10 +62,10 @@ pub returns-in-Ok-clause-calls : goal.returns-in-Ok-clause-calls
 returns-in-Ok-clause-calls g c =
     omega (arith, c.in-Ok.ensures.calls, c.close.ensures.calls, same_count c.args.self.now.bdos.mounted c.carry.new.self.bdos.mounted c.in-Ok.ensures.keeps.labels)
 
-pub returns-in-Ok-clause-synced : goal.returns-in-Ok-clause-synced
-returns-in-Ok-clause-synced g c none =
+pub returns-in-Ok-clause-all : goal.returns-in-Ok-clause-all
+returns-in-Ok-clause-all g c none =
     let same = same_count c.args.self.now.bdos.mounted c.carry.new.self.bdos.mounted c.in-Ok.ensures.keeps.labels in
-    ok_so c.close.result _ _ (λ all. omega (arith, all, same, c.in-Ok.ensures.still none)) c.close.ensures.synced
+    ok_so c.close.result _ _ (λ all. omega (arith, all, same, c.in-Ok.ensures.still none)) c.close.ensures.all
 
 pub returns-in-Ok-clause-idle : goal.returns-in-Ok-clause-idle
 returns-in-Ok-clause-idle g c none =
@@ -83,7 +90,7 @@ returns-in-Err-clause-err g c s first stands =
     stops_carrying c.in-Err.fault s _ _ _ _ _ first stands.system.parts c.in-Err.ensures.trace stands.system.shown (c.in-Err.ensures.err s.files stands.files)
 
 pub returns-in-Err-clause-stops : goal.returns-in-Err-clause-stops
-returns-in-Err-clause-stops g c = stops_settling c.in-Err.fault _ _ c.args.self.now.system c.in-Err.ensures.stops
+returns-in-Err-clause-stops g c = stops_settling c.in-Err.fault _ _ c.args.self.now.system c.carry.new.self.system c.in-Err.ensures.stops
 
 pub returns-in-Err-clause-calls : goal.returns-in-Err-clause-calls
 returns-in-Err-clause-calls g c = omega (arith, c.in-Err.ensures.calls)

@@ -1,4 +1,4 @@
-use Rattle.std.proofs.Common.{◌≡◌, ◌∙◌, Ok, sym, ap, subst, arith}
+use Rattle.std.proofs.Common.{◌∙◌, Ok, sym, ap, subst, arith}
 use Rattle.mpm_mount.specs.Directories.{Directory}
 use Rattle.std.specs.Prelude.{List, Option}
 use Rattle.std.proofs.lemmas.Bool.{false≢true}

@@ -1,7 +1,8 @@
 use Rattle.std.proofs.Common.{◌≡◌, ◌<◌, ap, ◌∙◌, arith, ◌++◌, List, ℕ}
+use Rattle.mpm_base.specs.Lists.{in_width}
 use Rattle.mpm_queues.specs.Messages.{queue_of}
 use Rattle.circular_buffer.specs.Buffer.{buffer}
-use Rattle.mpm_queues.specs.Queue.{Queue, is_full, with_message, message_of, in_width}
+use Rattle.mpm_queues.specs.Queue.{Queue, is_full, with_message, message_of}
 use Rattle.mpm_queues.proofs.MessageLaws.{not_all, room_for, store_longer, queue_longer}
 use Rattle.mpm_queues.proofs.store.Store.add.Goals as goal
 

@@ -1,6 +1,7 @@
 use Rattle.std.proofs.Common.{◌≡◌, ap, ◌∙◌, length, List, ℕ, ◌++◌}
+use Rattle.mpm_base.specs.Lists.{in_width}
 use Rattle.mpm_base.specs.Calls.{Taken}
-use Rattle.mpm_queues.specs.Queue.{in_width, first_message, with_given}
+use Rattle.mpm_queues.specs.Queue.{first_message, with_given}
 use Rattle.mpm_queues.proofs.MessageLaws.{given_bytes}
 use Rattle.mpm_queues.proofs.store.Store.give.Goals as goal
 

@@ -3,7 +3,7 @@ use Rattle.std.specs.List.{range_with_len}
 use Rattle.mpm_mount.specs.Drives.{Drive}
 use Rattle.mpm_bdos.specs.Serving.{filing_of}
 use Rattle.mpm_machine.specs.Files.{left_each, owes, all_left}
-use Rattle.mpm_machine.proofs.filing.give_back_each.Given as goal
+use Rattle.mpm_machine.proofs.filing.give_back.Given as goal
 
 abbrev pub invariant-loop-number : goal.invariant-loop-number
 invariant-loop-number l = record {

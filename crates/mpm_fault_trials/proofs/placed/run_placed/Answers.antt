@@ -1,0 +1,32 @@
+use Rattle.std.proofs.Common.{◌∙◌, ℕ, ◌<◌, ◌≤◌, ◌+◌, ◌*◌, List, Some, length, get_or, sym, subst, arith}
+use Rattle.mpm_script.specs.declared.event.Timed.{Timed}
+use Rattle.mpm_machine_file.specs.declared.machine_file.MachineFile.{MachineFile}
+use Rattle.mpm_machine_file.specs.MachineFiles.{IsMachine}
+use Rattle.mpm_port.specs.MemoryDisks.{size_of, disks_of}
+use Rattle.mpm_machine.specs.declared.system.System.{System}
+use Rattle.mpm_machine.specs.Holding.{HoldsDrives}
+use Rattle.mpm_machine.proofs.MountedLaws.{holds_again}
+use Rattle.mpm_machine.specs.Opening.{booted, IsBare, MayPlace}
+use Rattle.mpm_machine.proofs.PlacedLaws.{may_place_booted}
+use Rattle.mpm_fault_trials.proofs.placed.run_placed.Goals as goal
+
+-- a program can be placed into the first segment, if that has room
+may_place : (file : MachineFile) (events : List Timed) (size : ℕ) → IsMachine file → IsBare (booted file events) → 0 < length file.segments
+    → size + 640 ≤ 256 * (get_or file.segments 0 (record { base = 0; pages = 0 })).pages → MayPlace (booted file events) 0 0 size
+unfolding booted
+may_place file events size limits bare there room =
+    may_place_booted file events 0 0 size limits.some_console limits.consoles limits.printers (omega (arith, limits.segments)) bare.whole.script
+    limits.each_segment there limits.some_console room
+
+pub is_placed-placed-requires-clause-free : goal.is_placed-placed-requires-clause-free
+is_placed-placed-requires-clause-free c =
+    λ size there room. subst (λ (system : System). MayPlace system 0 0 size) (sym c.in-Ok.ensures.booted)
+    (may_place c.args.file.now c.empty-script.result size c.requires.file (subst IsBare c.in-Ok.ensures.booted c.in-Ok.ensures.bare) there room)
+
+-- its drives are held, whether the program was placed or not
+pub run-status-requires-clause-holds : goal.run-status-requires-clause-holds
+run-status-requires-clause-holds c =
+    let kernel = c.is_placed-placed.new.machine.system.kernel in
+    let same = c.is_placed-placed.ensures.disk ∙ c.in-Ok.ensures.disk in
+    subst (λ kept. HoldsDrives size_of (λ d. Some (disks_of d)) kernel kept c.boot_bare.new.drives) (sym c.is_placed-placed.ensures.bdos)
+    (holds_again size_of (λ d. Some (disks_of d)) c.in-Ok.machine.system.kernel kernel c.args.file.now.disk_turn c.in-Ok.machine.bdos c.boot_bare.new.drives same c.in-Ok.ensures.holds)

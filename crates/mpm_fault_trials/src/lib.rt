@@ -1,0 +1,15 @@
+//! Tests of runs of whose devices a call fails: each of their calls in turn, up to the last that they make.
+#![tactic(auto)]
+
+#[cfg(test)]
+mod calls;
+#[cfg(test)]
+mod disk;
+#[cfg(test)]
+mod placed;
+#[cfg(test)]
+mod play;
+#[cfg(test)]
+mod puts;
+#[cfg(test)]
+mod ways;

@@ -1,0 +1,78 @@
+-- Which drives are synced behind a run: those that are mounted, as the others are attached as they were.
+use Rattle.std.proofs.Common.{◌≡◌, ◌≢◌, ◌∙◌, ℕ, false, Bool, List, [], ◌∷◌, Option, Some, None, IfSome, IfOk, Result, Ok, Err, inl, inr, refl, sym, ap}
+use Rattle.std.specs.Prelude.{◌⊎◌, option_map}
+use Rattle.std.specs.List.{AllByRecursion}
+use Rattle.std.proofs.lemmas.List.Elements.{All-from_recursion}
+use Rattle.mpm_base.specs.declared.kind.Kind.{Kind}
+use Rattle.mpm_port.specs.Disks.{Disks}
+use Rattle.mpm_machine_file.specs.declared.lists.DriveSpec.{DriveSpec}
+use Rattle.mpm_mount.specs.Directories.{Directory}
+use Rattle.mpm_drives.specs.Mounted.{SameBeside, number_of}
+use Rattle.mpm_bdos.specs.Serving.{directory_at}
+use Rattle.mpm_bdos.specs.Syncing.{AreSynced}
+use Rattle.mpm_bdos.specs.Turns.{labelled}
+use Rattle.mpm_machine.specs.declared.machine.Machine.{Machine}
+use Rattle.mpm_machine.specs.Mounting.{IsInPlace, HasDrives}
+use Rattle.mpm_top.specs.Runs.{AttachesMounted, AreSyncedOf, SyncsAttached}
+use Rattle.mpm_top.proofs.Naming.{none_some}
+
+-- what isn't mounted the machine file doesn't list, so that it is attached as it was
+
+unlisted : (disks : Option Disks) (mounted : List (Option Directory)) (specs : List DriveSpec) (number : ℕ) → AllByRecursion (IsInPlace disks mounted) specs
+    → directory_at mounted number ≡ None → AllByRecursion (λ spec. number_of spec ≢ number) specs
+unlisted disks mounted [] number each free = tt
+unlisted disks mounted (spec ∷ specs) number each free = (
+  (λ same. none_some (sym (ap (option_map labelled) (ap (directory_at mounted) same ∙ free)) ∙ each.0.label)),
+  unlisted disks mounted specs number each.1 free,
+)
+
+pub attaches_mounted : (specs : List DriveSpec) (before behind : ℕ → Option ℕ) (disks now : Option Disks) (mounted : List (Option Directory))
+    → SameBeside specs before behind disks now → HasDrives now specs mounted → AttachesMounted before behind mounted
+attaches_mounted specs before behind disks now mounted beside has number free =
+    beside.drives number (All-from_recursion (λ spec. number_of spec ≢ number) specs (unlisted now mounted specs number has.each free))
+
+-- a drive that was mounted is so behind steps
+
+if_there : (old new : Option Directory) (P : Type 0) → option_map labelled new ≡ option_map labelled old → IfSome new (λ d. P) → IfSome old (λ d. P)
+if_there None new P same p = tt
+if_there (Some d) None P same p = absurd (none_some same)
+if_there (Some d) (Some e) P same p = p
+
+pub synced_before : (unsynced : ℕ → Bool) (old new : List (Option Directory)) → ((number : ℕ) → option_map labelled (directory_at new number) ≡ option_map labelled (directory_at old number))
+    → AreSynced unsynced new → AreSynced unsynced old
+synced_before unsynced old new labels synced number =
+    if_there (directory_at old number) (directory_at new number) (unsynced number ≡ false) (labels number) (synced number)
+
+-- so each that the machine file lists is synced
+
+where_labelled : (directory : Option Directory) (label : ℕ × Kind) (P : Type 0) → option_map labelled directory ≡ Some label → IfSome directory (λ d. P) → P
+where_labelled None label P is p = absurd (none_some is)
+where_labelled (Some d) label P is p = p
+
+pub listed_synced : (disks : Option Disks) (mounted : List (Option Directory)) (unsynced : ℕ → Bool) (specs : List DriveSpec) → AllByRecursion (IsInPlace disks mounted) specs
+    → AreSynced unsynced mounted → AreSyncedOf unsynced specs
+listed_synced disks mounted unsynced [] each synced = tt
+listed_synced disks mounted unsynced (spec ∷ specs) each synced = (
+  where_labelled (directory_at mounted (number_of spec)) (number_of spec, spec.kind) (unsynced (number_of spec) ≡ false) each.0.label (synced (number_of spec)),
+  listed_synced disks mounted unsynced specs each.1 synced,
+)
+
+-- and so is each that wasn't attached as it is
+
+attached_or_synced : (directory : Option Directory) (P Q : Type 0) → (directory ≡ None → P) → IfSome directory (λ d. Q) → P ⊎ Q
+attached_or_synced None P Q free synced = inl (free refl)
+attached_or_synced (Some d) P Q free synced = inr synced
+
+pub syncs_attached : (before behind : ℕ → Option ℕ) (unsynced : ℕ → Bool) (mounted : List (Option Directory)) → AttachesMounted before behind mounted → AreSynced unsynced mounted
+    → SyncsAttached before behind unsynced
+syncs_attached before behind unsynced mounted attaches synced number =
+    attached_or_synced (directory_at mounted number) (behind number ≡ before number) (unsynced number ≡ false) (attaches number) (synced number)
+
+-- where no drive was called
+
+pub still_attached : (attached : ℕ → Option ℕ) (unsynced : ℕ → Bool) → SyncsAttached attached attached unsynced
+still_attached attached unsynced number = inl refl
+
+pub nothing_attached : {E : Type 0} (result : Result Machine E) (attached : ℕ → Option ℕ) → IfOk result (λ machine. AttachesMounted attached attached machine.bdos.mounted)
+nothing_attached (Err error) attached = tt
+nothing_attached (Ok machine) attached = λ number free. refl
