@@ -1,5 +1,5 @@
 -- What the records of a call come to, by its work behind its last turn, is what its turns have come to.
-use Rattle.std.proofs.Common.{◌≡◌, ◌∙◌, ℕ, ◌≤◌, ◌<◌, ◌==◌, Bool, true, false, cond, List, Option, Some, None, IfSome, refl, sym, ap, subst, arith, eqb-true}
+use Rattle.std.proofs.Common.{◌≡◌, ◌∙◌, ℕ, zero, suc, ◌+◌, ◌-◌, ◌≤◌, ◌<◌, ◌==◌, Bool, true, false, cond, List, Option, Some, None, IfSome, refl, sym, ap, subst, arith, eqb-true}
 use Rattle.std.specs.Prelude.{is_some, nat_lt, min}
 use Rattle.std.proofs.lemmas.Bool.{false≢true}
 use Rattle.std.proofs.lemmas.Bool.Decides.{nat_tests}
@@ -9,22 +9,23 @@ use Rattle.mpm_mount.specs.Directories.{Directory}
 use Rattle.mpm_files.specs.declared.errors.RecordError.{RecordError}
 use Rattle.mpm_files.specs.declared.jobs.Job.{Job}
 use Rattle.mpm_files.specs.declared.work.Work.{Work}
+use Rattle.mpm_files.specs.declared.jobs.JobKind.TheVariants as kinds
 use Rattle.mpm_files.specs.Plans.{file_of_job, turns_of}
 use Rattle.mpm_files.specs.Serving.{IsServing}
-use Rattle.mpm_files.specs.Turning.{Suits}
 use Rattle.mpm_files.proofs.Missed.{error_told}
 use Rattle.mpm_bdos.specs.declared.functions.FileFunction.{FileFunction}
 use Rattle.mpm_bdos.specs.declared.functions.FileFunction.TheVariants.{ResetDisks, OpenFile, CloseFile, SearchFirst, SearchNext, DeleteFile, ReadSequential, WriteSequential, MakeFile, RenameFile, ProtectDisk, SetAttributes, ReadRandom, WriteRandom, FileSize, ResetDrives, AccessDrives, FreeDrives, TestAndWrite, LockRecord, UnlockRecord, FreeSpace, FlushBuffers, SetLabel, LabelData, ReadXfcb, WriteXfcb}
-use Rattle.mpm_bdos.specs.Filing.{Situation}
-use Rattle.mpm_bdos.specs.Subjects.{drive_at}
-use Rattle.mpm_bdos.specs.Refusals.{refusal_of}
+use Rattle.mpm_bdos.specs.Filing.{Situation, block}
+use Rattle.mpm_bdos.specs.Subjects.{drive_at, first_record, data_byte}
+use Rattle.mpm_bdos.specs.Refusals.{makes_xfcb, refusal_of}
 use Rattle.mpm_bdos.specs.declared.ends.RecordEnd.{RecordEnd}
 use Rattle.mpm_bdos.specs.Records.{end_by, coded}
-use Rattle.mpm_bdos.specs.Jobs.{free_count, writing_job, testing_job, where_some, job_by, unless_refused, job_of, turns_by, call_turns, Turned, turned_by, turned}
+use Rattle.mpm_bdos.specs.Jobs.{is_cut_at, count_until, free_count, reading_job, writing_job, testing_job, with_one, with_protection, job_on, made_xfcb, making_job, where_some, job_by, unless_refused, job_of, turns_by, call_turns, Turned, turned_by, turned}
 use Rattle.mpm_bdos.specs.Replies.{is_cut_by, end_after}
-use Rattle.mpm_bdos.specs.Ending.{IsSound, is_cut_short, count_of, moved_by, error_of, ended}
+use Rattle.mpm_bdos.specs.Ending.{IsSound, FewDone, is_cut_short, count_of, moved_by, error_of, ended}
+use Rattle.mpm_bdos.specs.Answering.{IsCoded}
 use Rattle.mpm_bdos.specs.Serving.{WorksOn}
-use Rattle.mpm_bdos.proofs.MovedLaws.{is_on_records, fewer_moved, most_moved}
+use Rattle.mpm_bdos.proofs.MovedLaws.{is_on_records, fewer_moved, most_moved, fails_on_records}
 
 -- how many records a job has
 count_in : Option Job → ℕ
@@ -120,11 +121,72 @@ ended_is s image directory work none sound works =
     ∙ ap (λ cut. record { moved = t.moved; end = end_by t.error cut })
     (ap (λ n. is_cut_short s.function n s.caller.multi) so.count ∙ cut_by s s.function (job_of s) (sym (own_job s none)))
 
--- where something ended them, at most 15 were moved
-few_end : (error : Option RecordError) (cut : Bool) (moved : ℕ) → (is_some error ≡ true → moved ≤ 15) → (cut ≡ true → moved ≤ 15) → IfSome (end_by error cut) (λ end. moved ≤ 15)
-few_end (Some error) cut moved fails cuts = fails refl
-few_end None true moved fails cuts = cuts refl
-few_end None false moved fails cuts = tt
+-- where something ended them, fewer were moved than the call names
+few_end : (error : Option RecordError) (cut : Bool) (moved multi : ℕ) → (is_some error ≡ true → moved < multi) → (cut ≡ true → moved < multi)
+    → IfSome (end_by error cut) (λ end. moved < multi)
+few_end (Some error) cut moved multi fails cuts = fails refl
+few_end None true moved multi fails cuts = cuts refl
+few_end None false moved multi fails cuts = tt
+
+-- and no job on records has more
+free_by : (stops : Bool) (n count : ℕ) → n ≤ count → cond stops 0 (suc n) ≤ suc count
+free_by true n count few = omega arith
+free_by false n count few = omega (arith, few)
+
+until_within : (stops : ℕ → Bool) (n count : ℕ) → count_until stops n count ≤ count
+unfolding count_until
+until_within stops n zero = omega arith
+until_within stops n (suc count) = free_by (stops n) (count_until stops (n + 1) count) count (until_within stops (n + 1) count)
+
+free_within : (s : Situation) → free_count s ≤ s.caller.multi
+unfolding free_count
+free_within s = until_within (is_cut_at s s.function) (first_record s) s.caller.multi
+
+count_is : (made job : Job) (multi : ℕ) → Some made ≡ Some job → made.count ≤ multi → job.count ≤ multi
+count_is made job multi is few = subst (λ (j : Job). j.count ≤ multi) (same_Some made job is) few
+
+count_where : (none : Bool) (made job : Job) (multi : ℕ) → cond none None (Some made) ≡ Some job → made.count ≤ multi → job.count ≤ multi
+count_where true made job multi is few = absurd (cc)
+count_where false made job multi is few = count_is made job multi is few
+
+on_none : (made job : Job) (multi : ℕ) → Some made ≡ Some job → is_on_records made.kind ≡ false → is_on_records job.kind ≡ true → job.count ≤ multi
+on_none made job multi is off on = absurd (false≢true (sym off ∙ ap (λ (j : Job). is_on_records j.kind) (same_Some made job is) ∙ on))
+
+making_on_none : (b : Bool) (one other : Job) → is_on_records one.kind ≡ false → is_on_records other.kind ≡ false → is_on_records (cond b one other).kind ≡ false
+making_on_none true one other first last = first
+making_on_none false one other first last = last
+
+count_within : (s : Situation) (function : FileFunction) (job : Job) → is_on_records job.kind ≡ true → job_by s function ≡ Some job → job.count ≤ s.caller.multi
+unfolding job_by
+count_within s ResetDisks job on is = absurd (cc)
+count_within s OpenFile job on is = on_none _ job s.caller.multi is refl on
+count_within s CloseFile job on is = absurd (cc)
+count_within s SearchFirst job on is = absurd (cc)
+count_within s SearchNext job on is = absurd (cc)
+count_within s DeleteFile job on is = on_none _ job s.caller.multi is refl on
+count_within s ReadSequential job on is = count_is (reading_job s) job s.caller.multi is (omega arith)
+count_within s WriteSequential job on is = count_where (free_count s == 0) (writing_job s (free_count s)) job s.caller.multi is (free_within s)
+count_within s MakeFile job on is =
+    on_none (making_job s) job s.caller.multi is
+    (making_on_none (makes_xfcb (data_byte (drive_at s)) (block s)) (with_one (with_protection (made_xfcb s) (job_on s kinds.Make))) (job_on s kinds.Make) refl refl) on
+count_within s RenameFile job on is = on_none _ job s.caller.multi is refl on
+count_within s ProtectDisk job on is = absurd (cc)
+count_within s SetAttributes job on is = on_none _ job s.caller.multi is refl on
+count_within s ReadRandom job on is = count_is (reading_job s) job s.caller.multi is (omega arith)
+count_within s WriteRandom job on is = count_where (free_count s == 0) (writing_job s (free_count s)) job s.caller.multi is (free_within s)
+count_within s FileSize job on is = absurd (cc)
+count_within s ResetDrives job on is = absurd (cc)
+count_within s AccessDrives job on is = absurd (cc)
+count_within s FreeDrives job on is = absurd (cc)
+count_within s TestAndWrite job on is = count_where (free_count s == 0) (testing_job s (free_count s)) job s.caller.multi is (free_within s)
+count_within s LockRecord job on is = absurd (cc)
+count_within s UnlockRecord job on is = absurd (cc)
+count_within s FreeSpace job on is = absurd (cc)
+count_within s FlushBuffers job on is = absurd (cc)
+count_within s SetLabel job on is = on_none _ job s.caller.multi is refl on
+count_within s LabelData job on is = absurd (cc)
+count_within s ReadXfcb job on is = absurd (cc)
+count_within s WriteXfcb job on is = on_none _ job s.caller.multi is refl on
 
 kind_by : (job made : Job) (b : Bool) → cond b None (Some made) ≡ Some job → job.kind ≡ made.kind
 kind_by job made true e = absurd (cc)
@@ -167,27 +229,32 @@ cut_on_records s LabelData job n cut is = absurd (false≢true cut)
 cut_on_records s ReadXfcb job n cut is = absurd (false≢true cut)
 cut_on_records s WriteXfcb job n cut is = absurd (false≢true cut)
 
-few_by : (s : Situation) (job : Option Job) (work : Option Work) → job_by s s.function ≡ job → Says (drive_at s) job (turns_by (drive_at s) job) work → IfSome job (Suits (drive_at s)) → s.caller.multi ≤ 16
-    → IfSome (end_by (error_of work) (is_cut_short s.function (count_of work) s.caller.multi)) (λ end. moved_by work ≤ 15)
+few_by : (s : Situation) (job : Option Job) (work : Option Work) → job_by s s.function ≡ job → Says (drive_at s) job (turns_by (drive_at s) job) work → 1 ≤ s.caller.multi
+    → IfSome (end_by (error_of work) (is_cut_short s.function (count_of work) s.caller.multi)) (λ end. moved_by work < s.caller.multi)
 unfolding count_in
-few_by s None work is so suits few =
-    few_end (error_of work) (is_cut_short s.function (count_of work) s.caller.multi) (moved_by work) (λ h. omega (arith, so.moved)) (λ h. omega (arith, so.moved))
-few_by s (Some job) work is so suits few =
-    few_end (error_of work) (is_cut_short s.function (count_of work) s.caller.multi) (moved_by work)
-    (λ h. omega (arith, so.moved, fewer_moved (drive_at s) job (ap is_some (sym so.error) ∙ h), suits.count))
-    (λ h. let cut = cut_on_records s s.function job (count_of work) h is in omega (arith, so.moved, most_moved (drive_at s) job cut.0, cut.1, so.count, few))
+few_by s None work is so some =
+    few_end (error_of work) (is_cut_short s.function (count_of work) s.caller.multi) (moved_by work) s.caller.multi (λ h. omega (arith, so.moved, some)) (λ h. omega (arith, so.moved, some))
+few_by s (Some job) work is so some =
+    few_end (error_of work) (is_cut_short s.function (count_of work) s.caller.multi) (moved_by work) s.caller.multi
+    (λ h. let fails = ap is_some (sym so.error) ∙ h in
+    omega (arith, so.moved, fewer_moved (drive_at s) job fails, count_within s s.function job (fails_on_records (drive_at s) job fails) is))
+    (λ h. let cut = cut_on_records s s.function job (count_of work) h is in omega (arith, so.moved, most_moved (drive_at s) job cut.0, cut.1, so.count))
 
 pub ended_few : (s : Situation) (image : List ℕ) (directory : Option Directory) (work : Option Work) → refusal_of s ≡ None → IsSound (drive_at s)
-    → WorksOn image directory (drive_at s) (job_of s) (call_turns s) work → IfSome (job_of s) (Suits (drive_at s)) → s.caller.multi ≤ 16
-    → IfSome (ended s.function s.caller.multi work).end (λ end. (ended s.function s.caller.multi work).moved ≤ 15)
+    → WorksOn image directory (drive_at s) (job_of s) (call_turns s) work → 1 ≤ s.caller.multi → FewDone s.caller.multi (ended s.function s.caller.multi work)
 unfolding ended
-ended_few s image directory work none sound works suits few =
-    few_by s (job_of s) work (sym (own_job s none)) (subst (λ j. Says (drive_at s) (job_of s) j work) (last_turn s) (says s image directory work sound works)) suits few
+ended_few s image directory work none sound works some =
+    few_by s (job_of s) work (sym (own_job s none)) (subst (λ j. Says (drive_at s) (job_of s) j work) (last_turn s) (says s image directory work sound works)) some
 
--- so many go into four bits
-pub told_in_four_bits : (function : FileFunction) (moved : ℕ) (end : Option RecordEnd) (value : ℕ) → IfSome end (λ end. moved ≤ 15) → value ≡ coded function (min moved 15) end → value ≡ coded function moved end
-told_in_four_bits function moved None value few is = is
-told_in_four_bits function moved (Some end) value few is = is ∙ ap (λ n. coded function n (Some end)) (at_most moved few)
+-- so many are told, and never more than that
+pub told_whole : (function : FileFunction) (moved multi : ℕ) (end : Option RecordEnd) (value : ℕ) → IfSome end (λ end. moved < multi) → value ≡ coded function (min moved (multi - 1)) end
+    → value ≡ coded function moved end
+told_whole function moved multi None value few is = is
+told_whole function moved multi (Some end) value few is = is ∙ ap (λ n. coded function n (Some end)) (at_most moved multi few)
   where
-    at_most : (n : ℕ) → n ≤ 15 → min n 15 ≡ n
-    at_most n h = omega (arith, h)
+    at_most : (n most : ℕ) → n < most → min n (most - 1) ≡ n
+    at_most n most h = omega (arith, h)
+
+pub coded_within : (function : FileFunction) (moved multi : ℕ) (end : Option RecordEnd) (value : ℕ) → 1 ≤ multi → value ≡ coded function (min moved (multi - 1)) end → IsCoded multi function value
+coded_within function moved multi None value some is = record { end = None; done = multi; few = refl; is = is }
+coded_within function moved multi (Some end) value some is = record { end = Some end; done = min moved (multi - 1); few = omega (arith, some); is = is }

@@ -14,13 +14,14 @@ use Rattle.mpm_bdos.specs.Filing.{Situation}
 use Rattle.mpm_bdos.specs.Subjects.{found}
 use Rattle.mpm_bdos.specs.Jobs.{call_turns, turned}
 use Rattle.mpm_bdos.specs.Changes.{opens_by}
-use Rattle.mpm_bdos.specs.Replies.{answer_by, granted_of, answer_after}
+use Rattle.mpm_bdos.specs.Records.{done_by}
+use Rattle.mpm_bdos.specs.Replies.{value_by, answer_by, granted_of, answer_after}
 use Rattle.mpm_bdos.specs.Asking.{asked_of, found_as}
-use Rattle.mpm_bdos.specs.Ending.{moved_by, ended, IsPlaced}
+use Rattle.mpm_bdos.specs.Ending.{moved_by, ended, HasRead, FewDone, IsPlaced}
 use Rattle.mpm_bdos.specs.Leaving.{left_first, granted_by, opens_left, IsGranted, IsInFile}
 use Rattle.mpm_bdos.specs.Replying.{IsAnswering}
 use Rattle.mpm_bdos.proofs.AnsweredLaws.{granted_same, opens_same}
-use Rattle.mpm_bdos.proofs.ToldLaws.{FewDone, ends_so, few_granted, placed, in_file, has_read}
+use Rattle.mpm_bdos.proofs.ToldLaws.{ends_so, few_granted, placed, in_file, has_read}
 
 moved_so : (s : Situation) (image : List ℕ) (d : Directory) (work : Option Work) (deleted : List (Option FileKey)) → IsAnswering s image d work deleted → moved_by work ≡ (turned s (call_turns s)).moved
 unfolding ended
@@ -35,11 +36,13 @@ may_answer : (s : Situation) (image : List ℕ) (d : Directory) (work : Option W
     → IsGranted (turned s (call_turns s)).drive s.filing.opens (asked_of s) work deleted (turned s (call_turns s)).records
 may_answer s image d work deleted answering =
     let same = granted_so s image d work deleted answering in
+    let t = turned s (call_turns s) in
     record {
       in_file = λ f. in_file s image (Some d) work answering.served f;
-      few = subst (λ (g : Granted). FewDone g.ended) (sym same) (few_granted s image (Some d) work answering.served);
+      few = subst (λ (g : Granted). FewDone s.caller.multi g.ended) (sym same) (few_granted s image (Some d) work answering.served);
       placed = λ moves. subst IsPlaced (sym same) (placed s image (Some d) work answering.served moves);
-      read = λ reads. has_read s image (Some d) work answering.served reads;
+      read = λ reads.
+          subst (λ (g : Granted). HasRead (done_by s.caller.multi (value_by t.drive g s.function)) work t.records) (sym same) (has_read s image (Some d) work t.drive answering.served reads);
     }
 
 pub answered_so : (s : Situation) (image : List ℕ) (d : Directory) (work : Option Work) (deleted : List (Option FileKey)) (entries : Option FoundEntry) (answer : Answer) → IsAnswering s image d work deleted

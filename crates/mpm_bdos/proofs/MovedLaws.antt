@@ -2,7 +2,7 @@
 use Rattle.std.proofs.Common.{◌≡◌, ◌∙◌, ℕ, zero, suc, ◌+◌, ◌/◌, ◌≤◌, ◌<◌, Bool, true, false, ◌&&◌, List, [], ◌∷◌, Option, Some, None, length, refl, sym, ap, subst, arith}
 use Rattle.std.specs.Prelude.{is_some, sum_by, if◌then◌else◌}
 use Rattle.std.proofs.lemmas.Bool.{true≢false, false≢true, le-ltb}
-use Rattle.std.proofs.lemmas.List.Sums.{sum_by-append}
+use Rattle.std.proofs.lemmas.List.Sums.{sum_by-append, sum_by-cons}
 use Rattle.std.proofs.lemmas.List.FromFn.{length-map-range_with_len}
 use Rattle.mpm_mount.specs.Drives.{FileName, Drive}
 use Rattle.mpm_files.specs.declared.errors.RecordError.{RecordError}
@@ -130,3 +130,32 @@ fewer_moved drive job fails =
 pub most_moved : (drive : Drive) (job : Job) → is_on_records job.kind ≡ true → moved_after drive job (turns_of drive job) ≤ job.count
 unfolding plan_of
 most_moved drive job is = subst (λ n. n ≤ job.count) (sym (all_moved drive job)) (few_by drive job job.kind is).most
+
+-- only a call on records fails
+pub fails_on_records : (drive : Drive) (job : Job) → is_some (error_after drive job (turns_of drive job)) ≡ true → is_on_records job.kind ≡ true
+unfolding plan_of
+fails_on_records drive job fails = by_kind (is_on_records job.kind) refl
+  where
+    by_kind : (on : Bool) → is_on_records job.kind ≡ on → is_on_records job.kind ≡ true
+    by_kind true is = is
+    by_kind false is = absurd (true≢false (sym (ap is_some (sym (told_at_last drive job)) ∙ fails) ∙ never_fails drive job job.kind is))
+
+-- records that are read are all moved where none fails
+all_after : (error : Option RecordError) (unit : FileUnit) (plan : Plan) (count : ℕ) → records_moved unit ≡ 1 → (plan.error ≡ None → sum_by records_moved plan.units ≡ count)
+    → (unless_failing error (behind (unit ∷ []) plan)).error ≡ None → sum_by records_moved (unless_failing error (behind (unit ∷ []) plan)).units ≡ suc count
+all_after (Some error) unit plan count is all none = absurd (cc)
+all_after None unit plan count is all none = omega (arith, sum_by-cons records_moved unit plan.units, is, all none)
+
+reading_all : (count : ℕ) (drive : Drive) (file : FileName) (n : ℕ) → (reading drive file n count).error ≡ None → sum_by records_moved (reading drive file n count).units ≡ count
+unfolding reading
+reading_all zero drive file n none = refl
+reading_all (suc count) drive file n none =
+    all_after (read_error drive file n) (ReadsRecord file n) (reading drive file (n + 1) count) count refl (reading_all count drive file (n + 1)) none
+
+pub all_where_none_fails : (drive : Drive) (job : Job) → job.kind ≡ Read → error_after drive job (turns_of drive job) ≡ None → moved_after drive job (turns_of drive job) ≡ job.count
+unfolding plan_of
+all_where_none_fails drive job is none =
+    all_moved drive job
+    ∙ ap (λ kind. sum_by records_moved (plan_by drive job kind).units) is
+    ∙ reading_all job.count drive (file_of_job job) job.first
+    (sym (ap (λ kind. (plan_by drive job kind).error) is) ∙ sym (told_at_last drive job) ∙ none)

@@ -1,6 +1,5 @@
 -- The bytes of records that were read stand at the front of their job's.
 use Rattle.std.proofs.Common.{◌≡◌, ◌∙◌, ap, ℕ, ◌+◌, ◌-◌, ◌*◌, ◌≤◌, List, ◌++◌, length, take, drop, arith}
-use Rattle.std.specs.Prelude.{min}
 use Rattle.std.specs.List.{flat_map}
 use Rattle.std.proofs.Math.Seq.{take-append_seam}
 use Rattle.std.proofs.lemmas.List.{length-append, length-drop}
@@ -16,6 +15,3 @@ records_taken records bytes before moved size size_before count few e =
     let whole : length bytes ≡ length read + length (drop n before) = ap length e ∙ length-append read (drop n before) in
     let exact : 128 * moved ≡ length read = omega (arith, whole, rest, size, few, count) in
     ap (take (128 * moved)) e ∙ ap (λ m. take m (read ++ drop n before)) exact ∙ take-append_seam read (drop n before)
-
-pub so_many_at_most : (count moved most : ℕ) → count ≡ min moved most → moved ≤ most → count ≡ moved
-so_many_at_most count moved most is few = is ∙ omega (arith, few)

@@ -1,6 +1,6 @@
 -- What bounds a reply: few records are done where something ended them, a position is one that a block can have, and the records that
 -- were read stand at the front of their job's bytes.
-use Rattle.std.proofs.Common.{◌≡◌, ◌∙◌, ◌⊎◌, inl, inr, ℕ, zero, suc, ◌+◌, ◌/◌, ◌≤◌, ◌<◌, not, Bool, true, false, cond, List, [], ◌∷◌, ◌++◌, Option, Some, None, IfSome, length, refl, sym, ap, subst, arith}
+use Rattle.std.proofs.Common.{◌≡◌, ◌∙◌, ◌⊎◌, inl, inr, ℕ, zero, suc, ◌+◌, ◌*◌, ◌/◌, ◌≤◌, ◌<◌, ◌==◌, not, Bool, true, false, cond, List, [], ◌∷◌, ◌++◌, Option, Some, None, IfSome, length, refl, sym, ap, subst, arith, eqb-true}
 use Rattle.std.specs.Prelude.{is_some, nat_le, sum_by, option_and_then}
 use Rattle.std.specs.FinMap.{get}
 use Rattle.std.proofs.lemmas.Bool.{false≢true, cases_lt}
@@ -13,7 +13,8 @@ use Rattle.mpm_opens.specs.declared.kinds.FileKey.{FileKey}
 use Rattle.mpm_opens.specs.declared.kinds.Mode.TheVariants.{Unlocked}
 use Rattle.mpm_opens.specs.Kinds.{is_same_mode}
 use Rattle.mpm_opens.specs.Opens.{OpenFiles, locked}
-use Rattle.mpm_files.specs.declared.errors.RecordError.TheVariants.{UnwrittenExtent, UnwrittenData}
+use Rattle.mpm_files.specs.declared.errors.RecordError.{RecordError}
+use Rattle.mpm_files.specs.declared.errors.RecordError.TheVariants.{UnwrittenExtent, UnwrittenData, NoDirectorySpace, NoDataBlock, Mismatch}
 use Rattle.mpm_files.specs.declared.jobs.JobKind.TheVariants as kinds
 use Rattle.mpm_files.specs.declared.jobs.Job.{Job}
 use Rattle.mpm_files.specs.declared.work.Work.{Work}
@@ -23,24 +24,24 @@ use Rattle.mpm_files.specs.Serving.{records_moved, moved_after, all_read, record
 use Rattle.mpm_files.specs.Turning.{Suits}
 use Rattle.mpm_files.proofs.TurnLaws.{take_all}
 use Rattle.mpm_bdos.specs.declared.ends.RecordEnd.{RecordEnd}
-use Rattle.mpm_bdos.specs.declared.ends.Ended.{Ended}
+use Rattle.mpm_bdos.specs.declared.ends.RecordEnd.TheVariants.{Failing}
 use Rattle.mpm_bdos.specs.declared.functions.FileFunction.{FileFunction}
 use Rattle.mpm_bdos.specs.declared.functions.FileFunction.TheVariants.{ResetDisks, OpenFile, CloseFile, SearchFirst, SearchNext, DeleteFile, ReadSequential, WriteSequential, MakeFile, RenameFile, ProtectDisk, SetAttributes, ReadRandom, WriteRandom, FileSize, ResetDrives, AccessDrives, FreeDrives, TestAndWrite, LockRecord, UnlockRecord, FreeSpace, FlushBuffers, SetLabel, LabelData, ReadXfcb, WriteXfcb}
 use Rattle.mpm_bdos.specs.Filing.{Situation, block}
 use Rattle.mpm_fcb.specs.Positions.{random_record}
 use Rattle.mpm_bdos.specs.Subjects.{drive_at, subject_key, first_by, first_record, open_mode}
 use Rattle.mpm_bdos.specs.Refusals.{refusals_of, applies, refusal_of}
-use Rattle.mpm_bdos.specs.Records.{Locking, unless_ended, end_of, locking}
+use Rattle.mpm_bdos.specs.Records.{Locking, error_code_of, unless_ended, end_of, end_by, locking, coded, done_by}
 use Rattle.mpm_bdos.specs.Jobs.{free_count, reading_job, writing_job, testing_job, job_by, job_of, turns_by, call_turns, Turned, turned_by, turned}
 use Rattle.mpm_bdos.specs.Changes.{locking_of}
-use Rattle.mpm_bdos.specs.Replies.{end_after, position_by, granted_of}
+use Rattle.mpm_bdos.specs.Replies.{is_cut_by, end_after, position_by, granted_of, value_by}
 use Rattle.mpm_bdos.specs.Replies as replies
-use Rattle.mpm_bdos.specs.Ending.{IsSound, ended, is_moving, is_reading, HasRead, IsPlaced}
+use Rattle.mpm_bdos.specs.Ending.{IsSound, FewDone, ended, is_moving, is_reading, HasRead, IsPlaced}
 use Rattle.mpm_bdos.specs.Leaving.{nothing_locked}
 use Rattle.mpm_bdos.specs.Serving.{WorksOn}
 use Rattle.mpm_bdos.specs.Replying.{IsServed}
 use Rattle.mpm_bdos.proofs.Granted.{none_applies}
-use Rattle.mpm_bdos.proofs.MovedLaws.{is_on_records, most_moved, all_moved}
+use Rattle.mpm_bdos.proofs.MovedLaws.{is_on_records, most_moved, all_moved, all_where_none_fails}
 use Rattle.mpm_bdos.proofs.EndingLaws.{own_job, kind_of, ended_is, ended_few}
 use Rattle.mpm_bdos.proofs.Suited.{IsCall, low_first, within_file}
 
@@ -61,20 +62,15 @@ few_locked (suc count) drive opens p file n =
     few_step (end_of LockRecord (record { drive = drive; opens = opens; process = p; file = file; expected = [] }) n) opens (locking drive (locked opens p file n) p file (n + 1) count) count
     (few_locked count drive (locked opens p file n) p file (n + 1))
 
-at_most_15 : (o : Option RecordEnd) (m n : ℕ) → n ≤ 16 → IfSome o (λ end. m < n) → IfSome o (λ end. m ≤ 15)
-at_most_15 None m n few h = tt
-at_most_15 (Some end) m n few h = omega (arith, few, h)
+few_where : (b : Bool) (opens : OpenFiles) (l : Locking) (n : ℕ) → IfSome l.end (λ end. l.moved < n) → IfSome (cond b l (nothing_locked opens)).end (λ end. (cond b l (nothing_locked opens)).moved < n)
+few_where true opens l n h = h
+few_where false opens l n h = tt
 
-few_where : (b : Bool) (opens : OpenFiles) (l : Locking) → IfSome l.end (λ end. l.moved ≤ 15) → IfSome (cond b l (nothing_locked opens)).end (λ end. (cond b l (nothing_locked opens)).moved ≤ 15)
-few_where true opens l h = h
-few_where false opens l h = tt
-
-few_locking : (s : Situation) → s.caller.multi ≤ 16 → IfSome (locking_of s).end (λ end. (locking_of s).moved ≤ 15)
+few_locking : (s : Situation) → IfSome (locking_of s).end (λ end. (locking_of s).moved < s.caller.multi)
 unfolding locking_of
-few_locking s few =
-    let l : Locking = locking (drive_at s) s.filing.opens s.caller.process (subject_key s) (first_record s) s.caller.multi in
-    few_where (is_same_mode (open_mode s) Unlocked) s.filing.opens l
-    (at_most_15 l.end l.moved s.caller.multi few (few_locked s.caller.multi (drive_at s) s.filing.opens s.caller.process (subject_key s) (first_record s)))
+few_locking s =
+    few_where (is_same_mode (open_mode s) Unlocked) s.filing.opens (locking (drive_at s) s.filing.opens s.caller.process (subject_key s) (first_record s) s.caller.multi) s.caller.multi
+    (few_locked s.caller.multi (drive_at s) s.filing.opens s.caller.process (subject_key s) (first_record s))
 
 called : (s : Situation) (image : List ℕ) (directory : Option Directory) (work : Option Work) → IsServed s image directory work → IsCall s
 called s image directory work served = record { caller = served.caller; users = served.users; size = served.size; low = served.low }
@@ -84,45 +80,42 @@ pub ends_so : (s : Situation) (image : List ℕ) (directory : Option Directory) 
 ends_so s image directory work served = ended_is s image directory work served.none served.sound served.works
 
 -- few are done where something ended them
-abbrev pub FewDone : Ended → Type 0
-FewDone e = IfSome e.end (λ end. e.moved ≤ 15)
-
-few_for : (s : Situation) (f : FileFunction) → s.caller.multi ≤ 16 → FewDone (record { moved = (turned s (call_turns s)).moved; end = end_after s (turned s (call_turns s)) })
-    → FewDone (replies.ended_for s (turned s (call_turns s)) f)
-few_for s ResetDisks few h = h
-few_for s OpenFile few h = h
-few_for s CloseFile few h = h
-few_for s SearchFirst few h = h
-few_for s SearchNext few h = h
-few_for s DeleteFile few h = h
-few_for s ReadSequential few h = h
-few_for s WriteSequential few h = h
-few_for s MakeFile few h = h
-few_for s RenameFile few h = h
-few_for s ProtectDisk few h = h
-few_for s SetAttributes few h = h
-few_for s ReadRandom few h = h
-few_for s WriteRandom few h = h
-few_for s FileSize few h = h
-few_for s ResetDrives few h = h
-few_for s AccessDrives few h = h
-few_for s FreeDrives few h = h
-few_for s TestAndWrite few h = h
-few_for s LockRecord few h = few_locking s few
-few_for s UnlockRecord few h = h
-few_for s FreeSpace few h = h
-few_for s FlushBuffers few h = h
-few_for s SetLabel few h = h
-few_for s LabelData few h = h
-few_for s ReadXfcb few h = h
-few_for s WriteXfcb few h = h
+few_for : (s : Situation) (f : FileFunction) → FewDone s.caller.multi (record { moved = (turned s (call_turns s)).moved; end = end_after s (turned s (call_turns s)) })
+    → FewDone s.caller.multi (replies.ended_for s (turned s (call_turns s)) f)
+few_for s ResetDisks h = h
+few_for s OpenFile h = h
+few_for s CloseFile h = h
+few_for s SearchFirst h = h
+few_for s SearchNext h = h
+few_for s DeleteFile h = h
+few_for s ReadSequential h = h
+few_for s WriteSequential h = h
+few_for s MakeFile h = h
+few_for s RenameFile h = h
+few_for s ProtectDisk h = h
+few_for s SetAttributes h = h
+few_for s ReadRandom h = h
+few_for s WriteRandom h = h
+few_for s FileSize h = h
+few_for s ResetDrives h = h
+few_for s AccessDrives h = h
+few_for s FreeDrives h = h
+few_for s TestAndWrite h = h
+few_for s LockRecord h = few_locking s
+few_for s UnlockRecord h = h
+few_for s FreeSpace h = h
+few_for s FlushBuffers h = h
+few_for s SetLabel h = h
+few_for s LabelData h = h
+few_for s ReadXfcb h = h
+few_for s WriteXfcb h = h
 
 pub few_granted : (s : Situation) (image : List ℕ) (directory : Option Directory) (work : Option Work) → IsServed s image directory work
-    → FewDone (granted_of s (turned s (call_turns s))).ended
+    → FewDone s.caller.multi (granted_of s (turned s (call_turns s))).ended
 unfolding granted_of
 few_granted s image directory work served =
-    few_for s s.function served.caller.few
-    (subst FewDone (ends_so s image directory work served) (ended_few s image directory work served.none served.sound served.works served.suits served.caller.few))
+    few_for s s.function
+    (subst (FewDone s.caller.multi) (ends_so s image directory work served) (ended_few s image directory work served.none served.sound served.works served.caller.some))
 
 -- a call on records moves 16 at most
 on_records_by : (s : Situation) (f : FileFunction) (job : Job) → is_moving f ≡ true → job_by s f ≡ Some job → is_on_records job.kind ≡ true
@@ -283,7 +276,7 @@ count_read drive job is =
     ∙ sym (all_moved drive job)
 
 reads_by : (drive : Drive) (image : List ℕ) (directory : Option Directory) (job : Job) (work : Option Work) → job.kind ≡ kinds.Read → Suits drive job
-    → WorksOn image directory drive (Some job) (turns_of drive job) work → HasRead job.count work (records_after drive job (turns_of drive job))
+    → WorksOn image directory drive (Some job) (turns_of drive job) work → HasRead (moved_after drive job (turns_of drive job)) work (records_after drive job (turns_of drive job))
 reads_by drive image directory job None is suits works = absurd works
 reads_by drive image None job (Some work) is suits works = absurd works
 reads_by drive image (Some d) job (Some work) is suits works =
@@ -292,50 +285,104 @@ reads_by drive image (Some d) job (Some work) is suits works =
       before = job;
       job_is = serving.job_is;
       size = suits.size;
-      count = count_read drive job is ∙ sym serving.moved;
-      few = omega (arith, serving.moved, most_moved drive job (ap is_on_records is));
+      count = count_read drive job is;
     }
 
 reads_job : (s : Situation) (image : List ℕ) (directory : Option Directory) (work : Option Work) (job : Job) → job_of s ≡ Some job → job.kind ≡ kinds.Read → IsServed s image directory work
-    → HasRead job.count work (turned s (call_turns s)).records
+    → HasRead (turned s (call_turns s)).moved work (turned s (call_turns s)).records
 unfolding turned call_turns
 reads_job s image directory work job is kind served =
     let D : Drive = drive_at s in
     let suits : Suits D job = subst (λ j. IfSome j (Suits D)) is served.suits in
     let works : WorksOn image directory D (Some job) (turns_of D job) work = subst (λ j. WorksOn image directory D j (turns_by D j) work) is served.works in
-    subst (λ j. HasRead job.count work (turned_by D (turns_by D j) j).records) (sym is) (reads_by D image directory job work kind suits works)
+    subst (λ j. HasRead (turned_by D (turns_by D j) j).moved work (turned_by D (turns_by D j) j).records) (sym is) (reads_by D image directory job work kind suits works)
 
-reads_function : (s : Situation) (image : List ℕ) (directory : Option Directory) (work : Option Work) (f : FileFunction) → IsServed s image directory work → s.function ≡ f → is_reading f ≡ true
-    → HasRead s.caller.multi work (turned s (call_turns s)).records
+-- all of them, where none fails
+reads_all : (s : Situation) → job_of s ≡ Some (reading_job s) → (turned s (call_turns s)).error ≡ None → (turned s (call_turns s)).moved ≡ s.caller.multi
+unfolding turned call_turns
+reads_all s is =
+    let D : Drive = drive_at s in
+    subst (λ j. (turned_by D (turns_by D j) j).error ≡ None → (turned_by D (turns_by D j) j).moved ≡ s.caller.multi) (sym is)
+    (λ none. all_where_none_fails D (reading_job s) refl none)
+
+-- so many are done by the value
+done_where : (multi moved value code : ℕ) → 0 < code → code < 4096 → value ≡ 4096 * moved + code → done_by multi value ≡ moved
+done_where multi moved value code some few is = by_test (value == 0) refl
+  where
+    by_test : (b : Bool) → (value == 0) ≡ b → cond b multi (value / 4096) ≡ moved
+    by_test true none = absurd (omega (arith, eqb-true value 0 none, some, is))
+    by_test false none = omega (arith, is, some, few)
+
+sequential_codes : (error : RecordError) → (0 < error_code_of ReadSequential error) × (error_code_of ReadSequential error < 4096)
+sequential_codes UnwrittenExtent = (omega arith, omega arith)
+sequential_codes UnwrittenData = (omega arith, omega arith)
+sequential_codes NoDirectorySpace = (omega arith, omega arith)
+sequential_codes NoDataBlock = (omega arith, omega arith)
+sequential_codes Mismatch = (omega arith, omega arith)
+
+random_codes : (error : RecordError) → (0 < error_code_of ReadRandom error) × (error_code_of ReadRandom error < 4096)
+random_codes UnwrittenExtent = (omega arith, omega arith)
+random_codes UnwrittenData = (omega arith, omega arith)
+random_codes NoDirectorySpace = (omega arith, omega arith)
+random_codes NoDataBlock = (omega arith, omega arith)
+random_codes Mismatch = (omega arith, omega arith)
+
+done_as_told : (f : FileFunction) (multi moved : ℕ) (error : Option RecordError) → ((e : RecordError) → (0 < error_code_of f e) × (error_code_of f e < 4096))
+    → (error ≡ None → moved ≡ multi) → done_by multi (coded f moved (end_by error false)) ≡ moved
+done_as_told f multi moved None codes all = sym (all refl)
+done_as_told f multi moved (Some error) codes all = done_where multi moved (coded f moved (Some (Failing error))) (error_code_of f error) (codes error).0 (codes error).1 refl
+
+sequential_value : (s : Situation) (drive : Drive) (t : Turned) → s.function ≡ ReadSequential → value_by drive (granted_of s t) ReadSequential ≡ coded ReadSequential t.moved (end_by t.error false)
+unfolding granted_of value_by end_after
+sequential_value s drive t is =
+    ap (λ f. coded ReadSequential (replies.ended_for s t f).moved (replies.ended_for s t f).end) is ∙ ap (λ f. coded ReadSequential t.moved (end_by t.error (is_cut_by s f))) is
+
+random_value : (s : Situation) (drive : Drive) (t : Turned) → s.function ≡ ReadRandom → value_by drive (granted_of s t) ReadRandom ≡ coded ReadRandom t.moved (end_by t.error false)
+unfolding granted_of value_by end_after
+random_value s drive t is =
+    ap (λ f. coded ReadRandom (replies.ended_for s t f).moved (replies.ended_for s t f).end) is ∙ ap (λ f. coded ReadRandom t.moved (end_by t.error (is_cut_by s f))) is
+
+reads_value : (s : Situation) (image : List ℕ) (directory : Option Directory) (work : Option Work) (f : FileFunction) (value : ℕ) → IsServed s image directory work → job_of s ≡ Some (reading_job s)
+    → ((e : RecordError) → (0 < error_code_of f e) × (error_code_of f e < 4096))
+    → value ≡ coded f (turned s (call_turns s)).moved (end_by (turned s (call_turns s)).error false) → HasRead (done_by s.caller.multi value) work (turned s (call_turns s)).records
+reads_value s image directory work f value served is codes told =
+    let t : Turned = turned s (call_turns s) in
+    subst (λ n. HasRead n work t.records) (sym (ap (done_by s.caller.multi) told ∙ done_as_told f s.caller.multi t.moved t.error codes (reads_all s is)))
+    (reads_job s image directory work (reading_job s) is refl served)
+
+reads_function : (s : Situation) (image : List ℕ) (directory : Option Directory) (work : Option Work) (drive : Drive) (f : FileFunction) → IsServed s image directory work → s.function ≡ f → is_reading f ≡ true
+    → HasRead (done_by s.caller.multi (value_by drive (granted_of s (turned s (call_turns s))) f)) work (turned s (call_turns s)).records
 unfolding job_by
-reads_function s image directory work ResetDisks served is reads = absurd (false≢true reads)
-reads_function s image directory work OpenFile served is reads = absurd (false≢true reads)
-reads_function s image directory work CloseFile served is reads = absurd (false≢true reads)
-reads_function s image directory work SearchFirst served is reads = absurd (false≢true reads)
-reads_function s image directory work SearchNext served is reads = absurd (false≢true reads)
-reads_function s image directory work DeleteFile served is reads = absurd (false≢true reads)
-reads_function s image directory work ReadSequential served is reads = reads_job s image directory work (reading_job s) (own_job s served.none ∙ ap (job_by s) is) refl served
-reads_function s image directory work WriteSequential served is reads = absurd (false≢true reads)
-reads_function s image directory work MakeFile served is reads = absurd (false≢true reads)
-reads_function s image directory work RenameFile served is reads = absurd (false≢true reads)
-reads_function s image directory work ProtectDisk served is reads = absurd (false≢true reads)
-reads_function s image directory work SetAttributes served is reads = absurd (false≢true reads)
-reads_function s image directory work ReadRandom served is reads = reads_job s image directory work (reading_job s) (own_job s served.none ∙ ap (job_by s) is) refl served
-reads_function s image directory work WriteRandom served is reads = absurd (false≢true reads)
-reads_function s image directory work FileSize served is reads = absurd (false≢true reads)
-reads_function s image directory work ResetDrives served is reads = absurd (false≢true reads)
-reads_function s image directory work AccessDrives served is reads = absurd (false≢true reads)
-reads_function s image directory work FreeDrives served is reads = absurd (false≢true reads)
-reads_function s image directory work TestAndWrite served is reads = absurd (false≢true reads)
-reads_function s image directory work LockRecord served is reads = absurd (false≢true reads)
-reads_function s image directory work UnlockRecord served is reads = absurd (false≢true reads)
-reads_function s image directory work FreeSpace served is reads = absurd (false≢true reads)
-reads_function s image directory work FlushBuffers served is reads = absurd (false≢true reads)
-reads_function s image directory work SetLabel served is reads = absurd (false≢true reads)
-reads_function s image directory work LabelData served is reads = absurd (false≢true reads)
-reads_function s image directory work ReadXfcb served is reads = absurd (false≢true reads)
-reads_function s image directory work WriteXfcb served is reads = absurd (false≢true reads)
+reads_function s image directory work drive ResetDisks served is reads = absurd (false≢true reads)
+reads_function s image directory work drive OpenFile served is reads = absurd (false≢true reads)
+reads_function s image directory work drive CloseFile served is reads = absurd (false≢true reads)
+reads_function s image directory work drive SearchFirst served is reads = absurd (false≢true reads)
+reads_function s image directory work drive SearchNext served is reads = absurd (false≢true reads)
+reads_function s image directory work drive DeleteFile served is reads = absurd (false≢true reads)
+reads_function s image directory work drive ReadSequential served is reads =
+    reads_value s image directory work ReadSequential _ served (own_job s served.none ∙ ap (job_by s) is) sequential_codes (sequential_value s drive (turned s (call_turns s)) is)
+reads_function s image directory work drive WriteSequential served is reads = absurd (false≢true reads)
+reads_function s image directory work drive MakeFile served is reads = absurd (false≢true reads)
+reads_function s image directory work drive RenameFile served is reads = absurd (false≢true reads)
+reads_function s image directory work drive ProtectDisk served is reads = absurd (false≢true reads)
+reads_function s image directory work drive SetAttributes served is reads = absurd (false≢true reads)
+reads_function s image directory work drive ReadRandom served is reads =
+    reads_value s image directory work ReadRandom _ served (own_job s served.none ∙ ap (job_by s) is) random_codes (random_value s drive (turned s (call_turns s)) is)
+reads_function s image directory work drive WriteRandom served is reads = absurd (false≢true reads)
+reads_function s image directory work drive FileSize served is reads = absurd (false≢true reads)
+reads_function s image directory work drive ResetDrives served is reads = absurd (false≢true reads)
+reads_function s image directory work drive AccessDrives served is reads = absurd (false≢true reads)
+reads_function s image directory work drive FreeDrives served is reads = absurd (false≢true reads)
+reads_function s image directory work drive TestAndWrite served is reads = absurd (false≢true reads)
+reads_function s image directory work drive LockRecord served is reads = absurd (false≢true reads)
+reads_function s image directory work drive UnlockRecord served is reads = absurd (false≢true reads)
+reads_function s image directory work drive FreeSpace served is reads = absurd (false≢true reads)
+reads_function s image directory work drive FlushBuffers served is reads = absurd (false≢true reads)
+reads_function s image directory work drive SetLabel served is reads = absurd (false≢true reads)
+reads_function s image directory work drive LabelData served is reads = absurd (false≢true reads)
+reads_function s image directory work drive ReadXfcb served is reads = absurd (false≢true reads)
+reads_function s image directory work drive WriteXfcb served is reads = absurd (false≢true reads)
 
-pub has_read : (s : Situation) (image : List ℕ) (directory : Option Directory) (work : Option Work) → IsServed s image directory work → is_reading s.function ≡ true
-    → HasRead s.caller.multi work (turned s (call_turns s)).records
-has_read s image directory work served reads = reads_function s image directory work s.function served refl reads
+pub has_read : (s : Situation) (image : List ℕ) (directory : Option Directory) (work : Option Work) (drive : Drive) → IsServed s image directory work → is_reading s.function ≡ true
+    → HasRead (done_by s.caller.multi (value_by drive (granted_of s (turned s (call_turns s))) s.function)) work (turned s (call_turns s)).records
+has_read s image directory work drive served reads = reads_function s image directory work drive s.function served refl reads

@@ -1,15 +1,24 @@
 -- What a call that the disk serves may be answered, whatever is on the drives: one that is refused by a refusal of its row; another
--- one with bytes at its DMA address, so many as its function reads or tells, and with its file control block, where its function
--- tells of it there. (MP/M II Programmer's Guide, "BDOS Function Calls", "BDOS Error Handling".)
-use Rattle.std.specs.Prelude.{◌≡◌, ℕ, ◌*◌, ◌<◌, ◌≤◌, ◌⊎◌, Bool, true, false, List, [], ◌∷◌, ◌++◌, Option, Some, None, IfSome, length}
+-- one with bytes at its DMA address, so many as its function reads or tells, and with its file control block, which keeps all but what
+-- its function tells in it. (MP/M II Programmer's Guide, "BDOS Function Calls", "BDOS Error Handling".)
+use Rattle.std.specs.Prelude.{◌≡◌, ℕ, ◌*◌, ◌<◌, ◌≤◌, ◌⊎◌, Bool, List, [], ◌∷◌, ◌++◌, Option, Some, None, IfSome, length, unwrap_or}
 use Rattle.mpm_base.specs.Calls.{Taken, Answer, answering}
+use Rattle.mpm_mount.specs.Drives.{Protection}
+use Rattle.mpm_opens.specs.declared.kinds.Mode.{Mode}
+use Rattle.mpm_fcb.specs.declared.block.ControlBlock.{ControlBlock}
+use Rattle.mpm_fcb.specs.Blocks.{block_of, bytes_of}
+use Rattle.mpm_fcb.specs.Opening.{opened}
+use Rattle.mpm_fcb.specs.Positions.{at_position, with_random}
 use Rattle.mpm_bdos.specs.declared.caller.Caller.{Caller}
 use Rattle.mpm_bdos.specs.declared.functions.FileFunction.{FileFunction}
 use Rattle.mpm_bdos.specs.declared.ends.RecordEnd.{RecordEnd}
 use Rattle.mpm_bdos.specs.declared.functions.FileFunction.TheVariants.{OpenFile, SearchFirst, SearchNext, ReadSequential, WriteSequential, MakeFile, ReadRandom, WriteRandom, FileSize, TestAndWrite, LockRecord, FreeSpace, LabelData, ReadXfcb}
 use Rattle.mpm_bdos.specs.declared.refusals.Refusal.{Refusal}
 use Rattle.mpm_bdos.specs.declared.refusals.Extended.{Extended}
-use Rattle.mpm_bdos.specs.Records.{coded}
+use Rattle.mpm_bdos.specs.Filing.{LastSearch}
+use Rattle.mpm_bdos.specs.Subjects.{drive_by}
+use Rattle.mpm_bdos.specs.Records.{coded, done_by}
+use Rattle.mpm_bdos.specs.Replies.{told_xfcb}
 use Rattle.mpm_bdos.specs.Refusals.{refusals_of, refusals_of_each, answered}
 use Rattle.mpm_bdos.specs.Outcomes.{refused_value, refused_extended}
 use Rattle.mpm_bdos.specs.Serving.{InService}
@@ -20,52 +29,88 @@ pub record AreParts (size most : ℕ) (bytes : List ℕ) : Type 0 where
   pub few : parts ≤ most
   pub length_is : length bytes ≡ size * parts
 
--- the records that are read, at most as many as the caller's multi-sector count; the entry that is found; how much is free
-abbrev pub MayPlace : FileFunction → ℕ → List ℕ → Type 0
-MayPlace ReadSequential multi bytes = AreParts 128 multi bytes
-MayPlace ReadRandom multi bytes = AreParts 128 multi bytes
-MayPlace SearchFirst multi bytes = AreParts 128 1 bytes
-MayPlace SearchNext multi bytes = AreParts 128 1 bytes
-MayPlace FreeSpace multi bytes = AreParts 3 1 bytes
-MayPlace function multi bytes = bytes ≡ []
+-- of a reading as many whole records as its value says are done; the entry that is found; how much is free
+abbrev pub MayPlace : FileFunction → ℕ → ℕ → List ℕ → Type 0
+MayPlace ReadSequential multi value bytes = length bytes ≡ 128 * done_by multi value
+MayPlace ReadRandom multi value bytes = length bytes ≡ 128 * done_by multi value
+MayPlace SearchFirst multi value bytes = AreParts 128 1 bytes
+MayPlace SearchNext multi value bytes = AreParts 128 1 bytes
+MayPlace FreeSpace multi value bytes = AreParts 3 1 bytes
+MayPlace function multi value bytes = bytes ≡ []
 
--- functions that tell something in their file control block
-abbrev pub tells_block : FileFunction → Bool
-tells_block OpenFile = true
-tells_block ReadSequential = true
-tells_block WriteSequential = true
-tells_block MakeFile = true
-tells_block ReadRandom = true
-tells_block WriteRandom = true
-tells_block FileSize = true
-tells_block TestAndWrite = true
-tells_block ReadXfcb = true
-tells_block function = false
+-- what is told in a file control block, which keeps all else: a file that was opened or made, the position behind records, a file's
+-- size, an XFCB
+pub record TellsOpened (given block : ControlBlock) : Type 0 where
+  pub attributes : List Bool
+  pub count : ℕ
+  pub mode : Mode
+  pub item : ℕ
+  pub few : item ≤ 63
+  pub is : block ≡ opened given attributes count mode item
+
+pub record TellsPosition (given block : ControlBlock) : Type 0 where
+  pub position : ℕ
+  pub low : position ≤ 262271
+  pub count : ℕ
+  pub is : block ≡ at_position given position count
+
+pub record TellsSize (given block : ControlBlock) : Type 0 where
+  pub size : ℕ
+  pub is : block ≡ with_random given size
+
+pub record TellsXfcb (given block : ControlBlock) : Type 0 where
+  pub xfcb : Protection
+  pub is : block ≡ told_xfcb xfcb given
+
+-- by its function
+abbrev pub MayTellIn : FileFunction → ControlBlock → ControlBlock → Type 0
+MayTellIn OpenFile given block = TellsOpened given block
+MayTellIn ReadSequential given block = TellsPosition given block
+MayTellIn WriteSequential given block = TellsPosition given block
+MayTellIn MakeFile given block = TellsOpened given block
+MayTellIn ReadRandom given block = TellsPosition given block
+MayTellIn WriteRandom given block = TellsPosition given block
+MayTellIn FileSize given block = TellsSize given block
+MayTellIn TestAndWrite given block = TellsPosition given block
+MayTellIn ReadXfcb given block = TellsXfcb given block
+MayTellIn function given block = ⊥
+
+-- the 36 bytes of such a block
+pub record IsTold (function : FileFunction) (given bytes : List ℕ) : Type 0 where
+  pub block : ControlBlock
+  pub tells : MayTellIn function (block_of given) block
+  pub is : bytes ≡ bytes_of block
+  pub size : length bytes ≡ 36
+
+-- of so many records all are done, or something ends them before the last
+abbrev pub AreDone : ℕ → ℕ → Option RecordEnd → Type 0
+AreDone multi done None = done ≡ multi
+AreDone multi done (Some end) = done < multi
 
 -- how many records are done, and the code of what ended them; 0 where all are
-pub record IsCoded (function : FileFunction) (value : ℕ) : Type 0 where
-  pub done : ℕ
-  pub few : done ≤ 15
+pub record IsCoded (multi : ℕ) (function : FileFunction) (value : ℕ) : Type 0 where
   pub end : Option RecordEnd
+  pub done : ℕ
+  pub few : AreDone multi done end
   pub is : value ≡ coded function done end
 
 -- what a call on records comes to, or a label's data byte; another call answers 0
-abbrev pub MayAmount : FileFunction → ℕ → Type 0
-MayAmount ReadSequential value = IsCoded ReadSequential value
-MayAmount WriteSequential value = IsCoded WriteSequential value
-MayAmount ReadRandom value = IsCoded ReadRandom value
-MayAmount WriteRandom value = IsCoded WriteRandom value
-MayAmount TestAndWrite value = IsCoded TestAndWrite value
-MayAmount LockRecord value = IsCoded LockRecord value
-MayAmount LabelData value = value < 256
-MayAmount function value = value ≡ 0
+abbrev pub MayAmount : FileFunction → ℕ → ℕ → Type 0
+MayAmount ReadSequential multi value = IsCoded multi ReadSequential value
+MayAmount WriteSequential multi value = IsCoded multi WriteSequential value
+MayAmount ReadRandom multi value = IsCoded multi ReadRandom value
+MayAmount WriteRandom multi value = IsCoded multi WriteRandom value
+MayAmount TestAndWrite multi value = IsCoded multi TestAndWrite value
+MayAmount LockRecord multi value = IsCoded multi LockRecord value
+MayAmount LabelData multi value = value < 256
+MayAmount function multi value = value ≡ 0
 
--- a call that isn't refused, by its caller's multi-sector count and its DMA address
-pub record MayGrant (multi : ℕ) (function : FileFunction) (dma : ℕ) (answer : Answer) : Type 0 where
-  pub value : MayAmount function answer.hl
+-- a call that isn't refused, by its caller's multi-sector count, the file control block that it gave and its DMA address
+pub record MayGrant (multi : ℕ) (function : FileFunction) (given : List ℕ) (dma : ℕ) (answer : Answer) : Type 0 where
+  pub value : MayAmount function multi answer.hl
   pub at : answer.at ≡ dma
-  pub bytes : MayPlace function multi answer.bytes
-  pub block : IfSome answer.fcb (λ bytes. (tells_block function ≡ true) × (length bytes ≡ 36))
+  pub bytes : MayPlace function multi answer.hl answer.bytes
+  pub block : IfSome answer.fcb (IsTold function given)
 
 -- a refusal of some; and of a function's row, or of that of each file that it names
 unfoldable pub IsOneOf : Refusal → List Refusal → Type 0
@@ -75,30 +120,38 @@ IsOneOf refusal (one ∷ others) = (refusal ≡ one) ⊎ IsOneOf refusal others
 abbrev pub IsOfRow : FileFunction → Refusal → Type 0
 IsOfRow function refusal = IsOneOf refusal (refusals_of function ++ refusals_of_each function)
 
--- a call that is refused, on some drive
-pub record MayRefuse (function : FileFunction) (refusal : Refusal) (answer : Answer) (extended : Option Extended) : Type 0 where
+-- the drive that a call names, as it is by its caller's own and last search where it names none itself
+pub record IsNamed (function : FileFunction) (call : Taken) (drive : ℕ) : Type 0 where
+  pub own : ℕ
+  pub search : Option LastSearch
+  pub is : drive ≡ unwrap_or (drive_by search own call.word (block_of call.fcb) function) own
+
+-- a call that is refused, on that drive
+pub record MayRefuse (function : FileFunction) (call : Taken) (refusal : Refusal) (answer : Answer) (extended : Option Extended) : Type 0 where
   pub row : IsOfRow function refusal
   pub answer_is : answer ≡ answering (refused_value (answered refusal))
   pub drive : ℕ
+  pub named : IsNamed function call drive
   pub extended_is : extended ≡ refused_extended drive (answered refusal)
 
-abbrev pub Tells : Option Refusal → ℕ → FileFunction → ℕ → Answer → Option Extended → Type 0
-Tells None multi function dma answer extended = MayGrant multi function dma answer × (extended ≡ None)
-Tells (Some refusal) multi function dma answer extended = MayRefuse function refusal answer extended
+abbrev pub Tells : Option Refusal → ℕ → FileFunction → Taken → Answer → Option Extended → Type 0
+Tells None multi function call answer extended = MayGrant multi function call.fcb call.dma answer × (extended ≡ None)
+Tells (Some refusal) multi function call answer extended = MayRefuse function call refusal answer extended
 
-pub record MayAnswer (multi : ℕ) (function : FileFunction) (dma : ℕ) (answer : Answer) (extended : Option Extended) : Type 0 where
+pub record MayAnswer (multi : ℕ) (function : FileFunction) (call : Taken) (answer : Answer) (extended : Option Extended) : Type 0 where
   pub refusal : Option Refusal
-  pub tells : Tells refusal multi function dma answer extended
+  pub tells : Tells refusal multi function call answer extended
 
 -- an extended error, if there is one, is of a drive
 abbrev pub IsOfDrive : ℕ → Option Extended → Type 0
 IsOfDrive drive extended = IfSome extended (λ error. error.drive ≡ drive)
 
--- a caller's call of a function is in service, and if it is refused, by a refusal of its row
+-- a caller's call of a function is in service, on the drive that it names, and if it is refused, by a refusal of its row
 pub record IsEntered (caller : Caller) (function : FileFunction) (call : Taken) (service : InService) : Type 0 where
   pub caller_is : service.caller ≡ caller
   pub function_is : service.function ≡ function
   pub call_is : service.call ≡ call
+  pub drive : IsNamed function call service.drive
   pub row : IfSome service.refusal (IsOfRow function)
 
 abbrev pub HasEntered : Caller → FileFunction → Taken → Option InService → Type 0

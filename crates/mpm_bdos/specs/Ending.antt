@@ -1,5 +1,5 @@
 -- What the records of a call come to, by the work of its job behind its last turn.
-use Rattle.std.specs.Prelude.{◌≡◌, ℕ, ◌≤◌, Bool, true, false, List, [], Option, Some, None, length, nat_lt}
+use Rattle.std.specs.Prelude.{◌≡◌, ℕ, ◌<◌, ◌≤◌, Bool, true, false, List, Option, Some, None, IfSome, length, nat_lt}
 use Rattle.std.specs.FinMap.{get}
 use Rattle.mpm_mount.specs.Drives.{FileName, PhysicalExtent, Drive, IsOfImage}
 use Rattle.mpm_files.specs.declared.errors.RecordError.{RecordError}
@@ -44,22 +44,25 @@ is_moving WriteRandom = true
 is_moving TestAndWrite = true
 is_moving function = false
 
--- calls that read records, and the records that stand at the front of their job's bytes
+-- calls that read records, and the records that stand at the front of their job's bytes, so many as are done
 abbrev pub is_reading : FileFunction → Bool
 is_reading ReadSequential = true
 is_reading ReadRandom = true
 is_reading function = false
 
-pub record IsRead (multi : ℕ) (work : Work) (records : List (List ℕ)) : Type 0 where
+pub record IsRead (done : ℕ) (work : Work) (records : List (List ℕ)) : Type 0 where
   pub before : Job
   pub job_is : work.job ≡ with_records before records
   pub size : length before.bytes ≡ 4096
-  pub count : length records ≡ work.moved
-  pub few : work.moved ≤ multi
+  pub count : length records ≡ done
 
 abbrev pub HasRead : ℕ → Option Work → List (List ℕ) → Type 0
-HasRead multi None records = records ≡ []
-HasRead multi (Some work) records = IsRead multi work records
+HasRead done None records = ⊥
+HasRead done (Some work) records = IsRead done work records
+
+-- where something ended the records of a call, fewer are done than it names
+abbrev pub FewDone : ℕ → Ended → Type 0
+FewDone multi ended = IfSome ended.end (λ end. ended.moved < multi)
 
 -- where its block doesn't stay, the position behind a call is one that a block can have
 abbrev pub IsPlaced : Granted → Type 0

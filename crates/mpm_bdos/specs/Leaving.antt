@@ -1,5 +1,5 @@
 -- What a call on a mounted drive leaves of open files, by what was looked up of it.
-use Rattle.std.specs.Prelude.{◌≡◌, ℕ, ◌≤◌, ◌==◌, true, IfSome, List, Option, Some, None, if◌then◌else◌}
+use Rattle.std.specs.Prelude.{◌≡◌, ℕ, ◌≤◌, ◌==◌, true, List, Option, Some, None, if◌then◌else◌}
 use Rattle.mpm_mount.specs.Drives.{Drive}
 use Rattle.mpm_mount.specs.Faults.{plain}
 use Rattle.mpm_opens.specs.declared.kinds.FileKey.{FileKey}
@@ -19,11 +19,11 @@ use Rattle.mpm_bdos.specs.declared.functions.FileFunction.{FileFunction}
 use Rattle.mpm_bdos.specs.declared.functions.FileFunction.TheVariants.{OpenFile, CloseFile, MakeFile, LockRecord, DeleteFile, WriteSequential, RenameFile, WriteRandom, TestAndWrite, UnlockRecord}
 use Rattle.mpm_bdos.specs.declared.subjects.OpenItem.{OpenItem}
 use Rattle.mpm_bdos.specs.Subjects.{first_by}
-use Rattle.mpm_bdos.specs.Records.{Locking, locking, unlocking}
+use Rattle.mpm_bdos.specs.Records.{Locking, locking, unlocking, done_by}
 use Rattle.mpm_bdos.specs.Changes.{is_among}
-use Rattle.mpm_bdos.specs.Replies.{opened_as}
+use Rattle.mpm_bdos.specs.Replies.{opened_as, value_by}
 use Rattle.mpm_bdos.specs.Asking.{key_asked, mode_needed}
-use Rattle.mpm_bdos.specs.Ending.{moved_by, ended, is_moving, is_reading, HasRead, IsPlaced}
+use Rattle.mpm_bdos.specs.Ending.{moved_by, ended, is_moving, is_reading, HasRead, FewDone, IsPlaced}
 
 -- records are locked by way of a file that is open in unlocked mode; in others nothing is done
 abbrev pub nothing_locked : OpenFiles → Locking
@@ -111,6 +111,7 @@ opens_left drive opens a work deleted = opened_by drive (locked_for drive (left_
 -- and the records that it read stand at the front of its job's bytes
 pub record IsGranted (drive : Drive) (opens : OpenFiles) (a : Asked) (work : Option Work) (deleted : List (Option FileKey)) (records : List (List ℕ)) : Type 0 where
   pub in_file : IsInFile a
-  pub few : IfSome (granted_by drive (left_first opens a work deleted) a work).ended.end (λ end. (granted_by drive (left_first opens a work deleted) a work).ended.moved ≤ 15)
+  pub few : FewDone a.caller.multi (granted_by drive (left_first opens a work deleted) a work).ended
   pub placed : is_moving a.function ≡ true → IsPlaced (granted_by drive (left_first opens a work deleted) a work)
-  pub read : is_reading a.function ≡ true → HasRead a.caller.multi work records
+  pub read : is_reading a.function ≡ true
+      → HasRead (done_by a.caller.multi (value_by drive (granted_by drive (left_first opens a work deleted) a work) a.function)) work records

@@ -169,3 +169,7 @@ unlocking opens p file n (suc count) = unlocking (unlocked opens p file n) p fil
 abbrev pub coded : FileFunction → ℕ → Option RecordEnd → ℕ
 coded function moved None = 0
 coded function moved (Some end) = 4096 * moved + code_of function end
+
+-- so many of the records of a call are done by such a value
+abbrev pub done_by : ℕ → ℕ → ℕ
+done_by multi value = if value == 0 then multi else (value / 4096)

@@ -1,5 +1,5 @@
 -- A turn of the call in service: what it asks of the drives, what it leaves of them and of what is kept, and how many turns are left.
-use Rattle.std.specs.Prelude.{◌≡◌, ◌≢◌, ℕ, Bool, true, false, List, [], Option, Some, None, IfSome, is_some, option_map, unwrap_or, nat_lt, if◌then◌else◌}
+use Rattle.std.specs.Prelude.{◌≡◌, ◌≢◌, ℕ, suc, Bool, true, false, List, [], Option, Some, None, IfSome, is_some, option_map, unwrap_or, nat_lt, if◌then◌else◌}
 use Rattle.mpm_port.specs.Disks.{Disks}
 use Rattle.mpm_base.specs.declared.kind.Kind.{Kind}
 use Rattle.mpm_blocks.specs.Geometries.{geometry_of}
@@ -92,6 +92,26 @@ ServesReading (Some service) = IsReading service.work
 abbrev pub ServesCached : List (Place × List ℕ) → List (Option Directory) → Option InService → Type 0
 ServesCached cached mounted None = ⊥
 ServesCached cached mounted (Some service) = IsReadingCached cached (directory_at mounted service.drive) service.work
+
+-- a turn of some work is counted, of as many as it had; so is one of the work of the call in service
+pub record IsCounted (old new : Work) : Type 0 where
+  pub ended : new.ended ≡ suc old.ended
+  pub units : new.units ≡ old.units
+
+abbrev pub HasCounted : Work → Option Work → Type 0
+HasCounted old None = ⊥
+HasCounted old (Some new) = IsCounted old new
+
+abbrev pub HasCountedIn : Work → Option InService → Type 0
+HasCountedIn old None = ⊥
+HasCountedIn old (Some service) = HasCounted old service.work
+
+-- what is so of some work on a drive that is mounted, and of the work of the call in service
+abbrev pub WhereMounted : Option Directory → Option Work → (Work → Type 0) → Type 0
+WhereMounted directory work so = IfSome work (λ one. IfSome directory (λ _. so one))
+
+abbrev pub OfWork : List (Option Directory) → Option InService → (Work → Type 0) → Type 0
+OfWork mounted service so = IfSome service (λ one. WhereMounted (directory_at mounted one.drive) one.work so)
 
 -- no call is in service, or it has no work: then nothing is done
 pub record IsIdle {S M D : Type 0} (service service' : S) (mounted mounted' : M) (cached new : List (Place × List ℕ)) (old now : D) (steps steps' : ℕ) : Type 0 where

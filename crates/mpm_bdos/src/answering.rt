@@ -1,14 +1,16 @@
-ghost use Rattle.std.specs.Prelude.{◌≡◌, ◌≤◌, ℕ, true, List, None, Option, IfSome, length};
+ghost use Rattle.std.specs.Prelude.{◌≡◌, ◌≤◌, ◌*◌, ℕ, true, List, None, Option, IfSome, length};
 ghost use Rattle.std.specs.List.{flat_map};
 ghost use Rattle.mpm_mount.specs.Drives.{FileName, Drive, free_records};
 ghost use Rattle.mpm_mount.specs.Directories.{Stands};
 ghost use Rattle.mpm_fcb.specs.Blocks.{block_of, bytes_of};
 ghost use Rattle.mpm_fcb.specs.Positions.{three_bytes};
 ghost use Rattle.mpm_files.specs.Units.{where_there};
-ghost use Rattle.mpm_bdos.specs.Answering.{AreParts, MayPlace, MayGrant};
+ghost use Rattle.mpm_bdos.specs.Answering.{AreParts, IsCoded, MayAmount, MayPlace, MayGrant};
 ghost use Rattle.mpm_bdos.specs.Ending as ending;
+ghost use Rattle.mpm_bdos.specs.Records.{done_by};
 ghost use Rattle.mpm_bdos.specs.Replies as spec;
 
+use crate::ends::done_by as records_done;
 use crate::functions::FileFunction;
 use crate::granting::{Granted, block, value};
 use crate::replies::read_bytes;
@@ -18,31 +20,46 @@ use mpm_fcb::ControlBlock;
 use mpm_files::Work;
 use mpm_mount::Mounted;
 
-/// The bytes of the records that a call has read, at most as many as it is to read; none where it has no job.
-#[tactic(auto, using(crate::proofs::Answerable::no_part))]
-fn record_bytes(work: &Option<Work>, multi: u8) -> &[u8]
-    requires { multi ≤ 16 }
-    ensures bytes { (records : List (List ℕ)) → ending.HasRead multi work.now records → result.now ≡ flat_map (λ bytes. bytes) records }
-    ensures few { length result.now ≤ 4096 }
-    ensures parts { AreParts 128 multi result.now }
-{
-    match work {
-        Some(work) => read_bytes(work, multi),
-        None => &[],
-    }
-}
+/// The value of a reading that finds no record: its code, with no record done.
+pub(crate) const NOTHING_READ: u16 = 1;
 
-/// Answers a value, and the records that a call has read, at most as many as it is to read.
-fn answer_records(reply: &mut Reply, value: u16, at: u16, multi: u8, work: &Option<Work>)
+/// Answers a value, and as many records as it says are done of those that a job has read.
+fn answer_read(reply: &mut Reply, value: u16, at: u16, multi: u8, work: &Work)
     requires { multi ≤ 16 }
-    ensures all { (records : List (List ℕ)) → ending.HasRead multi work.now records
+    ensures all { (records : List (List ℕ)) → ending.IsRead (done_by multi value) work.now records
         → reply.new ≡ record { hl = value; fcb = None; at = at; bytes = flat_map (λ bytes. bytes) records } }
     ensures value { reply.new.hl ≡ value }
     ensures none { reply.new.fcb ≡ None }
     ensures at { reply.new.at ≡ at }
-    ensures parts { AreParts 128 multi reply.new.bytes }
+    ensures size { length reply.new.bytes ≡ 128 * done_by multi value }
 {
-    reply.answer_with(value, at, record_bytes(work, multi));
+    reply.answer_with(value, at, read_bytes(work, records_done(multi, value)));
+}
+
+/// Answers a value, and the records that a call has read; without a job no record is there.
+#[tactic(auto, using(crate::proofs::Answerable::none_read))]
+fn answer_records(
+    reply: &mut Reply,
+    function: FileFunction,
+    value: u16,
+    at: u16,
+    multi: u8,
+    work: &Option<Work>,
+)
+    requires some { 1 ≤ multi }
+    requires few { multi ≤ 16 }
+    requires coded { IsCoded multi function value }
+    ensures all { (records : List (List ℕ)) → ending.HasRead (done_by multi value) work.now records
+        → reply.new ≡ record { hl = value; fcb = None; at = at; bytes = flat_map (λ bytes. bytes) records } }
+    ensures coded { IsCoded multi function reply.new.hl }
+    ensures none { reply.new.fcb ≡ None }
+    ensures at { reply.new.at ≡ at }
+    ensures size { length reply.new.bytes ≡ 128 * done_by multi reply.new.hl }
+{
+    match work {
+        Some(work) => answer_read(reply, value, at, multi, work),
+        None => reply.answer_with(NOTHING_READ, at, &[]),
+    }
 }
 
 /// Answers a value, and how many records there is room for on a drive.
@@ -88,18 +105,20 @@ fn answer_bytes(
     work: &Option<Work>,
     told: &Option<[u8; 128]>,
 )
-    requires { multi ≤ 16 }
+    requires some { 1 ≤ multi }
+    requires few { multi ≤ 16 }
+    requires amount { MayAmount function multi value }
     ensures all { (image : List ℕ) (drive : Drive) (records : List (List ℕ)) (found : Option (FileName × ℕ)) → Stands image mounted.now drive
-        → (ending.is_reading function ≡ true → ending.HasRead multi work.now records) → where_there told.now (λ bytes. bytes) ≡ spec.found_bytes drive found
+        → (ending.is_reading function ≡ true → ending.HasRead (done_by multi value) work.now records) → where_there told.now (λ bytes. bytes) ≡ spec.found_bytes drive found
         → reply.new ≡ record { hl = value; fcb = None; at = at; bytes = spec.bytes_by drive records found function } }
-    ensures value { reply.new.hl ≡ value }
+    ensures amount { MayAmount function multi reply.new.hl }
     ensures none { reply.new.fcb ≡ None }
     ensures at { reply.new.at ≡ at }
-    ensures bytes { MayPlace function multi reply.new.bytes }
+    ensures bytes { MayPlace function multi reply.new.hl reply.new.bytes }
 {
     match function {
         FileFunction::ReadSequential | FileFunction::ReadRandom => {
-            answer_records(reply, value, at, multi, work);
+            answer_records(reply, function, value, at, multi, work);
         }
         FileFunction::SearchFirst | FileFunction::SearchNext => {
             answer_found(reply, value, at, told);
@@ -136,15 +155,17 @@ pub(crate) fn answer(
     dma: u16,
 )
     requires number { IfSome granted.now.opened (λ made. made.number ≤ 63) }
+    requires some { 1 ≤ multi }
     requires few { multi ≤ 16 }
     requires block { granted.now.block ≡ block_of fcb.now }
     ensures all { (image : List ℕ) (drive : Drive) (records : List (List ℕ)) (found : Option (FileName × ℕ)) → Stands image mounted.now drive
-        → IfSome granted.now.ended.end (λ _. granted.now.ended.moved ≤ 15) → (ending.is_moving granted.now.function ≡ true → ending.IsPlaced granted.now)
-        → (ending.is_reading granted.now.function ≡ true → ending.HasRead multi work.now records) → where_there told.now (λ bytes. bytes) ≡ spec.found_bytes drive found
+        → ending.FewDone multi granted.now.ended → (ending.is_moving granted.now.function ≡ true → ending.IsPlaced granted.now)
+        → (ending.is_reading granted.now.function ≡ true → ending.HasRead (done_by multi (spec.value_by drive granted.now granted.now.function)) work.now records)
+        → where_there told.now (λ bytes. bytes) ≡ spec.found_bytes drive found
         → reply.new ≡ spec.answer_by drive granted.now records found fcb.now dma }
-    ensures may { MayGrant multi granted.now.function dma reply.new }
+    ensures may { MayGrant multi granted.now.function fcb.now dma reply.new }
 {
-    let value = value(granted, mounted);
+    let value = value(granted, multi, mounted);
     answer_bytes(
         reply,
         value,

@@ -111,7 +111,7 @@ impl Bdos {
             → StandEach images self.old.mounted before
             → steps.new ≤ steps.old + 20 * call_turns (entering self.old before (caller_of p process.now) function call.now (stamp_of now)) }
         ensures may { (function : functions.FileFunction) → function_of call.now.function ≡ Some function
-            → IfOk result (MayAnswer process.now.multi function call.now.dma reply.new) }
+            → IfOk result (MayAnswer process.now.multi function call.now reply.new) }
         ensures drive { (before : List (Option Drive)) (function : functions.FileFunction) → function_of call.now.function ≡ Some function
             → IfOk result (IsOfDrive (drive_number (entering self.old before (caller_of p process.now) function call.now (stamp_of now)))) }
         ensures stand { is_some (function_of call.now.function) ≡ true → StandForSome self.old.mounted }

@@ -3,12 +3,13 @@ ghost use Rattle.mpm_port.specs.Causes.{HasCause};
 ghost use Rattle.mpm_port.specs.Disks.{Disks, Told};
 ghost use Rattle.mpm_cache.specs.Coherent.{IsCoherent, HasNoAlias};
 ghost use Rattle.mpm_files.specs.declared.turning.Progress.TheVariants as progress;
+ghost use Rattle.mpm_files.specs.Serving.{turns_in};
 ghost use Rattle.mpm_mount.specs.Drives.{Drive};
 ghost use Rattle.mpm_bdos.specs.Direct.{ComesDirectly, IsToldDirectly, is_protected, direct_of, direct};
 ghost use Rattle.mpm_bdos.specs.Filing.{Situation};
 ghost use Rattle.mpm_bdos.specs.Outcomes.{left_by, without_search};
 ghost use Rattle.mpm_bdos.specs.Jobs.{call_turns};
-ghost use Rattle.mpm_bdos.specs.Turns.{FitsDrives, KeepsImages, StaysBeside, TurnKeeps, StopsWithin, ServesReading, ServesCached, IsIdle, told_images, progress_after, drive_served, has_work};
+ghost use Rattle.mpm_bdos.specs.Turns.{FitsDrives, KeepsImages, StaysBeside, TurnKeeps, StopsWithin, ServesReading, ServesCached, HasCountedIn, OfWork, IsIdle, told_images, progress_after, drive_served, has_work};
 
 use crate::direct::do_directly;
 use crate::directories::Directories;
@@ -163,6 +164,8 @@ impl Bdos {
             → OnErr result (StopsWithin (D.disks drives.new) s j) }
         ensures progress { (s : Situation) (j : ℕ) → Serves (told_images (D.disks drives.old)) self.old s j
             → IfOk result (λ told. told ≡ progress_after (suc j) (call_turns s)) }
+        ensures told { OfWork self.old.mounted self.old.service (λ work. IfOk result (λ told. told ≡ progress_after (suc work.ended) (turns_in work))) }
+        ensures counted { OfWork self.old.mounted self.old.service (λ work. work.ended < turns_in work → OnOk result (HasCountedIn work self.new.service)) }
         ensures idle { has_work self.old.service ≡ false → IsIdle self.old.service self.new.service self.old.mounted self.new.mounted self.old.cached self.new.cached drives.old drives.new steps.old steps.new }
         ensures done { has_work self.old.service ≡ false → result ≡ Ok progress.Done }
         ensures still { has_work self.new.service ≡ has_work self.old.service }

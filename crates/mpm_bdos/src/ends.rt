@@ -95,6 +95,19 @@ pub(crate) fn coded(function: FileFunction, moved: u8, end: Option<RecordEnd>) -
     }
 }
 
+/// How many of the records of a call on so many are done by its value: all, or as many as its four high bits have.
+pub(crate) fn done_by(multi: u8, value: u16) -> u8
+    requires { multi ≤ 16 }
+    ensures value { result ≡ spec.done_by multi value }
+    ensures few { result ≤ 16 }
+{
+    if value == 0 {
+        multi
+    } else {
+        (value / 4096) as u8
+    }
+}
+
 /// Whether a call on records leaves its control block as it was.
 pub(crate) fn does_stay(moved: u8, end: Option<RecordEnd>) -> bool
     ensures { result ≡ replies.does_stay moved end }

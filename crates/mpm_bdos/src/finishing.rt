@@ -1,4 +1,4 @@
-ghost use Rattle.std.specs.Prelude.{◌≡◌, ◌≤◌, ◌<◌, ℕ, true, false, List, [], Option, Some, None, IfSome, length};
+ghost use Rattle.std.specs.Prelude.{◌≡◌, ◌≤◌, ◌<◌, ℕ, true, false, List, [], Option, Some, None, IfSome, length, if◌then◌else◌};
 ghost use Rattle.std.specs.Option.{option_copied};
 ghost use Rattle.mpm_base.specs.Calls.{answering};
 ghost use Rattle.mpm_mount.specs.Directories.{Directory};
@@ -6,10 +6,11 @@ ghost use Rattle.mpm_mount.specs.Drives.{Drive};
 ghost use Rattle.mpm_fcb.specs.Blocks.{block_of};
 ghost use Rattle.mpm_fcb.specs.Positions.{sequential_record};
 ghost use Rattle.mpm_bdos.specs.declared.refusals.Refusal.{Refusal as Refused};
-ghost use Rattle.mpm_bdos.specs.Answering.{IsOfDrive, IsOfRow, MayGrant, MayAnswer};
+ghost use Rattle.mpm_bdos.specs.Answering.{IsOfDrive, IsOfRow, IsNamed, MayGrant, MayAnswer};
 ghost use Rattle.mpm_bdos.specs.Asking.{called};
 ghost use Rattle.mpm_bdos.specs.Changes.{marks_by, protected_by};
 ghost use Rattle.mpm_bdos.specs.Driving.{freed_by};
+ghost use Rattle.mpm_bdos.specs.Ending as ending;
 ghost use Rattle.mpm_bdos.specs.Filing.{Situation};
 ghost use Rattle.mpm_bdos.specs.Finishing as spec;
 ghost use Rattle.mpm_bdos.specs.Jobs.{call_turns};
@@ -18,6 +19,7 @@ ghost use Rattle.mpm_bdos.specs.Refusals as refusals;
 ghost use Rattle.mpm_bdos.specs.Replying as replying;
 ghost use Rattle.mpm_bdos.specs.Serving.{IsCaller, HaveUsers, Serves};
 
+use crate::answering::NOTHING_READ;
 use crate::asking::word_of_call;
 use crate::bdos::Bdos;
 use crate::caller::Caller;
@@ -38,7 +40,8 @@ use mpm_opens::{FileKey, Opens};
 
 /// Whether a call is one on drives, which names none.
 fn is_on_drives(function: FileFunction) -> bool
-    ensures { result ≡ replying.is_on_drives function }
+    ensures value { result ≡ replying.is_on_drives function }
+    ensures unread { result ≡ true → ending.is_reading function ≡ false }
 {
     match function {
         FileFunction::ResetDisks
@@ -102,7 +105,17 @@ fn reply_on_drives(
     mark_drives(marks, caller.process, word, function);
 }
 
-/// Answers a call on the drive that it names, with nothing but that it is done where that isn't mounted.
+/// The value of a call of which nothing is done: one that reads finds no record.
+fn nothing_done(function: FileFunction) -> u16
+    ensures { result ≡ (if ending.is_reading function then 1 else 0) }
+{
+    match function {
+        FileFunction::ReadSequential | FileFunction::ReadRandom => NOTHING_READ,
+        _ => 0,
+    }
+}
+
+/// Answers a call on the drive that it names; where that isn't mounted, nothing is done.
 fn reply_on(
     reply: &mut Reply,
     mounted: Option<&Mounted>,
@@ -115,8 +128,9 @@ fn reply_on(
     work: &Option<Work>,
     deleted: &[Option<FileKey>; 64],
 )
-    requires { caller.now.multi ≤ 16 }
-    ensures may { MayGrant caller.now.multi function call.now.dma reply.new }
+    requires some { 1 ≤ caller.now.multi }
+    requires few { caller.now.multi ≤ 16 }
+    ensures may { MayGrant caller.now.multi function call.now.fcb call.now.dma reply.new }
     ensures users { HaveUsers opens.old → caller.now.user < 16 → HaveUsers opens.new }
     ensures replied { (image : List ℕ) (d : Directory) (drives : List (Option Drive)) (marks moment : List ℕ) → option_copied mounted.entry ≡ Some d
         → replying.IsAnswering (called drives protected.now opens.old marks searches.old caller.now function call.now moment) image d work.now deleted.now
@@ -126,7 +140,7 @@ fn reply_on(
         Some(mounted) => reply_mounted(
             reply, mounted, protected, opens, searches, caller, function, call, work, deleted,
         ),
-        None => reply.answer_with(0, call.dma, &[]),
+        None => reply.answer_with(nothing_done(function), call.dma, &[]),
     }
 }
 
@@ -147,7 +161,7 @@ fn reply_granted(
 )
     requires caller { IsCaller caller.now }
     requires users { HaveUsers opens.old }
-    ensures may { MayGrant caller.now.multi function call.now.dma reply.new }
+    ensures may { MayGrant caller.now.multi function call.now.fcb call.now.dma reply.new }
     ensures users { HaveUsers opens.new }
     ensures finished { (images : ℕ → List ℕ) (s : Situation) (moment : List ℕ) (refusal : Option Refused)
         → Serves images (spec.serving mounted.now protected.old opens.old marks.old searches.old (record { caller = caller.now; function = function; drive = drive; call = call.now; moment = moment; refusal = refusal; work = work.now; deleted = deleted.now })) s (call_turns s)
@@ -194,8 +208,8 @@ fn reply_service(
     searches: &mut Searches,
 ) -> Option<Extended>
     requires users { HaveUsers opens.old }
-    ensures may { IfSome service.now.refusal (IsOfRow service.now.function)
-        → MayAnswer service.now.caller.multi service.now.function service.now.call.dma reply.new result }
+    ensures may { IfSome service.now.refusal (IsOfRow service.now.function) → IsNamed service.now.function service.now.call service.now.drive
+        → MayAnswer service.now.caller.multi service.now.function service.now.call reply.new result }
     ensures drive { IsOfDrive service.now.drive result }
     ensures users { HaveUsers opens.new }
     ensures comes { (images : ℕ → List ℕ) (s : Situation)
@@ -241,7 +255,7 @@ impl Bdos {
     pub fn reply(&mut self, reply: &mut Reply) -> Option<Extended>
         ensures comes { (images : ℕ → List ℕ) (s : Situation) → Serves images self.old s (call_turns s) → ComesTo images s self.new reply.new result }
         ensures may { (caller : callers.Caller) (function : functions.FileFunction) (call : Taken) → HasEntered caller function call self.old.service
-            → MayAnswer caller.multi function call.dma reply.new result }
+            → MayAnswer caller.multi function call reply.new result }
         ensures drive { (drive : ℕ) → drive_served self.old.service ≡ Some drive → IsOfDrive drive result }
         ensures kept { self.new ≡ record self.old { protected = self.new.protected; opens = self.new.opens; marks = self.new.marks; searches = self.new.searches; service = None } }
         ensures idle { self.old.service ≡ None → self.new ≡ self.old }

@@ -1,10 +1,10 @@
-ghost use Rattle.std.specs.Prelude.{◌≡◌, ◌≤◌, ◌<◌, ℕ, true, false, List, IfSome, unwrap_or};
+ghost use Rattle.std.specs.Prelude.{◌≡◌, ◌≤◌, ◌<◌, ◌⊎◌, ℕ, true, List, IfSome, unwrap_or};
 ghost use Rattle.std.specs.FinMap.{get};
 ghost use Rattle.mpm_mount.specs.Drives.{Drive, extents_of};
 ghost use Rattle.mpm_mount.specs.Directories.{Stands};
 ghost use Rattle.mpm_fcb.specs.Positions.{with_random};
 ghost use Rattle.mpm_bdos.specs.Jobs.{no_protection};
-ghost use Rattle.mpm_bdos.specs.Answering.{tells_block, IsCoded, MayAmount};
+ghost use Rattle.mpm_bdos.specs.Answering.{TellsOpened, TellsPosition, TellsSize, TellsXfcb, MayTellIn, IsCoded, MayAmount};
 ghost use Rattle.mpm_bdos.specs.Ending as ending;
 ghost use Rattle.mpm_bdos.specs.Records as records;
 ghost use Rattle.mpm_bdos.specs.Replies as spec;
@@ -100,21 +100,25 @@ pub(crate) fn ended(function: FileFunction, multi: u8, work: &Option<Work>) -> E
     }
 }
 
-/// How many records are done, at most 15, and the code of what ended them.
-#[tactic(auto, using(crate::proofs::EndingLaws::told_in_four_bits))]
-fn told_code(function: FileFunction, ended: &Ended) -> u16
-    ensures all { IfSome ended.now.end (λ _. ended.now.moved ≤ 15) → result ≡ records.coded function ended.now.moved ended.now.end }
-    ensures coded { IsCoded function result }
+/// How many of a call's records are done, fewer than all where something ended them, and the code of that.
+#[tactic(auto, using(crate::proofs::EndingLaws::told_whole, crate::proofs::EndingLaws::coded_within))]
+fn told_code(function: FileFunction, ended: &Ended, multi: u8) -> u16
+    requires some { 1 ≤ multi }
+    requires few { multi ≤ 16 }
+    ensures all { ending.FewDone multi ended.now → result ≡ records.coded function ended.now.moved ended.now.end }
+    ensures coded { IsCoded multi function result }
 {
-    coded(function, ended.moved.min(15), ended.end)
+    coded(function, ended.moved.min(multi - 1), ended.end)
 }
 
-/// The value.
+/// The value, by the caller's multi-sector count.
 #[tactic(auto, unfolding(crate::specs::Replies::value_by))]
-pub(crate) fn value(granted: &Granted, mounted: &Mounted) -> u16
+pub(crate) fn value(granted: &Granted, multi: u8, mounted: &Mounted) -> u16
+    requires some { 1 ≤ multi }
+    requires few { multi ≤ 16 }
     ensures all { (image : List ℕ) (drive : Drive) → Stands image mounted.now drive
-        → IfSome granted.now.ended.end (λ _. granted.now.ended.moved ≤ 15) → result ≡ spec.value_by drive granted.now granted.now.function }
-    ensures amount { MayAmount granted.now.function result }
+        → ending.FewDone multi granted.now.ended → result ≡ spec.value_by drive granted.now granted.now.function }
+    ensures amount { MayAmount granted.now.function multi result }
 {
     match granted.function {
         FileFunction::ReadSequential
@@ -122,7 +126,7 @@ pub(crate) fn value(granted: &Granted, mounted: &Mounted) -> u16
         | FileFunction::ReadRandom
         | FileFunction::WriteRandom
         | FileFunction::TestAndWrite
-        | FileFunction::LockRecord => told_code(granted.function, &granted.ended),
+        | FileFunction::LockRecord => told_code(granted.function, &granted.ended, multi),
         FileFunction::LabelData => u16::from(label_byte(mounted)),
         _ => 0,
     }
@@ -131,27 +135,33 @@ pub(crate) fn value(granted: &Granted, mounted: &Mounted) -> u16
 /// The block of a file that was opened or made.
 fn opened_block(granted: &Granted, mounted: &Mounted) -> ControlBlock
     requires { IfSome granted.now.opened (λ made. made.number ≤ 63) }
-    ensures { (image : List ℕ) (drive : Drive) → Stands image mounted.now drive
+    ensures all { (image : List ℕ) (drive : Drive) → Stands image mounted.now drive
         → result ≡ spec.opened_block drive granted.now granted.now.opened }
+    ensures told { (result ≡ granted.now.block) ⊎ TellsOpened granted.now.block result }
+{
+    match granted.opened {
+        Some(opened) => block_as(granted, mounted, opened),
+        None => granted.block,
+    }
+}
+
+/// The block of one that was opened or made so.
+fn block_as(granted: &Granted, mounted: &Mounted, made: OpenedAs) -> ControlBlock
+    requires { made.number ≤ 63 }
+    ensures all { (image : List ℕ) (drive : Drive) → Stands image mounted.now drive
+        → result ≡ telling.opened_by drive granted.now.owner granted.now.block made.mode made.number }
+    ensures told { TellsOpened granted.now.block result }
 {
     let mut block = granted.block;
-    match granted.opened {
-        Some(opened) => open_block(
-            &mut block,
-            mounted,
-            granted.owner,
-            opened.mode,
-            opened.number,
-        ),
-        None => {}
-    }
+    open_block(&mut block, mounted, granted.owner, made.mode, made.number);
     block
 }
 
 /// The block behind a call on records, which stays or moves on.
 fn moved_block(granted: &Granted, mounted: &Mounted) -> ControlBlock
-    ensures { (image : List ℕ) (drive : Drive) → Stands image mounted.now drive → ending.IsPlaced granted.now
+    ensures all { (image : List ℕ) (drive : Drive) → Stands image mounted.now drive → ending.IsPlaced granted.now
         → result ≡ spec.moved_block drive granted.now }
+    ensures told { (result ≡ granted.now.block) ⊎ TellsPosition granted.now.block result }
 {
     if does_stay(granted.ended.moved, granted.ended.end) {
         granted.block
@@ -162,8 +172,9 @@ fn moved_block(granted: &Granted, mounted: &Mounted) -> ControlBlock
 
 /// The block that moves on.
 fn placed_block(granted: &Granted, mounted: &Mounted) -> ControlBlock
-    ensures { (image : List ℕ) (drive : Drive) → Stands image mounted.now drive → spec.position_of granted.now ≤ 262271
+    ensures all { (image : List ℕ) (drive : Drive) → Stands image mounted.now drive → spec.position_of granted.now ≤ 262271
         → result ≡ telling.moved_to drive granted.now.owner granted.now.block (spec.position_of granted.now) }
+    ensures told { TellsPosition granted.now.block result }
 {
     let mut block = granted.block;
     position_block(&mut block, mounted, granted.owner, position_of(granted));
@@ -185,7 +196,7 @@ pub(crate) fn block(granted: &Granted, mounted: &Mounted) -> ControlBlock
     requires number { IfSome granted.now.opened (λ made. made.number ≤ 63) }
     ensures all { (image : List ℕ) (drive : Drive) → Stands image mounted.now drive
         → (ending.is_moving granted.now.function ≡ true → ending.IsPlaced granted.now) → result ≡ spec.block_by drive granted.now granted.now.function }
-    ensures untold { tells_block granted.now.function ≡ false → result ≡ granted.now.block }
+    ensures told { (result ≡ granted.now.block) ⊎ MayTellIn granted.now.function granted.now.block result }
 {
     match granted.function {
         FileFunction::OpenFile | FileFunction::MakeFile => opened_block(granted, mounted),
@@ -202,8 +213,9 @@ pub(crate) fn block(granted: &Granted, mounted: &Mounted) -> ControlBlock
 
 /// The block that tells a file's size.
 fn sized_block(granted: &Granted, mounted: &Mounted) -> ControlBlock
-    ensures { (image : List ℕ) (drive : Drive) → Stands image mounted.now drive
+    ensures all { (image : List ℕ) (drive : Drive) → Stands image mounted.now drive
         → result ≡ with_random granted.now.block (spec.size_of (extents_of drive (spec.file_in granted.now))) }
+    ensures told { TellsSize granted.now.block result }
 {
     let mut block = granted.block;
     block.set_random(size(mounted, granted.owner, &granted.block.name));
@@ -212,8 +224,9 @@ fn sized_block(granted: &Granted, mounted: &Mounted) -> ControlBlock
 
 /// The block that tells of a file's XFCB.
 fn guarded_block(granted: &Granted, mounted: &Mounted) -> ControlBlock
-    ensures { (image : List ℕ) (drive : Drive) → Stands image mounted.now drive
+    ensures all { (image : List ℕ) (drive : Drive) → Stands image mounted.now drive
         → result ≡ spec.told_xfcb (unwrap_or (get drive.xfcbs (spec.file_in granted.now)) no_protection) granted.now.block }
+    ensures told { TellsXfcb granted.now.block result }
 {
     let mut block = granted.block;
     xfcb_block(&mut block, mounted, granted.owner);

@@ -1,8 +1,6 @@
-ghost use Rattle.std.specs.Prelude.{◌≡◌, ◌≤◌, ◌<◌, ◌/◌, ◌%◌, ℕ, List, length, replicate};
+ghost use Rattle.std.specs.Prelude.{◌≡◌, ◌≤◌, ◌<◌, ◌*◌, ◌/◌, ◌%◌, ℕ, List, length, replicate};
 ghost use Rattle.std.specs.List.{flat_map};
-ghost use Rattle.mpm_files.specs.declared.jobs.Job.{Job};
-ghost use Rattle.mpm_files.specs.Serving.{with_records};
-ghost use Rattle.mpm_bdos.specs.Answering.{AreParts};
+ghost use Rattle.mpm_bdos.specs.Ending.{IsRead};
 ghost use Rattle.mpm_bdos.specs.Replies as spec;
 
 use crate::functions::FileFunction;
@@ -59,22 +57,11 @@ fn room_of(work: &Work) -> &[u8]
     work.bytes()
 }
 
-/// How many records a job has read, at most as many as it is to read.
-#[tactic(auto, using(crate::proofs::ReadBytes::so_many_at_most))]
-fn read_count(work: &Work, multi: u8) -> u8
-    ensures few { result ≤ multi }
-    ensures count { work.now.moved ≤ multi → result ≡ work.now.moved }
+/// The bytes of so many records that a job has read, which are 16 at most.
+pub(crate) fn read_bytes(work: &Work, count: u8) -> &[u8]
+    requires { count ≤ 16 }
+    ensures size { length result.now ≡ 128 * count }
+    ensures bytes { (records : List (List ℕ)) → IsRead count work.now records → result.now ≡ flat_map (λ record_bytes. record_bytes) records }
 {
-    work.moved().min(multi)
-}
-
-/// The bytes of the records that a job has read, at most as many as it is to read, which are 16 at most.
-pub(crate) fn read_bytes(work: &Work, multi: u8) -> &[u8]
-    requires { multi ≤ 16 }
-    ensures few { length result.now ≤ 4096 }
-    ensures parts { AreParts 128 multi result.now }
-    ensures bytes { (records : List (List ℕ)) (before : Job) → work.now.job ≡ with_records before records → length before.bytes ≡ 4096
-        → length records ≡ work.now.moved → work.now.moved ≤ multi → result.now ≡ flat_map (λ record_bytes. record_bytes) records }
-{
-    &room_of(work)[..128 * usize::from(read_count(work, multi))]
+    &room_of(work)[..128 * usize::from(count)]
 }

@@ -11,7 +11,7 @@ ghost use Rattle.mpm_files.specs.Turning.{Suits};
 ghost use Rattle.mpm_bdos.specs.Filing.{Situation, block as block_in};
 ghost use Rattle.mpm_bdos.specs.Subjects as subjects;
 ghost use Rattle.mpm_bdos.specs.Refusals as refusals;
-ghost use Rattle.mpm_bdos.specs.Answering.{IsEntered};
+ghost use Rattle.mpm_bdos.specs.Answering.{IsNamed, IsEntered};
 ghost use Rattle.mpm_bdos.specs.Asking.{called, StandsFor};
 ghost use Rattle.mpm_bdos.specs.Changes as changes;
 ghost use Rattle.mpm_bdos.specs.Functions.{function_of};
@@ -293,7 +293,7 @@ fn entered(
 ) -> Service
     requires caller { IsCaller caller.now }
     requires users { HaveUsers opens.now }
-    ensures entered { IsEntered caller.now function call.now result }
+    ensures entered { IsNamed function call.now drive → IsEntered caller.now function call.now result }
     ensures drive { result.drive ≡ drive }
     ensures all { (image : List ℕ) (drives : List (Option Drive))
         → StandsFor image (option_copied mounted.entry) (called drives protected.now opens.now marks.now searches.now caller.now function call.now moment)
@@ -380,7 +380,7 @@ fn function_of_call(call: &Call) -> Option<FileFunction>
 }
 
 impl Bdos {
-    ghost use Rattle.std.specs.Prelude.{◌≡◌, ◌<◌, ℕ, true, false, List, Option, Some, None, is_some};
+    ghost use Rattle.std.specs.Prelude.{◌≡◌, ◌<◌, ℕ, true, false, List, Option, Some, None, IfSome, is_some};
     ghost use Rattle.mpm_clock.specs.Times.{IsTime};
     ghost use Rattle.mpm_clock.specs.PackedDecimal.{stamp as stamp_of};
     ghost use Rattle.mpm_mount.specs.Drives.{Drive};
@@ -391,7 +391,7 @@ impl Bdos {
     ghost use Rattle.mpm_bdos.specs.Subjects.{drive_number};
     ghost use Rattle.mpm_bdos.specs.Turns.{drive_served, has_work};
     ghost use Rattle.mpm_bdos.specs.Answering.{HasEntered};
-    ghost use Rattle.mpm_bdos.specs.Starting.{caller_of, entering};
+    ghost use Rattle.mpm_bdos.specs.Starting.{caller_of, entering, turns_where};
 
     /// A process's call on files and drives enters service: how many turns it takes. A call of another function doesn't, and takes
     /// none. No device is asked. (MP/M II Programmer's Guide, "BDOS Function Calls".)
@@ -406,6 +406,7 @@ impl Bdos {
             → HasEntered (caller_of p process.now) function call.now self.new.service }
         ensures drive { (drives : List (Option Drive)) (function : functions.FileFunction) → function_of call.now.function ≡ Some function
             → drive_served self.new.service ≡ Some (drive_number (entering self.old drives (caller_of p process.now) function call.now (stamp_of now))) }
+        ensures own { is_some (function_of call.now.function) ≡ true → IfSome self.new.service (λ service. result ≡ turns_where service.work) }
         ensures some { is_some (function_of call.now.function) ≡ true → 0 < result }
         ensures stand { is_some (function_of call.now.function) ≡ true → StandForSome self.old.mounted }
         ensures workless { is_some (function_of call.now.function) ≡ true → ((number : ℕ) → directory_at self.old.mounted number ≡ None) → has_work self.new.service ≡ false }

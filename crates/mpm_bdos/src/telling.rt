@@ -6,6 +6,7 @@ ghost use Rattle.mpm_fcb.specs.Positions.{three_bytes};
 ghost use Rattle.mpm_files.specs.Units.{attributes_of as attributes_there, where_there};
 ghost use Rattle.mpm_mount.specs.Drives.{free_records};
 ghost use Rattle.std.specs.FinMap.{get};
+ghost use Rattle.mpm_bdos.specs.Answering.{TellsOpened, TellsPosition, TellsXfcb};
 ghost use Rattle.mpm_bdos.specs.Asking.{found_as};
 ghost use Rattle.mpm_bdos.specs.Jobs.{no_protection};
 ghost use Rattle.mpm_bdos.specs.Replies as replies;
@@ -116,8 +117,9 @@ pub(crate) fn open_block(
     item: u8,
 )
     requires { item < 64 }
-    ensures { (image : List ℕ) (drive : Drive) → Stands image mounted.now drive
+    ensures all { (image : List ℕ) (drive : Drive) → Stands image mounted.now drive
         → block.new ≡ spec.opened_by drive owner block.old mode item }
+    ensures told { TellsOpened block.old block.new }
 {
     let attributes = attributes_or_none(mounted, owner, &block.name);
     let records = record_count(mounted, owner, &block.name, u16::from(block.ex % 32));
@@ -127,8 +129,9 @@ pub(crate) fn open_block(
 /// Puts into a block a position, at most 262,271, in a file of the user `owner`.
 pub(crate) fn position_block(block: &mut ControlBlock, mounted: &Mounted, owner: u8, position: u32)
     requires { position ≤ 262271 }
-    ensures { (image : List ℕ) (drive : Drive) → Stands image mounted.now drive
+    ensures all { (image : List ℕ) (drive : Drive) → Stands image mounted.now drive
         → block.new ≡ spec.moved_to drive owner block.old position }
+    ensures told { TellsPosition block.old block.new }
 {
     let extent = (position / 128).min(2047) as u16;
     let records = record_count(mounted, owner, &block.name, extent);
@@ -149,8 +152,9 @@ fn xfcb_or_none(mounted: &Mounted, user: u8, name: &[u8; 11]) -> Protection
 /// Puts into a block the mode and the stamps of the XFCB of a user's file. (MP/M II Programmer's Guide, "Function 102: Read File
 /// XFCB".)
 pub(crate) fn xfcb_block(block: &mut ControlBlock, mounted: &Mounted, user: u8)
-    ensures { (image : List ℕ) (drive : Drive) → Stands image mounted.now drive
+    ensures all { (image : List ℕ) (drive : Drive) → Stands image mounted.now drive
         → block.new ≡ replies.told_xfcb (unwrap_or (get drive.xfcbs (record { user = user; name = plain block.old.name })) no_protection) block.old }
+    ensures told { TellsXfcb block.old block.new }
 {
     let xfcb = xfcb_or_none(mounted, user, &block.name);
     xfcb.tell(block);

@@ -9,9 +9,10 @@ ghost use Rattle.mpm_files.specs.declared.jobs.Job.{Job};
 ghost use Rattle.mpm_files.specs.declared.jobs.JobKind.TheVariants as kinds;
 ghost use Rattle.mpm_files.specs.declared.turning.Progress.TheVariants as progress;
 ghost use Rattle.mpm_files.specs.Plans.{turns_of};
+ghost use Rattle.mpm_files.specs.Serving.{turns_in};
 ghost use Rattle.mpm_files.specs.Turning.{Suits, IsNextCached};
 ghost use Rattle.mpm_bdos.specs.Serving.{directory_at};
-ghost use Rattle.mpm_bdos.specs.Turns.{FitsDrives, KeepsImages, StaysBeside, progress_after, labelled, HasLeft, IsWorking, IsWorkingOn, IsContainedAt, IsServing, IsServiceContained, IsReading, IsReadingCached, ServesReading, ServesCached, IsIdle, has_work, drive_served, without_work};
+ghost use Rattle.mpm_bdos.specs.Turns.{FitsDrives, KeepsImages, StaysBeside, progress_after, labelled, HasLeft, IsWorking, IsWorkingOn, IsContainedAt, IsServing, IsServiceContained, IsReading, IsReadingCached, ServesReading, ServesCached, IsCounted, HasCounted, HasCountedIn, WhereMounted, OfWork, IsIdle, has_work, drive_served, without_work};
 
 use crate::directories::Directories;
 use crate::service::Service;
@@ -40,6 +41,8 @@ pub(crate) fn turn_at<D: Drives, L: Ledger>(
         → OnErr result (IsContainedAt (D.disks drives.new) place.old before job j) }
     ensures progress { (before : Drive) (job : Job) (j : ℕ) → IsWorking (D.disks drives.old) place.old before job j work.old
         → IfOk result (λ told. told ≡ progress_after (suc j) (turns_of before job)) }
+    ensures told { IfSome place.old (λ _. IfOk result (λ told. told ≡ progress_after (suc work.old.ended) (turns_in work.old))) }
+    ensures counted { IfSome place.old (λ _. work.old.ended < turns_in work.old → OnOk result (IsCounted work.old work.new)) }
     ensures same { option_map labelled place.new ≡ option_map labelled place.old }
     ensures calls { steps.new ≤ steps.old + 20 }
     ensures reads { work.old.job.kind ≡ kinds.Read → steps.new ≤ steps.old + 1 }
@@ -77,6 +80,8 @@ impl Directories {
             → OnErr result (IsContainedAt (D.disks drives.new) (directory_at self.old number) before job j) }
         ensures progress { (before : Drive) (job : Job) (j : ℕ) → IsWorking (D.disks drives.old) (directory_at self.old number) before job j work.old
             → IfOk result (λ told. told ≡ progress_after (suc j) (turns_of before job)) }
+        ensures told { IfSome (directory_at self.old number) (λ _. IfOk result (λ told. told ≡ progress_after (suc work.old.ended) (turns_in work.old))) }
+        ensures counted { IfSome (directory_at self.old number) (λ _. work.old.ended < turns_in work.old → OnOk result (IsCounted work.old work.new)) }
         ensures places { (other : ℕ) → Some number ≢ Some other → directory_at self.new other ≡ directory_at self.old other }
         ensures labels { (other : ℕ) → option_map labelled (directory_at self.new other) ≡ option_map labelled (directory_at self.old other) }
         ensures fits { FitsDrives D.attached D.disks self.new cache.new drives.new }
@@ -115,6 +120,8 @@ impl Service {
             → OnErr result (IsContainedAt (D.disks drives.new) (directory_at mounted.old self.old.drive) before job j) }
         ensures progress { (before : Drive) (job : Job) (j : ℕ) → IsWorkingOn (D.disks drives.old) (directory_at mounted.old self.old.drive) before job j self.old.work
             → IfOk result (λ told. told ≡ progress_after (suc j) (turns_of before job)) }
+        ensures told { WhereMounted (directory_at mounted.old self.old.drive) self.old.work (λ work. IfOk result (λ told. told ≡ progress_after (suc work.ended) (turns_in work))) }
+        ensures counted { WhereMounted (directory_at mounted.old self.old.drive) self.old.work (λ work. work.ended < turns_in work → OnOk result (HasCounted work self.new.work)) }
         ensures idle { is_some self.old.work ≡ false → IsIdle self.old self.new mounted.old mounted.new cache.old cache.new drives.old drives.new steps.old steps.new }
         ensures done { is_some self.old.work ≡ false → result ≡ Ok progress.Done }
         ensures still { is_some self.new.work ≡ is_some self.old.work }
@@ -155,6 +162,8 @@ pub(crate) fn turn_service<D: Drives, L: Ledger>(
         → OnErr result (IsServiceContained (D.disks drives.new) mounted.old before job j service.old) }
     ensures progress { (before : Drive) (job : Job) (j : ℕ) → IsServing (D.disks drives.old) mounted.old before job j service.old
         → IfOk result (λ told. told ≡ progress_after (suc j) (turns_of before job)) }
+    ensures told { OfWork mounted.old service.old (λ work. IfOk result (λ told. told ≡ progress_after (suc work.ended) (turns_in work))) }
+    ensures counted { OfWork mounted.old service.old (λ work. work.ended < turns_in work → OnOk result (HasCountedIn work service.new)) }
     ensures idle { has_work service.old ≡ false → IsIdle service.old service.new mounted.old mounted.new cache.old cache.new drives.old drives.new steps.old steps.new }
     ensures done { has_work service.old ≡ false → result ≡ Ok progress.Done }
     ensures still { has_work service.new ≡ has_work service.old }

@@ -31,7 +31,7 @@ use Rattle.mpm_machine.specs.State.{Change, silent}
 use Rattle.mpm_machine.specs.Faults.{Counts, HasFailed, HaveCause, itself, OnDiskFault, OnWriteFault}
 use Rattle.mpm_machine.specs.Files.{Files, Between, Within, one_more, StandsBetween, StandsWorkedBy, StandsWorked}
 use Rattle.mpm_machine.specs.Filed.{IsOutcome}
-use Rattle.mpm_machine.specs.FileCalls.{IsToldOf, outcome_in, told_of, concluded}
+use Rattle.mpm_machine.specs.FileCalls.{IsToldOf, IsToldAsKept, outcome_in, told_of, concluded}
 use Rattle.mpm_machine.specs.DiskStep.{is_done_at_once, with_kernel, file_called, done_at_once, files_called, told_at_gate}
 use Rattle.mpm_machine.specs.Holding.{IsOwn, HoldsDrives}
 use Rattle.mpm_machine.specs.Failing.{HaveImagesOf, FailsWithin, working_if, turns_done}
@@ -39,7 +39,8 @@ use Rattle.mpm_machine.specs.After.{StopsBy, HasCalled, HasToldAtGate, HasStoppe
 use Rattle.mpm_machine.proofs.KeepingLaws.{ready_unserved, concluded_serves}
 use Rattle.mpm_machine.proofs.TurnLaws.{worked_on}
 use Rattle.mpm_machine.proofs.WorkLaws.{nothing_there}
-use Rattle.mpm_machine.proofs.ToldLaws.{something_told}
+use Rattle.mpm_machine.proofs.ToldLaws.{something_told, served_as_kept}
+use Rattle.mpm_machine.proofs.HoldingLaws.{not_none}
 use Rattle.mpm_machine.proofs.BegunLaws.{waiting_serves}
 
 -- it is done at once, or waits
@@ -96,11 +97,17 @@ pub waits_ok : (p : ℕ) (o : Outside) (old new : System) (kept : Kept) (disks :
 waits_ok p o old new kept disks files waits is stands =
     (waits_called (told_at_gate p old files) p o old new waits is, waits_stands p old new kept disks files waits is stands)
 
-pub waits_told : (p : ℕ) (o : Outside) (old new : System) → is_done_at_once p old ≡ false → new ≡ with_kernel (waiting_for_disk p) old → HasToldAtGate p o o old new
-waits_told p o old new waits is =
+pub waits_told : {kept : Kept} (p : ℕ) (o : Outside) (old new : System) → is_done_at_once p old ≡ false → new ≡ with_kernel (waiting_for_disk p) old → HasToldAtGate kept p o o old new
+waits_told {kept} p o old new waits is =
     let any = something_told p old in
     let told = told_of (call_of old.kernel.dispatcher.procs p) any.0 any.1 in
-    record { told = told; of_call = refl; tells = any.2; called = waits_called told p o old new waits is }
+    record {
+      told = told;
+      of_call = refl;
+      tells = any.2;
+      as_kept = served_as_kept kept p old any.0 any.1 (not_none (function_of (call_of old.kernel.dispatcher.procs p).function) (old.kernel.disk.turn_steps == 0) waits);
+      called = waits_called told p o old new waits is;
+    }
 
 -- what one comes to that is done at once: where a call is in service, one that no disk serves, which leaves files
 
@@ -183,15 +190,15 @@ once_ok (Ok a) p o n old new kept kept' disks disks' files reply extended s is_r
 
 -- and whatever is on the drives
 
-pub once_told : {A E : Type 0} (r : Result A E) (p : ℕ) (o n : Outside) (old new : System) (reply : Answer) (extended : Option Extended) → is_done_at_once p old ≡ true
-    → IsToldOf p old reply extended
+pub once_told : {A E : Type 0} (kept : Kept) (r : Result A E) (p : ℕ) (o n : Outside) (old new : System) (reply : Answer) (extended : Option Extended) → is_done_at_once p old ≡ true
+    → IsToldOf p old reply extended → IsToldAsKept kept p old reply extended
     → OnOk r (new ≡ (concluded (told_of (call_of old.kernel.dispatcher.procs p) reply extended) p old).system)
     → OnOk r (Wrote o n (concluded (told_of (call_of old.kernel.dispatcher.procs p) reply extended) p old).emitted)
-    → OnOk r (HasToldAtGate p o n old new)
-once_told (Err e) p o n old new reply extended done tells is wrote = tt
-once_told (Ok a) p o n old new reply extended done tells is wrote =
+    → OnOk r (HasToldAtGate kept p o n old new)
+once_told kept (Err e) p o n old new reply extended done tells as_kept is wrote = tt
+once_told kept (Ok a) p o n old new reply extended done tells as_kept is wrote =
     let told = told_of (call_of old.kernel.dispatcher.procs p) reply extended in
-    record { told = told; of_call = refl; tells = tells; called = called_so told p o n old new done is wrote }
+    record { told = told; of_call = refl; tells = tells; as_kept = as_kept; called = called_so told p o n old new done is wrote }
 
 -- the sink failed in its answer
 

@@ -1,5 +1,5 @@
 -- The rest of a step as the code makes it: the disk's step, the ends that are due with the records, what is given back, and who runs.
-use Rattle.std.proofs.Common.{◌≡◌, ◌∙◌, ◌++◌, ◌<◌, ℕ, Bool, true, false, List, [], Option, Some, None, IfSome, is_some, refl, sym, ap, subst, arith}
+use Rattle.std.proofs.Common.{◌≡◌, ◌∙◌, ◌++◌, ◌<◌, ℕ, Bool, true, false, List, [], Option, Some, None, IfSome, is_some, refl, sym, ap, subst}
 use Rattle.std.proofs.lemmas.List.{append-nil}
 use Rattle.mpm_port.specs.Disks.{Disks}
 use Rattle.mpm_dispatcher.specs.Dispatch.{picked}
@@ -31,6 +31,7 @@ use Rattle.mpm_machine.proofs.WholeStepLaws.{whole_with_ends}
 use Rattle.mpm_machine.proofs.KeepingLaws.{ServesSame, ends_serve}
 use Rattle.mpm_machine.proofs.RestLaws.{whole_rest, none_entered_after, no_completions_rest, nobody_due_rest}
 use Rattle.mpm_machine.proofs.FileStepLaws.{rest_steps}
+use Rattle.mpm_machine.proofs.TellingLaws.{any_turns, enters_for_any}
 use Rattle.mpm_machine.proofs.CallsLaws.{SystemKeepsCalls, calls_same, calls_then, calls_with_ends}
 use Rattle.mpm_machine.proofs.HoldingLaws.{filed_still, own_still}
 use Rattle.mpm_machine.proofs.ServeLaws.{over_serves, none_behind}
@@ -76,7 +77,7 @@ pub has_ended : (instruction : Bool) (o m n : Outside) (old served ended paid ne
     → new ≡ record paid { kernel = with_dispatcher (picked instruction) paid.kernel } → HasEndedStep instruction o n old new
 has_ended instruction o m n old served ended paid new has ends wrote pays picks =
     let done = rest_done instruction has.telling o m n old served new has.system has.wrote wrote (ended_so instruction served ended paid new ends pays picks) in
-    record { telling = has.telling; some = has.some; of_call = has.of_call; tells = has.tells; system = done.0; wrote = done.1 }
+    record { telling = has.telling; turns = has.turns; of_call = has.of_call; tells = has.tells; system = done.0; wrote = done.1 }
 
 -- by what is on the drives
 
@@ -218,8 +219,9 @@ serving_stopped instruction files o n old stopped = served_stops instruction (te
 
 pub serving_stops : (instruction : Bool) (o n : Outside) (old : System) → HasStoppedServing o n old → HasEndedToStop instruction o n old
 serving_stops instruction o n old stopped =
-    let telling : Telling = record { at_gate = nothing_told; at_disk = stopped.told; turns = 1 } in
-    record { telling = telling; some = omega arith; of_call = stopped.of_call; tells = stopped.tells; stops = served_stops instruction telling o n old stopped.stops }
+    let paid = paid_after stopped.told old in
+    let telling : Telling = record { at_gate = nothing_told; at_disk = stopped.told; turns = any_turns paid } in
+    record { telling = telling; turns = enters_for_any paid; of_call = stopped.of_call; tells = stopped.tells; stops = served_stops instruction telling o n old stopped.stops }
 
 pub ending_stopped : (instruction : Bool) (files : Files) (o m n : Outside) (old served : System) (kept : Kept) (disks : Option Disks) → HasServedTo files o m old served kept disks
     → Stopped m n (records_out (with_ends served)).emitted → Stopped o n (rest_of instruction (telling_then nothing_told old files) (silent old)).emitted
@@ -230,7 +232,7 @@ pub ended_stops : (instruction : Bool) (o m n : Outside) (old served : System) �
     → HasEndedToStop instruction o n old
 ended_stops instruction o m n old served has stopped = record {
   telling = has.telling;
-  some = has.some;
+  turns = has.turns;
   of_call = has.of_call;
   tells = has.tells;
   stops = ends_stop instruction has.telling o m n old served has.system has.wrote stopped;

@@ -35,12 +35,13 @@ use Rattle.mpm_machine.specs.State.{Change, IsWhole, silent}
 use Rattle.mpm_machine.specs.FileCalls.{looked_at, situation_of}
 use Rattle.mpm_machine.specs.DiskStep.{with_kernel, step_passed, served_by, disk_served, over_by, process_over, files_served_by, files_served, all_paid, entered_by, entered_unless, call_entered, within_call, entering_call, files_entered_by, files_entered_unless, files_entered, turns_within}
 use Rattle.mpm_machine.specs.Stepping.{Telling, nothing_told, told_within, entered_after, files_paid, files_then}
-use Rattle.mpm_machine.specs.After.{IsOfCall, IsToldIn, HasServedTo, HasPassed, HasServed, HasEnteredCall}
+use Rattle.mpm_machine.specs.After.{IsOfCall, IsToldIn, EntersFor, HasServedTo, HasPassed, HasServed, HasEnteredCall}
 use Rattle.mpm_machine.proofs.DiskStepLaws.{whole_passed, whole_call_entered, whole_all_paid}
 use Rattle.mpm_machine.proofs.CallsLaws.{SystemKeepsCalls, calls_same, calls_then, calls_disk_served, calls_call_entered, at_disk_lives}
 use Rattle.mpm_machine.proofs.HoldingLaws.{filed_still}
 use Rattle.mpm_machine.proofs.FilingLaws.{named_by}
 use Rattle.mpm_machine.proofs.ServeLaws.{somebody}
+use Rattle.mpm_machine.proofs.TellingLaws.{any_turns, enters_for_any}
 use Rattle.mpm_machine.proofs.TurnLaws.{who, stands_idle, entered_first, paid_stands, entry_stands}
 
 -- where nobody is in service
@@ -83,10 +84,6 @@ enters_ok old filing function p turns kept kept' disks starts none calls stands 
       sym (entered_so turns old (Starts p) none starts) ∙ ap (λ (n : ℕ). call_entered n old) (sym count),
       subst (λ (f : Files). StandsForFiles (begun (turned old.kernel.disk) turns) kept' disks f) (sym files) here,
     )
-
-pub has_entered : (old : System) (p turns : ℕ) → 0 < turns → turn_answer old.kernel.disk ≡ Starts p → old.kernel.disk.served ≡ None
-    → HasEnteredCall old (with_kernel (with_disk (λ disk. begun disk turns)) (step_passed old))
-has_entered old p turns some starts none = record { turns = turns; some = some; is = sym (entered_so turns old (Starts p) none starts) }
 
 -- the next call enters where nobody is in service
 
@@ -138,6 +135,8 @@ starts_filed old kernel p is starts filed =
 pub record Begins (p turns : ℕ) (old : System) (kept kept' : Kept) : Type 0 where
   pub turns_are : (disks : Option Disks) (filing : Filing) (function : FileFunction) → function_of (call_of old.kernel.dispatcher.procs p).function ≡ Some function
       → StandsBetween kept disks filing → turns ≡ call_turns (situation_of filing function p old)
+  pub takes : (function : FileFunction) → function_of (call_of old.kernel.dispatcher.procs p).function ≡ Some function
+      → (filing : Filing) × (turns ≡ call_turns (situation_of filing function p old))
   pub serves : (disks : Option Disks) (filing : Filing) (function : FileFunction) → function_of (call_of old.kernel.dispatcher.procs p).function ≡ Some function
       → StandsBetween kept disks filing → Serves (told_images disks) kept' (situation_of filing function p old) 0
   pub entered : (function : FileFunction) → function_of (call_of old.kernel.dispatcher.procs p).function ≡ Some function
@@ -164,9 +163,18 @@ enters_so old new p turns kept kept' disks files is starts none filed begins sta
     (begins.serves disks filing its.0 its.1 between) in
     (is ∙ so.0, subst (λ (system : System). StandsForFiles system.kernel.disk kept' disks (files_entered old (Between filing))) (sym is) so.1))
 
-pub has_entered_so : (old new : System) (p turns : ℕ) → new ≡ with_kernel (with_disk (λ disk. begun disk turns)) (step_passed old) → turn_answer old.kernel.disk ≡ Starts p
-    → old.kernel.disk.served ≡ None → 0 < turns → HasEnteredCall old new
-has_entered_so old new p turns is starts none some = subst (HasEnteredCall old) (sym is) (has_entered old p turns some starts none)
+enters_for : (old : System) (p turns : ℕ) (kept kept' : Kept) → turn_answer old.kernel.disk ≡ Starts p → old.kernel.disk.served ≡ None → AreFiled old.kernel
+    → Begins p turns (step_passed old) kept kept' → EntersFor turns old
+enters_for old p turns kept kept' starts none filed begins =
+    let its = named_by (function_of (call_of old.kernel.dispatcher.procs p).function) (filed p (starts_at old.kernel.disk p starts)) in
+    let takes = begins.takes its.0 its.1 in
+    let files : files_entered old (Between takes.0) ≡ entering_call p old (Between takes.0) = files_so old (Between takes.0) (Starts p) none starts in
+    record { filing = takes.0; are = takes.1 ∙ sym (ap turns_within (files ∙ enters_within old takes.0 its.0 p its.1)) }
+
+pub has_entered : (old new : System) (p turns : ℕ) (kept kept' : Kept) → new ≡ with_kernel (with_disk (λ disk. begun disk turns)) (step_passed old) → turn_answer old.kernel.disk ≡ Starts p
+    → old.kernel.disk.served ≡ None → AreFiled old.kernel → Begins p turns (step_passed old) kept kept' → HasEnteredCall old new
+has_entered old new p turns kept kept' is starts none filed begins =
+    record { turns = turns; its = enters_for old p turns kept kept' starts none filed begins; is = is ∙ sym (entered_so turns old (Starts p) none starts) }
 
 pub enters_whole : (old new : System) → IsWhole old → HasEnteredCall old new → IsWhole new
 enters_whole old new w has = subst IsWhole (sym has.is) (whole_call_entered has.turns old w)
@@ -246,7 +254,8 @@ pub unserved_own : (kernel : Kernel) (service : Option InService) → kernel.dis
 unserved_own kernel service none = subst (λ (served : Option Served). IfSome served (λ (call : Served). IsOwn kernel.dispatcher.procs call.p service)) (sym none) tt
 
 pub has_entered_none : (old : System) → old.kernel.disk.served ≡ None → StartsNobody (turn_answer old.kernel.disk) → HasEnteredCall old (step_passed old)
-has_entered_none old none nobody = record { turns = 1; some = omega arith; is = sym (entered_so 1 old Idle none (stays_idle old.kernel.disk none nobody)) }
+has_entered_none old none nobody =
+    record { turns = any_turns old; its = enters_for_any old; is = sym (entered_so (any_turns old) old Idle none (stays_idle old.kernel.disk none nobody)) }
 
 pub has_entered_nobody : (old : System) (kernel : Kernel) → kernel ≡ with_disk turned old.kernel → old.kernel.disk.served ≡ None → StartsNobody (turn_answer old.kernel.disk)
     → HasEnteredCall old (record old { kernel = kernel })
@@ -316,7 +325,7 @@ goes_on system kept disks files some stands = (
 )
 
 pub has_entered_still : (old : System) → is_some old.kernel.disk.served ≡ true → HasEnteredCall old old
-has_entered_still old some = record { turns = 1; some = omega arith; is = sym (nobody_enters 1 old some) }
+has_entered_still old some = record { turns = any_turns old; its = enters_for_any old; is = sym (nobody_enters (any_turns old) old some) }
 
 -- so the disk made its step
 
@@ -342,11 +351,12 @@ entered_behind passed paid new kept kept' kept'' disks files is stands rest same
     (subst (λ (system : System). StandsForFiles system.kernel.disk kept' disks (given_back passed.owed files)) (sym is)
     (pays passed kept kept' disks files stands rest same left)))
 
-pub has_served : (turns : ℕ) (o n : Outside) (old passed new : System) (has : HasPassed o n old passed) → 0 < turns → new ≡ call_entered turns (all_paid passed) → HasServed o n old new
+pub has_served : (turns : ℕ) (o n : Outside) (old passed new : System) (has : HasPassed o n old passed) → EntersFor turns (all_paid passed) → new ≡ call_entered turns (all_paid passed)
+    → HasServed o n old new
 unfolding entered_after
-has_served turns o n old passed new has some is = record {
+has_served turns o n old passed new has enters is = record {
   telling = record { at_gate = nothing_told; at_disk = has.told; turns = turns };
-  some = some;
+  turns = subst (λ (system : System). EntersFor turns (all_paid system)) has.system enters;
   of_call = has.of_call;
   tells = has.tells;
   system = is ∙ ap (λ (system : System). call_entered turns (all_paid system)) has.system;

@@ -1,5 +1,5 @@
 -- A step by what a file call comes to, if one is made in it: when none is, and what is so behind it.
-use Rattle.std.proofs.Common.{◌≡◌, ◌∙◌, ℕ, ◌+◌, ◌<◌, ◌≤◌, Bool, true, false, not, ◌&&◌, ◌==◌, [], Option, Some, None, is_some, if◌then◌else◌, length, refl, sym, ap, subst, arith}
+use Rattle.std.proofs.Common.{◌≡◌, ◌∙◌, ℕ, ◌+◌, ◌≤◌, Bool, true, false, not, ◌&&◌, ◌==◌, [], Option, Some, None, is_some, if◌then◌else◌, length, refl, sym, ap, subst, arith}
 use Rattle.mpm_base.proofs.Choices.{either}
 use Rattle.mpm_base.specs.Calls.{Answer}
 use Rattle.mpm_procs.specs.Table.{process_in, call_of}
@@ -22,12 +22,13 @@ use Rattle.mpm_machine.specs.Step.{gate_before, coming, counted}
 use Rattle.mpm_machine.specs.FileCalls.{at_gate, is_of_files, called_next, is_file_number, calls_files, file_caller_by, file_caller, made_by, call_made, with_caller, reply_by, file_replied, error_told, told_then, error_met, answered_by, concluded}
 use Rattle.mpm_machine.specs.DiskStep.{is_done_at_once, file_called, ready_again, step_passed, call_over, over_after, served_by, disk_served, process_over, all_paid, entered_by, entered_unless, call_entered}
 use Rattle.mpm_machine.specs.Stepping.{Telling, begun_with, begun_as, is_instruction, paid_after, entered_after, ended_after, rest_of, step_with, nothing_told}
-use Rattle.mpm_machine.specs.After.{IsOfCall, made_in, IsStep, IsToldIn, IsMade}
+use Rattle.mpm_machine.specs.After.{IsOfCall, made_in, IsStep, IsToldIn, EntersFor, IsMade}
 use Rattle.mpm_machine.proofs.FiledLaws.{contained_by}
 use Rattle.mpm_machine.proofs.TallyLaws.{Tally, tally, OneMore, none_more, one_more_behind, answering_more, more_have_room, begun_more, all_answered_steps, all_finished_steps, ends_steps}
 use Rattle.mpm_machine.proofs.StepWithLaws.{instructed_with, served_with}
 use Rattle.mpm_machine.proofs.ValueLaws.{resided_with}
 use Rattle.mpm_machine.proofs.FiledValue.{filed_by_value, over_by_value, enters_by_value}
+use Rattle.mpm_machine.proofs.TellingLaws.{any_turns, enters_for_any}
 
 -- none is made where no process runs, or the one that runs is at no gate
 
@@ -203,40 +204,59 @@ is_step telling system change w handed first later is = subst (IsStep system) (s
 
 -- and of one that a machine makes
 
-pub is_made : (telling : Telling) (system : System) (change : Change) → 0 < telling.turns → IsWhole system → NoCompletions system
+pub record IsMadeAs (telling : Telling) (system : System) (change : Change) : Type 0 where
+  pub made : IsMade system change
+  pub at_gate : made.step.telling.at_gate ≡ telling.at_gate
+
+pub made_as : (telling : Telling) (system : System) (change : Change) → EntersFor telling.turns (paid_after telling.at_disk (begun_as telling.at_gate system).system)
+    → IsWhole system → NoCompletions system
     → IsOfCall (file_caller system) telling.at_gate (made_in (file_caller system) system) → OfCall telling system
     → IsToldIn (file_caller system) telling.at_gate (made_in (file_caller system) system)
     → IsToldIn (process_over (begun_as telling.at_gate system).system) telling.at_disk (begun_as telling.at_gate system).system
-    → change ≡ step_with telling system → IsMade system change
-is_made telling system change some w handed first later tells_first tells_later is =
+    → change ≡ step_with telling system → IsMadeAs telling system change
+made_as telling system change enters w handed first later tells_first tells_later is =
     let made : IsMade system (step_with telling system) = record {
       step = step_is telling system w handed first later;
-      some = some;
+      turns = enters;
       at_gate = tells_first;
       at_disk = tells_later;
       filed = filed_by_value (file_caller system) telling.at_gate (made_in (file_caller system) system) tells_first;
       over = over_by_value (process_over (begun_as telling.at_gate system).system) telling.at_disk (begun_as telling.at_gate system).system tells_later;
       enters = enters_by_value (paid_after telling.at_disk (begun_as telling.at_gate system).system);
     } in
-    subst (IsMade system) (sym is) made
+    subst (IsMadeAs telling system) (sym is) (record { made = made; at_gate = refl })
+
+pub is_made : (telling : Telling) (system : System) (change : Change) → EntersFor telling.turns (paid_after telling.at_disk (begun_as telling.at_gate system).system)
+    → IsWhole system → NoCompletions system
+    → IsOfCall (file_caller system) telling.at_gate (made_in (file_caller system) system) → OfCall telling system
+    → IsToldIn (file_caller system) telling.at_gate (made_in (file_caller system) system)
+    → IsToldIn (process_over (begun_as telling.at_gate system).system) telling.at_disk (begun_as telling.at_gate system).system
+    → change ≡ step_with telling system → IsMade system change
+is_made telling system change enters w handed first later tells_first tells_later is =
+    (made_as telling system change enters w handed first later tells_first tells_later is).made
 
 -- and of one in which no file call is made and none is over
 
-is_made_so : (caller over : Option ℕ) (telling : Telling) (system : System) (change : Change) → 0 < telling.turns → IsWhole system → NoCompletions system
+is_made_so : (caller over : Option ℕ) (telling : Telling) (system : System) (change : Change)
+    → EntersFor telling.turns (paid_after telling.at_disk (begun_as telling.at_gate system).system) → IsWhole system → NoCompletions system
     → file_caller system ≡ caller → caller ≡ None → process_over (begun_as telling.at_gate system).system ≡ over → over ≡ None → change ≡ step_with telling system
     → IsMade system change
-is_made_so caller over telling system change some w handed alone none here nobody is =
+is_made_so caller over telling system change enters w handed alone none here nobody is =
     let made = made_in (file_caller system) system in
     let begun = (begun_as telling.at_gate system).system in
-    is_made telling system change some w handed
+    is_made telling system change enters w handed
     (subst (λ c. IsOfCall c telling.at_gate made) (sym (alone ∙ none)) tt) (subst (λ c. IsOfCall c telling.at_disk begun) (sym (here ∙ nobody)) tt)
     (subst (λ c. IsToldIn c telling.at_gate made) (sym (alone ∙ none)) tt) (subst (λ c. IsToldIn c telling.at_disk begun) (sym (here ∙ nobody)) tt) is
 
 -- by nothing that is told
-abbrev pub telling_nothing : Telling
-telling_nothing = record { at_gate = nothing_told; at_disk = nothing_told; turns = 1 }
+abbrev behind_nothing : System → System
+behind_nothing system = paid_after nothing_told (begun_as nothing_told system).system
+
+abbrev telling_nothing : System → Telling
+telling_nothing system = record { at_gate = nothing_told; at_disk = nothing_told; turns = any_turns (behind_nothing system) }
 
 pub is_made_still : (system : System) (change : Change) → IsWhole system → NoCompletions system → file_caller system ≡ None
     → process_over (begun_as nothing_told system).system ≡ None → ((telling : Telling) → change ≡ step_with telling system) → IsMade system change
 is_made_still system change w handed alone nobody is =
-    is_made_so (file_caller system) (process_over (begun_as nothing_told system).system) telling_nothing system change (omega arith) w handed refl alone refl nobody (is telling_nothing)
+    is_made_so (file_caller system) (process_over (begun_as nothing_told system).system) (telling_nothing system) system change (enters_for_any (behind_nothing system)) w handed
+    refl alone refl nobody (is (telling_nothing system))

@@ -1,27 +1,38 @@
 -- A step of the machine is what it begins with and the rest of it, by what its file calls may tell, and by what is on the drives.
-use Rattle.std.proofs.Common.{◌≡◌, ◌∙◌, ℕ, Bool, true, ◌++◌, List, [], Option, Some, None, refl, sym, ap, subst, arith}
+use Rattle.std.specs.Prelude.{option_map}
+use Rattle.std.proofs.Math.Path.{fun_ext}
+use Rattle.std.proofs.Common.{◌≡◌, ◌∙◌, ℕ, Bool, true, ◌++◌, List, [], Option, Some, None, refl, sym, ap, subst}
 use Rattle.mpm_port.specs.Disks.{Disks}
-use Rattle.mpm_procs.specs.Table.{call_of}
+use Rattle.mpm_base.specs.Calls.{Answer}
+use Rattle.mpm_base.specs.declared.kind.Kind.{Kind}
+use Rattle.mpm_mount.specs.Directories.{Directory}
+use Rattle.mpm_procs.specs.Table.{process_in, call_of}
 use Rattle.mpm_render.specs.Outputs.{Output}
 use Rattle.mpm_output.specs.Outside.{Outside, TheSink}
 use Rattle.mpm_output.specs.Writing.{Wrote, Stopped}
 use Rattle.mpm_output.proofs.WritingLaws.{wrote_after, fails_before, fails_within, fails_same}
-use Rattle.mpm_bdos.specs.Direct.{Directly}
-use Rattle.mpm_bdos.specs.Serving.{Kept}
+use Rattle.mpm_bdos.specs.declared.functions.FileFunction.{FileFunction}
+use Rattle.mpm_bdos.specs.declared.functions.DirectFunction.{DirectFunction}
+use Rattle.mpm_bdos.specs.declared.refusals.Extended.{Extended}
+use Rattle.mpm_bdos.specs.Direct.{Directly, ComesDirectly, direct_of, is_protected}
+use Rattle.mpm_bdos.specs.Functions.{function_of}
+use Rattle.mpm_bdos.specs.Serving.{Kept, directory_at, kind_at}
+use Rattle.mpm_bdos.specs.Turns.{TurnKeeps, labelled}
 use Rattle.mpm_machine.specs.declared.system.System.{System}
 use Rattle.mpm_machine.specs.declared.machine.StepFault.{StepFault}
 use Rattle.mpm_machine.specs.declared.machine.StepFault.TheVariants.{DiskFault, WriteFault}
 use Rattle.mpm_machine.specs.Files.{Files, StandsForFiles, drives_in}
 use Rattle.mpm_machine.specs.State.{Change, IsWhole, NoCompletions, silent}
 use Rattle.mpm_machine.specs.Faults.{OnDiskFault}
-use Rattle.mpm_machine.specs.FileCalls.{file_caller, told_of}
+use Rattle.mpm_machine.specs.FileCalls.{file_caller, told_of, TellsAsKept, IsToldAsKept}
 use Rattle.mpm_machine.specs.DiskStep.{process_over}
 use Rattle.mpm_machine.specs.Failing.{does_work}
-use Rattle.mpm_machine.specs.Stepping.{Telling, begun_as, is_instruction, entered_after, ended_after, rest_of, step_with, nothing_told, told_first, files_begun, before_disk, telling_then, telling_of, files_rest, stepped}
-use Rattle.mpm_machine.specs.After.{IsOfCall, made_in, IsToldIn, HasStepped, HasSteppedTo, HasStopped, StopsBy, HasBegunStep, HasBegunTo, HasBegunToStop, HasEndedStep, HasEndedTo, HasEndedToStop}
+use Rattle.mpm_machine.specs.Stepping.{Telling, begun_as, is_instruction, paid_after, entered_after, ended_after, rest_of, step_with, nothing_told, told_first, files_begun, before_disk, telling_then, telling_of, files_rest, stepped}
+use Rattle.mpm_machine.specs.After.{IsOfCall, made_in, IsToldIn, EntersFor, IsAsKept, HasStepped, HasSteppedTo, HasStopped, StopsBy, HasBegunStep, HasBegunTo, HasBegunToStop, HasEndedStep, HasEndedTo, HasEndedToStop}
 use Rattle.mpm_machine.proofs.RestLaws.{rest_emitted}
-use Rattle.mpm_machine.proofs.FileStepLaws.{is_made}
+use Rattle.mpm_machine.proofs.FileStepLaws.{is_made, made_as}
 use Rattle.mpm_machine.proofs.ToldLaws.{something_told}
+use Rattle.mpm_machine.proofs.TellingLaws.{any_turns, enters_for_any}
 
 -- a call that is made, or is over, may be told something
 record MayBeTold (whose : Option ℕ) (system : System) : Type 0 where
@@ -83,21 +94,65 @@ change_is new change is = ap (λ (s : System). let c : Change = record { system 
 
 -- whatever is on the drives
 
-pub has_stepped : (instruction : Bool) (o m n : Outside) (old middle new : System) → IsWhole old → NoCompletions old → HasBegunStep instruction o m old middle
-    → HasEndedStep instruction m n middle new → HasStepped o n old new
-has_stepped instruction o m n old middle new w handed begun ended =
+pub has_stepped : {kept : Kept} (instruction : Bool) (o m n : Outside) (old middle new : System) → IsWhole old → NoCompletions old → HasBegunStep kept instruction o m old middle
+    → HasEndedStep instruction m n middle new → HasStepped kept o n old new
+has_stepped {kept} instruction o m n old middle new w handed begun ended =
     let telling = joined begun.told ended.telling in
     let change = step_with telling old in
     let P : System → Type 0 = λ s. IsOfCall (process_over s) ended.telling.at_disk s in
     let Q : System → Type 0 = λ s. IsToldIn (process_over s) ended.telling.at_disk s in
+    let R : System → Type 0 = λ s. EntersFor ended.telling.turns (paid_after ended.telling.at_disk s) in
     let is = whole_system instruction begun.told ended.telling old middle new begun.instruction_is begun.system ended.system in
+    let by = made_as telling old (record { system = new; emitted = change.emitted }) (subst R begun.system ended.turns) w handed begun.of_call (subst P begun.system ended.of_call) begun.tells
+    (subst Q begun.system ended.tells) (change_is new change is) in
     record {
       emitted = change.emitted;
-      is = is_made telling old (record { system = new; emitted = change.emitted }) ended.some w handed begun.of_call (subst P begun.system ended.of_call) begun.tells
-          (subst Q begun.system ended.tells) (change_is new change is);
+      is = by.made;
+      as_kept = subst (λ (told : Directly). IsAsKept kept (file_caller old) told (made_in (file_caller old) old)) (sym by.at_gate) begun.as_kept;
       wrote = wrote_same o n _ change.emitted (whole_emitted instruction begun.told ended.telling old middle begun.instruction_is begun.system)
           (wrote_after o m n (begun_as begun.told old).emitted (rest_of instruction ended.telling (silent middle)).emitted begun.wrote ended.wrote);
     }
+
+-- a turn of the call in service leaves what goes by which drives are mounted and protected
+same_label : (old new : Option Directory) → option_map labelled new ≡ option_map labelled old → option_map (λ (d : Directory). d.kind) new ≡ option_map (λ (d : Directory). d.kind) old
+same_label None None same = refl
+same_label None (Some new) same = absurd (cc)
+same_label (Some old) None same = absurd (cc)
+same_label (Some old) (Some new) same = ap (option_map (λ (label : ℕ × Kind). label.1)) same
+
+told_as_before : (old new : Kept) (p : ℕ) (system : System) (answer : Answer) (extended : Option Extended) → TurnKeeps old new → IsToldAsKept new p system answer extended
+    → IsToldAsKept old p system answer extended
+unfolding IsToldAsKept
+told_as_before old new p system answer extended keeps told =
+    let number = (call_of system.kernel.dispatcher.procs p).function in
+    by_function (function_of number) (direct_of number) told
+  where
+    by_function : (served : Option FileFunction) (found : Option DirectFunction) → TellsAsKept served found new p system answer extended → TellsAsKept served found old p system answer extended
+    by_function (Some function) found so = tt
+    by_function None None so = tt
+    by_function None (Some function) so =
+        let procs = system.kernel.dispatcher.procs in
+        let drive = (process_in procs p).drive in
+        let call = call_of procs p in
+        subst (λ (kinds : ℕ → Option Kind). ComesDirectly kinds (is_protected old.protected) drive function call answer extended)
+        (fun_ext (λ number. same_label (directory_at old.mounted number) (directory_at new.mounted number) (keeps.labels number)))
+        (subst (λ (all : List Bool). ComesDirectly (kind_at new.mounted) (is_protected all) drive function call answer extended) (ap (λ (k : Kept). k.protected) keeps.rest) so)
+
+kept_as_before : (old new : Kept) (whose : Option ℕ) (told : Directly) (system : System) → TurnKeeps old new → IsAsKept new whose told system → IsAsKept old whose told system
+kept_as_before old new None told system keeps is = tt
+kept_as_before old new (Some p) told system keeps is = told_as_before old new p system told.answer told.extended keeps is
+
+pub begun_as_before : (old new : Kept) (instruction : Bool) (o n : Outside) (system middle : System) → TurnKeeps old new → HasBegunStep new instruction o n system middle
+    → HasBegunStep old instruction o n system middle
+begun_as_before old new instruction o n system middle keeps begun = record {
+  told = begun.told;
+  of_call = begun.of_call;
+  tells = begun.tells;
+  as_kept = kept_as_before old new (file_caller system) begun.told (made_in (file_caller system) system) keeps begun.as_kept;
+  instruction_is = begun.instruction_is;
+  system = begun.system;
+  wrote = begun.wrote;
+}
 
 -- what it begins with stopped
 
@@ -113,13 +168,14 @@ pub begun_has_stopped : (fault : StepFault) (o n : Outside) (old : System) → I
 begun_has_stopped fault o n old w handed works begun =
     let middle = (begun_as begun.told old).system in
     let any = may_be_told (process_over middle) middle in
-    let rest : Telling = record { at_gate = nothing_told; at_disk = any.told; turns = 1 } in
+    let paid = paid_after any.told middle in
+    let rest : Telling = record { at_gate = nothing_told; at_disk = any.told; turns = any_turns paid } in
     let telling = joined begun.told rest in
     let change = step_with telling old in
     let i = is_instruction (file_caller old) old in
     record {
       change = change;
-      is = is_made telling old change (omega arith) w handed begun.of_call any.of_call begun.tells any.tells refl;
+      is = is_made telling old change (enters_for_any paid) w handed begun.of_call any.of_call begun.tells any.tells refl;
       stops = stops_same fault o n _ change.emitted (whole_emitted i begun.told rest old middle refl refl)
           (stops_before fault o n (begun_as begun.told old).emitted (rest_of i rest (silent middle)).emitted begun.stops);
       works = works;
@@ -132,16 +188,17 @@ disk_has_stopped o old w handed works =
     begun_has_stopped DiskFault o o old w handed works (record { told = any.told; of_call = any.of_call; tells = any.tells; stops = refl })
 
 -- or the rest of it
-pub ended_has_stopped : (instruction : Bool) (o m n : Outside) (old middle : System) → IsWhole old → NoCompletions old → HasBegunStep instruction o m old middle
+pub ended_has_stopped : {kept : Kept} (instruction : Bool) (o m n : Outside) (old middle : System) → IsWhole old → NoCompletions old → HasBegunStep kept instruction o m old middle
     → HasEndedToStop instruction m n middle → HasStopped WriteFault o n old
 ended_has_stopped instruction o m n old middle w handed begun ended =
     let telling = joined begun.told ended.telling in
     let change = step_with telling old in
     let P : System → Type 0 = λ s. IsOfCall (process_over s) ended.telling.at_disk s in
     let Q : System → Type 0 = λ s. IsToldIn (process_over s) ended.telling.at_disk s in
+    let R : System → Type 0 = λ s. EntersFor ended.telling.turns (paid_after ended.telling.at_disk s) in
     record {
       change = change;
-      is = is_made telling old change ended.some w handed begun.of_call (subst P begun.system ended.of_call) begun.tells (subst Q begun.system ended.tells) refl;
+      is = is_made telling old change (subst R begun.system ended.turns) w handed begun.of_call (subst P begun.system ended.of_call) begun.tells (subst Q begun.system ended.tells) refl;
       stops = fails_same TheSink o n _ change.emitted (whole_emitted instruction begun.told ended.telling old middle begun.instruction_is begun.system)
           (fails_within TheSink o m n (begun_as begun.told old).emitted (rest_of instruction ended.telling (silent middle)).emitted [] begun.wrote ended.stops);
       works = tt;

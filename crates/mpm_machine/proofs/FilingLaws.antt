@@ -305,15 +305,15 @@ at_once_idle call kept calls some idle =
     let found = named_by (function_of kept.function) some in idle found.0 (ap (λ (c : Taken). function_of c.function) calls ∙ found.1)
 
 -- a call that enters service, in the situation of this moment
-pub turns_are : (disks : Option Disks) (filing : Filing) (p : ℕ) (system : System) (kept : Kept) (function : FileFunction) (caller process : Process) (call : Taken) (moment : Moment) (turns : ℕ)
+pub turns_are : (images : ℕ → List ℕ) (filing : Filing) (p : ℕ) (system : System) (kept : Kept) (function : FileFunction) (caller process : Process) (call : Taken) (moment : Moment) (turns : ℕ)
     → caller ≡ looked_at process → process ≡ process_in system.kernel.dispatcher.procs p → call ≡ call_of system.kernel.dispatcher.procs p → moment ≡ moment_of system.kernel.clock
-    → function_of (call_of system.kernel.dispatcher.procs p).function ≡ Some function → StandsBetween kept disks filing
-    → ((images : ℕ → List ℕ) (drives : List (Option Drive)) (named : FileFunction) → function_of call.function ≡ Some named → StandEach images kept.mounted drives
+    → function_of (call_of system.kernel.dispatcher.procs p).function ≡ Some function → filing_of kept filing.drives ≡ filing → StandEach images kept.mounted filing.drives
+    → ((shown : ℕ → List ℕ) (drives : List (Option Drive)) (named : FileFunction) → function_of call.function ≡ Some named → StandEach shown kept.mounted drives
     → turns ≡ call_turns (entering_here kept drives (caller_of p caller) named call (stamp moment)))
     → turns ≡ call_turns (situation_of filing function p system)
-turns_are disks filing p system kept function caller process call moment turns looks lives calls at is stands each =
-    each (told_images disks) filing.drives function (ap (λ (c : Taken). function_of c.function) calls ∙ is) stands.stand
-    ∙ ap call_turns (situation_is filing p system kept function caller process call moment stands.filing_is looks lives calls at)
+turns_are images filing p system kept function caller process call moment turns looks lives calls at is filed stand each =
+    each images filing.drives function (ap (λ (c : Taken). function_of c.function) calls ∙ is) stand
+    ∙ ap call_turns (situation_is filing p system kept function caller process call moment filed looks lives calls at)
 
 pub serves_at_entry : (disks : Option Disks) (filing : Filing) (p : ℕ) (system : System) (kept new : Kept) (function : FileFunction) (caller process : Process) (call : Taken) (moment : Moment)
     → caller ≡ looked_at process → process ≡ process_in system.kernel.dispatcher.procs p → call ≡ call_of system.kernel.dispatcher.procs p → moment ≡ moment_of system.kernel.clock

@@ -23,7 +23,7 @@ pub filed_still : (old new : Kernel) → KeepsCalls old new → AreFiled old →
 filed_still old new keeps filed = λ p at. ap (λ (c : Taken). is_some (function_of c.function)) (keeps.call p at) ∙ filed p (keeps.was p at)
 
 -- one that isn't done at once comes to wait
-not_none : (found : Option FileFunction) (other : Bool) → (is_none found || other) ≡ false → is_some found ≡ true
+pub not_none : (found : Option FileFunction) (other : Bool) → (is_none found || other) ≡ false → is_some found ≡ true
 not_none None other never = absurd (false≢true (sym never))
 not_none (Some function) other never = refl
 

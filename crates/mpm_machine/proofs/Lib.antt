@@ -58,6 +58,7 @@ pub mod HoldingLaws
 pub mod FilesStepLaws
 pub mod TakeStepLaws
 pub mod MountedLaws
+pub mod FirstFiles
 pub mod DriveLaws
 pub mod FailingLaws
 pub mod AfterLaws

@@ -82,7 +82,7 @@ answered_err (Err e) p old o n s kept disks answer extended comes failed =
 
 pub answered_told : {A E : Type 0} (r : Result A E) (p : ℕ) (old new : System) (o n : Outside) (kept : Kept) (answer : Answer) (extended : Option Extended)
     → IsOwn old.kernel.dispatcher.procs p kept.service
-    → ((caller : Caller) (function : FileFunction) (call : Taken) → HasEntered caller function call kept.service → MayAnswer caller.multi function call.dma answer extended)
+    → ((caller : Caller) (function : FileFunction) (call : Taken) → HasEntered caller function call kept.service → MayAnswer caller.multi function call answer extended)
     → OnOk r (new ≡ (call_over (told_here p old answer extended) p old).system) → OnOk r (Wrote o n (call_over (told_here p old answer extended) p old).emitted)
     → OnOk r (HasAnswered p o n old new)
 answered_told (Ok a) p old new o n kept answer extended own may system wrote = record {
@@ -104,7 +104,7 @@ on_err (Err e) so p = so p
 
 pub answered_stops : {A : Type 0} (r : Result A Failed) (p : ℕ) (old : System) (o n : Outside) (kept : Kept) (answer : Answer) (extended : Option Extended)
     → IsOwn old.kernel.dispatcher.procs p kept.service
-    → ((caller : Caller) (function : FileFunction) (call : Taken) → HasEntered caller function call kept.service → MayAnswer caller.multi function call.dma answer extended)
+    → ((caller : Caller) (function : FileFunction) (call : Taken) → HasEntered caller function call kept.service → MayAnswer caller.multi function call answer extended)
     → IfErr r (λ error. Fails (by_sink error) o n (call_over (told_here p old answer extended) p old).emitted)
     → OnErr r (HasStoppedAnswering p o n old)
 answered_stops (Ok a) p old o n kept answer extended own may failed = tt

@@ -18,7 +18,7 @@ use Rattle.mpm_machine.specs.Finishing.{all_answered}
 use Rattle.mpm_machine.specs.Step.{acted, interrupted_by, begun_by, coming, counted, then_also}
 use Rattle.mpm_machine.specs.FileCalls.{file_caller}
 use Rattle.mpm_machine.specs.Stepping.{begun_alone, begun_with, begun_as, is_instruction, nothing_told, files_begun_by, files_begun, before_disk}
-use Rattle.mpm_machine.specs.After.{IsOfCall, made_in, IsToldIn, StopsBy, HasBegunStep, HasBegunTo, HasBegunToStop}
+use Rattle.mpm_machine.specs.After.{IsOfCall, made_in, IsToldIn, IsAsKept, StopsBy, HasBegunStep, HasBegunTo, HasBegunToStop}
 use Rattle.mpm_machine.proofs.TallyLaws.{begun_more}
 use Rattle.mpm_machine.proofs.TurnLaws.{worked_on}
 use Rattle.mpm_machine.proofs.KeepingLaws.{ServesSame}
@@ -66,14 +66,15 @@ of_nobody old none = subst (λ (o : Option ℕ). IsOfCall o nothing_told (made_i
 tells_nobody : (old : System) → file_caller old ≡ None → IsToldIn (file_caller old) nothing_told (made_in (file_caller old) old)
 tells_nobody old none = subst (λ (o : Option ℕ). IsToldIn o nothing_told (made_in o old)) (sym none) tt
 
-pub alone_begun : (instruction : Bool) (o n : Outside) (old new : System) → file_caller old ≡ None → instruction ≡ is_instruction None old
-    → new ≡ all_answered (begun_alone old).system → Wrote o n (begun_alone old).emitted → HasBegunStep instruction o n old new
-alone_begun instruction o n old new none i is wrote =
+pub alone_begun : {kept : Kept} (instruction : Bool) (o n : Outside) (old new : System) → file_caller old ≡ None → instruction ≡ is_instruction None old
+    → new ≡ all_answered (begun_alone old).system → Wrote o n (begun_alone old).emitted → HasBegunStep kept instruction o n old new
+alone_begun {kept} instruction o n old new none i is wrote =
     let so = sym (begun_is nothing_told old none) in
     record {
       told = nothing_told;
       of_call = of_nobody old none;
       tells = tells_nobody old none;
+      as_kept = subst (λ (o : Option ℕ). IsAsKept kept o nothing_told (made_in o old)) (sym none) tt;
       instruction_is = i ∙ ap (λ (o : Option ℕ). is_instruction o old) (sym none);
       system = is ∙ ap (λ (c : Change). c.system) so;
       wrote = subst (λ (c : Change). Wrote o n c.emitted) so wrote;

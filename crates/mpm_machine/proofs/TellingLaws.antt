@@ -1,11 +1,12 @@
--- What a process is told of its file call is of the call that it keeps.
-use Rattle.std.proofs.Common.{ℕ, Option, Some, None, refl}
+-- What a process is told of its file call is of the call that it keeps; and that a call which enters may do so for some turns.
+use Rattle.std.proofs.Common.{ℕ, [], Option, Some, None, refl}
 use Rattle.mpm_machine.specs.declared.system.System.{System}
 use Rattle.mpm_machine.specs.Files.{Files, Between, Within}
 use Rattle.mpm_machine.specs.FileCalls.{file_caller}
-use Rattle.mpm_machine.specs.DiskStep.{process_over}
+use Rattle.mpm_machine.specs.DiskStep.{process_over, files_entered, turns_within}
 use Rattle.mpm_machine.specs.Stepping.{begun_as, told_first_by, told_first, files_begun, before_disk, told_by_process, told_within, telling_then, telling_of}
-use Rattle.mpm_machine.specs.After.{IsOfCall, made_in}
+use Rattle.mpm_machine.specs.After.{IsOfCall, made_in, EntersFor}
+use Rattle.mpm_machine.specs.Mounting.{untouched}
 
 first_by : (caller : Option ℕ) (files : Files) (system : System) → IsOfCall caller (told_first_by caller system files) (made_in caller system)
 first_by None files system = tt
@@ -28,3 +29,11 @@ pub later_of_call : (files : Files) (system : System)
     → IsOfCall (process_over (begun_as (telling_of system files).at_gate system).system) (telling_of system files).at_disk (begun_as (telling_of system files).at_gate system).system
 unfolding telling_of telling_then before_disk
 later_of_call files system = over_of_call (files_begun system files) (begun_as (told_first system files) system).system
+
+-- those that the call that enters takes where no drive is mounted
+
+abbrev pub any_turns : System → ℕ
+any_turns system = turns_within (files_entered system (Between (untouched [])))
+
+pub enters_for_any : (system : System) → EntersFor (any_turns system) system
+enters_for_any system = record { filing = untouched []; are = refl }

@@ -1,6 +1,7 @@
 -- What a process may be told of its file call, whatever is on the drives.
-use Rattle.std.proofs.Common.{◌≡◌, ◌∙◌, ℕ, [], true, false, Option, Some, None, IfSome, IfOk, Result, refl, sym, ap, subst}
+use Rattle.std.proofs.Common.{◌≡◌, ◌∙◌, ℕ, true, false, Option, Some, None, IfSome, IfOk, Result, Ok, Err, refl, sym, ap, subst}
 use Rattle.std.specs.Prelude.{is_some}
+use Rattle.std.proofs.lemmas.Bool.{false≢true}
 use Rattle.mpm_base.specs.Calls.{Taken, Answer, answering}
 use Rattle.mpm_procs.specs.Table.{process_in, call_of}
 use Rattle.mpm_procs.specs.declared.process.Process.{Process}
@@ -8,21 +9,21 @@ use Rattle.mpm_bdos.specs.declared.functions.FileFunction.{FileFunction}
 use Rattle.mpm_bdos.specs.declared.functions.DirectFunction.{DirectFunction}
 use Rattle.mpm_bdos.specs.declared.refusals.Extended.{Extended}
 use Rattle.mpm_bdos.specs.Functions.{function_of}
-use Rattle.mpm_bdos.specs.Direct.{Directly, IsToldDirectly, direct_of, direct_by}
+use Rattle.mpm_bdos.specs.Direct.{Directly, IsToldDirectly, ComesDirectly, direct_of, direct_by, is_protected}
 use Rattle.mpm_bdos.specs.declared.caller.Caller.{Caller}
-use Rattle.mpm_bdos.specs.Serving.{InService}
+use Rattle.mpm_bdos.specs.Serving.{InService, Kept, kind_at}
 use Rattle.mpm_bdos.specs.Answering.{MayAnswer, HasEntered}
-use Rattle.mpm_bdos.proofs.Answerable.{nothing_granted}
+use Rattle.mpm_bdos.proofs.Answerable.{something_granted}
 use Rattle.mpm_machine.specs.declared.system.System.{System}
 use Rattle.mpm_machine.specs.Holding.{IsOwn}
-use Rattle.mpm_machine.specs.FileCalls.{looked_at, MayTell, IsToldOf}
+use Rattle.mpm_machine.specs.FileCalls.{looked_at, MayTell, IsToldOf, TellsAsKept, IsToldAsKept}
 use Rattle.mpm_machine.proofs.FilingLaws.{named_by}
 
 -- one that the disk serves
 pub disk_told : {E : Type 0} (p : ℕ) (system : System) (caller process : Process) (call : Taken) (reply : Answer) (result : Result (Option Extended) E)
     → caller ≡ looked_at process → process ≡ process_in system.kernel.dispatcher.procs p → call ≡ call_of system.kernel.dispatcher.procs p
     → is_some (function_of (call_of system.kernel.dispatcher.procs p).function) ≡ true
-    → ((function : FileFunction) → function_of call.function ≡ Some function → IfOk result (MayAnswer caller.multi function call.dma reply))
+    → ((function : FileFunction) → function_of call.function ≡ Some function → IfOk result (MayAnswer caller.multi function call reply))
     → IfOk result (IsToldOf p system reply)
 unfolding IsToldOf
 disk_told p system caller process call reply result looks lives calls some may =
@@ -31,8 +32,8 @@ disk_told p system caller process call reply result looks lives calls some may =
     let function : FileFunction = named.0 in
     let its : function_of call.function ≡ Some function = ap (λ (c : Taken). function_of c.function) calls ∙ named.1 in
     subst (λ f. IfOk result (MayTell f (direct_of (call_of procs p).function) p system reply)) (sym named.1)
-    (subst (λ (one : Process). IfOk result (MayAnswer one.multi function (call_of procs p).dma reply)) (looks ∙ ap looked_at lives)
-    (subst (λ (one : Taken). IfOk result (MayAnswer caller.multi function one.dma reply)) calls (may function its)))
+    (subst (λ (one : Process). IfOk result (MayAnswer one.multi function (call_of procs p) reply)) (looks ∙ ap looked_at lives)
+    (subst (λ (one : Taken). IfOk result (MayAnswer caller.multi function one reply)) calls (may function its)))
 
 -- one that it doesn't
 pub directly_told : (p : ℕ) (system : System) (call : Taken) (process : Process) (first reply : Answer) (extended : Option Extended)
@@ -59,10 +60,9 @@ told_by_function : (function : Option FileFunction) (other : Option DirectFuncti
     → (answer : Answer) × (extended : Option Extended) × MayTell function other p system answer extended
 told_by_function (Some function) other p system =
     let procs = system.kernel.dispatcher.procs in
-    let dma = (call_of procs p).dma in
-    let multi = (process_in procs p).multi in
-    let answer : Answer = record { hl = 0; fcb = None; at = dma; bytes = [] } in
-    (answer, None, record { refusal = None; tells = (nothing_granted function multi dma dma answer refl refl, refl) })
+    let call = call_of procs p in
+    let some = something_granted function (process_in procs p).multi call.fcb call.dma in
+    (some.0, None, record { refusal = None; tells = (some.1, refl) })
 told_by_function None (Some function) p system =
     let procs = system.kernel.dispatcher.procs in
     let done : Directly = direct_by (λ _. None) (λ _. false) (process_in procs p).drive (call_of procs p) function in
@@ -77,10 +77,48 @@ something_told p system =
 
 -- and that which was in service: it is answered by what its process is now, as when it entered
 pub own_told : (p : ℕ) (system : System) (service : Option InService) (reply : Answer) (extended : Option Extended) → IsOwn system.kernel.dispatcher.procs p service
-    → ((caller : Caller) (function : FileFunction) (call : Taken) → HasEntered caller function call service → MayAnswer caller.multi function call.dma reply extended)
+    → ((caller : Caller) (function : FileFunction) (call : Taken) → HasEntered caller function call service → MayAnswer caller.multi function call reply extended)
     → IsToldOf p system reply extended
 unfolding IsToldOf
 own_told p system service reply extended own may =
     let procs = system.kernel.dispatcher.procs in
     subst (λ f. MayTell f (direct_of (call_of procs p).function) p system reply extended) (sym own.its)
-    (subst (λ (n : ℕ). MayAnswer n own.function (call_of procs p).dma reply extended) own.multi (may own.caller own.function (call_of procs p) own.entered))
+    (subst (λ (n : ℕ). MayAnswer n own.function (call_of procs p) reply extended) own.multi (may own.caller own.function (call_of procs p) own.entered))
+
+-- one that no disk serves is answered by what is kept
+pub directly_as_kept : (kept : Kept) (p : ℕ) (system : System) (call : Taken) (process : Process) (reply : Answer) (extended : Option Extended)
+    → call ≡ call_of system.kernel.dispatcher.procs p → process ≡ process_in system.kernel.dispatcher.procs p
+    → function_of (call_of system.kernel.dispatcher.procs p).function ≡ None
+    → IfSome (direct_of call.function) (λ function. ComesDirectly (kind_at kept.mounted) (is_protected kept.protected) process.drive function call reply extended)
+    → IsToldAsKept kept p system reply extended
+unfolding IsToldAsKept
+directly_as_kept kept p system call process reply extended calls lives none exact =
+    let procs = system.kernel.dispatcher.procs in
+    subst (λ f. TellsAsKept f (direct_of (call_of procs p).function) kept p system reply extended) (sym none)
+    (by_direct (direct_of (call_of procs p).function) (ap (λ (c : Taken). direct_of c.function) calls))
+  where
+    by_direct : (found : Option DirectFunction) → direct_of call.function ≡ found → TellsAsKept None found kept p system reply extended
+    by_direct None is = tt
+    by_direct (Some function) is =
+        let comes : ℕ → Taken → Type 0 = λ drive one. ComesDirectly (kind_at kept.mounted) (is_protected kept.protected) drive function one reply extended in
+        let its : comes process.drive call =
+        subst (λ found. IfSome found (λ one. ComesDirectly (kind_at kept.mounted) (is_protected kept.protected) process.drive one call reply extended)) is exact in
+        subst (λ (one : Process). comes one.drive (call_of system.kernel.dispatcher.procs p)) lives (subst (comes process.drive) calls its)
+
+-- nothing is said so of one that the disk serves
+served_by_function : (kept : Kept) (function : Option FileFunction) (other : Option DirectFunction) (p : ℕ) (system : System) (answer : Answer) (extended : Option Extended)
+    → is_some function ≡ true → TellsAsKept function other kept p system answer extended
+served_by_function kept None other p system answer extended some = absurd (false≢true some)
+served_by_function kept (Some function) other p system answer extended some = tt
+
+pub served_as_kept : (kept : Kept) (p : ℕ) (system : System) (answer : Answer) (extended : Option Extended)
+    → is_some (function_of (call_of system.kernel.dispatcher.procs p).function) ≡ true → IsToldAsKept kept p system answer extended
+unfolding IsToldAsKept
+served_as_kept kept p system answer extended some =
+    let number = (call_of system.kernel.dispatcher.procs p).function in
+    served_by_function kept (function_of number) (direct_of number) p system answer extended some
+
+pub ok_as_kept : {E : Type 0} (kept : Kept) (p : ℕ) (system : System) (answer : Answer) (result : Result (Option Extended) E)
+    → is_some (function_of (call_of system.kernel.dispatcher.procs p).function) ≡ true → IfOk result (IsToldAsKept kept p system answer)
+ok_as_kept kept p system answer (Ok extended) some = served_as_kept kept p system answer extended some
+ok_as_kept kept p system answer (Err error) some = tt

@@ -30,7 +30,7 @@ use Rattle.mpm_machine.specs.FileCalls.{file_caller, made_by, call_made}
 use Rattle.mpm_machine.specs.DiskStep.{is_done_at_once, file_called, files_called, told_at_gate}
 use Rattle.mpm_machine.specs.Stepping.{begun_with, begun_as, is_instruction, told_first_by, told_first, files_begun_by, files_begun, before_disk}
 use Rattle.mpm_machine.specs.Failing.{HaveImagesOf, FailsWithin, working_if, working_by, working_in, turns_done, works_at_once}
-use Rattle.mpm_machine.specs.After.{IsOfCall, made_in, IsToldIn, StopsBy, HasCalled, HasToldAtGate, HasStoppedAtGate, HasBegunStep, HasBegunTo, HasBegunToStop}
+use Rattle.mpm_machine.specs.After.{IsOfCall, made_in, IsToldIn, IsAsKept, StopsBy, HasCalled, HasToldAtGate, HasStoppedAtGate, HasBegunStep, HasBegunTo, HasBegunToStop}
 use Rattle.mpm_machine.proofs.FileLaws.{Made, makes}
 use Rattle.mpm_machine.proofs.DiskStepLaws.{whole_file_called}
 use Rattle.mpm_machine.proofs.FiledLaws.{caller_lives, caller_ready}
@@ -99,19 +99,19 @@ gate_stands p old made kept disks files is stands =
     subst (λ (s : System). StandsWorked s.kernel.disk kept disks files) (sym is)
     (worked_on old.kernel.disk (call_made p old).kernel.disk kept disks files (made_serves p old).served (made_serves p old).steps stands)
 
-pub gate_whole : (p : ℕ) (o n : Outside) (old made called : System) → Made p old made → IsReady old.kernel.dispatcher p → HasToldAtGate p o n made called → IsWhole called
+pub gate_whole : {kept : Kept} (p : ℕ) (o n : Outside) (old made called : System) → Made p old made → IsReady old.kernel.dispatcher p → HasToldAtGate kept p o n made called → IsWhole called
 gate_whole p o n old made called m is_ready has =
     subst IsWhole (sym has.called.system) (whole_file_called has.told p made m.whole m.lives (m.ready is_ready))
 
-answered_serves : (p : ℕ) (o n : Outside) (old made called new : System) → Made p old made → IsReady old.kernel.dispatcher p → AreFiled made.kernel
-    → HasToldAtGate p o n made called → new ≡ all_answered called → ServesSame called new
+answered_serves : {kept : Kept} (p : ℕ) (o n : Outside) (old made called new : System) → Made p old made → IsReady old.kernel.dispatcher p → AreFiled made.kernel
+    → HasToldAtGate kept p o n made called → new ≡ all_answered called → ServesSame called new
 answered_serves p o n old made called new m is_ready filed has is =
     let behind : AreFiled called.kernel =
     subst (λ (s : System). AreFiled s.kernel) (sym has.called.system) (filed_called has.told p made m.whole m.lives filed) in
     subst (ServesSame called) (sym is) (keeps_answered called (gate_whole p o n old made called m is_ready has) behind).serves
 
-pub gate_serves : (p : ℕ) (o n : Outside) (old made called new : System) → made ≡ call_made p old → Made p old made → IsReady old.kernel.dispatcher p → AreFiled made.kernel
-    → HasToldAtGate p o n made called → new ≡ all_answered called → ServesSame old new
+pub gate_serves : {kept : Kept} (p : ℕ) (o n : Outside) (old made called new : System) → made ≡ call_made p old → Made p old made → IsReady old.kernel.dispatcher p → AreFiled made.kernel
+    → HasToldAtGate kept p o n made called → new ≡ all_answered called → ServesSame old new
 gate_serves p o n old made called new is m is_ready filed has was =
     let first : ServesSame old made = subst (ServesSame old) (sym is) (made_serves p old) in
     let second : ServesSame made called = subst (ServesSame made) (sym has.called.system) (called_serves has.told p made m.whole.sound (m.ready is_ready)) in
@@ -120,8 +120,8 @@ gate_serves p o n old made called new is m is_ready filed has was =
 
 -- by what is on the drives
 
-pub gate_begun_to : (p : ℕ) (files : Files) (o n : Outside) (old made called new : System) (kept : Kept) (disks : Option Disks) → file_caller old ≡ Some p → made ≡ call_made p old
-    → Made p old made → IsReady old.kernel.dispatcher p → AreFiled made.kernel → HasToldAtGate p o n made called → new ≡ all_answered called
+pub gate_begun_to : {first : Kept} (p : ℕ) (files : Files) (o n : Outside) (old made called new : System) (kept : Kept) (disks : Option Disks) → file_caller old ≡ Some p → made ≡ call_made p old
+    → Made p old made → IsReady old.kernel.dispatcher p → AreFiled made.kernel → HasToldAtGate first p o n made called → new ≡ all_answered called
     → HasCalled (told_at_gate p made files) p o n made called × StandsWorked called.kernel.disk kept disks (files_called p made files)
     → HasBegunTo files o n old new kept disks
 gate_begun_to p files o n old made called new kept disks caller is m is_ready filed has was both =
@@ -146,14 +146,20 @@ tells_here : (told : Directly) (p : ℕ) (old made : System) → file_caller old
 tells_here told p old made caller is tells =
     subst (λ (o : Option ℕ). IsToldIn o told (made_in o old)) (sym caller) (subst (λ (s : System). IsToldIn (Some p) told s) is tells)
 
-pub gate_begun : (p : ℕ) (o n : Outside) (old made called new : System) → file_caller old ≡ Some p → made ≡ call_made p old → HasToldAtGate p o n made called
-    → new ≡ all_answered called → HasBegunStep false o n old new
-gate_begun p o n old made called new caller is has was =
+kept_here : (kept : Kept) (told : Directly) (p : ℕ) (old made : System) → file_caller old ≡ Some p → made ≡ call_made p old → IsAsKept kept (Some p) told made
+    → IsAsKept kept (file_caller old) told (made_in (file_caller old) old)
+kept_here kept told p old made caller is as_kept =
+    subst (λ (o : Option ℕ). IsAsKept kept o told (made_in o old)) (sym caller) (subst (λ (s : System). IsAsKept kept (Some p) told s) is as_kept)
+
+pub gate_begun : {kept : Kept} (p : ℕ) (o n : Outside) (old made called new : System) → file_caller old ≡ Some p → made ≡ call_made p old → HasToldAtGate kept p o n made called
+    → new ≡ all_answered called → HasBegunStep kept false o n old new
+gate_begun {kept} p o n old made called new caller is has was =
     let so = sym (begun_here has.told p old made caller is) in
     record {
       told = has.told;
       of_call = of_call_here has.told p old made caller is has.of_call;
       tells = tells_here has.told p old made caller is has.tells;
+      as_kept = kept_here kept has.told p old made caller is has.as_kept;
       instruction_is = sym (ap (λ (o : Option ℕ). is_instruction o old) caller);
       system = was ∙ ap all_answered has.called.system ∙ ap (λ (c : Change). c.system) so;
       wrote = subst (λ (c : Change). Wrote o n c.emitted) so has.called.wrote;

@@ -153,10 +153,10 @@ works_in system some = ap (λ b. b && is_work (turn_answer system.kernel.disk)) 
 -- what holds of drives does so as a turn's work is done
 
 to_rest : (caller : Caller) (function : FileFunction) (call : Taken) (s : InService) → IsEntered caller function call s → IsEntered caller function call (without_work s)
-to_rest caller function call s e = record { caller_is = e.caller_is; function_is = e.function_is; call_is = e.call_is; row = e.row }
+to_rest caller function call s e = record { caller_is = e.caller_is; function_is = e.function_is; call_is = e.call_is; drive = e.drive; row = e.row }
 
 of_rest : (caller : Caller) (function : FileFunction) (call : Taken) (s : InService) → IsEntered caller function call (without_work s) → IsEntered caller function call s
-of_rest caller function call s e = record { caller_is = e.caller_is; function_is = e.function_is; call_is = e.call_is; row = e.row }
+of_rest caller function call s e = record { caller_is = e.caller_is; function_is = e.function_is; call_is = e.call_is; drive = e.drive; row = e.row }
 
 same_rest : (one other : InService) → Some one ≡ Some other → other ≡ one
 same_rest one other same = cc

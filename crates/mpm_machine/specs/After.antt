@@ -12,13 +12,13 @@ use Rattle.mpm_residents.specs.declared.native.Native.{Native}
 use Rattle.mpm_machine.specs.declared.system.System.{System}
 use Rattle.mpm_machine.specs.declared.machine.StepFault.{StepFault}
 use Rattle.mpm_machine.specs.declared.machine.StepFault.TheVariants.{DiskFault, WriteFault}
-use Rattle.mpm_machine.specs.Files.{Files, StandsWorked, StandsForFiles}
+use Rattle.mpm_machine.specs.Files.{Files, Between, StandsWorked, StandsForFiles}
 use Rattle.mpm_machine.specs.State.{State, Change, silent}
 use Rattle.mpm_machine.specs.Faults.{EndsBy, OnDiskFault}
 use Rattle.mpm_bdos.specs.declared.functions.FileFunction.{FileFunction}
 use Rattle.mpm_bdos.specs.Filing.{Filing, Situation}
-use Rattle.mpm_machine.specs.FileCalls.{file_caller, call_made, situation_of, outcome_in, IsToldOf, change_of}
-use Rattle.mpm_machine.specs.DiskStep.{process_over, file_called, call_over, call_entered, disk_served, told_of_call, turns_within}
+use Rattle.mpm_machine.specs.FileCalls.{file_caller, call_made, situation_of, outcome_in, IsToldOf, IsToldAsKept, change_of}
+use Rattle.mpm_machine.specs.DiskStep.{process_over, file_called, call_over, call_entered, disk_served, files_entered, told_of_call, turns_within}
 use Rattle.mpm_machine.specs.Stepping.{Telling, begun_as, is_instruction, rest_of, step_with, nothing_told, before_disk, files_begun, told_within, paid_after, entered_after, files_then, telling_then, files_rest, Stepped, stepped}
 use Rattle.mpm_machine.specs.Failing.{does_work}
 use Rattle.mpm_machine.specs.Contained.{IsContainedBy, Instructs, OnlyInstructed, Calls, DiffersInBytes, ServedByValue, Resides, ResidedByValue}
@@ -66,6 +66,11 @@ abbrev pub IsToldIn : Option ℕ → Directly → System → Type 0
 IsToldIn None told system = ⊤
 IsToldIn (Some p) told system = IsToldOf p system told.answer told.extended
 
+-- and one that no disk serves by what is kept
+abbrev pub IsAsKept : Filed → Option ℕ → Directly → System → Type 0
+IsAsKept kept None told system = ⊤
+IsAsKept kept (Some p) told system = IsToldAsKept kept p system told.answer told.extended
+
 -- a file call is served by what it took: whatever bytes had stood in memory as it was made, it would come to the same, and might be
 -- answered so
 pub record FiledByValue (told : Directly) (p : ℕ) (made : System) : Type 0 where
@@ -90,9 +95,14 @@ EntersByValue system =
     (filing : Filing) (function : FileFunction) (p : ℕ) (other : System) → DiffersInBytes system other
     → situation_of filing function p other ≡ situation_of filing function p system
 
+-- who enters service does so for the turns that his call takes, upon some files and drives
+pub record EntersFor (turns : ℕ) (system : System) : Type 0 where
+  pub filing : Filing
+  pub are : turns ≡ turns_within (files_entered system (Between filing))
+
 pub record IsMade (old : System) (change : Change) : Type 0 where
   pub step : IsStep old change
-  pub some : 0 < step.telling.turns
+  pub turns : EntersFor step.telling.turns (paid_after step.telling.at_disk (begun_as step.telling.at_gate old).system)
   pub at_gate : IsToldIn (file_caller old) step.telling.at_gate (made_in (file_caller old) old)
   pub at_disk : IsToldIn (process_over (begun_as step.telling.at_gate old).system) step.telling.at_disk (begun_as step.telling.at_gate old).system
   pub filed : IsFiledByValue (file_caller old) step.telling.at_gate (made_in (file_caller old) old)
@@ -116,17 +126,19 @@ pub record HasRun (n : ℕ) (before behind : Outside) (old new : System) : Type 
   pub steps : AreSteps n old (record { system = new; emitted = emitted })
   pub wrote : Wrote before behind emitted
 
--- one was
-pub record HasStepped (before behind : Outside) (old new : System) : Type 0 where
+-- one was, upon what was kept of file calls
+pub record HasStepped (kept : Filed) (before behind : Outside) (old new : System) : Type 0 where
   pub emitted : List Output
   pub is : IsMade old (record { system = new; emitted = emitted })
+  pub as_kept : IsAsKept kept (file_caller old) is.step.telling.at_gate (made_in (file_caller old) old)
   pub wrote : Wrote before behind emitted
 
 -- what a step begins with was done, which was an instruction or not, by what its file call may tell
-pub record HasBegunStep (instruction : Bool) (before behind : Outside) (old new : System) : Type 0 where
+pub record HasBegunStep (kept : Filed) (instruction : Bool) (before behind : Outside) (old new : System) : Type 0 where
   pub told : Directly
   pub of_call : IsOfCall (file_caller old) told (made_in (file_caller old) old)
   pub tells : IsToldIn (file_caller old) told (made_in (file_caller old) old)
+  pub as_kept : IsAsKept kept (file_caller old) told (made_in (file_caller old) old)
   pub instruction_is : instruction ≡ is_instruction (file_caller old) old
   pub system : new ≡ (begun_as told old).system
   pub wrote : Wrote before behind (begun_as told old).emitted
@@ -137,10 +149,10 @@ pub record HasBegunTo (files : Files) (before behind : Outside) (old new : Syste
   pub wrote : Wrote before behind (before_disk old files).emitted
   pub stands : StandsWorked new.kernel.disk kept disks (files_begun old files)
 
--- the rest of a step was done, by what the call may tell that is over; who enters service has turns
+-- the rest of a step was done, by what the call may tell that is over, and for the turns that the one may take that enters
 pub record HasEndedStep (instruction : Bool) (before behind : Outside) (old new : System) : Type 0 where
   pub telling : Telling
-  pub some : 0 < telling.turns
+  pub turns : EntersFor telling.turns (paid_after telling.at_disk old)
   pub of_call : IsOfCall (process_over old) telling.at_disk old
   pub tells : IsToldIn (process_over old) telling.at_disk old
   pub system : new ≡ (rest_of instruction telling (silent old)).system
@@ -181,7 +193,7 @@ pub record HasBegunToStop (fault : StepFault) (before behind : Outside) (old : S
 -- the rest of a step did
 pub record HasEndedToStop (instruction : Bool) (before behind : Outside) (old : System) : Type 0 where
   pub telling : Telling
-  pub some : 0 < telling.turns
+  pub turns : EntersFor telling.turns (paid_after telling.at_disk old)
   pub of_call : IsOfCall (process_over old) telling.at_disk old
   pub tells : IsToldIn (process_over old) telling.at_disk old
   pub stops : Stopped before behind (rest_of instruction telling (silent old)).emitted
@@ -191,10 +203,11 @@ pub record HasCalled (told : Directly) (p : ℕ) (before behind : Outside) (old 
   pub system : new ≡ (file_called told p old).system
   pub wrote : Wrote before behind (file_called told p old).emitted
 
-pub record HasToldAtGate (p : ℕ) (before behind : Outside) (old new : System) : Type 0 where
+pub record HasToldAtGate (kept : Filed) (p : ℕ) (before behind : Outside) (old new : System) : Type 0 where
   pub told : Directly
   pub of_call : IsOfCall (Some p) told old
   pub tells : IsToldIn (Some p) told old
+  pub as_kept : IsAsKept kept (Some p) told old
   pub called : HasCalled told p before behind old new
 
 pub record HasStoppedAtGate (fault : StepFault) (p : ℕ) (before behind : Outside) (old : System) : Type 0 where
@@ -225,7 +238,7 @@ pub record HasStoppedServing (before behind : Outside) (old : System) : Type 0 w
 
 pub record HasServed (before behind : Outside) (old new : System) : Type 0 where
   pub telling : Telling
-  pub some : 0 < telling.turns
+  pub turns : EntersFor telling.turns (paid_after telling.at_disk old)
   pub of_call : IsOfCall (process_over old) telling.at_disk old
   pub tells : IsToldIn (process_over old) telling.at_disk old
   pub system : new ≡ entered_after telling old
@@ -246,10 +259,10 @@ pub record HasStoppedAnswering (p : ℕ) (before behind : Outside) (old : System
   pub tells : IsToldIn (Some p) told old
   pub stops : Stopped before behind (call_over told p old).emitted
 
--- the first call that waited entered service, if one did, for some number of turns, at least one
+-- the first call that waited entered service, if one did, for the turns that it may take
 pub record HasEnteredCall (old new : System) : Type 0 where
   pub turns : ℕ
-  pub some : 0 < turns
+  pub its : EntersFor turns old
   pub is : new ≡ call_entered turns old
 
 -- of what is kept of file calls, the rest of a step leaves the directories and what is cached

@@ -1,6 +1,6 @@
 -- File calls: which process makes one in a step, what it comes to, and how it is answered. (MP/M II Programmer's Guide, "BDOS
 -- Function Calls", "BDOS Error Handling"; functions 13, "Reset Disk System", and 14, "Select Disk".)
-use Rattle.std.specs.Prelude.{◌≡◌, ℕ, ◌%◌, Bool, false, not, Option, Some, None, is_some, is_none, option_map, ◌==◌, ◌&&◌, ◌||◌, if◌then◌else◌}
+use Rattle.std.specs.Prelude.{◌≡◌, ℕ, ◌%◌, Bool, false, not, Option, Some, None, ⊤, is_some, is_none, option_map, ◌==◌, ◌&&◌, ◌||◌, if◌then◌else◌}
 use Rattle.z80_regs.specs.Words.{word_of}
 use Rattle.mpm_base.specs.Calls.{Taken, Answer, answering}
 use Rattle.mpm_base.specs.declared.functions.TheConstants.{RESET_DISK_SYSTEM, SELECT_DISK}
@@ -24,7 +24,8 @@ use Rattle.mpm_bdos.specs.Functions.{function_of}
 use Rattle.mpm_bdos.specs.Filing.{Filing, Situation}
 use Rattle.mpm_bdos.specs.Starting.{caller_of}
 use Rattle.mpm_bdos.specs.Outcomes.{CallerChange, Stays, Selects, Resets, Outcome, file_call}
-use Rattle.mpm_bdos.specs.Direct.{Directly, IsToldDirectly, direct_of, direct}
+use Rattle.mpm_bdos.specs.Serving.{Kept, kind_at}
+use Rattle.mpm_bdos.specs.Direct.{Directly, IsToldDirectly, ComesDirectly, direct_of, direct, is_protected}
 use Rattle.mpm_bdos.specs.Answering.{MayAnswer}
 use Rattle.mpm_machine.specs.declared.system.System.{System}
 use Rattle.mpm_machine.specs.State.{Change, silent, speaking}
@@ -132,7 +133,7 @@ told_of call reply error = record { caller = change_of call error; answer = repl
 -- whatever is on the drives: what the call that a process keeps may be answered, by its function
 abbrev pub MayTell : Option FileFunction → Option DirectFunction → ℕ → System → Answer → Option Extended → Type 0
 MayTell (Some function) other p system answer extended =
-    MayAnswer (process_in system.kernel.dispatcher.procs p).multi function (call_of system.kernel.dispatcher.procs p).dma answer extended
+    MayAnswer (process_in system.kernel.dispatcher.procs p).multi function (call_of system.kernel.dispatcher.procs p) answer extended
 MayTell None (Some function) p system answer extended =
     IsToldDirectly (process_in system.kernel.dispatcher.procs p).drive function (call_of system.kernel.dispatcher.procs p) answer extended
 MayTell None None p system answer extended = (answer ≡ answering 0) × (extended ≡ None)
@@ -141,6 +142,18 @@ unfoldable pub IsToldOf : ℕ → System → Answer → Option Extended → Type
 IsToldOf p system answer extended =
     let number = (call_of system.kernel.dispatcher.procs p).function in
     MayTell (function_of number) (direct_of number) p system answer extended
+
+-- one that no disk serves is answered as what is kept has it: by which drives are mounted, of which kinds, and which are protected
+abbrev pub TellsAsKept : Option FileFunction → Option DirectFunction → Kept → ℕ → System → Answer → Option Extended → Type 0
+TellsAsKept (Some function) other kept p system answer extended = ⊤
+TellsAsKept None (Some function) kept p system answer extended =
+    ComesDirectly (kind_at kept.mounted) (is_protected kept.protected) (process_in system.kernel.dispatcher.procs p).drive function (call_of system.kernel.dispatcher.procs p) answer extended
+TellsAsKept None None kept p system answer extended = ⊤
+
+unfoldable pub IsToldAsKept : Kept → ℕ → System → Answer → Option Extended → Type 0
+IsToldAsKept kept p system answer extended =
+    let number = (call_of system.kernel.dispatcher.procs p).function in
+    TellsAsKept (function_of number) (direct_of number) kept p system answer extended
 
 -- the call is answered: its reply is placed, and its record joins the others; a resident takes the answer
 abbrev pub reply_by : Option ℕ → Answer → ℕ → System → System

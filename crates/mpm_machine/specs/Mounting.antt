@@ -5,11 +5,13 @@ use Rattle.mpm_port.specs.Disks.{Disks, Told}
 use Rattle.mpm_machine_file.specs.declared.lists.DriveSpec.{DriveSpec}
 use Rattle.mpm_mount.specs.Directories.{Directory}
 use Rattle.mpm_drives.specs.Images.{Images}
-use Rattle.mpm_drives.specs.Mounted.{AreMounted, IsNamed, number_of}
+use Rattle.mpm_drives.specs.Mounted.{NumberedDrive, AreMounted, AreDrivesOf, AreTold, IsNamed, number_of, placed}
 use Rattle.mpm_mount.specs.Drives.{Drive}
 use Rattle.mpm_bdos.specs.Filing.{Filing}
 use Rattle.mpm_bdos.specs.Serving.{Kept, directory_at, filing_of, nothing_kept, in_places}
 use Rattle.mpm_bdos.specs.Turns.{StaysBeside, labelled}
+use Rattle.mpm_service.specs.Disk.{DiskService}
+use Rattle.mpm_machine.specs.Files.{Between, StandsForFiles}
 
 -- the drives of a machine file are mounted, each in its place, and nothing is open, locked, marked, sought or protected
 pub record HasMounted (attached : ℕ → Option ℕ) (disks : Option Disks) (images : Images) (specs : List DriveSpec) (kept : Kept) : Type 0 where
@@ -20,6 +22,13 @@ pub record HasMounted (attached : ℕ → Option ℕ) (disks : Option Disks) (im
 -- what file calls find then: the drives, and nothing open, locked, marked, sought or protected
 abbrev pub untouched : List (Option Drive) → Filing
 untouched drives = filing_of (nothing_kept []) drives
+
+-- on each drive of a machine file is what its image stands for; and where the images are told, what is kept of file calls and the images
+-- stand for these drives, with nothing open, locked, marked, sought or protected
+pub record OpensOn (images : Images) (specs : List DriveSpec) (disk : DiskService) (kept : Kept) (disks : Option Disks) : Type 0 where
+  pub drives : List NumberedDrive
+  pub are : AreDrivesOf images specs drives
+  pub stand : AreTold images specs → StandsForFiles disk kept disks (Between (untouched (placed drives)))
 
 -- no drive is mounted
 abbrev pub HasNoDrive : List (Option Directory) → Type 0

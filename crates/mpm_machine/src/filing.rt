@@ -10,11 +10,11 @@ ghost use Rattle.mpm_bdos.specs.Jobs.{call_turns};
 ghost use Rattle.mpm_bdos.specs.Serving.{IsCaller, Serves, filing_of};
 ghost use Rattle.mpm_bdos.specs.Starting.{caller_of};
 ghost use Rattle.mpm_bdos.specs.Answering.{HasEntered};
-ghost use Rattle.mpm_bdos.specs.Turns.{FitsDrives, has_work, told_images};
+ghost use Rattle.mpm_bdos.specs.Turns.{FitsDrives, TurnKeeps, has_work, told_images};
 ghost use Rattle.mpm_machine.specs.State.{IsWhole};
 ghost use Rattle.mpm_machine.specs.Files.{Files, StandsBetween, StandsForFiles, StandsWorked, all_left};
 ghost use Rattle.mpm_machine.specs.Holding.{HoldsDrives};
-ghost use Rattle.mpm_machine.specs.FileCalls.{IsToldOf, outcome_in, situation_of, looked_at as as_looked_at};
+ghost use Rattle.mpm_machine.specs.FileCalls.{IsToldOf, IsToldAsKept, outcome_in, situation_of, looked_at as as_looked_at};
 ghost use Rattle.mpm_machine.specs.Mounting.{HasNoDrive, KeepsMounted};
 ghost use Rattle.mpm_machine.specs.Failing.{HaveImagesOf, FailsWithin, working_if, working_turn_of, works_in_turn, turns_done};
 ghost use Rattle.mpm_machine.specs.Filed.{IsOutcome, left_if};
@@ -78,6 +78,7 @@ pub(crate) fn call_files<D: Drives, L: Ledger>(
     ensures ok { (filing : Filing) → StandsBetween bdos.old (D.disks drives.old) filing
         → IfOk result (IsOutcome (D.disks drives.new) (outcome_in filing p system.now) bdos.new reply.new) }
     ensures told { IfOk result (IsToldOf p system.now reply.new) }
+    ensures as_kept { IfOk result (IsToldAsKept bdos.old p system.now reply.new) }
     ensures err { (filing : Filing) → StandsBetween bdos.old (D.disks drives.old) filing
         → OnErr result (HaveImagesOf (FailsWithin (working_if true filing p system.now)) (D.disks drives.new) bdos.new.mounted) }
     ensures calls { (filing : Filing) → StandsBetween bdos.old (D.disks drives.old) filing → steps.new ≤ steps.old + 20 * turns_done (working_if true filing p system.now) }
@@ -118,6 +119,7 @@ fn call_disk<D: Drives, L: Ledger>(
     ensures ok { (filing : Filing) → StandsBetween bdos.old (D.disks drives.old) filing
         → IfOk result (IsOutcome (D.disks drives.new) (outcome_in filing p system.now) bdos.new reply.new) }
     ensures told { IfOk result (IsToldOf p system.now reply.new) }
+    ensures as_kept { IfOk result (IsToldAsKept bdos.old p system.now reply.new) }
     ensures err { (filing : Filing) → StandsBetween bdos.old (D.disks drives.old) filing
         → OnErr result (HaveImagesOf (FailsWithin (working_if true filing p system.now)) (D.disks drives.new) bdos.new.mounted) }
     ensures calls { (filing : Filing) → StandsBetween bdos.old (D.disks drives.old) filing → steps.new ≤ steps.old + 20 * turns_done (working_if true filing p system.now) }
@@ -149,6 +151,7 @@ fn call_directly(system: &System, bdos: &Bdos, p: Pid, reply: &mut Reply) -> Opt
     requires lives { Lives system.now.kernel.dispatcher.procs p }
     requires function { function_of (call_of system.now.kernel.dispatcher.procs p).function ≡ None }
     ensures told { IsToldOf p system.now reply.new result }
+    ensures as_kept { IsToldAsKept bdos.now p system.now reply.new result }
     ensures outcome { (disks : Option Disks) (filing : Filing) → StandsBetween bdos.now disks filing
         → IsOutcome disks (outcome_in filing p system.now) bdos.now reply.new result }
     ensures within { (images : ℕ → List ℕ) (s : Situation) (j : ℕ) → Serves images bdos.now s j
@@ -166,6 +169,8 @@ pub(crate) fn start_call(system: &System, bdos: &mut Bdos, p: Pid) -> u32
     requires function { IsSome (function_of (call_of system.now.kernel.dispatcher.procs p).function) }
     ensures turns { (disks : Option Disks) (filing : Filing) (function : FileFunction) → function_of (call_of system.now.kernel.dispatcher.procs p).function ≡ Some function
         → StandsBetween bdos.old disks filing → result ≡ call_turns (situation_of filing function p system.now) }
+    ensures takes { (function : FileFunction) → function_of (call_of system.now.kernel.dispatcher.procs p).function ≡ Some function
+        → (filing : Filing) × (result ≡ call_turns (situation_of filing function p system.now)) }
     ensures serves { (disks : Option Disks) (filing : Filing) (function : FileFunction) → function_of (call_of system.now.kernel.dispatcher.procs p).function ≡ Some function
         → StandsBetween bdos.old disks filing → Serves (told_images disks) bdos.new (situation_of filing function p system.now) 0 }
     ensures entered { (function : FileFunction) → function_of (call_of system.now.kernel.dispatcher.procs p).function ≡ Some function
@@ -196,6 +201,7 @@ pub(crate) fn work<D: Drives, L: Ledger>(
     ensures bare { HasNoDrive bdos.old.mounted → HasNoDrive bdos.new.mounted }
     ensures none { HasNoDrive bdos.old.mounted → drives.new ≡ drives.old }
     ensures holds { HoldsDrives D.attached D.disks system.now.kernel bdos.new drives.new }
+    ensures kept { TurnKeeps bdos.old bdos.new }
     ensures unfailing { HasNoDrive bdos.old.mounted → IsOk result }
     ensures idle { works_in_turn system.now ≡ false → IsOk result × (drives.new ≡ drives.old) × (steps.new ≡ steps.old) × (bdos.new ≡ bdos.old) }
     ensures few { steps.new ≤ steps.old + 20 }

@@ -58,14 +58,15 @@ impl Machine {
     ghost use Rattle.mpm_render.specs.Shown.{Shows};
     ghost use Rattle.mpm_machine_file.specs.MachineFiles.{IsMachine};
     ghost use Rattle.mpm_drives.specs.Images.{image_named};
-    ghost use Rattle.mpm_drives.specs.Mounted.{SameBeside};
+    ghost use Rattle.mpm_drives.specs.Mounted.{SameBeside, placed};
+    ghost use Rattle.mpm_port.specs.Disks.{Disks};
     ghost use Rattle.mpm_drives.specs.Stopping.{Stops};
     ghost use Rattle.mpm_opens.specs.Opens.{AreOpen};
     ghost use Rattle.mpm_bdos.specs.Serving.{directory_at, nothing_kept, in_places};
     ghost use Rattle.mpm_bdos.specs.Syncing.{mounted_count};
     ghost use Rattle.mpm_output.specs.Outside.{seen};
     ghost use Rattle.mpm_machine.specs.State.{State, silent, StandsWithDrives, IsWhole, NoCompletions};
-    ghost use Rattle.mpm_machine.specs.Files.{Files, AreWithin, StandsForFiles};
+    ghost use Rattle.mpm_machine.specs.Files.{Files, Between, AreWithin, StandsForFiles};
     ghost use Rattle.mpm_machine.specs.Holding.{HoldsDrives, CallsAlike};
     ghost use Rattle.mpm_machine.specs.Stepping.{stepped};
     ghost use Rattle.mpm_service.specs.Disk.{no_service};
@@ -78,7 +79,7 @@ impl Machine {
     ghost use Rattle.mpm_kernel.specs.Queueing.{OnlySystems};
     ghost use Rattle.mpm_queues.specs.Queues.{make_error};
     ghost use Rattle.mpm_machine.specs.After.{next, after, IsNextOf, AreSteps, HasRun, HasStepped, HasSteppedTo, HasStopped, HasStoppedIn, StopsBy, ShowsBefore, EndsInStep};
-    ghost use Rattle.mpm_machine.specs.Mounting.{HasMounted, HasNoDrive, HasDrives, KeepsMounted};
+    ghost use Rattle.mpm_machine.specs.Mounting.{HasMounted, HasNoDrive, HasDrives, KeepsMounted, OpensOn, untouched};
     ghost use Rattle.mpm_machine.specs.Failing.{HaveImagesOf, StopsOn, StopsWithImages, does_work, turns_done, working_in};
 
     /// The machine of a machine file, and of its script's events, as it is run: the command queue, the command line
@@ -104,6 +105,7 @@ impl Machine {
         ensures disk { IfOk result (λ machine. machine.system.kernel.disk ≡ no_service file.now.disk_turn) }
         ensures mounted { IfOk result (λ machine. HasMounted (D.attached drives.new) (D.disks drives.new) (image_named (D.disks drives.old)) file.now.drives machine.bdos) }
         ensures drives { IfOk result (λ machine. HasDrives (D.disks drives.new) file.now.drives machine.bdos.mounted) }
+        ensures files { IfOk result (λ machine. OpensOn (image_named (D.disks drives.old)) file.now.drives machine.system.kernel.disk machine.bdos (D.disks drives.new)) }
         ensures holds { IfOk result (λ machine. HoldsDrives D.attached D.disks machine.system.kernel machine.bdos drives.new) }
         ensures count { OnOk result (D.faults drives.new ≡ D.faults drives.old) }
         ensures names { OnOk result (D.failed_names drives.new ≡ D.failed_names drives.old) }
@@ -157,6 +159,7 @@ impl Machine {
         ensures disk { IfOk result (λ machine. machine.system.kernel.disk ≡ no_service file.now.disk_turn) }
         ensures mounted { IfOk result (λ machine. HasMounted (D.attached drives.new) (D.disks drives.new) (image_named (D.disks drives.old)) file.now.drives machine.bdos) }
         ensures drives { IfOk result (λ machine. HasDrives (D.disks drives.new) file.now.drives machine.bdos.mounted) }
+        ensures files { IfOk result (λ machine. OpensOn (image_named (D.disks drives.old)) file.now.drives machine.system.kernel.disk machine.bdos (D.disks drives.new)) }
         ensures holds { IfOk result (λ machine. HoldsDrives D.attached D.disks machine.system.kernel machine.bdos drives.new) }
         ensures count { OnOk result (D.faults drives.new ≡ D.faults drives.old) }
         ensures names { OnOk result (D.failed_names drives.new ≡ D.failed_names drives.old) }
@@ -229,6 +232,7 @@ impl Machine {
         ensures no_completions { IfOk result (λ machine. NoCompletions machine.system) }
         ensures disk { IfOk result (λ machine. machine.system.kernel.disk ≡ no_service 0) }
         ensures bdos { IfOk result (λ machine. machine.bdos ≡ nothing_kept (in_places [])) }
+        ensures files { (disks : Option Disks) → IfOk result (λ machine. StandsForFiles machine.system.kernel.disk machine.bdos disks (Between (untouched (placed [])))) }
         ensures memory { IfErr result (λ error. error ≡ BootError.OutOfMemory) }
     {
         let file = match program_file(alloc) {
@@ -318,7 +322,7 @@ impl Machine {
             → IfErr result (λ fault. ShowsBefore fault render.new (S.written sink.new) s first) }
         ensures images { (s : State) (first : Option (List ℕ)) → StandsWithDrives self.old render.old (S.written sink.old) (D.disks drives.old) s first
             → IfErr result (λ fault. StopsWithImages fault (D.disks drives.new) self.new.bdos.mounted s) }
-        ensures step { OnOk result (HasStepped (seen S.written S.faults render.old sink.old) (seen S.written S.faults render.new sink.new) self.old.system self.new.system) }
+        ensures step { OnOk result (HasStepped self.old.bdos (seen S.written S.faults render.old sink.old) (seen S.written S.faults render.new sink.new) self.old.system self.new.system) }
         ensures stops { IfErr result (λ fault. HasStopped fault (seen S.written S.faults render.old sink.old) (seen S.written S.faults render.new sink.new) self.old.system) }
         ensures due { OnOk result (NobodyDue self.new.system.kernel) }
         ensures interprets { Interprets self.old.system → OnOk result (Interprets self.new.system) }
@@ -374,7 +378,7 @@ impl Machine {
             → IfErr result (λ fault. StopsBy fault (seen S.written S.faults render.old sink.old) (seen S.written S.faults render.new sink.new) (stepped self.old.system files).change.emitted) }
         ensures images { (files : Files) → StandsForFiles self.old.system.kernel.disk self.old.bdos (D.disks drives.old) files
             → IfErr result (λ fault. HaveImagesOf (StopsOn fault self.old.system files) (D.disks drives.new) self.new.bdos.mounted) }
-        ensures step { OnOk result (HasStepped (seen S.written S.faults render.old sink.old) (seen S.written S.faults render.new sink.new) self.old.system self.new.system) }
+        ensures step { OnOk result (HasStepped self.old.bdos (seen S.written S.faults render.old sink.old) (seen S.written S.faults render.new sink.new) self.old.system self.new.system) }
         ensures stops { IfErr result (λ fault. HasStopped fault (seen S.written S.faults render.old sink.old) (seen S.written S.faults render.new sink.new) self.old.system) }
         ensures trace { render.new.trace ≡ render.old.trace }
         ensures cause { HaveCause itself (counts S.faults D.faults sink.old drives.old) (counts S.faults D.faults sink.new drives.new) result }

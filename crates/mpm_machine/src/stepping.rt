@@ -60,7 +60,7 @@ impl Machine {
             → IfErr result (λ fault. OnDiskFault fault (HaveImagesOf (FailsWithin (working_in self.old.system files)) (D.disks drives.new) self.new.bdos.mounted)) }
         ensures stands { (files : Files) → StandsWorked self.old.system.kernel.disk self.old.bdos (D.disks drives.old) files
             → IfErr result (λ fault. OnWriteFault fault (StandsWorked self.old.system.kernel.disk self.new.bdos (D.disks drives.new) (files_begun self.old.system files))) }
-        ensures step { IfOk result (λ instruction. HasBegunStep instruction (seen S.written S.faults render.old sink.old) (seen S.written S.faults render.new sink.new) self.old.system self.new.system) }
+        ensures step { IfOk result (λ instruction. HasBegunStep self.old.bdos instruction (seen S.written S.faults render.old sink.old) (seen S.written S.faults render.new sink.new) self.old.system self.new.system) }
         ensures stops { IfErr result (λ fault. HasBegunToStop fault (seen S.written S.faults render.old sink.old) (seen S.written S.faults render.new sink.new) self.old.system) }
         ensures served { OnOk result (self.new.system.kernel.disk.served ≡ self.old.system.kernel.disk.served) }
         ensures turn_steps { OnOk result (self.new.system.kernel.disk.turn_steps ≡ self.old.system.kernel.disk.turn_steps) }
@@ -116,7 +116,7 @@ impl Machine {
             → IfErr result (λ fault. OnDiskFault fault (HaveImagesOf (FailsWithin (working_in self.old.system files)) (D.disks drives.new) self.new.bdos.mounted)) }
         ensures stands { (files : Files) → StandsWorked self.old.system.kernel.disk self.old.bdos (D.disks drives.old) files
             → IfErr result (λ fault. OnWriteFault fault (StandsWorked self.old.system.kernel.disk self.new.bdos (D.disks drives.new) (files_begun self.old.system files))) }
-        ensures step { OnOk result (HasBegunStep false (seen S.written S.faults render.old sink.old) (seen S.written S.faults render.new sink.new) self.old.system self.new.system) }
+        ensures step { OnOk result (HasBegunStep self.old.bdos false (seen S.written S.faults render.old sink.old) (seen S.written S.faults render.new sink.new) self.old.system self.new.system) }
         ensures stops { IfErr result (λ fault. HasBegunToStop fault (seen S.written S.faults render.old sink.old) (seen S.written S.faults render.new sink.new) self.old.system) }
         ensures served { OnOk result (self.new.system.kernel.disk.served ≡ self.old.system.kernel.disk.served) }
         ensures turn_steps { OnOk result (self.new.system.kernel.disk.turn_steps ≡ self.old.system.kernel.disk.turn_steps) }
@@ -172,7 +172,7 @@ impl Machine {
             → IfErr result (λ fault. OnDiskFault fault (HaveImagesOf (FailsWithin (working_if (is_done_at_once p self.old.system) filing p self.old.system)) (D.disks drives.new) self.new.bdos.mounted)) }
         ensures stands { (files : Files) → StandsWorked self.old.system.kernel.disk self.old.bdos (D.disks drives.old) files
             → IfErr result (λ fault. OnWriteFault fault (StandsWorked self.old.system.kernel.disk self.new.bdos (D.disks drives.new) (files_called p self.old.system files))) }
-        ensures called { OnOk result (HasToldAtGate p (seen S.written S.faults render.old sink.old) (seen S.written S.faults render.new sink.new) self.old.system self.new.system) }
+        ensures called { OnOk result (HasToldAtGate self.old.bdos p (seen S.written S.faults render.old sink.old) (seen S.written S.faults render.new sink.new) self.old.system self.new.system) }
         ensures stops { IfErr result (λ fault. HasStoppedAtGate fault p (seen S.written S.faults render.old sink.old) (seen S.written S.faults render.new sink.new) self.old.system) }
         ensures keeps { KeepsMounted (D.disks drives.old) (D.disks drives.new) self.old.bdos.mounted self.new.bdos.mounted }
         ensures names { D.failed_names drives.new ≡ D.failed_names drives.old }

@@ -17,16 +17,14 @@ use Rattle.mpm_machine_file.specs.declared.lists.DriveSpec.{DriveSpec}
 use Rattle.mpm_drives.specs.declared.error.BootError.{BootError}
 use Rattle.mpm_drives.specs.declared.error.BootError.TheVariants.{Image, DiskFault as DriveFailed, OutOfMemory as NoMemory}
 use Rattle.mpm_drives.specs.Images.{Images}
-use Rattle.mpm_drives.specs.Mounted.{NumberedDrive, AreDrivesOf, AreTold, drives_on, placed}
-use Rattle.mpm_drives.proofs.Opening.{drives_are}
+use Rattle.mpm_mount.specs.Directories.{Directory}
+use Rattle.mpm_drives.specs.Mounted.{NumberedDrive, AreDrivesOf, AreTold, placed}
 use Rattle.mpm_bdos.specs.Serving.{Kept as Filed, nothing_kept, in_places}
 use Rattle.mpm_machine.specs.State.{State}
-use Rattle.mpm_machine.specs.Files.{StandsBetween}
-use Rattle.mpm_machine.specs.Mounting.{HasMounted, HasDrives, HasNoDrive, untouched}
+use Rattle.mpm_machine.specs.Files.{Between, StandsForFiles}
+use Rattle.mpm_machine.specs.Mounting.{HasDrives, HasNoDrive, OpensOn, untouched}
 use Rattle.mpm_machine.proofs.MountedLaws.{none_mounted}
 use Rattle.mpm_machine.proofs.DriveLaws.{nothing_mounted}
-use Rattle.mpm_machine.proofs.TurnLaws.{stands_idle}
-use Rattle.mpm_top.proofs.Placing.{mounted_stand, none_on, none_stand}
 use Rattle.mpm_drives.specs.Stopping.{Failures, StopsAt, IsFirst, Stops}
 use Rattle.mpm_top.specs.Runs.{Host, Failed, system_of, script_name, drives_listed, begun, input_of, Holds, Scripted, Starts, StartsOf, Begins, BeginsOf, Unread, LacksScript, LacksDrive, Ends, EndsAfter, IsNoMachine, IsRefusal, IsEarly, status_of, UnlessDiskFault}
 
@@ -74,25 +72,25 @@ begins_of_file host bytes file events system drives is scripted was are = record
 }
 
 -- its machine, with its drives mounted
-pub starts_of_file : (host : Host) (bytes : List ℕ) (file : MachineFile) (events : List Timed) (system : System) (a : ℕ → Option ℕ) (x : Option Disks) (kept : Filed)
-    → machine_of_text bytes ≡ Some file → Scripted host.contents file.script events → system ≡ opened file events → HasMounted a x host.images file.drives kept → HasDrives x file.drives kept.mounted
-    → system.kernel.disk.served ≡ None → StartsOf host Run (λ content. content ≡ bytes) system kept x
-unfolding drives_on begins_of_file
-starts_of_file host bytes file events system a x kept is scripted was has listed idle =
-    let ds = has.directories in
-    let drives = drives_on x ds in
-    record {
-      drives = drives;
-      begins = begins_of_file host bytes file events system drives is scripted was (drives_are a x host.images file.drives ds has.mounted);
-      same = refl;
-      files = λ told.
-          let stand = mounted_stand a x host.images file.drives ds has.mounted (subst (AreTold host.images) (drives_of_file bytes file is) told) in
-          stands_idle system.kernel.disk kept x (untouched (placed drives)) idle
-          (subst (λ (k : Filed). StandsBetween k x (untouched (placed drives))) (sym has.is) (record { idle = refl; filing_is = refl; stand = stand }));
-      listed = subst (λ specs. HasDrives x specs kept.mounted) (sym (drives_of_file bytes file is)) listed;
-      bare = λ none. subst (λ (k : Filed). HasNoDrive k.mounted) (sym has.is) (none_on x ds none);
-      idle = idle;
-    }
+no_drive : (x : Option Disks) (images : Images) (specs : List DriveSpec) (drives : List NumberedDrive) (mounted : List (Option Directory)) → AreDrivesOf images specs drives
+    → HasDrives x specs mounted → drives ≡ [] → HasNoDrive mounted
+no_drive x images [] drives mounted are has none = λ number. has.others number tt
+no_drive x images (spec ∷ specs) [] mounted are has none = absurd are
+no_drive x images (spec ∷ specs) (drive ∷ drives) mounted are has none = absurd (cc)
+
+pub starts_of_file : (host : Host) (bytes : List ℕ) (file : MachineFile) (events : List Timed) (system : System) (x : Option Disks) (kept : Filed)
+    → machine_of_text bytes ≡ Some file → Scripted host.contents file.script events → system ≡ opened file events → OpensOn host.images file.drives system.kernel.disk kept x
+    → HasDrives x file.drives kept.mounted → system.kernel.disk.served ≡ None → StartsOf host Run (λ content. content ≡ bytes) system kept x
+unfolding begins_of_file
+starts_of_file host bytes file events system x kept is scripted was opens listed idle = record {
+  drives = opens.drives;
+  begins = begins_of_file host bytes file events system opens.drives is scripted was opens.are;
+  same = refl;
+  files = λ told. opens.stand (subst (AreTold host.images) (drives_of_file bytes file is) told);
+  listed = subst (λ specs. HasDrives x specs kept.mounted) (sym (drives_of_file bytes file is)) listed;
+  bare = no_drive x host.images file.drives opens.drives kept.mounted opens.are listed;
+  idle = idle;
+}
 
 -- the script that a machine file names wasn't read
 
@@ -284,9 +282,10 @@ ends_with_contents host form which name bytes old new (Err status) is from_file 
 
 -- a program's machine has no drive
 pub program_starts : (host : Host) (bytes : List ℕ) (disks : Option Disks) (system : System) (kept : Filed) → system ≡ opening_system bytes → kept ≡ nothing_kept (in_places [])
-    → system.kernel.disk.served ≡ None → StartsOf host Program (λ content. content ≡ bytes) system kept disks
+    → StandsForFiles system.kernel.disk kept disks (Between (untouched (placed []))) → system.kernel.disk.served ≡ None
+    → StartsOf host Program (λ content. content ≡ bytes) system kept disks
 unfolding system_of script_name drives_listed
-program_starts host bytes disks system kept is none idle = record {
+program_starts host bytes disks system kept is none stand idle = record {
   drives = [];
   begins = record {
     bytes = bytes;
@@ -300,9 +299,7 @@ program_starts host bytes disks system kept is none idle = record {
     outputs = refl;
   };
   same = refl;
-  files = λ told.
-      stands_idle system.kernel.disk kept disks (untouched (placed [])) idle
-      (subst (λ (k : Filed). StandsBetween k disks (untouched (placed []))) (sym none) (record { idle = refl; filing_is = refl; stand = none_stand disks }));
+  files = λ told. stand;
   listed = nothing_mounted disks kept none;
   bare = λ nothing. subst (λ (k : Filed). HasNoDrive k.mounted) (sym none) none_mounted;
   idle = idle;

@@ -32,7 +32,7 @@ nothing_joins : (names : List (List ℕ)) (name : List ℕ) → names ≡ names 
 nothing_joins names name e = omega (arith, ap (λ (n : List (List ℕ)). length n) e, length-append names (name ∷ []))
 
 -- what may be held of a told file is what it holds
-pub known_contents : (told : Option (List ℕ)) (bytes file : List ℕ) → told ≡ Some file → MatchOption told ⊤ (λ f. bytes ≡ f) → bytes ≡ file
+known_contents : (told : Option (List ℕ)) (bytes file : List ℕ) → told ≡ Some file → MatchOption told ⊤ (λ f. bytes ≡ f) → bytes ≡ file
 known_contents None bytes file e h = absurd (cc)
 known_contents (Some other) bytes file e h = h ∙ (cc)
 

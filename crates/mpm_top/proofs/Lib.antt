@@ -2,7 +2,6 @@ pub mod CommandLaws
 pub mod RunLaws
 pub mod Examples
 pub mod EndingLaws
-pub mod Placing
 pub mod Naming
 pub mod Syncing
 pub mod DataLaws

@@ -13,7 +13,7 @@ use Rattle.mpm_mount.specs.Drives.{Drive}
 use Rattle.mpm_mount.specs.Directories.{Directory, Stands}
 use Rattle.mpm_mount.specs.Images.{files_of}
 use Rattle.mpm_mount.proofs.Mounts.{mounts}
-use Rattle.mpm_drives.specs.Images.{Bytes, found, image_named, HasFiles}
+use Rattle.mpm_drives.specs.Images.{Bytes, Images, found, image_named, HasFiles}
 use Rattle.mpm_drives.specs.Mounted.{NumberedDrive, IsNamed, IsDriveOf, AreDrivesOf, number_of}
 use Rattle.mpm_bdos.specs.Serving.{StandsWhere, directory_at}
 use Rattle.mpm_bdos.specs.Turns.{has_directory, labelled, told_images}
@@ -21,11 +21,7 @@ use Rattle.mpm_machine.specs.Mounting.{IsInPlace, HasDrives, KeepsMounted}
 use Rattle.mpm_machine.specs.Failing.{HaveImages}
 use Rattle.mpm_machine.proofs.FilingLaws.{label_none}
 use Rattle.mpm_machine.proofs.DriveLaws.{keeps_both, still_has_drives}
-use Rattle.mpm_machine.specs.declared.system.System.{System}
-use Rattle.mpm_bdos.specs.Serving.{Kept as Filed}
-use Rattle.mpm_top.specs.declared.words.Form.{Form}
-use Rattle.mpm_top.specs.Runs.{Host, Starts, drives_listed, StandFor}
-use Rattle.mpm_top.proofs.EndingLaws.{known_contents}
+use Rattle.mpm_top.specs.Runs.{StandFor, KeepsOthers}
 
 pub none_some : {X : Type 0} {x : X} → None ≡ Some x → ⊥
 none_some e = absurd (cc)
@@ -163,21 +159,19 @@ not_named disks mounted specs number name has apart there = by_either (either_ap
     by_either (inl named) = named
     by_either (inr all) = absurd (false≢true (sym (ap is_some (has.others number all)) ∙ there))
 
-pub others_behind : (x y : Option Disks) (one other : List (Option Directory)) (specs : List DriveSpec) (name : List ℕ) → HasDrives x specs one → KeepsMounted x y one other
-    → AllByRecursion (λ spec. spec.image ≢ name) specs → image_named y name ≡ image_named x name
+pub others_behind : (x y : Option Disks) (one other : List (Option Directory)) (specs : List DriveSpec) → HasDrives x specs one → KeepsMounted x y one other
+    → KeepsOthers (image_named x) (image_named y) specs
 unfolding image_named
-others_behind None y one other specs name has keeps apart = ap (λ (d : Option Disks). image_named d name) keeps.beside
-others_behind (Some disks) None one other specs name has keeps apart = absurd keeps.beside
-others_behind (Some disks) (Some now) one other specs name has keeps apart =
+others_behind None y one other specs has keeps name apart = ap (λ (d : Option Disks). image_named d name) keeps.beside
+others_behind (Some disks) None one other specs has keeps name apart = absurd keeps.beside
+others_behind (Some disks) (Some now) one other specs has keeps name apart =
     ap found (keeps.beside.others name (λ number there. not_named disks one specs number name has apart there))
 
-pub others_settled : (x y z : Option Disks) (one other last : List (Option Directory)) (specs : List DriveSpec) (name : List ℕ) → HasDrives x specs one → KeepsMounted x y one other
-    → KeepsMounted y z other last → AllByRecursion (λ spec. spec.image ≢ name) specs → image_named z name ≡ image_named x name
-others_settled x y z one other last specs name has keeps settled apart = others_behind x z one last specs name has (keeps_both x y z one other last keeps settled) apart
+pub others_settled : (x y z : Option Disks) (one other last : List (Option Directory)) (specs : List DriveSpec) → HasDrives x specs one → KeepsMounted x y one other
+    → KeepsMounted y z other last → KeepsOthers (image_named x) (image_named z) specs
+others_settled x y z one other last specs has keeps settled = others_behind x z one last specs has (keeps_both x y z one other last keeps settled)
 
-pub others_told : (host : Host) (form : Form) (name bytes : List ℕ) (system : System) (kept : Filed) (disks : Option Disks) (image : List ℕ) (starts : Starts host form name system kept disks)
-    → host.contents name ≡ Some bytes → AllByRecursion (λ spec. spec.image ≢ image) (drives_listed form bytes)
-    → AllByRecursion (λ spec. spec.image ≢ image) (drives_listed form starts.begins.bytes)
-others_told host form name bytes system kept disks image starts told apart =
-    subst (λ b. AllByRecursion (λ spec. spec.image ≢ image) (drives_listed form b))
-    (sym (known_contents (host.contents name) starts.begins.bytes bytes told starts.begins.contents_are.told)) apart
+-- and so as the drives are mounted before that
+pub others_then : (before middle behind : Images) (specs : List DriveSpec) → ((image : List ℕ) → middle image ≡ before image) → KeepsOthers middle behind specs
+    → KeepsOthers before behind specs
+others_then before middle behind specs same keeps image apart = keeps image apart ∙ same image

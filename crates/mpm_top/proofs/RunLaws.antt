@@ -28,7 +28,7 @@ use Rattle.mpm_top.specs.declared.words.Form.{Form}
 use Rattle.mpm_top.specs.declared.status.Status.{Status}
 use Rattle.mpm_top.specs.declared.status.Status.TheVariants.{DiskFault, WriteFault}
 use Rattle.mpm_top.specs.Words.{Command}
-use Rattle.mpm_top.specs.Runs.{Host, Failed, begun, drives_of, drives_left, drives_listed, Begins, Ends, StopsAt, StopsRun, Closes, ClosesAfter, ClosesAt, Causes, ended_by, StandFor, WritesSteps, StopsWriting, ClosesSteps, StopsSteps, WritesPart, WritesClosed, IsEarly}
+use Rattle.mpm_top.specs.Runs.{Host, Failed, begun, drives_of, drives_left, drives_listed, Begins, Ends, StopsAt, StopsRun, Closes, ClosesAfter, ClosesAt, Causes, ended_by, KeepsOthers, StandFor, WritesSteps, StopsWriting, ClosesSteps, StopsSteps, WritesPart, WritesClosed, IsEarly}
 
 -- a machine that begins, and a renderer that shows nothing yet, stand for its beginning
 pub stands_begun : (machine : Machine) (on : List NumberedDrive) (kept : Kept) (written : Option (List ℕ)) (disks : Option Disks) → Shows kept written [] written
@@ -148,14 +148,16 @@ pub disk_closed : (host : Host) (left : Images) (command : Command) (s : State) 
     → status ≡ ended_by fault step → status ≡ DiskFault said → (begins : Begins host command.form command.name s) → step ≤ command.steps
     → (AreTold host.images (drives_listed command.form begins.bytes)
     → StopsRun (StandFor left (drives_listed command.form begins.bytes)) fault command.trace s command.steps first written before now step)
-    → StopsSteps fault command.trace command.steps s.system first written before now step → WritesClosed host left command first written before now said
-disk_closed host left command s SinkFailed step said status first written before now is disk begins bound stops steps =
+    → StopsSteps fault command.trace command.steps s.system first written before now step → KeepsOthers host.images left (drives_listed command.form begins.bytes)
+    → WritesClosed host left command first written before now said
+disk_closed host left command s SinkFailed step said status first written before now is disk begins bound stops steps others =
     let no : WriteFault step ≡ DiskFault said = sym is ∙ disk in absurd (cc)
-disk_closed host left command s SyncFailed step said status first written before now is disk begins bound stops steps = record {
+disk_closed host left command s SyncFailed step said status first written before now is disk begins bound stops steps others = record {
   start = s;
   begins = begins;
   within = subst (λ k. k ≤ command.steps) (same_disk step said (sym is ∙ disk)) bound;
   steps = subst (λ k. ClosesSteps command.trace command.steps s.system first written before now k) (same_disk step said (sym is ∙ disk)) steps;
+  others = others;
   text = λ told.
       subst (λ k. ClosesAt (StandFor left (drives_listed command.form begins.bytes)) command.trace s command.steps first written before now k)
       (same_disk step said (sym is ∙ disk)) (stops told);
@@ -168,16 +170,18 @@ pub writes_part : (host : Host) (left : Images) (command : Command) (s : State) 
     → status ≡ ended_by fault step → status ≡ WriteFault said → (begins : Begins host command.form command.name s) → step ≤ command.steps
     → (AreTold host.images (drives_listed command.form begins.bytes)
     → StopsRun (StandFor left (drives_listed command.form begins.bytes)) fault command.trace s command.steps first written before now step)
-    → StopsSteps fault command.trace command.steps s.system first written before now step → WritesPart host left command first written said
-writes_part host left command s SyncFailed step said status first written before now is wrote begins bound stops steps =
+    → StopsSteps fault command.trace command.steps s.system first written before now step → KeepsOthers host.images left (drives_listed command.form begins.bytes)
+    → WritesPart host left command first written said
+writes_part host left command s SyncFailed step said status first written before now is wrote begins bound stops steps others =
     let no : DiskFault step ≡ WriteFault said = sym is ∙ wrote in absurd (cc)
-writes_part host left command s SinkFailed step said status first written before now is wrote begins bound stops steps =
+writes_part host left command s SinkFailed step said status first written before now is wrote begins bound stops steps others =
     let its = same_write step said (sym is ∙ wrote) in
     record {
       start = s;
       begins = begins;
       within = subst (λ k. k ≤ command.steps) its bound;
       steps = subst (λ k. StopsWriting command.trace command.steps s.system first written k) its steps;
+      others = others;
       text = λ told.
           subst (λ k. StopsAt (StandFor left (drives_listed command.form begins.bytes)) command.trace s command.steps first written k) its (stops told);
     }

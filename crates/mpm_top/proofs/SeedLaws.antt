@@ -21,8 +21,7 @@ use Rattle.mpm_drives.specs.declared.error.BootError.{BootError}
 use Rattle.mpm_drives.specs.declared.error.BootError.TheVariants.{Image}
 use Rattle.mpm_drives.specs.Images.{ToldImage, Untold, Bytes, Images, image_named, found, HasFiles, HasFault}
 use Rattle.mpm_drives.specs.Stopping.{Failures, StopsAt, IsFirst, Stops}
-use Rattle.mpm_drives.specs.Mounted.{NumberedDrive, AreTold, IsDriveOf, IsMountedAs, drives_on, placed}
-use Rattle.mpm_drives.proofs.Opening.{drives_are}
+use Rattle.mpm_drives.specs.Mounted.{NumberedDrive, AreTold, AreMounted, IsDriveOf, IsMountedAs, placed}
 use Rattle.mpm_bdos.specs.Serving.{Kept as Filed, directory_at}
 use Rattle.mpm_bdos.specs.Turns.{labelled}
 use Rattle.mpm_machine.specs.declared.machine.StepFault.{StepFault}
@@ -30,8 +29,8 @@ use Rattle.mpm_machine.specs.declared.machine.StepFault.TheVariants.{WriteFault 
 use Rattle.mpm_machine.specs.Faults.{HasFailed}
 use Rattle.mpm_machine.specs.declared.system.System.{System}
 use Rattle.mpm_machine.specs.Opening.{opened}
-use Rattle.mpm_machine.specs.Files.{StandsBetween}
-use Rattle.mpm_machine.specs.Mounting.{HasMounted, HasDrives, untouched}
+use Rattle.mpm_machine.specs.Files.{Between, StandsForFiles}
+use Rattle.mpm_machine.specs.Mounting.{HasMounted, HasDrives, OpensOn, untouched}
 use Rattle.mpm_top.specs.declared.status.Status.{Status}
 use Rattle.mpm_top.specs.declared.status.Status.TheVariants.{Ran, Usage, MachineFault, ScriptFault, ImageFault, TooLong, ReadFault, DiskFault, WriteFault, OutOfMemory}
 use Rattle.mpm_top.specs.Runs.{begun, UnlessReadFault}
@@ -39,7 +38,6 @@ use Rattle.mpm_top.specs.Words.{Command, command_of, command_with, form_of}
 use Rattle.mpm_top.specs.declared.seeds.Seeded.{Seeded}
 use Rattle.mpm_top.specs.declared.seeds.Found.{Found}
 use Rattle.mpm_top.specs.Seeds.{seeded_of, drive_a, AreOf, AreFound}
-use Rattle.mpm_top.proofs.Placing.{mounted_stand}
 use Rattle.mpm_top.proofs.SeedImages.{has_files}
 
 -- a device whose count stays 0 doesn't fail
@@ -93,12 +91,11 @@ only_one P x [] all = absurd all
 only_one P x (y ∷ []) all = (y, refl, all.0)
 only_one P x (y ∷ z ∷ ys) all = absurd all.1
 
--- with what its machine begins: files that its image stands for, on the one drive, which has the size of its kind
-pub record BeginsSeeded (seed : ℕ) (attached : ℕ → Option ℕ) (disks : Option Disks) (kept : Filed) : Type 0 where
+-- with what its machine begins: files that its image stands for, on the one drive
+pub record BeginsSeeded (seed : ℕ) (system : System) (kept : Filed) (disks : Option Disks) : Type 0 where
   pub files : Drive
   pub are : files_of (image_of seed) Hd4 ≡ Ok files
-  pub stand : StandsBetween kept disks (untouched (placed (drive_a files)))
-  pub size : attached 0 ≡ Some 4194304
+  pub stand : StandsForFiles system.kernel.disk kept disks (Between (untouched (placed (drive_a files))))
 
 abbrev its_drive : DriveSpec
 its_drive = record { letter = 65; kind = Hd4; image = name_of_image }
@@ -110,6 +107,29 @@ one_drive images image drives there are =
     let P : ToldImage → Type 0 = λ told. HasFiles told Hd4 one.0.files in
     (one.0.files, one.1 ∙ (λ i. record { number = one.2.number i; files = one.0.files } ∷ []), subst P there one.2.files)
 
+begins_seeded : (seed : ℕ) (system : System) (kept : Filed) (disks : Option Disks) → OpensOn (image_named (Some (disks_of (drives_of seed)))) machine.drives system.kernel.disk kept disks
+    → BeginsSeeded seed system kept disks
+begins_seeded seed system kept disks opens =
+    let images : Images = image_named (Some (disks_of (drives_of seed))) in
+    let there = image_there seed in
+    let one = one_drive images (image_of seed) opens.drives there opens.are in
+    let told : AreTold images machine.drives = (is_told (images name_of_image) (image_of seed) there, tt) in
+    record {
+      files = one.0;
+      are = one.2;
+      stand = subst (λ (on : List NumberedDrive). StandsForFiles system.kernel.disk kept disks (Between (untouched (placed on)))) one.1 (opens.stand told);
+    }
+
+-- so it is of a machine that is booted by them
+pub begins_booted : (seed : ℕ) (file : MachineFile) (old : MemoryDisks) (system : System) (kept : Filed) (disks : Option Disks) → file ≡ machine → old ≡ drives_of seed
+    → OpensOn (image_named (Some (disks_of old))) file.drives system.kernel.disk kept disks → BeginsSeeded seed system kept disks
+begins_booted seed file old system kept disks same was opens =
+    let P : MachineFile → Type 0 = λ f. OpensOn (image_named (Some (disks_of old))) f.drives system.kernel.disk kept disks in
+    let Q : MemoryDisks → Type 0 = λ d. OpensOn (image_named (Some (disks_of d))) machine.drives system.kernel.disk kept disks in
+    begins_seeded seed system kept disks (subst Q was (subst P same opens))
+
+-- its drive has the size of its kind
+
 one_size : (attached : ℕ → Option ℕ) (disks : Option Disks) (images : Images) (mounted : List Directory) → AllZip (IsMountedAs attached disks images) (its_drive ∷ []) mounted
     → attached 0 ≡ Some 4194304
 one_size attached disks images mounted are =
@@ -117,31 +137,10 @@ one_size attached disks images mounted are =
     let P : ℕ → Type 0 = λ number. attached number ≡ Some 4194304 in
     subst P one.2.number one.2.size
 
-pub begins_seeded : (seed : ℕ) (attached : ℕ → Option ℕ) (disks : Option Disks) (kept : Filed)
-    → HasMounted attached disks (image_named (Some (disks_of (drives_of seed)))) machine.drives kept → BeginsSeeded seed attached disks kept
-begins_seeded seed attached disks kept has =
-    let images : Images = image_named (Some (disks_of (drives_of seed))) in
-    let there = image_there seed in
-    let ds = has.directories in
-    let one = one_drive images (image_of seed) (drives_on disks ds) there (drives_are attached disks images machine.drives ds has.mounted) in
-    let told : AreTold images machine.drives = (is_told (images name_of_image) (image_of seed) there, tt) in
-    let stand = mounted_stand attached disks images machine.drives ds has.mounted told in
-    let on_drives : StandsBetween kept disks (untouched (placed (drives_on disks ds))) =
-    subst (λ (k : Filed). StandsBetween k disks (untouched (placed (drives_on disks ds)))) (sym has.is) (record { idle = refl; filing_is = refl; stand = stand }) in
-    record {
-      files = one.0;
-      are = one.2;
-      stand = subst (λ (on : List NumberedDrive). StandsBetween kept disks (untouched (placed on))) one.1 on_drives;
-      size = one_size attached disks images ds has.mounted;
-    }
-
--- so it is of a machine that is booted by them
-pub begins_booted : (seed : ℕ) (file : MachineFile) (old : MemoryDisks) (attached : ℕ → Option ℕ) (disks : Option Disks) (kept : Filed) → file ≡ machine → old ≡ drives_of seed
-    → HasMounted attached disks (image_named (Some (disks_of old))) file.drives kept → BeginsSeeded seed attached disks kept
-begins_booted seed file old attached disks kept same was has =
-    let P : MachineFile → Type 0 = λ f. HasMounted attached disks (image_named (Some (disks_of old))) f.drives kept in
-    let Q : MemoryDisks → Type 0 = λ d. HasMounted attached disks (image_named (Some (disks_of d))) machine.drives kept in
-    begins_seeded seed attached disks kept (subst Q was (subst P same has))
+pub size_booted : (file : MachineFile) (attached : ℕ → Option ℕ) (disks : Option Disks) (images : Images) (kept : Filed) → file ≡ machine
+    → HasMounted attached disks images file.drives kept → attached 0 ≡ Some 4194304
+size_booted file attached disks images kept same has =
+    one_size attached disks images has.directories (subst (λ (f : MachineFile). AreMounted attached disks images f.drives has.directories) same has.mounted)
 
 -- its image is at no fault
 

@@ -217,13 +217,19 @@ AreSyncedOf unsynced specs = AllByRecursion (λ spec. unsynced (number_of spec) 
 abbrev pub SyncsAttached : (ℕ → Option ℕ) → (ℕ → Option ℕ) → (ℕ → Bool) → Type 0
 SyncsAttached before behind unsynced = (number : ℕ) → (behind number ≡ before number) ⊎ (unsynced number ≡ false)
 
--- what was written is the text of steps of the first system, and its drives are synced; where their images are told, it is the closed
--- text of the outputs of all steps and of the end, and the images that are left stand for what is on the drives behind it
+-- an image that a machine file doesn't list is as it was
+abbrev pub KeepsOthers : Images → Images → List DriveSpec → Type 0
+KeepsOthers before left specs = (image : List ℕ) → AllByRecursion (λ spec. spec.image ≢ image) specs → left image ≡ before image
+
+-- what was written is the text of steps of the first system, its drives are synced, and no other image has changed; where their images
+-- are told, it is the closed text of the outputs of all steps and of the end, and the images that are left stand for what is on the
+-- drives behind it
 pub record WritesAll (host : Host) (left : Images) (unsynced : ℕ → Bool) (command : Command) (first written : Option (List ℕ)) : Type 0 where
   pub start : State
   pub begins : Begins host command.form command.name start
   pub steps : WritesSteps command.trace command.steps start.system first written
   pub synced : AreSyncedOf unsynced (drives_listed command.form begins.bytes)
+  pub others : KeepsOthers host.images left (drives_listed command.form begins.bytes)
   pub text : AreTold host.images (drives_listed command.form begins.bytes) → written ≡ appended first (closed command.trace (carried (after command.steps start)).outputs)
   pub images : AreTold host.images (drives_listed command.form begins.bytes)
       → StandFor left (drives_listed command.form begins.bytes) (drives_left (after command.steps start))
@@ -243,13 +249,14 @@ abbrev pub StopsAt : (List (Option Drive) → Type 0) → Bool → State → ℕ
 StopsAt Stand trace s steps first written step =
     StopsInText Stand trace s steps first written step ⊎ StopsInEnd Stand trace s steps first written step
 
--- writing stopped at a step, in the text of steps of the first system; where the images of its drives are told, it is the model's, and
--- the images that are left stand for what is on the drives after it
+-- writing stopped at a step, in the text of steps of the first system, and no image but those of its drives has changed; where these are
+-- told, it is the model's, and the images that are left stand for what is on the drives after it
 pub record WritesPart (host : Host) (left : Images) (command : Command) (first written : Option (List ℕ)) (step : ℕ) : Type 0 where
   pub start : State
   pub begins : Begins host command.form command.name start
   pub within : step ≤ command.steps
   pub steps : StopsWriting command.trace command.steps start.system first written step
+  pub others : KeepsOthers host.images left (drives_listed command.form begins.bytes)
   pub text : AreTold host.images (drives_listed command.form begins.bytes)
       → StopsAt (StandFor left (drives_listed command.form begins.bytes)) command.trace start command.steps first written step
 
@@ -318,13 +325,14 @@ ClosesAt Stand trace s steps first written before now step =
     ClosesBefore Stand trace s steps first written before now step
     ⊎ (ClosesInTurn Stand trace s steps first written before now step ⊎ ClosesInSync Stand trace s steps first written before now step)
 
--- a drive failed later, behind the text of steps of the first system; where the images of its drives are told, it is the model's, and the
--- images that are left stand for what is then on the drives
+-- a drive failed later, behind the text of steps of the first system, and no image but those of its drives has changed; where these are
+-- told, it is the model's, and the images that are left stand for what is then on the drives
 pub record WritesClosed (host : Host) (left : Images) (command : Command) (first written : Option (List ℕ)) (before now step : ℕ) : Type 0 where
   pub start : State
   pub begins : Begins host command.form command.name start
   pub within : step ≤ command.steps
   pub steps : ClosesSteps command.trace command.steps start.system first written before now step
+  pub others : KeepsOthers host.images left (drives_listed command.form begins.bytes)
   pub text : AreTold host.images (drives_listed command.form begins.bytes)
       → ClosesAt (StandFor left (drives_listed command.form begins.bytes)) command.trace start command.steps first written before now step
 

@@ -1,5 +1,4 @@
 ghost use Rattle.std.specs.Prelude.{◌≡◌, ◌≢◌, ◌≤◌, ◌<◌, ◌⊎◌, ◌↔◌, [], ℕ, List, Option, Some, None, OnOk, IfErr, MatchResult, length, slice_index_or};
-ghost use Rattle.std.specs.List.{AllByRecursion};
 ghost use Rattle.mpm_script.specs.declared.line.TheConstants.{GREATEST_STEP};
 ghost use Rattle.mpm_port.specs.Causes.{Rose};
 ghost use Rattle.mpm_port.specs.Texts.{appended};
@@ -16,7 +15,7 @@ ghost use Rattle.mpm_machine.specs.Mounting.{HasDrives, HasNoDrive, untouched};
 ghost use Rattle.mpm_machine.specs.After.{after, ShowsBefore};
 ghost use Rattle.mpm_machine.specs.Settling.{carried};
 ghost use Rattle.mpm_top.specs.Words.{Command, texts, command_of};
-ghost use Rattle.mpm_top.specs.Runs.{command_on, input_of as input_said, room_for, script_name, drives_listed, host, failed, begun, drives_left, SameImages, StandFor, StopsRun, ClosesAfter, Causes, stopped_by, SyncsAttached, WritesAll, WritesSteps, StopsSteps, WritesPart, WritesClosed, Ends, EndsAs, ending, IsRefusal, IsEarly, UnlessWriteFault, UnlessReadFault, UnlessDiskFault};
+ghost use Rattle.mpm_top.specs.Runs.{command_on, input_of as input_said, room_for, script_name, host, failed, begun, drives_left, SameImages, KeepsOthers, StandFor, StopsRun, ClosesAfter, Causes, stopped_by, SyncsAttached, WritesAll, WritesSteps, StopsSteps, WritesPart, WritesClosed, Ends, EndsAs, ending, IsRefusal, IsEarly, UnlessWriteFault, UnlessReadFault, UnlessDiskFault};
 ghost use Rattle.mpm_top.specs.Seeds.{seeded_of, EndsSeeded};
 
 use crate::boot::boot;
@@ -48,7 +47,7 @@ pub fn run_words<F: Files, D: Drives, S: Sink>(
 
     // Ran: what the sink was given is exactly the text of the outputs after those steps and the end, to which the call in service is
     // carried, the images of the names that the machine file lists stand for what is on its drives then, each of these is synced, and
-    // nothing failed.
+    // nothing failed. After this ending and the two below no other image has changed.
     ensures ran { (command : Command) → command_of (texts words.now) ≡ Some command → result ≡ Status.Ran
         → WritesAll (host F.contents D.disks files.old drives.old) (image_named (D.disks drives.new)) (D.unsynced drives.new) command (S.written sink.old) (S.written sink.new) }
     ensures synced { result ≡ Status.Ran → SyncsAttached (D.attached drives.old) (D.attached drives.new) (D.unsynced drives.new) }
@@ -92,13 +91,10 @@ pub fn run_words<F: Files, D: Drives, S: Sink>(
         → ((step ≡ 0) × (sink.new ≡ sink.old)) ⊎ WritesClosed (host F.contents D.disks files.old drives.old) (image_named (D.disks drives.new)) command (S.written sink.old) (S.written sink.new)
         (S.faults sink.old) (S.faults sink.new) step }
 
-    // After a refusal nothing is written. Before the first step, and where a drive fails with step 0, images are as they were, as
-    // those that the machine file doesn't list are after any ending. So is what the files hold; `program` has no drive.
+    // After a refusal nothing is written. Before the first step, and where a drive fails with step 0, images are as they were. So is
+    // what the files hold after any ending; `program` has no drive.
     ensures nothing { IsRefusal result → sink.new ≡ sink.old }
     ensures images { IsEarly result → SameImages (D.disks drives.old) (D.disks drives.new) }
-    ensures others { (command : Command) → command_of (texts words.now) ≡ Some command → (bytes : List ℕ) → F.contents files.old command.name ≡ Some bytes
-        → (image : List ℕ) → AllByRecursion (λ spec. spec.image ≢ image) (drives_listed command.form bytes)
-        → image_named (D.disks drives.new) image ≡ image_named (D.disks drives.old) image }
     ensures files { (other : List ℕ) → F.contents files.new other ≡ F.contents files.old other }
     ensures program { (command : Command) → command_of (texts words.now) ≡ Some command → command.form ≡ Form.Program → drives.new ≡ drives.old }
 
@@ -154,9 +150,6 @@ fn run_command<F: Files, D: Drives, S: Sink>(
         (S.faults sink.old) (S.faults sink.new) step }
     ensures nothing { IsRefusal result → sink.new ≡ sink.old }
     ensures images { IsEarly result → SameImages (D.disks drives.old) (D.disks drives.new) }
-    ensures others { (bytes : List ℕ) → F.contents files.old name.now ≡ Some bytes
-        → (image : List ℕ) → AllByRecursion (λ spec. spec.image ≢ image) (drives_listed asked.form bytes)
-        → image_named (D.disks drives.new) image ≡ image_named (D.disks drives.old) image }
     ensures files { (other : List ℕ) → F.contents files.new other ≡ F.contents files.old other }
     ensures program { asked.form ≡ Form.Program → drives.new ≡ drives.old }
 {
@@ -226,7 +219,7 @@ fn run_to_end<D: Drives, S: Sink, L: Ledger>(
         → IfErr result (λ error. StopsRun (StandFor (image_named (D.disks drives.new)) specs) error.fault asked.trace (begun machine.old.system on) asked.steps
         (S.written sink.old) (S.written sink.new) (S.faults sink.old) (S.faults sink.new) error.step) }
     ensures others { (specs : List DriveSpec) → HasDrives (D.disks drives.old) specs machine.old.bdos.mounted
-        → (image : List ℕ) → AllByRecursion (λ spec. spec.image ≢ image) specs → image_named (D.disks drives.new) image ≡ image_named (D.disks drives.old) image }
+        → KeepsOthers (image_named (D.disks drives.old)) (image_named (D.disks drives.new)) specs }
     ensures synced { OnOk result (AreSynced (D.unsynced drives.new) machine.old.bdos.mounted) }
     ensures attached { (number : ℕ) → D.attached drives.new number ≡ D.attached drives.old number }
     ensures within { IfErr result (λ error. error.step ≤ asked.steps) }

@@ -215,6 +215,47 @@ fn who_ends_while_another_is_served_gives_back_behind_that(rt: HostRuntime) -> R
     )
 }
 
+/// Does nothing in its own steps 2 to 15, and writes `Z` over 4400h in its step 16.
+const OVERWRITING: &[u8] = b"\x3EZ\0\0\0\0\0\0\0\0\0\0\0\0\0\0\x32\x00\x44\x76";
+
+#[test]
+fn what_is_written_is_as_it_was_in_the_gate_step(rt: HostRuntime) -> Result<(), Fail> {
+    // FIRST creates OTHER, and comes to its gates in steps 23, from which on the making of OUT.TXT is served up to 43, and 49. SECOND
+    // comes to its gate in step 28, and its making is served from 43 to 63. So FIRST's writing waits from 49 to 63, and is served up
+    // to 83. OTHER runs in steps 29 to 43, and from 50 on.
+    let acts = [
+        Calls(145, 100, 0),
+        Calls(144, 0x4480, 0),
+        Calls(26, 0x4400, 0),
+        Calls(22, 0x4300, 0),
+        Calls(21, 0x4300, 0),
+    ];
+    let data = [
+        Data(0x0060, OVERWRITING),
+        Data(0x0180, &[0xFF; 16]),
+        Data(0x0200, b"\0OUT     TXT"),
+        Data(0x0300, b"A"),
+        Data(0x0380, b"\0\0\0\xC8\xC0\x44OTHER   \0"),
+        Data(0x03C0, b"\x60\x41"),
+    ];
+    let first = program(0x40, &acts, &data);
+    let makes = [Calls(22, 0x4300, 0)];
+    let second = program(0x40, &makes, &[Data(0x0200, b"\0NEW     TXT")]);
+    let written = [Byte(0, 0x4400, b'Z'), Record(0, 0, Some(b'A'))];
+    let answered = [Word(0, 0x4288, 0), written[0], written[1]];
+    beside(b"", &first, &second, false).shows(
+        rt.alloc(),
+        &[
+            Behind(49, b"", &[Byte(0, 0x4400, b'A'), NONE[0], Entry(1, 0)]),
+            Behind(50, b"", &[Byte(0, 0x4400, b'Z'), NONE[0]]),
+            Behind(62, b"", &[Byte(0, 0x4400, b'Z'), NONE[0]]),
+            Behind(63, b"", &written),
+            Behind(83, b"", &written),
+            Behind(84, b"", &answered),
+        ],
+    )
+}
+
 /// Does nothing for twenty steps; aborts FIRST (157, its block at 4130h), whose gate it comes to in its step 25; keeps the answer at
 /// 4300h, and writes `x`.
 const ABORTING: &[u8] = b"\0\0\0\0\0\0\0\0\0\0\0\0\0\0\0\0\0\0\0\0\

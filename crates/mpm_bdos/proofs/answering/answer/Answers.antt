@@ -8,9 +8,9 @@ pub returns-clause-may : goal.returns-clause-may
 returns-clause-may c =
     let g = c.args.granted.now in
     record {
-      value = subst (MayAmount g.function) (sym (ap (λ (a : Answer). a.hl) c.place_block.ensures.all ∙ c.answer_bytes.ensures.value)) c.value-value.ensures.amount;
+      value = subst (MayAmount g.function c.args.multi) (sym (ap (λ (a : Answer). a.hl) c.place_block.ensures.all)) c.answer_bytes.ensures.amount;
       at = ap (λ (a : Answer). a.at) c.place_block.ensures.all ∙ c.answer_bytes.ensures.at;
-      bytes = subst (MayPlace g.function c.args.multi) (sym (ap (λ (a : Answer). a.bytes) c.place_block.ensures.all)) c.answer_bytes.ensures.bytes;
-      block = told_block g.function c.args.fcb.now g.block c.block.result _ c.place_block.ensures.given c.requires.block c.block.ensures.untold
+      bytes = subst (λ (a : Answer). MayPlace g.function c.args.multi a.hl a.bytes) (sym c.place_block.ensures.all) c.answer_bytes.ensures.bytes;
+      block = told_block g.function c.args.fcb.now g.block c.block.result _ c.place_block.ensures.given c.requires.block c.block.ensures.told
           c.place_block.ensures.size (ap (λ (a : Answer). a.fcb) c.place_block.ensures.all);
     }

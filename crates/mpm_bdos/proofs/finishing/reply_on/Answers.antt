@@ -20,4 +20,5 @@ returns-in-None-clause-replied c = λ image d drives marks moment there answerin
 
 pub returns-in-None-clause-may : goal.returns-in-None-clause-may
 returns-in-None-clause-may c =
-    nothing_granted c.args.function c.args.caller.now.multi c.args.call.now.dma c.call.inside.dma c.answer_with.new.self c.answer_with.ensures (ap (λ (call : Taken). call.dma) c.call.view_is)
+    nothing_granted c.args.function c.args.caller.now.multi c.args.call.now.fcb c.args.call.now.dma c.call.inside.dma c.nothing_done.result c.answer_with.new.self c.requires.some c.nothing_done.ensures
+    c.answer_with.ensures (ap (λ (call : Taken). call.dma) c.call.view_is)

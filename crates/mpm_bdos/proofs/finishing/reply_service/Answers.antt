@@ -1,7 +1,7 @@
 use Rattle.std.proofs.Common.{◌∙◌, Some, None, IfSome, refl, sym, ap, subst}
 use Rattle.mpm_bdos.specs.Jobs.{call_turns}
 use Rattle.mpm_bdos.specs.Serving.{InService, Serves}
-use Rattle.mpm_bdos.specs.Answering.{IsOfDrive, IsOfRow, MayGrant}
+use Rattle.mpm_bdos.specs.Answering.{IsOfDrive, IsOfRow, IsNamed, MayGrant}
 use Rattle.mpm_bdos.specs.Finishing.{serving, ComesTo}
 use Rattle.mpm_bdos.specs.Refusals.{answered}
 use Rattle.mpm_bdos.proofs.Answerable.{of_its_drive}
@@ -28,20 +28,21 @@ returns-in-None-clause-comes c = λ images s serves.
     (c.reply_granted.ensures.finished images s inside.moment inside.refusal its none) refl)
 
 pub returns-in-Some-clause-may : goal.returns-in-Some-clause-may
-returns-in-Some-clause-may c row = record {
+returns-in-Some-clause-may c row named = record {
   refusal = Some c.in-Some.refusal;
   tells = record {
     row = subst (λ refusal. IfSome refusal (IsOfRow c.args.service.now.function)) (ap (λ (one : InService). one.refusal) (sym c.service.view_is) ∙ c.in-Some.is) row;
     answer_is = c.refuse.ensures.reply;
     drive = c.service.inside.drive;
+    named = subst (λ drive. IsNamed c.args.service.now.function c.args.service.now.call drive) (ap (λ (one : InService). one.drive) (sym c.service.view_is)) named;
     extended_is = c.refuse.ensures.extended;
   };
 }
 
 pub returns-in-None-clause-may : goal.returns-in-None-clause-may
-returns-in-None-clause-may c row = record {
+returns-in-None-clause-may c row named = record {
   refusal = None;
-  tells = (subst (λ (one : InService). MayGrant one.caller.multi one.function one.call.dma c.reply_granted.new.reply) c.service.view_is c.reply_granted.ensures.may, refl);
+  tells = (subst (λ (one : InService). MayGrant one.caller.multi one.function one.call.fcb one.call.dma c.reply_granted.new.reply) c.service.view_is c.reply_granted.ensures.may, refl);
 }
 
 pub returns-in-Some-clause-drive : goal.returns-in-Some-clause-drive

@@ -5,16 +5,12 @@ use Rattle.mpm_bdos.proofs.ReadBytes.{records_taken}
 use Rattle.mpm_bdos.proofs.replies.read_bytes.Goals as goal
 
 pub returns-clause-bytes : goal.returns-clause-bytes
-returns-clause-bytes c = λ records before is size count few.
-    ap (λ n. take (128 * n) c.room_of.result.now) (c.from.ensures ∙ c.read_count.ensures.count few)
-    ∙ records_taken records c.room_of.result.now before.bytes c.args.work.now.moved c.room_of.ensures.size size count (omega (arith, few, c.requires))
-    (c.room_of.ensures.bytes ∙ ap (λ (job : Job). job.bytes) is)
+returns-clause-bytes c = λ records read.
+    ap (λ n. take (128 * n) c.room_of.result.now) c.from.ensures
+    ∙ records_taken records c.room_of.result.now read.before.bytes c.args.count c.room_of.ensures.size read.size read.count c.requires
+    (c.room_of.ensures.bytes ∙ ap (λ (job : Job). job.bytes) read.job_is)
 
-pub returns-clause-parts : goal.returns-clause-parts
-returns-clause-parts c = record {
-  parts = c.read_count.result;
-  few = c.read_count.ensures.few;
-  length_is =
-      ap (λ n. length (take (128 * n) c.room_of.result.now)) c.from.ensures
-      ∙ omega (arith, length-take (128 * c.read_count.result) c.room_of.result.now, c.room_of.ensures.size, c.read_count.ensures.few, c.requires);
-}
+pub returns-clause-size : goal.returns-clause-size
+returns-clause-size c =
+    ap (λ n. length (take (128 * n) c.room_of.result.now)) c.from.ensures
+    ∙ omega (arith, length-take (128 * c.args.count) c.room_of.result.now, c.room_of.ensures.size, c.requires)

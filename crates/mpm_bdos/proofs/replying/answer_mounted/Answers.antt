@@ -1,10 +1,11 @@
-use Rattle.std.proofs.Common.{◌≡◌, ◌∙◌, ◌≤◌, IfSome, sym, ap, subst}
+use Rattle.std.proofs.Common.{◌≡◌, ◌∙◌, IfSome, sym, ap, subst}
 use Rattle.mpm_bdos.specs.declared.granting.Granted.{Granted}
-use Rattle.mpm_bdos.specs.Ending.{is_moving, is_reading, IsPlaced}
+use Rattle.mpm_bdos.specs.Ending.{is_moving, is_reading, HasRead, FewDone, IsPlaced}
 use Rattle.mpm_bdos.specs.Answering.{MayGrant}
 use Rattle.mpm_bdos.specs.Asking.{key_asked}
 use Rattle.mpm_bdos.specs.Leaving.{IsOwn, left_by, left_first, granted_by}
-use Rattle.mpm_bdos.specs.Replies.{found_bytes, answer_by}
+use Rattle.mpm_bdos.specs.Records.{done_by}
+use Rattle.mpm_bdos.specs.Replies.{found_bytes, value_by, answer_by}
 use Rattle.mpm_bdos.proofs.UserLaws.{users_kept}
 use Rattle.mpm_bdos.proofs.replying.answer_mounted.Goals as goal
 
@@ -34,9 +35,10 @@ returns-clause-reply c = λ image drive records entry stands granted is.
     let same : c.grant-granted.result ≡ granted_by drive (left_first opens a work deleted) a work =
     c.grant-granted.ensures.granted image drive stands granted.in_file ∙ ap (λ o. granted_by drive o a work) left
     in
-    c.answer.ensures.all image drive records entry stands (subst (λ (g : Granted). IfSome g.ended.end (λ end. g.ended.moved ≤ 15)) (sym same) granted.few)
+    c.answer.ensures.all image drive records entry stands (subst (λ (g : Granted). FewDone a.caller.multi g.ended) (sym same) granted.few)
     (λ moves. subst IsPlaced (sym same) (granted.placed (sym (ap (λ (g : Granted). is_moving g.function) same) ∙ moves)))
-    (λ reads. granted.read (sym (ap (λ (g : Granted). is_reading g.function) same) ∙ reads))
+    (λ reads. subst (λ (g : Granted). HasRead (done_by a.caller.multi (value_by drive g g.function)) work records) (sym same)
+    (granted.read (sym (ap (λ (g : Granted). is_reading g.function) same) ∙ reads)))
     (c.told_found-told.ensures image drive stands ∙ ap (found_bytes drive) is)
     ∙ ap (λ g. answer_by drive g records entry c.args.fcb.now c.args.dma) same
 
@@ -44,4 +46,4 @@ pub answer-requires-clause-block : goal.answer-requires-clause-block
 answer-requires-clause-block c = c.grant-granted.ensures.block ∙ c.requires.block
 
 pub returns-clause-may : goal.returns-clause-may
-returns-clause-may c = subst (λ function. MayGrant c.args.asked.now.caller.multi function c.args.dma c.answer.new.reply) c.grant-granted.ensures.function c.answer.ensures.may
+returns-clause-may c = subst (λ function. MayGrant c.args.asked.now.caller.multi function c.args.fcb.now c.args.dma c.answer.new.reply) c.grant-granted.ensures.function c.answer.ensures.may

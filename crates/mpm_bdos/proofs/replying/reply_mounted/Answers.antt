@@ -67,7 +67,8 @@ pub returns-clause-may : goal.returns-clause-may
 returns-clause-may c =
     let reply = c.answer_mounted.new.reply in
     let multi = c.args.caller.now.multi in
+    let fcb = c.call.inside.fcb in
     let dma = c.call.inside.dma in
-    subst (λ (call : Taken). MayGrant multi c.args.function call.dma reply) c.call.view_is
-    (subst (λ function. MayGrant multi function dma reply) c.ask-asked.ensures.function
-    (subst (λ (caller : Caller). MayGrant caller.multi c.ask-asked.result.function dma reply) c.ask-asked.ensures.caller c.answer_mounted.ensures.may))
+    subst (λ (call : Taken). MayGrant multi c.args.function call.fcb call.dma reply) c.call.view_is
+    (subst (λ function. MayGrant multi function fcb dma reply) c.ask-asked.ensures.function
+    (subst (λ (caller : Caller). MayGrant caller.multi c.ask-asked.result.function fcb dma reply) c.ask-asked.ensures.caller c.answer_mounted.ensures.may))

@@ -12,4 +12,4 @@ returns-clause-all c = λ image drives stands drive_is.
     }
 
 pub returns-clause-entered : goal.returns-clause-entered
-returns-clause-entered c = record { caller_is = refl; function_is = refl; call_is = c.copied.ensures; row = c.refusal_of-refusal.ensures.row }
+returns-clause-entered c = λ named. record { caller_is = refl; function_is = refl; call_is = c.copied.ensures; drive = named; row = c.refusal_of-refusal.ensures.row }

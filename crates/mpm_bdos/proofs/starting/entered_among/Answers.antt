@@ -1,6 +1,7 @@
 use Rattle.std.proofs.Common.{◌≡◌, ◌∙◌, ℕ, sym, ap, subst}
 use Rattle.std.specs.Prelude.{unwrap_or}
 use Rattle.mpm_bdos.specs.Subjects.{drive_by, drive_number}
+use Rattle.mpm_bdos.specs.Searches.{searched}
 use Rattle.mpm_bdos.specs.Asking.{called, StandsFor}
 use Rattle.mpm_bdos.specs.Serving.{directory_at}
 use Rattle.mpm_bdos.specs.Starting.{Enters}
@@ -26,3 +27,13 @@ returns-clause-drive c = λ drives.
     let caller = c.args.caller.now in
     c.entered.ensures.drive ∙ c.drive_of_call-drive.ensures
     ∙ (λ i. unwrap_or (drive_by (c.get-search.ensures i) caller.drive (c.word_of_call-word.ensures i) (c.block_taken-block.ensures.block i) c.args.function) caller.drive)
+
+pub returns-clause-entered : goal.returns-clause-entered
+returns-clause-entered c =
+    let own = c.args.caller.now.drive in
+    c.entered.ensures.entered (record {
+      own = own;
+      search = searched c.get-search.result;
+      is = c.drive_of_call-drive.ensures
+          ∙ (λ i. unwrap_or (drive_by (searched c.get-search.result) own (c.word_of_call-word.ensures i) (c.block_taken-block.ensures.block i) c.args.function) own);
+    })

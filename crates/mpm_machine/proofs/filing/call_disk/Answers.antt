@@ -1,7 +1,7 @@
 use Rattle.std.proofs.Common.{◌≤◌, sym, subst}
 use Rattle.mpm_procs.specs.declared.process.Process.{Process}
 use Rattle.mpm_machine.proofs.FilingLaws.{disk_is, at_once_idle, bare_still}
-use Rattle.mpm_machine.proofs.ToldLaws.{disk_told}
+use Rattle.mpm_machine.proofs.ToldLaws.{disk_told, ok_as_kept}
 use Rattle.mpm_machine.proofs.FailingLaws.{disk_fails, disk_calls}
 use Rattle.mpm_machine.proofs.filing.call_disk.Goals as goal
 
@@ -41,3 +41,6 @@ returns-clause-told g c =
 
 pub returns-clause-service : goal.returns-clause-service
 returns-clause-service g c = at_once_idle _ _ c.kept_call.ensures c.requires.function c.call_at_once.ensures.service
+
+pub returns-clause-as_kept : goal.returns-clause-as_kept
+returns-clause-as_kept g c = ok_as_kept c.args.bdos.now c.args.p c.args.system.now c.call_at_once.new.reply c.call_at_once.result c.requires.function

@@ -51,6 +51,7 @@ returns-in_default g c = record {
   bare = λ none. none;
   none = λ none. refl;
   holds = c.requires.holds;
+  kept = record { rest = refl; service = refl; places = λ number _. refl; labels = λ number. refl };
   unfailing = λ none. refl;
   idle = λ idle. (refl, refl, refl, refl);
   few = omega arith;

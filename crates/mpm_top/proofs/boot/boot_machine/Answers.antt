@@ -36,8 +36,8 @@ returns-in-Err-clause-drive_faults g c = unless_disk_always c.in-Err.status _ re
 pub returns-in-Ok-boot-clause-starts : goal.returns-in-Ok-boot-clause-starts
 returns-in-Ok-boot-clause-starts g c =
     starts_of_file (host g.F.Files.contents g.D.Drives.disks c.args.files.now c.args.drives.now) c.args.bytes.now c.in-Ok.file c.in-Ok-read_script_of.script
-    c.in-Ok-boot.machine.system (g.D.Drives.attached c.boot.new.drives) (g.D.Drives.disks c.boot.new.drives) c.in-Ok-boot.machine.bdos c.in-Ok.ensures.ok
-    c.in-Ok-read_script_of.ensures.scripted c.in-Ok-boot.ensures.opening c.in-Ok-boot.ensures.mounted c.in-Ok-boot.ensures.drives
+    c.in-Ok-boot.machine.system (g.D.Drives.disks c.boot.new.drives) c.in-Ok-boot.machine.bdos c.in-Ok.ensures.ok
+    c.in-Ok-read_script_of.ensures.scripted c.in-Ok-boot.ensures.opening c.in-Ok-boot.ensures.files c.in-Ok-boot.ensures.drives
     (nobody_yet c.in-Ok-boot.machine.system.kernel.disk c.in-Ok.file.disk_turn c.in-Ok-boot.ensures.disk)
 
 pub returns-in-Ok-boot-clause-attached : goal.returns-in-Ok-boot-clause-attached

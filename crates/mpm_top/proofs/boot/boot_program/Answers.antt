@@ -9,7 +9,7 @@ use Rattle.mpm_top.proofs.boot.boot_program.Goals as goal
 pub returns-in-Ok-clause-starts : goal.returns-in-Ok-clause-starts
 returns-in-Ok-clause-starts g c host =
     program_starts host c.args.bytes.now (g.D.Drives.disks c.args.drives.now) c.in-Ok.machine.system c.in-Ok.machine.bdos c.in-Ok.ensures.opening c.in-Ok.ensures.bdos
-    (nobody_yet c.in-Ok.machine.system.kernel.disk 0 c.in-Ok.ensures.disk)
+    (c.in-Ok.ensures.files (g.D.Drives.disks c.args.drives.now)) (nobody_yet c.in-Ok.machine.system.kernel.disk 0 c.in-Ok.ensures.disk)
 
 pub returns-in-Ok-clause-holds : goal.returns-in-Ok-clause-holds
 returns-in-Ok-clause-holds g c = holds_nothing g.D.Drives.attached g.D.Drives.disks c.in-Ok.machine.system.kernel 0 c.in-Ok.machine.bdos c.args.drives.now c.in-Ok.ensures.disk c.in-Ok.ensures.bdos

@@ -3,7 +3,7 @@ use Rattle.mpm_machine.specs.Faults.{counts}
 use Rattle.mpm_drives.specs.Images.{image_named}
 use Rattle.mpm_top.specs.Runs.{host, failed, begun, command_on, drives_listed, Causes}
 use Rattle.mpm_top.proofs.RunLaws.{ends_by_fault, disk_closed, writes_part, stopped_early}
-use Rattle.mpm_top.proofs.Naming.{others_told}
+use Rattle.mpm_top.proofs.Naming.{others_then}
 use Rattle.mpm_top.proofs.Syncing.{listed_synced, syncs_attached}
 use Rattle.mpm_top.proofs.run.run_command.Goals as goal
 
@@ -22,6 +22,10 @@ returns-in-Ok-run_to_end-clause-ran g c is =
       synced =
           listed_synced (g.D.Drives.disks c.boot.new.drives) c.in-Ok.machine.bdos.mounted (g.D.Drives.unsynced c.run_to_end.new.drives)
           (drives_listed c.args.asked.form starts.begins.bytes) starts.listed.each c.in-Ok-run_to_end.ensures.synced;
+      others =
+          others_then (image_named (g.D.Drives.disks c.args.drives.now)) (image_named (g.D.Drives.disks c.boot.new.drives)) (image_named (g.D.Drives.disks c.run_to_end.new.drives))
+          (drives_listed c.args.asked.form starts.begins.bytes) c.in-Ok.ensures.images
+          (c.in-Ok-run_to_end.ensures.others (drives_listed c.args.asked.form starts.begins.bytes) starts.listed);
       text = λ told. c.in-Ok-run_to_end.ensures.ok starts.drives (starts.files told);
       images = λ told.
           c.in-Ok-run_to_end.ensures.images (drives_listed c.args.asked.form starts.begins.bytes) starts.drives starts.listed (starts.files told);
@@ -31,14 +35,6 @@ pub returns-in-Ok-run_to_end-clause-synced : goal.returns-in-Ok-run_to_end-claus
 returns-in-Ok-run_to_end-clause-synced g c is =
     syncs_attached (g.D.Drives.attached c.args.drives.now) (g.D.Drives.attached c.run_to_end.new.drives) (g.D.Drives.unsynced c.run_to_end.new.drives) c.in-Ok.machine.bdos.mounted
     (λ number free. c.in-Ok-run_to_end.ensures.attached number ∙ c.in-Ok.ensures.attached number free) c.in-Ok-run_to_end.ensures.synced
-
-pub returns-in-Ok-run_to_end-clause-others : goal.returns-in-Ok-run_to_end-clause-others
-returns-in-Ok-run_to_end-clause-others g c bytes told image apart =
-    let starts = c.in-Ok.ensures.starts in
-    c.in-Ok-run_to_end.ensures.others (drives_listed c.args.asked.form starts.begins.bytes) starts.listed image
-    (others_told (host g.F.Files.contents g.D.Drives.disks c.args.files.now c.args.drives.now) c.args.asked.form c.args.name.now bytes c.in-Ok.machine.system c.in-Ok.machine.bdos
-    (g.D.Drives.disks c.boot.new.drives) image starts told apart)
-    ∙ c.in-Ok.ensures.images image
 
 -- the run stopped
 
@@ -65,7 +61,10 @@ returns-in-Ok-clause-disk_text g c step is =
     (g.S.Sink.written c.args.sink.now) (g.S.Sink.written c.run_to_end.new.sink) (g.S.Sink.faults c.args.sink.now) (g.S.Sink.faults c.run_to_end.new.sink)
     c.stopped.ensures is starts.begins c.in-Err-run_to_end.ensures.within
     (λ told. c.in-Err-run_to_end.ensures.err (drives_listed c.args.asked.form starts.begins.bytes) starts.drives starts.listed (starts.files told))
-    c.in-Err-run_to_end.ensures.stops)
+    c.in-Err-run_to_end.ensures.stops
+    (others_then (image_named (g.D.Drives.disks c.args.drives.now)) (image_named (g.D.Drives.disks c.boot.new.drives)) (image_named (g.D.Drives.disks c.run_to_end.new.drives))
+    (drives_listed c.args.asked.form starts.begins.bytes) c.in-Ok.ensures.images
+    (c.in-Err-run_to_end.ensures.others (drives_listed c.args.asked.form starts.begins.bytes) starts.listed)))
 
 pub returns-in-Ok-clause-write_text : goal.returns-in-Ok-clause-write_text
 returns-in-Ok-clause-write_text g c step is =
@@ -76,17 +75,12 @@ returns-in-Ok-clause-write_text g c step is =
     c.stopped.ensures is starts.begins c.in-Err-run_to_end.ensures.within
     (λ told. c.in-Err-run_to_end.ensures.err (drives_listed c.args.asked.form starts.begins.bytes) starts.drives starts.listed (starts.files told))
     c.in-Err-run_to_end.ensures.stops
+    (others_then (image_named (g.D.Drives.disks c.args.drives.now)) (image_named (g.D.Drives.disks c.boot.new.drives)) (image_named (g.D.Drives.disks c.run_to_end.new.drives))
+    (drives_listed c.args.asked.form starts.begins.bytes) c.in-Ok.ensures.images
+    (c.in-Err-run_to_end.ensures.others (drives_listed c.args.asked.form starts.begins.bytes) starts.listed))
 
 pub returns-in-Ok-clause-images : goal.returns-in-Ok-clause-images
 returns-in-Ok-clause-images g c early image =
     c.in-Err-run_to_end.ensures.early
     (stopped_early c.in-Err-run_to_end.error.fault c.in-Err-run_to_end.error.step c.stopped.result c.stopped.ensures early) image
-    ∙ c.in-Ok.ensures.images image
-
-pub returns-in-Ok-clause-others : goal.returns-in-Ok-clause-others
-returns-in-Ok-clause-others g c bytes told image apart =
-    let starts = c.in-Ok.ensures.starts in
-    c.in-Err-run_to_end.ensures.others (drives_listed c.args.asked.form starts.begins.bytes) starts.listed image
-    (others_told (host g.F.Files.contents g.D.Drives.disks c.args.files.now c.args.drives.now) c.args.asked.form c.args.name.now bytes c.in-Ok.machine.system c.in-Ok.machine.bdos
-    (g.D.Drives.disks c.boot.new.drives) image starts told apart)
     ∙ c.in-Ok.ensures.images image

@@ -58,9 +58,9 @@ pub returns-in-Err-clause-early : goal.returns-in-Err-clause-early
 returns-in-Err-clause-early g c zero = absurd (omega (arith, zero, c.in-Err.ensures.stops.is))
 
 pub returns-in-Err-clause-others : goal.returns-in-Err-clause-others
-returns-in-Err-clause-others g c specs has image apart =
-    others_behind (g.D.Drives.disks c.args.drives.now) (g.D.Drives.disks c.run.new.drives) c.args.machine.now.bdos.mounted c.run.new.self.bdos.mounted specs image has
-    c.in-Err.ensures.keeps apart
+returns-in-Err-clause-others g c specs has =
+    others_behind (g.D.Drives.disks c.args.drives.now) (g.D.Drives.disks c.run.new.drives) c.args.machine.now.bdos.mounted c.run.new.self.bdos.mounted specs has
+    c.in-Err.ensures.keeps
 
 pub returns-in-Err-clause-cause : goal.returns-in-Err-clause-cause
 returns-in-Err-clause-cause g c =
@@ -105,9 +105,9 @@ pub returns-in-Ok-settle-clause-attached : goal.returns-in-Ok-settle-clause-atta
 returns-in-Ok-settle-clause-attached g c number = c.in-Ok-settle.ensures.attached number ∙ c.in-Ok.ensures.attached number
 
 pub returns-in-Ok-settle-clause-others : goal.returns-in-Ok-settle-clause-others
-returns-in-Ok-settle-clause-others g c specs has image apart =
+returns-in-Ok-settle-clause-others g c specs has =
     others_settled (g.D.Drives.disks c.args.drives.now) (g.D.Drives.disks c.run.new.drives) (g.D.Drives.disks c.settle.new.drives) c.args.machine.now.bdos.mounted
-    c.run.new.self.bdos.mounted c.settle.new.self.bdos.mounted specs image has c.in-Ok.ensures.keeps c.in-Ok-settle.ensures.keeps apart
+    c.run.new.self.bdos.mounted c.settle.new.self.bdos.mounted specs has c.in-Ok.ensures.keeps c.in-Ok-settle.ensures.keeps
 
 pub returns-in-Ok-settle-clause-steps : goal.returns-in-Ok-settle-clause-steps
 returns-in-Ok-settle-clause-steps g c =
@@ -169,9 +169,9 @@ returns-clause-early g c zero name =
     ∙ ap (λ (x : Option Disks). image_named x name) (ap g.D.Drives.disks (c.in-Ok.ensures.still zero))
 
 pub returns-clause-others : goal.returns-clause-others
-returns-clause-others g c specs has image apart =
+returns-clause-others g c specs has =
     others_settled (g.D.Drives.disks c.args.drives.now) (g.D.Drives.disks c.run.new.drives) (g.D.Drives.disks c.settle.new.drives) c.args.machine.now.bdos.mounted
-    c.run.new.self.bdos.mounted c.settle.new.self.bdos.mounted specs image has c.in-Ok.ensures.keeps c.in-Err-settle.ensures.keeps apart
+    c.run.new.self.bdos.mounted c.settle.new.self.bdos.mounted specs has c.in-Ok.ensures.keeps c.in-Err-settle.ensures.keeps
 
 pub returns-clause-cause : goal.returns-clause-cause
 returns-clause-cause g c =

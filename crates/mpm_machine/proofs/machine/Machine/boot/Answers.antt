@@ -2,6 +2,7 @@ use Rattle.std.proofs.Common.{◌∙◌, sym, subst}
 use Rattle.mpm_bdos.specs.Serving.{Kept}
 use Rattle.mpm_machine.specs.Holding.{HoldsDrives}
 use Rattle.mpm_machine.proofs.MountedLaws.{holds_again}
+use Rattle.mpm_machine.proofs.FirstFiles.{opens_again}
 use Rattle.mpm_machine.proofs.OpeningLaws.{boots, opened_here}
 use Rattle.mpm_machine.proofs.SlotLaws.{has_residents, interprets_opened}
 use Rattle.mpm_machine.proofs.machine.Machine.boot.Goals as goal
@@ -44,3 +45,8 @@ returns-clause-holds g c =
     subst (λ (k : Kept). HoldsDrives g.D.Drives.attached g.D.Drives.disks c.begin_residents.new.self.system.kernel k c.boot_bare.new.drives) (sym c.begin_residents.ensures.bdos)
     (holds_again g.D.Drives.attached g.D.Drives.disks c.in-Ok.machine.system.kernel c.begin_residents.new.self.system.kernel c.args.file.now.disk_turn c.in-Ok.machine.bdos c.boot_bare.new.drives
     (c.begin_residents.ensures.disk ∙ c.in-Ok.ensures.disk) c.in-Ok.ensures.holds)
+
+pub returns-clause-files : goal.returns-clause-files
+returns-clause-files g c =
+    opens_again _ _ c.in-Ok.machine.system.kernel.disk c.begin_residents.new.self.system.kernel.disk c.in-Ok.machine.bdos c.begin_residents.new.self.bdos _ c.begin_residents.ensures.disk c.begin_residents.ensures.bdos
+    c.in-Ok.ensures.files

@@ -1,5 +1,7 @@
 use Rattle.mpm_machine.proofs.MountedLaws.{mounted_here, holds_mounted}
 use Rattle.mpm_machine.proofs.DriveLaws.{mounted_drives}
+use Rattle.mpm_machine.proofs.SettlingLaws.{nobody_yet}
+use Rattle.mpm_machine.proofs.FirstFiles.{opens_on}
 use Rattle.mpm_machine.proofs.machine.Machine.boot_bare.Goals as goal
 
 pub returns-in-Ok-bare-clause-mounted : goal.returns-in-Ok-bare-clause-mounted
@@ -16,3 +18,9 @@ pub returns-in-Ok-bare-clause-drives : goal.returns-in-Ok-bare-clause-drives
 returns-in-Ok-bare-clause-drives g c =
     mounted_drives _ _ _ c.args.file.now c.in-Ok-bare.machine.bdos c.requires
     (mounted_here _ _ _ _ c.in-Ok.mounted c.into_mounted.result.items c.in-Ok-bare.machine.bdos c.as_slice.ensures c.in-Ok.ensures.mounted c.into_mounted.ensures c.in-Ok-bare.ensures.bdos)
+
+pub returns-in-Ok-bare-clause-files : goal.returns-in-Ok-bare-clause-files
+returns-in-Ok-bare-clause-files g c =
+    opens_on _ _ _ _ c.in-Ok-bare.machine.system.kernel.disk c.in-Ok-bare.machine.bdos
+    (mounted_here _ _ _ _ c.in-Ok.mounted c.into_mounted.result.items c.in-Ok-bare.machine.bdos c.as_slice.ensures c.in-Ok.ensures.mounted c.into_mounted.ensures c.in-Ok-bare.ensures.bdos)
+    (nobody_yet c.in-Ok-bare.machine.system.kernel.disk c.args.file.now.disk_turn c.in-Ok-bare.ensures.disk)

@@ -5,6 +5,8 @@ use Rattle.mpm_machine.specs.declared.system.System.{System}
 use Rattle.mpm_bdos.specs.Serving.{nothing_kept, in_places}
 use Rattle.mpm_machine.specs.Opening.{MayPlace}
 use Rattle.mpm_machine.proofs.PlacedLaws.{booted_program, may_place_program, opening_is}
+use Rattle.mpm_machine.proofs.SettlingLaws.{nobody_yet}
+use Rattle.mpm_machine.proofs.FirstFiles.{opens_on_none}
 use Rattle.mpm_machine.proofs.machine.Machine.boot_program.Goals as goal
 
 pub place-p-requires : goal.place-p-requires
@@ -23,3 +25,9 @@ returns-clause-disk c = c.place-p.ensures.disk ∙ c.in-Ok-bare.ensures.disk ∙
 
 pub returns-clause-bdos : goal.returns-clause-bdos
 returns-clause-bdos c = c.place-p.ensures.bdos ∙ c.in-Ok-bare.ensures.bdos ∙ ap (λ items. nothing_kept (in_places items)) c.new.ensures.items
+
+pub returns-clause-files : goal.returns-clause-files
+returns-clause-files c disks =
+    opens_on_none disks c.place-p.new.self.system.kernel.disk c.place-p.new.self.bdos
+    (c.place-p.ensures.bdos ∙ c.in-Ok-bare.ensures.bdos ∙ ap (λ items. nothing_kept (in_places items)) c.new.ensures.items)
+    (nobody_yet c.place-p.new.self.system.kernel.disk 0 (c.place-p.ensures.disk ∙ c.in-Ok-bare.ensures.disk ∙ ap (λ (file : MachineFile). no_service file.disk_turn) c.in-Ok.ensures))

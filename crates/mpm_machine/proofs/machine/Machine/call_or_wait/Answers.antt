@@ -57,9 +57,9 @@ returns-in-Ok-clause-ok g c files stands =
 
 pub returns-in-Ok-clause-called : goal.returns-in-Ok-clause-called
 returns-in-Ok-clause-called g c =
-    once_told c.conclude.result c.args.p (seen g.S.Sink.written g.S.Sink.faults c.args.render.now c.args.sink.now)
+    once_told c.args.self.now.bdos c.conclude.result c.args.p (seen g.S.Sink.written g.S.Sink.faults c.args.render.now c.args.sink.now)
     (seen g.S.Sink.written g.S.Sink.faults c.conclude.new.render c.conclude.new.sink) c.args.self.now.system c.conclude.new.self.system c.call_files.new.reply c.in-Ok.extended
-    (sym c.is_done_at_once.ensures.done ∙ c.if-not-is_done_at_once.false) c.in-Ok.ensures.told c.conclude.ensures.system c.conclude.ensures.wrote
+    (sym c.is_done_at_once.ensures.done ∙ c.if-not-is_done_at_once.false) c.in-Ok.ensures.told c.in-Ok.ensures.as_kept c.conclude.ensures.system c.conclude.ensures.wrote
 
 pub returns-in-Ok-clause-err : goal.returns-in-Ok-clause-err
 returns-in-Ok-clause-err g c files stands =

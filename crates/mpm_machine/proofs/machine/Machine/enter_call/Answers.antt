@@ -1,7 +1,7 @@
 use Rattle.std.proofs.Common.{◌∙◌, refl, sym, ap}
 use Rattle.mpm_service.specs.Disk.{served_process}
 use Rattle.mpm_machine.proofs.WorkLaws.{served_by_some, unserved_by_some}
-use Rattle.mpm_machine.proofs.EnterLaws.{starts_whole, starts_lives, starts_filed, begins_so, begun_is, enters_so, has_entered_so, enters_whole, owns_entered, nobody_starts, none_enters_so, nobody_entered, unserved_begun, unserved_own, has_entered_nobody, has_entered_still, goes_on}
+use Rattle.mpm_machine.proofs.EnterLaws.{starts_whole, starts_lives, starts_filed, begins_so, begun_is, enters_so, has_entered, enters_whole, owns_entered, nobody_starts, none_enters_so, nobody_entered, unserved_begun, unserved_own, has_entered_nobody, has_entered_still, goes_on}
 use Rattle.mpm_machine.proofs.machine.Machine.enter_call.Goals as goal
 
 -- a call is in service
@@ -43,12 +43,13 @@ returns-in-Starts c =
     begins_so p turns old c.turn_disk.new.self c.args.self.now.bdos new c.turn_disk.ensures.kernel
     (record {
       turns_are = c.start_call-turns.ensures.turns;
+      takes = c.start_call-turns.ensures.takes;
       serves = c.start_call-turns.ensures.serves;
       entered = c.start_call-turns.ensures.entered;
       some = c.start_call-turns.ensures.some;
     }) in
     let is = begun_is turns old c.turn_disk.new.self c.begin_disk_call.new.self c.turn_disk.ensures.kernel c.begin_disk_call.ensures.kernel in
-    let has = has_entered_so old _ p turns is starts none c.start_call-turns.ensures.some in
+    let has = has_entered old _ p turns c.args.self.now.bdos new is starts none c.requires.filed begins in
     record {
       ok = λ disks files stands. enters_so old _ p turns c.args.self.now.bdos new disks files is starts none c.requires.filed begins stands;
       entered = has;

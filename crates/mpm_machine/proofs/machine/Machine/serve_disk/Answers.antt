@@ -1,6 +1,7 @@
-use Rattle.std.proofs.Common.{◌∙◌, ap}
+use Rattle.std.proofs.Common.{◌∙◌, ap, subst}
 use Rattle.mpm_machine.specs.declared.machine.Machine.{Machine}
 use Rattle.mpm_machine.specs.DiskStep.{call_entered, files_served}
+use Rattle.mpm_machine.specs.After.{EntersFor}
 use Rattle.mpm_machine.proofs.EnterLaws.{paid_whole, paid_begun, paid_filed, paid_own, entered_behind, has_served_to, has_served, served_filed}
 use Rattle.mpm_machine.proofs.EndStepLaws.{served_nobody, keeps_then, keeps_entered, keeps_none, workless_paid}
 use Rattle.mpm_machine.proofs.CarryingLaws.{keeps_paid}
@@ -33,7 +34,8 @@ returns-clause-ok g c disks files stands =
 pub returns-clause-step : goal.returns-clause-step
 returns-clause-step g c =
     let has = c.enter_call.ensures.entered in
-    has_served has.turns _ _ c.args.self.now.system c.pass_turn.new.self.system c.enter_call.new.self.system c.in_default.ensures.step has.some
+    has_served has.turns _ _ c.args.self.now.system c.pass_turn.new.self.system c.enter_call.new.self.system c.in_default.ensures.step
+    (subst (EntersFor has.turns) c.pay.ensures.system has.its)
     (has.is ∙ ap (call_entered has.turns) c.pay.ensures.system)
 
 pub returns-clause-filed : goal.returns-clause-filed

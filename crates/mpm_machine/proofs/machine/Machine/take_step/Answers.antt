@@ -7,7 +7,7 @@ use Rattle.mpm_bdos.specs.Serving.{Kept}
 use Rattle.mpm_machine.specs.Mounting.{HasNoDrive, KeepsMounted}
 use Rattle.mpm_machine.specs.Stepping.{files_begun}
 use Rattle.mpm_machine.proofs.DriveLaws.{keeps_both}
-use Rattle.mpm_machine.proofs.FilesStepLaws.{has_stepped, has_stepped_to, begun_has_stopped, disk_has_stopped, ended_has_stopped, begun_stops_by, ended_stops_by}
+use Rattle.mpm_machine.proofs.FilesStepLaws.{has_stepped, begun_as_before, has_stepped_to, begun_has_stopped, disk_has_stopped, ended_has_stopped, begun_stops_by, ended_stops_by}
 use Rattle.mpm_machine.proofs.TakeStepLaws.{does_nothing, turn_worked, begun_worked, not_at_once, step_calls, turn_calls, turn_fails_so, write_stops, begun_stops_on, work_cause, begun_cause, begun_fails, ended_fails, ended_stays, holds_ended}
 use Rattle.mpm_machine.proofs.machine.Machine.take_step.Goals as goal
 
@@ -172,7 +172,8 @@ returns-in-Ok-end_step-clause-ok g c files stands =
 
 pub returns-in-Ok-end_step-clause-step : goal.returns-in-Ok-end_step-clause-step
 returns-in-Ok-end_step-clause-step g c =
-    has_stepped c.in-Ok.instruction _ (seen g.S.Sink.written g.S.Sink.faults c.begin_step.new.render c.begin_step.new.sink) _ c.args.self.now.system c.begin_step.new.self.system c.end_step.new.self.system c.requires.whole c.requires.no_completions c.in-Ok.ensures.step
+    has_stepped c.in-Ok.instruction _ (seen g.S.Sink.written g.S.Sink.faults c.begin_step.new.render c.begin_step.new.sink) _ c.args.self.now.system c.begin_step.new.self.system c.end_step.new.self.system c.requires.whole c.requires.no_completions
+    (begun_as_before c.args.self.now.bdos c.work.new.bdos c.in-Ok.instruction _ _ c.args.self.now.system c.begin_step.new.self.system c.work.ensures.kept c.in-Ok.ensures.step)
     c.in-Ok-end_step.ensures.step
 
 pub returns-in-Ok-end_step-clause-holds : goal.returns-in-Ok-end_step-clause-holds

@@ -1,4 +1,4 @@
--- The drives with which a machine begins, in their places: each image stands for what is on its drive.
+-- The files with which a machine begins: its drives in their places, each image standing for what is on its drive.
 use Rattle.std.proofs.Common.{◌≡◌, ◌≢◌, ◌∙◌, ℕ, zero, suc, List, [], ◌∷◌, Option, Some, None, length, refl, sym, subst}
 use Rattle.std.specs.Prelude.{replicate, slice_index_or, slice_set, unwrap_or}
 use Rattle.std.proofs.lemmas.List.{length-set}
@@ -11,10 +11,14 @@ use Rattle.mpm_mount.specs.Directories.{Directory, Stands}
 use Rattle.mpm_mount.specs.Mounting.{drive_in}
 use Rattle.mpm_drives.specs.Images.{ToldImage, Untold, Missing, Bytes, Images}
 use Rattle.mpm_drives.specs.Mounted.{NumberedDrive, IsImageOf, HasDirectory, AreMounted, AreTold, bytes_if, drives_on, placed}
-use Rattle.mpm_bdos.specs.Serving.{StandsWhere, StandEach, directory_at, all_put, in_places}
+use Rattle.mpm_drives.proofs.Opening.{drives_are}
+use Rattle.mpm_service.specs.Disk.{DiskService}
+use Rattle.mpm_bdos.specs.Serving.{Kept, StandsWhere, StandEach, directory_at, all_put, in_places, nothing_kept}
 use Rattle.mpm_bdos.specs.Turns.{told_images}
-use Rattle.mpm_machine.specs.Mounting.{HasNoDrive}
-use Rattle.mpm_machine.proofs.MountedLaws.{many_places, none_mounted}
+use Rattle.mpm_machine.specs.Files.{Between, StandsBetween, StandsForFiles}
+use Rattle.mpm_machine.specs.Mounting.{HasMounted, OpensOn, untouched}
+use Rattle.mpm_machine.proofs.MountedLaws.{many_places}
+use Rattle.mpm_machine.proofs.TurnLaws.{stands_idle}
 
 -- two lists of places that change in one place
 
@@ -71,17 +75,41 @@ each_stands a x images (spec ∷ specs) (d ∷ ds) mounted told number =
     (record { number_is = refl; stands = stands_told (images spec.image) (told_image x d.drive) spec.kind d told.0 mounted.0.image mounted.0.directory })
     (each_stands a x images specs ds mounted.1 told.1) number
 
-pub mounted_stand : (a : ℕ → Option ℕ) (x : Option Disks) (images : Images) (specs : List DriveSpec) (ds : List Directory) → AreMounted a x images specs ds → AreTold images specs
+mounted_stand : (a : ℕ → Option ℕ) (x : Option Disks) (images : Images) (specs : List DriveSpec) (ds : List Directory) → AreMounted a x images specs ds → AreTold images specs
     → StandEach (told_images x) (in_places ds) (placed (drives_on x ds))
 mounted_stand a x images specs ds mounted told = record { each = λ number. each_stands a x images specs ds mounted told number }
 
 -- none
 
-pub none_on : (x : Option Disks) (ds : List Directory) → drives_on x ds ≡ [] → HasNoDrive (in_places ds)
-unfolding drives_on
-none_on x [] none = none_mounted
-none_on x (d ∷ ds) none = absurd (cc)
-
-pub none_stand : (x : Option Disks) → StandEach (told_images x) (in_places []) (placed [])
+none_stand : (x : Option Disks) → StandEach (told_images x) (in_places []) (placed [])
 unfolding all_put placed
 none_stand x = record { each = λ number. nothing_both (StandsIn x) 16 (λ k. tt) number }
+
+-- so a machine begins, whose disk serves nobody
+
+mounted_stands : (a : ℕ → Option ℕ) (x : Option Disks) (images : Images) (specs : List DriveSpec) (disk : DiskService) (kept : Kept) (has : HasMounted a x images specs kept) → disk.served ≡ None
+    → AreTold images specs → StandsForFiles disk kept x (Between (untouched (placed (drives_on x has.directories))))
+mounted_stands a x images specs disk kept has idle told =
+    let drives = drives_on x has.directories in
+    stands_idle disk kept x (untouched (placed drives)) idle
+    (subst (λ (k : Kept). StandsBetween k x (untouched (placed drives))) (sym has.is)
+    (record { idle = refl; filing_is = refl; stand = mounted_stand a x images specs has.directories has.mounted told }))
+
+pub opens_on : (a : ℕ → Option ℕ) (x : Option Disks) (images : Images) (specs : List DriveSpec) (disk : DiskService) (kept : Kept) → HasMounted a x images specs kept → disk.served ≡ None
+    → OpensOn images specs disk kept x
+opens_on a x images specs disk kept has idle = record {
+  drives = drives_on x has.directories;
+  are = drives_are a x images specs has.directories has.mounted;
+  stand = mounted_stands a x images specs disk kept has idle;
+}
+
+pub opens_on_none : (disks : Option Disks) (disk : DiskService) (kept : Kept) → kept ≡ nothing_kept (in_places []) → disk.served ≡ None → StandsForFiles disk kept disks (Between (untouched (placed [])))
+opens_on_none disks disk kept is idle =
+    stands_idle disk kept disks (untouched (placed [])) idle
+    (subst (λ (k : Kept). StandsBetween k disks (untouched (placed []))) (sym is) (record { idle = refl; filing_is = refl; stand = none_stand disks }))
+
+-- and it goes on so as residents begin
+pub opens_again : (images : Images) (specs : List DriveSpec) (disk disk' : DiskService) (kept kept' : Kept) (x : Option Disks) → disk' ≡ disk → kept' ≡ kept → OpensOn images specs disk kept x
+    → OpensOn images specs disk' kept' x
+opens_again images specs disk disk' kept kept' x same_disk same opens =
+    subst (λ (k : Kept). OpensOn images specs disk' k x) (sym same) (subst (λ (d : DiskService). OpensOn images specs d kept x) (sym same_disk) opens)
