@@ -1,9 +1,10 @@
 -- Segments that begin, or change hands: they still make up a memory, and all bytes stay.
 use Rattle.std.proofs.Common.{◌≡◌, ◌≢◌, ℕ, zero, suc, ◌+◌, ◌*◌, min, ◌<◌, ◌≤◌, true, false, List, [], ◌∷◌, Option, Some, None, All, map, length, get_or, arith, subst, sym, ap, refl, ◌∙◌, if◌then◌else◌}
-use Rattle.std.proofs.lemmas.List.{length-replicate, length-map, length-set, get_or-map, get_or-set_same, get_or-set_other}
+use Rattle.std.proofs.lemmas.List.{length-map, length-set, get_or-map, get_or-set_same, get_or-set_other}
 use Rattle.std.proofs.lemmas.List.Quantifiers.{position-Some}
 use Rattle.std.proofs.Math.ListN.{get_or-eq_default}
 use Rattle.mpm_base.proofs.Choices.{either}
+use Rattle.mpm_base.proofs.Lists.{length_zeros}
 use Rattle.mpm_base.specs.Lists.{zeros}
 use Rattle.mpm_base.specs.declared.segment.SegmentSpec.{SegmentSpec}
 use Rattle.mpm_banks.specs.declared.segment.Segment.{Segment}
@@ -20,10 +21,6 @@ all_map : {A B : Type 0} (f : A → B) (P : A → Type 0) (Q : B → Type 0) (fi
 all_map f P Q first xs keeps all k d below =
     let within : k < length xs = omega (arith, length-map xs f) in
     subst Q (sym (get_or-map f xs k first d within)) (keeps _ (all k first within))
-
-length_zeros : (n : ℕ) → length (zeros n) ≡ n
-unfolding zeros
-length_zeros n = length-replicate n 0
 
 new_is_segment : (spec : SegmentSpec) → FitsBelowCommon spec → IsSegment (new_segment spec)
 new_is_segment spec fit = record { some = fit.some; below = fit.below; size = length_zeros (256 * spec.pages) }

@@ -23,14 +23,6 @@ pub bytes_back : (memory : Memory) (space : Space) (bytes : List ℕ) → IsSpac
 bytes_back memory Common bytes is = refl
 bytes_back memory (InSegment seg) bytes is = ap (λ (s : Segment). s.bytes) (get_or-set_same memory.segments seg _ no_segment is)
 
--- those of every other space stay
-pub bytes_elsewhere : (memory : Memory) (space other : Space) (bytes : List ℕ) → other ≢ space → bytes_of (with_bytes_of memory space bytes) other ≡ bytes_of memory other
-bytes_elsewhere memory Common Common bytes is = absurd (is refl)
-bytes_elsewhere memory Common (InSegment other) bytes is = refl
-bytes_elsewhere memory (InSegment seg) Common bytes is = refl
-bytes_elsewhere memory (InSegment seg) (InSegment other) bytes is =
-    ap (λ (s : Segment). s.bytes) (get_or-set_other memory.segments seg other _ no_segment (λ e. is (ap InSegment e)))
-
 -- no space is moved
 pub first_stays : (memory : Memory) (space other : Space) (bytes : List ℕ) → first_of (with_bytes_of memory space bytes) other ≡ first_of memory other
 first_stays memory space Common bytes = refl
@@ -146,18 +138,6 @@ unfolding with_byte IsWritable
 byte_at_with_byte memory seg address value is =
     read_put memory (place_of memory seg address) value seg address ∙ put_reads_back memory _ value seg address refl is
 
-put_leaves : (memory : Memory) (place other : Place) (value : ℕ) → other ≢ place → byte_of (put_to memory place value) other ≡ byte_of memory other
-put_leaves memory (At space index) (At other at) value apart = byte_of_other memory space other index at value apart
-put_leaves memory (At space index) Nowhere value apart = refl
-put_leaves memory Nowhere other value apart = refl
-
--- a write leaves every other place, of whatever process
-pub byte_at_elsewhere : (memory : Memory) (seg address value other at : ℕ) → place_of memory other at ≢ place_of memory seg address
-    → byte_at (with_byte memory seg address value) other at ≡ byte_at memory other at
-unfolding byte_at with_byte
-byte_at_elsewhere memory seg address value other at apart =
-    read_put memory (place_of memory seg address) value other at ∙ put_leaves memory _ _ value apart
-
 put_leaves_address : (memory : Memory) (place there : Place) (seg address value other : ℕ) → place_of memory seg address ≡ place
     → place_of memory seg other ≡ there → other ≢ address → byte_of (put_to memory place value) there ≡ byte_of memory there
 put_leaves_address memory Nowhere there seg address value other is at apart = refl
@@ -167,7 +147,7 @@ put_leaves_address memory (At space index) (At beside next) seg address value ot
     let further = (place_is_at memory seg other beside next at).address_is in
     byte_of_other memory space beside index next value (λ e. apart (cc (e, here, further)))
 
--- so it leaves what every other address of the process reads
+-- a write leaves what every other address of the process reads
 pub byte_at_other_address : (memory : Memory) (seg address value other : ℕ) → other ≢ address → byte_at (with_byte memory seg address value) seg other ≡ byte_at memory seg other
 unfolding byte_at with_byte
 byte_at_other_address memory seg address value other apart =
@@ -204,13 +184,6 @@ reaches_no_other seg other at apart = elim (cases_lt at 49152) [
   | inl below ↦ λ e. apart (let w : InSegment other ≡ InSegment seg = sym (space_below other at below) ∙ e in cc w)
   | inr above ↦ λ e. let w : Common ≡ InSegment seg = sym (space_above other at above) ∙ e in absurd (cc w)
 ]
-
--- a write into a segment leaves all that the process of another segment reads
-pub byte_at_other_process : (memory : Memory) (seg address value other at : ℕ) → other ≢ seg → address < 49152
-    → byte_at (with_byte memory seg address value) other at ≡ byte_at memory other at
-byte_at_other_process memory seg address value other at apart below =
-    byte_at_other_space memory seg address value other at
-    (λ e. reaches_no_other seg other at apart (e ∙ space_below seg address below))
 
 -- whatever a process writes, the segment of another stays
 pub byte_at_other_segment : (memory : Memory) (seg address value other at : ℕ) → other ≢ seg → at < 49152

@@ -1,5 +1,3 @@
-ghost use Rattle.std.specs.Prelude.{◌≡◌, ◌≤◌, ◌-◌};
-
 /// The first address of common memory.
 pub(crate) const COMMON_BASE: u16 = 0xC000;
 

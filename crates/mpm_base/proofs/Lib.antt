@@ -1,3 +1,5 @@
 pub mod CountLaws
 pub mod Choices
 pub mod Widths
+pub mod Lists
+pub mod Options

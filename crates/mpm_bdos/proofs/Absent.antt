@@ -5,10 +5,10 @@ use Rattle.std.specs.List.{list_any, filter}
 use Rattle.std.specs.FinMap.{entries}
 use Rattle.std.proofs.lemmas.Bool.{true≢false, false_from_ne_true}
 use Rattle.mpm_mount.specs.Drives.{FileName, PhysicalExtent, Drive, is_of, extents_of}
-use Rattle.mpm_files.specs.Units.{first_attributes}
-use Rattle.mpm_files.specs.Plans.{is_same_file, entries_named, is_entry_of, has_file}
-use Rattle.mpm_files.proofs.Names.{one_file, same_back}
-use Rattle.mpm_bdos.specs.Subjects.{attributes_in, is_there}
+use Rattle.mpm_mount.specs.Attributes.{first_attributes}
+use Rattle.mpm_mount.specs.Files.{is_same_file, entries_named, is_entry_of, has_file}
+use Rattle.mpm_mount.proofs.Names.{one_file, same_back}
+use Rattle.mpm_requests.specs.Subjects.{attributes_in, is_there}
 
 no_first : {K : Type 0} (found : List (K × PhysicalExtent)) → is_some (first_attributes found) ≡ false → found ≡ []
 no_first [] e = refl

@@ -1,33 +1,28 @@
 -- What a call may be answered, whatever is on the drives: its bytes, its file control block, and why it is refused.
-use Rattle.std.proofs.Common.{◌≡◌, ◌∙◌, ◌⊎◌, inl, inr, ℕ, zero, suc, ◌*◌, ◌<◌, ◌≤◌, Bool, true, false, List, [], ◌∷◌, ◌++◌, Option, Some, None, IfSome, length, get_or, refl, sym, ap, subst, arith}
+use Rattle.std.proofs.Common.{◌≡◌, ◌∙◌, ◌⊎◌, inl, inr, ℕ, zero, suc, ◌*◌, ◌≤◌, Bool, true, false, List, [], Option, Some, None, IfSome, length, refl, sym, ap, subst, arith}
 use Rattle.std.specs.Prelude.{option_map, bytes_eq, if◌then◌else◌}
 use Rattle.std.proofs.lemmas.Option.{same_Some}
 use Rattle.std.proofs.lemmas.Bool.{false≢true}
 use Rattle.mpm_base.specs.Calls.{Taken, Answer}
+use Rattle.mpm_functions.specs.declared.functions.FileFunction.{FileFunction}
+use Rattle.mpm_functions.specs.declared.functions.FileFunction.TheVariants.{ResetDisks, OpenFile, CloseFile, SearchFirst, SearchNext, DeleteFile, ReadSequential, WriteSequential, MakeFile, RenameFile, ProtectDisk, SetAttributes, ReadRandom, WriteRandom, FileSize, ResetDrives, AccessDrives, FreeDrives, TestAndWrite, LockRecord, UnlockRecord, FreeSpace, FlushBuffers, SetLabel, LabelData, ReadXfcb, WriteXfcb}
+use Rattle.mpm_functions.specs.declared.refusals.Extended.{Extended}
+use Rattle.mpm_functions.specs.declared.answers.Answered.{Answered}
+use Rattle.mpm_functions.specs.declared.answers.Answered.TheVariants.{AsExtended, AsRecord, AsNotFound}
+use Rattle.mpm_functions.specs.Refusals.{refused_extended, IsOfRow}
 use Rattle.mpm_fcb.specs.declared.block.ControlBlock.{ControlBlock}
 use Rattle.mpm_fcb.specs.Blocks.{block_of, bytes_of}
 use Rattle.mpm_fcb.proofs.Back.{bytes_back}
 use Rattle.mpm_files.specs.declared.errors.RecordError.TheVariants.{UnwrittenData}
+use Rattle.mpm_requests.specs.declared.caller.Caller.{Caller}
+use Rattle.mpm_requests.specs.Subjects.{IsNamed}
 use Rattle.mpm_bdos.specs.declared.ends.RecordEnd.TheVariants.{Failing}
-use Rattle.mpm_bdos.specs.declared.caller.Caller.{Caller}
-use Rattle.mpm_bdos.specs.declared.functions.FileFunction.{FileFunction}
-use Rattle.mpm_bdos.specs.declared.functions.FileFunction.TheVariants.{ResetDisks, OpenFile, CloseFile, SearchFirst, SearchNext, DeleteFile, ReadSequential, WriteSequential, MakeFile, RenameFile, ProtectDisk, SetAttributes, ReadRandom, WriteRandom, FileSize, ResetDrives, AccessDrives, FreeDrives, TestAndWrite, LockRecord, UnlockRecord, FreeSpace, FlushBuffers, SetLabel, LabelData, ReadXfcb, WriteXfcb}
-use Rattle.mpm_bdos.specs.declared.refusals.Refusal.{Refusal}
-use Rattle.mpm_bdos.specs.declared.refusals.Extended.{Extended}
-use Rattle.mpm_bdos.specs.declared.refusals.Refusal.TheVariants.{NotMounted, Busy}
-use Rattle.mpm_bdos.specs.declared.answers.Answered.{Answered}
-use Rattle.mpm_bdos.specs.declared.answers.Answered.TheVariants.{AsExtended, AsRecord, AsNotFound}
-use Rattle.mpm_bdos.specs.Filing.{LastSearch}
-use Rattle.mpm_bdos.specs.Subjects.{drive_by}
-use Rattle.mpm_bdos.specs.Refusals.{refusals_of, refusals_of_each}
 use Rattle.mpm_bdos.specs.Replies.{where_changed}
-use Rattle.mpm_bdos.specs.Asking.{unnamed_refusal, unmounted_refusal}
 use Rattle.mpm_bdos.specs.Serving.{InService}
-use Rattle.mpm_bdos.specs.Outcomes.{refused_extended}
 use Rattle.mpm_bdos.specs.Records.{done_by}
 use Rattle.mpm_bdos.specs.Ending.{is_reading}
 use Rattle.mpm_bdos.specs.Turns.{drive_served, without_work}
-use Rattle.mpm_bdos.specs.Answering.{IsOfDrive, AreParts, MayPlace, IsCoded, MayAmount, MayGrant, MayAnswer, MayTellIn, IsTold, IsNamed, IsOneOf, IsOfRow, IsEntered, HasEntered}
+use Rattle.mpm_bdos.specs.Answering.{IsOfDrive, AreParts, MayPlace, IsCoded, MayAmount, MayGrant, MayAnswer, MayTellIn, IsTold, IsEntered, HasEntered}
 use Rattle.mpm_bdos.proofs.FinishLaws.{unchanged}
 use Rattle.mpm_bdos.proofs.Started.{nothing_some}
 
@@ -51,108 +46,6 @@ told_block function old given block fcb length_is given_is (inr tells) size is =
     subst (λ f. IfSome f (IsTold function old)) (sym is)
     (either_way (IsTold function old) (bytes_eq (bytes_of block) old) (bytes_of block)
     (record { block = block; tells = subst (λ one. MayTellIn function one block) given_is tells; is = refl; size = size }))
-
--- a refusal of some
-pub one_at : (refusals : List Refusal) (place : ℕ) (other : Refusal) → place < length refusals → IsOneOf (get_or refusals place other) refusals
-unfolding IsOneOf
-one_at [] place other within = absurd (omega (arith, within))
-one_at (one ∷ others) zero other within = inl refl
-one_at (one ∷ others) (suc place) other within = inr (one_at others place other (omega (arith, within)))
-
-one_of_first : (refusal : Refusal) (ones others : List Refusal) → IsOneOf refusal ones → IsOneOf refusal (ones ++ others)
-unfolding IsOneOf
-one_of_first refusal [] others is = absurd is
-one_of_first refusal (one ∷ ones) others (inl same) = inl same
-one_of_first refusal (one ∷ ones) others (inr is) = inr (one_of_first refusal ones others is)
-
-one_of_last : (refusal : Refusal) (ones others : List Refusal) → IsOneOf refusal others → IsOneOf refusal (ones ++ others)
-unfolding IsOneOf
-one_of_last refusal [] others is = is
-one_of_last refusal (one ∷ ones) others is = inr (one_of_last refusal ones others is)
-
-pub in_row : (function : FileFunction) (result : Option Refusal) → IfSome result (λ refusal. IsOneOf refusal (refusals_of function)) → IfSome result (IsOfRow function)
-in_row function None is = tt
-in_row function (Some refusal) is = one_of_first refusal (refusals_of function) (refusals_of_each function) is
-
-pub in_row_of_each : (function : FileFunction) (result : Option Refusal) → IfSome result (λ refusal. IsOneOf refusal (refusals_of_each function)) → IfSome result (IsOfRow function)
-in_row_of_each function None is = tt
-in_row_of_each function (Some refusal) is = one_of_last refusal (refusals_of function) (refusals_of_each function) is
-
--- a call that names a drive is refused where that isn't mounted
-named_in_row : (function : FileFunction) (search : Option LastSearch) (own word : ℕ) (b : ControlBlock) (drive : ℕ) → drive_by search own word b function ≡ Some drive
-    → IsOfRow function NotMounted
-unfolding drive_by refusals_of IsOneOf
-named_in_row ResetDisks search own word b drive is = absurd (nothing_some drive is)
-named_in_row OpenFile search own word b drive is = inl refl
-named_in_row CloseFile search own word b drive is = inl refl
-named_in_row SearchFirst search own word b drive is = inl refl
-named_in_row SearchNext search own word b drive is = inl refl
-named_in_row DeleteFile search own word b drive is = inl refl
-named_in_row ReadSequential search own word b drive is = inl refl
-named_in_row WriteSequential search own word b drive is = inl refl
-named_in_row MakeFile search own word b drive is = inl refl
-named_in_row RenameFile search own word b drive is = inl refl
-named_in_row ProtectDisk search own word b drive is = absurd (nothing_some drive is)
-named_in_row SetAttributes search own word b drive is = inl refl
-named_in_row ReadRandom search own word b drive is = inl refl
-named_in_row WriteRandom search own word b drive is = inl refl
-named_in_row FileSize search own word b drive is = inl refl
-named_in_row ResetDrives search own word b drive is = absurd (nothing_some drive is)
-named_in_row AccessDrives search own word b drive is = absurd (nothing_some drive is)
-named_in_row FreeDrives search own word b drive is = absurd (nothing_some drive is)
-named_in_row TestAndWrite search own word b drive is = inl refl
-named_in_row LockRecord search own word b drive is = inl refl
-named_in_row UnlockRecord search own word b drive is = inl refl
-named_in_row FreeSpace search own word b drive is = inl refl
-named_in_row FlushBuffers search own word b drive is = absurd (nothing_some drive is)
-named_in_row SetLabel search own word b drive is = inl refl
-named_in_row LabelData search own word b drive is = inl refl
-named_in_row ReadXfcb search own word b drive is = inl refl
-named_in_row WriteXfcb search own word b drive is = inl refl
-
--- and one that names none where drives are busy, or nothing is sought
-busy_where : (busy : Bool) (function : FileFunction) → IsOfRow function Busy → IfSome (if busy then Some Busy else None) (IsOfRow function)
-busy_where true function is = is
-busy_where false function is = tt
-
-unnamed_in_row : (busy : Bool) (function : FileFunction) → IfSome (unnamed_refusal busy function) (IsOfRow function)
-unfolding refusals_of IsOneOf
-unnamed_in_row busy ResetDisks = busy_where busy ResetDisks (inl refl)
-unnamed_in_row busy OpenFile = tt
-unnamed_in_row busy CloseFile = tt
-unnamed_in_row busy SearchFirst = tt
-unnamed_in_row busy SearchNext = inr (inl refl)
-unnamed_in_row busy DeleteFile = tt
-unnamed_in_row busy ReadSequential = tt
-unnamed_in_row busy WriteSequential = tt
-unnamed_in_row busy MakeFile = tt
-unnamed_in_row busy RenameFile = tt
-unnamed_in_row busy ProtectDisk = busy_where busy ProtectDisk (inl refl)
-unnamed_in_row busy SetAttributes = tt
-unnamed_in_row busy ReadRandom = tt
-unnamed_in_row busy WriteRandom = tt
-unnamed_in_row busy FileSize = tt
-unnamed_in_row busy ResetDrives = busy_where busy ResetDrives (inl refl)
-unnamed_in_row busy AccessDrives = tt
-unnamed_in_row busy FreeDrives = tt
-unnamed_in_row busy TestAndWrite = tt
-unnamed_in_row busy LockRecord = tt
-unnamed_in_row busy UnlockRecord = tt
-unnamed_in_row busy FreeSpace = tt
-unnamed_in_row busy FlushBuffers = tt
-unnamed_in_row busy SetLabel = tt
-unnamed_in_row busy LabelData = tt
-unnamed_in_row busy ReadXfcb = tt
-unnamed_in_row busy WriteXfcb = tt
-
-pub unmounted_in_row : (function : FileFunction) (search : Option LastSearch) (own word : ℕ) (b : ControlBlock) (busy : Bool) (result : Option Refusal)
-    → result ≡ unmounted_refusal (drive_by search own word b function) (unnamed_refusal busy function) → IfSome result (IsOfRow function)
-unmounted_in_row function search own word b busy result is =
-    subst (λ r. IfSome r (IsOfRow function)) (sym is) (by_drive (drive_by search own word b function) refl)
-  where
-    by_drive : (drive : Option ℕ) → drive_by search own word b function ≡ drive → IfSome (unmounted_refusal drive (unnamed_refusal busy function)) (IsOfRow function)
-    by_drive None none = unnamed_in_row busy function
-    by_drive (Some drive) some = named_in_row function search own word b drive some
 
 -- it has entered service as long as its turns go on
 same_service : (caller : Caller) (function : FileFunction) (call : Taken) (one other : InService) → without_work other ≡ without_work one → IsEntered caller function call one

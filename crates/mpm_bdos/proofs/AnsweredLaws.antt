@@ -1,7 +1,7 @@
 -- What a call leaves of open files, and what its reply goes by, is what its turns have come to.
 use Rattle.std.proofs.Common.{◌≡◌, ◌∙◌, ℕ, ◌==◌, ◌&&◌, not, Bool, true, false, cond, List, Option, Some, None, refl, sym, ap, subst}
 use Rattle.std.specs.Prelude.{bytes_eq, is_some, option_and_then, option_map, unwrap_or}
-use Rattle.std.proofs.lemmas.Bool.{true≢false, false≢true}
+use Rattle.std.proofs.lemmas.Bool.{true≢false, false≢true, eqb-true}
 use Rattle.std.proofs.lemmas.Option.{same_Some}
 use Rattle.mpm_mount.specs.Drives.{Drive}
 use Rattle.mpm_opens.specs.declared.kinds.FileKey.{FileKey}
@@ -11,21 +11,21 @@ use Rattle.mpm_opens.specs.declared.kinds.Mode.TheVariants.{Locked, Unlocked, Re
 use Rattle.mpm_opens.specs.Kinds.{is_same_mode, is_file}
 use Rattle.mpm_opens.specs.Items.{place_at, is_named, file_where, file_named, add_answer}
 use Rattle.mpm_opens.specs.Opens.{OpenFiles, item_of, AreOpen, added, given_back, closed, written}
-use Rattle.mpm_opens.proofs.Keys.{equal_numbers}
 use Rattle.mpm_files.specs.declared.work.Work.{Work}
 use Rattle.mpm_fcb.specs.Names.{has_f5}
 use Rattle.mpm_fcb.specs.Positions.{random_record}
-use Rattle.mpm_bdos.specs.declared.functions.FileFunction.{FileFunction}
-use Rattle.mpm_bdos.specs.declared.functions.FileFunction.TheVariants.{ResetDisks, OpenFile, CloseFile, SearchFirst, SearchNext, DeleteFile, ReadSequential, WriteSequential, MakeFile, RenameFile, ProtectDisk, SetAttributes, ReadRandom, WriteRandom, FileSize, ResetDrives, AccessDrives, FreeDrives, TestAndWrite, LockRecord, UnlockRecord, FreeSpace, FlushBuffers, SetLabel, LabelData, ReadXfcb, WriteXfcb}
-use Rattle.mpm_bdos.specs.Filing.{Situation, block}
-use Rattle.mpm_bdos.specs.Subjects.{drive_number, drive_at, own_file, key_of, file_of, item_number, key_named, open_key, open_mode, open_file, opened_in, subject_by, subject, subject_key, first_by, first_record, given_password, mode_in, mode_by}
-use Rattle.mpm_bdos.specs.Refusals.{refusals_of, applies, refusal_of}
+use Rattle.mpm_functions.specs.declared.functions.FileFunction.{FileFunction}
+use Rattle.mpm_functions.specs.declared.functions.FileFunction.TheVariants.{ResetDisks, OpenFile, CloseFile, SearchFirst, SearchNext, DeleteFile, ReadSequential, WriteSequential, MakeFile, RenameFile, ProtectDisk, SetAttributes, ReadRandom, WriteRandom, FileSize, ResetDrives, AccessDrives, FreeDrives, TestAndWrite, LockRecord, UnlockRecord, FreeSpace, FlushBuffers, SetLabel, LabelData, ReadXfcb, WriteXfcb}
+use Rattle.mpm_requests.specs.Filing.{Situation, block}
+use Rattle.mpm_requests.specs.Subjects.{drive_number, drive_at, own_file, key_of, file_of, item_number, key_named, open_key, open_mode, open_file, opened_in, subject_by, subject, subject_key, first_by, first_record, given_password, mode_in, mode_by}
+use Rattle.mpm_functions.specs.Refusals.{refusals_of}
+use Rattle.mpm_requests.specs.Refusals.{applies, refusal_of}
 use Rattle.mpm_bdos.specs.Records.{Locking, locking, unlocking}
 use Rattle.mpm_bdos.specs.Jobs.{job_by, call_turns, turned}
 use Rattle.mpm_bdos.specs.Changes.{is_among, is_deleted, deleted_by, locking_of, opens_by}
 use Rattle.mpm_bdos.specs.Replies.{end_after, opened_as, granted_of}
 use Rattle.mpm_bdos.specs.Replies as replies
-use Rattle.mpm_bdos.specs.Asking.{opened_as as item_as, open_item, asked_of, key_asked, mode_needed}
+use Rattle.mpm_requests.specs.Asking.{opened_as as item_as, open_item, asked_of, key_asked, mode_needed}
 use Rattle.mpm_bdos.specs.Ending.{ended}
 use Rattle.mpm_bdos.specs.Replying.{is_on_drives}
 use Rattle.mpm_bdos.specs.Leaving.{nothing_locked, locked_by, ended_of, locked_where, unlocked_where, left_by, locked_for, ended_for, opened_by, opened_for, granted_by}
@@ -77,7 +77,7 @@ unfolding open_key
 item_named s there = named_by s (item_number s) refl there
 
 drive_where : (mine here named : Bool) (file key : FileKey) (drive : ℕ) → (file.drive == drive) ≡ here → cond (mine && (here && named)) (Some file) None ≡ Some key → key.drive ≡ drive
-drive_where true true true file key drive is e = ap (λ (k : FileKey). k.drive) (sym (same_Some file key e)) ∙ equal_numbers file.drive drive is
+drive_where true true true file key drive is e = ap (λ (k : FileKey). k.drive) (sym (same_Some file key e)) ∙ eqb-true file.drive drive is
 drive_where true true false file key drive is e = absurd (cc)
 drive_where true false named file key drive is e = absurd (cc)
 drive_where false here named file key drive is e = absurd (cc)

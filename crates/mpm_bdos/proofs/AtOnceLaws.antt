@@ -1,5 +1,5 @@
 -- A call's turns one after another, and what it comes to with them.
-use Rattle.std.proofs.Common.{◌≡◌, ◌≤◌, ◌+◌, ℕ, suc, List, [], true, false, Option, Some, None, Result, Ok, Err, refl, sym, ap, subst, ◌∙◌, arith}
+use Rattle.std.proofs.Common.{◌≡◌, ◌≤◌, ◌+◌, ℕ, suc, Bool, List, [], true, false, Option, Some, None, Result, Ok, Err, refl, sym, ap, subst, ◌∙◌, arith}
 use Rattle.std.specs.Prelude.{is_some, is_err, option_map}
 use Rattle.std.proofs.lemmas.Bool.{true≢false}
 use Rattle.mpm_port.specs.Causes.{Rose, HasCause}
@@ -8,20 +8,21 @@ use Rattle.mpm_mount.specs.Drives.{Drive}
 use Rattle.mpm_mount.specs.Directories.{Directory}
 use Rattle.mpm_files.specs.declared.jobs.Job.{Job}
 use Rattle.mpm_files.specs.declared.work.Work.{Work}
-use Rattle.mpm_bdos.proofs.Fitting.{there_label, stays_same, stays_again}
+use Rattle.mpm_bdos.proofs.Fitting.{there_label, stays_same, stays_again, unsynced_same}
 use Rattle.mpm_base.specs.Calls.{Taken}
-use Rattle.mpm_bdos.specs.declared.caller.Caller.{Caller}
-use Rattle.mpm_bdos.specs.declared.functions.FileFunction.{FileFunction}
-use Rattle.mpm_bdos.specs.Filing.{Situation}
-use Rattle.mpm_bdos.specs.Functions.{function_of}
+use Rattle.mpm_requests.specs.declared.caller.Caller.{Caller}
+use Rattle.mpm_functions.specs.declared.functions.FileFunction.{FileFunction}
+use Rattle.mpm_requests.specs.Filing.{Situation}
+use Rattle.mpm_functions.specs.Functions.{function_of}
 use Rattle.mpm_bdos.specs.Starting.{entering}
-use Rattle.mpm_bdos.specs.Subjects.{drive_number, drive_at}
-use Rattle.mpm_bdos.specs.declared.functions.FileFunction.TheVariants.{ResetDisks, OpenFile, CloseFile, SearchFirst, SearchNext, DeleteFile, ReadSequential, WriteSequential, MakeFile, RenameFile, ProtectDisk, SetAttributes, ReadRandom, WriteRandom, FileSize, ResetDrives, AccessDrives, FreeDrives, TestAndWrite, LockRecord, UnlockRecord, FreeSpace, FlushBuffers, SetLabel, LabelData, ReadXfcb, WriteXfcb}
-use Rattle.mpm_bdos.specs.declared.refusals.Refusal.{Refusal}
-use Rattle.mpm_bdos.specs.Refusals.{refusal_of}
+use Rattle.mpm_requests.specs.Subjects.{drive_number, drive_at}
+use Rattle.mpm_functions.specs.declared.functions.FileFunction.TheVariants.{ResetDisks, OpenFile, CloseFile, SearchFirst, SearchNext, DeleteFile, ReadSequential, WriteSequential, MakeFile, RenameFile, ProtectDisk, SetAttributes, ReadRandom, WriteRandom, FileSize, ResetDrives, AccessDrives, FreeDrives, TestAndWrite, LockRecord, UnlockRecord, FreeSpace, FlushBuffers, SetLabel, LabelData, ReadXfcb, WriteXfcb}
+use Rattle.mpm_functions.specs.declared.refusals.Refusal.{Refusal}
+use Rattle.mpm_requests.specs.Refusals.{refusal_of}
 use Rattle.mpm_bdos.specs.Jobs.{job_by, unless_refused, job_of}
-use Rattle.mpm_bdos.specs.Serving.{InService, Kept, Serves, WorksOn, StandsWhere, StandEach, directory_at}
-use Rattle.mpm_bdos.specs.Turns.{FitsDrives, IsIdle, KeepsImages, TurnKeeps, drive_served, has_work, labelled, without_work}
+use Rattle.mpm_bdos.specs.Serving.{InService, Kept, Serves, WorksOn, StandEach, directory_at}
+use Rattle.mpm_requests.specs.Asking.{StandsWhere}
+use Rattle.mpm_bdos.specs.Turns.{FitsDrives, IsIdle, KeepsImages, KeepsUnsynced, TurnKeeps, drive_served, has_work, labelled, without_work}
 use Rattle.mpm_bdos.specs.AtOnce.{TurnsLeave, ChangesAlone, IsAtRest, has_job}
 
 -- a turn leaves the drive in service
@@ -51,6 +52,13 @@ images_again old mid disks later now kept first next = λ number apart there.
     (still_there (directory_at old.mounted number) (directory_at mid.mounted number) (kept.labels number) ∙ there)
     ∙ first number apart there
 
+unsynced_again : (old mid : Kept) (before later now : ℕ → Bool) → TurnKeeps old mid → KeepsUnsynced (drive_served old.service) before later → KeepsUnsynced (drive_served mid.service) later now
+    → KeepsUnsynced (drive_served old.service) before now
+unsynced_again old mid before later now kept first next = record {
+  beside = λ other apart. next.beside other (λ same. apart (sym (same_drive old.service mid.service kept.service) ∙ same)) ∙ first.beside other apart;
+  owed = λ number was. next.owed number (first.owed number was);
+}
+
 -- how many have ended, with none more and with one more
 pub no_more : (ended : ℕ) → ended ≡ ended + 0
 no_more ended = omega arith
@@ -58,20 +66,21 @@ no_more ended = omega arith
 pub one_more : (ended turn : ℕ) → suc (ended + turn) ≡ ended + (turn + 1)
 one_more ended turn = omega arith
 
-pub no_turns : {D : Type 0} (attached : D → ℕ → Option ℕ) (disks : D → Option Disks) (failed : D → List (List ℕ)) (kept : Kept) (drives : D) → FitsDrives attached disks kept.mounted kept.cached drives
-    → TurnsLeave attached disks failed kept kept drives drives
-no_turns attached disks failed kept drives fits = record {
+pub no_turns : {D : Type 0} (attached : D → ℕ → Option ℕ) (disks : D → Option Disks) (failed : D → List (List ℕ)) (unsynced : D → ℕ → Bool) (kept : Kept) (drives : D) → FitsDrives attached disks kept.mounted kept.cached drives
+    → TurnsLeave attached disks failed unsynced kept kept drives drives
+no_turns attached disks failed unsynced kept drives fits = record {
   kept = record { rest = refl; service = refl; places = λ number apart. refl; labels = λ number. refl };
   fits = fits;
   images = λ number apart there. refl;
   beside = stays_same kept.mounted (disks drives);
   names = refl;
   attached_are = λ number. refl;
+  kept_unsynced = unsynced_same (drive_served kept.service) (unsynced drives);
 }
 
-pub one_more_turn : {D : Type 0} (attached : D → ℕ → Option ℕ) (disks : D → Option Disks) (failed : D → List (List ℕ)) (old mid new : Kept) (drives later now : D)
-    → TurnsLeave attached disks failed old mid drives later → TurnsLeave attached disks failed mid new later now → TurnsLeave attached disks failed old new drives now
-one_more_turn attached disks failed old mid new drives later now first next = record {
+pub one_more_turn : {D : Type 0} (attached : D → ℕ → Option ℕ) (disks : D → Option Disks) (failed : D → List (List ℕ)) (unsynced : D → ℕ → Bool) (old mid new : Kept) (drives later now : D)
+    → TurnsLeave attached disks failed unsynced old mid drives later → TurnsLeave attached disks failed unsynced mid new later now → TurnsLeave attached disks failed unsynced old new drives now
+one_more_turn attached disks failed unsynced old mid new drives later now first next = record {
   kept = kept_again old mid new first.kept next.kept;
   fits = next.fits;
   images = images_again old mid (disks drives) (disks later) (disks now) first.kept first.images next.images;
@@ -79,6 +88,7 @@ one_more_turn attached disks failed old mid new drives later now first next = re
       (λ number. still_there (directory_at old.mounted number) (directory_at mid.mounted number) (first.kept.labels number)) first.beside next.beside;
   names = next.names ∙ first.names;
   attached_are = λ number. next.attached_are number ∙ first.attached_are number;
+  kept_unsynced = unsynced_again old mid (unsynced drives) (unsynced later) (unsynced now) first.kept first.kept_unsynced next.kept_unsynced;
 }
 
 -- where the call in service has no work, nothing is done in some turns, and in one more
@@ -136,9 +146,9 @@ is_jobless s none = ap (unless_refused (refusal_of s)) (by_function s.function n
     by_function ReadXfcb is = refl
 
 -- the drive of a call in service is the one that its turns change
-pub changes_alone : {D : Type 0} (attached : D → ℕ → Option ℕ) (disks : D → Option Disks) (failed : D → List (List ℕ)) (old new : Kept) (drives now : D) (drive : ℕ)
-    → drive_served old.service ≡ Some drive → TurnsLeave attached disks failed old new drives now → ChangesAlone drive old.mounted new.mounted (disks drives) (disks now)
-changes_alone attached disks failed old new drives now drive served left = record {
+pub changes_alone : {D : Type 0} (attached : D → ℕ → Option ℕ) (disks : D → Option Disks) (failed : D → List (List ℕ)) (unsynced : D → ℕ → Bool) (old new : Kept) (drives now : D) (drive : ℕ)
+    → drive_served old.service ≡ Some drive → TurnsLeave attached disks failed unsynced old new drives now → ChangesAlone drive old.mounted new.mounted (disks drives) (disks now)
+changes_alone attached disks failed unsynced old new drives now drive served left = record {
   places = λ number apart. left.kept.places number (λ same. apart (sym served ∙ same));
   images = λ number apart there. left.images number (λ same. apart (sym served ∙ same)) there;
 }

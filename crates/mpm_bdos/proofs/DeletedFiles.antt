@@ -3,19 +3,18 @@ use Rattle.std.proofs.Common.{◌≡◌, ◌∙◌, ℕ, zero, suc, ◌%◌, ◌
 use Rattle.std.proofs.lemmas.List.{get_or-map, length-map}
 use Rattle.std.specs.Prelude.{bytes_eq, is_some, find, filter, option_map}
 use Rattle.std.specs.List.{list_any, list_all}
-use Rattle.std.proofs.lemmas.Bool.{false≢true, and_parts}
+use Rattle.std.proofs.lemmas.Bool.{false≢true, and_parts, eqb-true}
 use Rattle.std.proofs.lemmas.List.FromFn.{fill_by_all}
 use Rattle.std.specs.Cmp.{both_ways}
 use Rattle.mpm_names.specs.Matching.{does_match}
 use Rattle.mpm_names.proofs.Fitting.{fits_everywhere}
+use Rattle.mpm_dirent.specs.Names.{plain}
+use Rattle.mpm_dirent.proofs.PlainNames.{plain_twice}
 use Rattle.mpm_mount.specs.declared.searching.Found.{Found}
 use Rattle.mpm_mount.specs.Drives.{FileName, Drive}
 use Rattle.mpm_mount.specs.Directories.{Directory, Stands}
-use Rattle.mpm_mount.specs.Faults.{plain}
 use Rattle.mpm_mount.specs.Searching.{search_of, IsNext}
 use Rattle.mpm_mount.proofs.UsedBlocks.{or_last}
-use Rattle.mpm_files.specs.Plans.{is_same_file, entries_named, is_entry_of, has_file, is_fitting}
-use Rattle.mpm_files.proofs.Names.{one_file}
 use Rattle.mpm_opens.specs.declared.kinds.FileKey.{FileKey}
 use Rattle.mpm_opens.specs.declared.kinds.Item.{Item}
 use Rattle.mpm_opens.specs.declared.kinds.RecordLock.{RecordLock}
@@ -23,16 +22,17 @@ use Rattle.mpm_opens.specs.Kinds as keys
 use Rattle.mpm_opens.specs.Items.{place_at, has_item_of, file_where, is_given_back, left_in, items_without}
 use Rattle.mpm_opens.specs.Locks.{locks_without, is_lock_among}
 use Rattle.mpm_opens.specs.Opens.{OpenFiles, given_back, has_owners_item, AreOpen}
-use Rattle.mpm_opens.proofs.Keys.{equal_numbers, same_file, file_is_itself, same_file_back}
+use Rattle.mpm_opens.proofs.Keys.{same_file, file_is_itself, same_file_back}
 use Rattle.mpm_opens.proofs.GivingLaws.{given_back_twice}
+use Rattle.mpm_mount.specs.Files.{is_same_file, entries_named, is_entry_of, has_file, is_fitting}
+use Rattle.mpm_mount.proofs.Names.{one_file}
+use Rattle.mpm_mount.proofs.Lowest.{found_same}
 use Rattle.mpm_bdos.specs.declared.releasing.Deletion.{Deletion}
-use Rattle.mpm_bdos.specs.Subjects.{file_of, is_next, next_in, fits}
-use Rattle.mpm_bdos.specs.Looking.{entry_found}
+use Rattle.mpm_requests.specs.Subjects.{file_of, is_next, next_in, fits}
+use Rattle.mpm_requests.specs.Looking.{entry_found}
 use Rattle.mpm_bdos.specs.Changes.{is_deleted_in, is_at, is_among}
-use Rattle.mpm_files.proofs.SearchSteps.{plain_twice}
-use Rattle.mpm_files.proofs.Lowest.{found_same}
-use Rattle.mpm_bdos.proofs.Searched.{next_step}
-use Rattle.mpm_bdos.proofs.Freed.{given_alike, no_file, all_kept}
+use Rattle.mpm_requests.proofs.Searched.{next_step}
+use Rattle.mpm_marks.proofs.Freed.{given_alike, no_file, all_kept}
 
 -- a file of this very name is there, by a search for its name
 itself_matches : (name : List ℕ) → length name ≡ 11 → does_match name name ≡ true
@@ -254,7 +254,7 @@ locks_alike places [] p a b same all = refl
 locks_alike places (lock ∷ locks) p a b same all =
     let parts = and_parts (has_owners_item places lock) (list_all (has_owners_item places) locks) all in
     lock_alike p a b lock (locks_without locks p (is_lock_among a)) (locks_without locks p (is_lock_among b)) (lock.owner == p) refl
-    (λ own. same lock.file (ap (λ q. list_any (has_item_of q lock.file) places) (sym (equal_numbers lock.owner p own)) ∙ parts.0))
+    (λ own. same lock.file (ap (λ q. list_any (has_item_of q lock.file) places) (sym (eqb-true lock.owner p own)) ∙ parts.0))
     (locks_alike places locks p a b same parts.1)
 
 pub deleted_given : (opens : OpenFiles) (p : ℕ) (among : FileKey → Bool) → AreOpen opens

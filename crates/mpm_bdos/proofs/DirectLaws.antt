@@ -7,10 +7,11 @@ use Rattle.mpm_base.specs.declared.kind.Kind.{Kind}
 use Rattle.mpm_mount.specs.Drives.{Drive}
 use Rattle.mpm_mount.specs.Directories.{Directory}
 use Rattle.mpm_mount.specs.Images.{drive_of}
-use Rattle.mpm_bdos.specs.declared.functions.DirectFunction.{DirectFunction}
-use Rattle.mpm_bdos.specs.declared.refusals.Extended.{Extended}
+use Rattle.mpm_functions.specs.declared.functions.DirectFunction.{DirectFunction}
+use Rattle.mpm_functions.specs.declared.refusals.Extended.{Extended}
 use Rattle.mpm_bdos.specs.Direct.{Directly, ComesDirectly, IsToldDirectly, is_protected, direct_by, direct}
-use Rattle.mpm_bdos.specs.Serving.{Kept, StandsWhere, StandEach, filing_of, kind_at}
+use Rattle.mpm_bdos.specs.Serving.{Kept, StandEach, filing_of, kind_at}
+use Rattle.mpm_requests.specs.Asking.{StandsWhere}
 
 -- a directory and the drive that it stands for are of one kind
 same_kind : (number : ℕ) (image : List ℕ) (directory : Option Directory) (drive : Option Drive) → StandsWhere number image directory drive

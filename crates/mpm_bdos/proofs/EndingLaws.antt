@@ -13,11 +13,11 @@ use Rattle.mpm_files.specs.declared.jobs.JobKind.TheVariants as kinds
 use Rattle.mpm_files.specs.Plans.{file_of_job, turns_of}
 use Rattle.mpm_files.specs.Serving.{IsServing}
 use Rattle.mpm_files.proofs.Missed.{error_told}
-use Rattle.mpm_bdos.specs.declared.functions.FileFunction.{FileFunction}
-use Rattle.mpm_bdos.specs.declared.functions.FileFunction.TheVariants.{ResetDisks, OpenFile, CloseFile, SearchFirst, SearchNext, DeleteFile, ReadSequential, WriteSequential, MakeFile, RenameFile, ProtectDisk, SetAttributes, ReadRandom, WriteRandom, FileSize, ResetDrives, AccessDrives, FreeDrives, TestAndWrite, LockRecord, UnlockRecord, FreeSpace, FlushBuffers, SetLabel, LabelData, ReadXfcb, WriteXfcb}
-use Rattle.mpm_bdos.specs.Filing.{Situation, block}
-use Rattle.mpm_bdos.specs.Subjects.{drive_at, first_record, data_byte}
-use Rattle.mpm_bdos.specs.Refusals.{makes_xfcb, refusal_of}
+use Rattle.mpm_functions.specs.declared.functions.FileFunction.{FileFunction}
+use Rattle.mpm_functions.specs.declared.functions.FileFunction.TheVariants.{ResetDisks, OpenFile, CloseFile, SearchFirst, SearchNext, DeleteFile, ReadSequential, WriteSequential, MakeFile, RenameFile, ProtectDisk, SetAttributes, ReadRandom, WriteRandom, FileSize, ResetDrives, AccessDrives, FreeDrives, TestAndWrite, LockRecord, UnlockRecord, FreeSpace, FlushBuffers, SetLabel, LabelData, ReadXfcb, WriteXfcb}
+use Rattle.mpm_requests.specs.Filing.{Situation, block}
+use Rattle.mpm_requests.specs.Subjects.{drive_at, first_record, data_byte}
+use Rattle.mpm_requests.specs.Refusals.{makes_xfcb, refusal_of}
 use Rattle.mpm_bdos.specs.declared.ends.RecordEnd.{RecordEnd}
 use Rattle.mpm_bdos.specs.Records.{end_by, coded}
 use Rattle.mpm_bdos.specs.Jobs.{is_cut_at, count_until, free_count, reading_job, writing_job, testing_job, with_one, with_protection, job_on, made_xfcb, making_job, where_some, job_by, unless_refused, job_of, turns_by, call_turns, Turned, turned_by, turned}

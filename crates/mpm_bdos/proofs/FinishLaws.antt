@@ -15,24 +15,25 @@ use Rattle.mpm_fcb.proofs.Back.{bytes_back}
 use Rattle.mpm_files.specs.declared.jobs.Job.{Job}
 use Rattle.mpm_files.specs.declared.work.Work.{Work}
 use Rattle.mpm_files.specs.Serving.{units_done}
-use Rattle.mpm_bdos.specs.declared.caller.Caller.{Caller}
+use Rattle.mpm_requests.specs.declared.caller.Caller.{Caller}
 use Rattle.mpm_bdos.specs.declared.granting.Granted.{Granted}
-use Rattle.mpm_bdos.specs.declared.refusals.Refusal.{Refusal}
-use Rattle.mpm_bdos.specs.declared.refusals.Extended.{Extended}
-use Rattle.mpm_bdos.specs.Filing.{LastSearch, Filing, Situation, block}
-use Rattle.mpm_bdos.specs.Subjects.{last_search, drive_number, mounted, is_mounted, drive_at, found}
-use Rattle.mpm_bdos.specs.Refusals.{answered, refusal_of}
+use Rattle.mpm_functions.specs.declared.refusals.Refusal.{Refusal}
+use Rattle.mpm_functions.specs.declared.refusals.Extended.{Extended}
+use Rattle.mpm_requests.specs.Filing.{LastSearch, Filing, Situation, block, HaveUsers}
+use Rattle.mpm_requests.specs.Subjects.{last_search, drive_number, mounted, is_mounted, drive_at, found}
+use Rattle.mpm_functions.specs.Refusals.{answered, refused_value, refused_extended}
+use Rattle.mpm_requests.specs.Refusals.{refusal_of}
 use Rattle.mpm_bdos.specs.Jobs.{job_of, call_turns, Turned, turned_by, turned}
-use Rattle.mpm_bdos.specs.Changes.{protected_by, protected_then, marks_by, searches_by, search_of_call, filing_after}
+use Rattle.mpm_marks.specs.Driving.{protected_by, marks_by, freed_by}
+use Rattle.mpm_bdos.specs.Changes.{protected_then, searches_by, search_of_call, filing_after}
 use Rattle.mpm_bdos.specs.Replies.{granted_of, value_by, block_by, bytes_by, where_changed, answer_after}
-use Rattle.mpm_bdos.specs.Outcomes.{Outcome, refused_value, refused_extended, refused_outcome, granted_outcome, outcome_by, file_call}
-use Rattle.mpm_bdos.specs.Asking.{called, StandsFor}
-use Rattle.mpm_bdos.specs.Driving.{freed_by}
-use Rattle.mpm_bdos.specs.Serving.{IsCaller, HaveUsers, InService, Kept, StandsWhere, StandEach, WorksOn, IsCallOf, Serves, directory_at, filing_of}
+use Rattle.mpm_bdos.specs.Outcomes.{Outcome, refused_outcome, granted_outcome, outcome_by, file_call}
+use Rattle.mpm_requests.specs.Asking.{called, StandsFor, StandsWhere}
+use Rattle.mpm_bdos.specs.Serving.{IsCaller, InService, Kept, StandEach, WorksOn, IsCallOf, Serves, directory_at, filing_of}
 use Rattle.mpm_bdos.specs.Replying.{is_on_drives, IsAnswering, IsReplied}
 use Rattle.mpm_bdos.specs.Finishing.{serving, IsFinished, ComesTo}
 use Rattle.mpm_bdos.proofs.EndingLaws.{own_job}
-use Rattle.mpm_bdos.proofs.UnmountedLaws.{is_there, is_not_there}
+use Rattle.mpm_requests.proofs.UnmountedLaws.{is_there, is_not_there}
 use Rattle.mpm_bdos.proofs.OnDrives.{stays_on, keeps_drives, unmounted_on_drives}
 use Rattle.mpm_bdos.proofs.NextTurns.{idle_drives}
 use Rattle.mpm_bdos.proofs.ServingLaws.{stand_at_last}

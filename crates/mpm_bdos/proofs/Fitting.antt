@@ -1,7 +1,7 @@
 -- A turn on one drive leaves all mounted drives fit, and the images of all others.
-use Rattle.std.proofs.Common.{◌≡◌, ◌≢◌, ℕ, zero, suc, ◌<◌, Bool, true, List, [], ◌∷◌, Option, Some, None, IfSome, refl, sym, ap, subst, ◌∙◌, arith, length}
+use Rattle.std.proofs.Common.{◌≡◌, ◌≢◌, ℕ, zero, suc, ◌<◌, inl, inr, Bool, true, List, [], ◌∷◌, Option, Some, None, IfSome, refl, sym, ap, subst, ◌∙◌, arith, length}
 use Rattle.std.specs.Prelude.{IsSome, is_some, option_map, option_and_then, slice_index_or, slice_set}
-use Rattle.std.proofs.lemmas.Bool.{true≢false}
+use Rattle.std.proofs.lemmas.Bool.{cases_eq, true≢false}
 use Rattle.std.proofs.lemmas.List.{length-set}
 use Rattle.mpm_base.specs.declared.kind.Kind.{Kind}
 use Rattle.mpm_port.specs.Disks.{Disks, Told, image_of}
@@ -14,7 +14,7 @@ use Rattle.mpm_sectors.specs.Writes.{Elsewhere}
 use Rattle.mpm_mount.specs.Directories.{Directory, IsDirectory}
 use Rattle.mpm_bdos.specs.Serving.{directory_at, AreInPlace}
 use Rattle.mpm_bdos.specs.Syncing.{AreAttached}
-use Rattle.mpm_bdos.specs.Turns.{FitsDrives, KeepsImages, StaysBeside, HasLeft, has_directory, labelled}
+use Rattle.mpm_bdos.specs.Turns.{FitsDrives, KeepsImages, KeepsUnsynced, StaysBeside, HasLeft, has_directory, labelled}
 
 -- what is in a place that is there
 pub in_place : {X : Type 0} (xs : List X) (n : ℕ) (x y : X) → n < length xs → slice_index_or xs n x ≡ slice_index_or xs n y
@@ -91,10 +91,10 @@ its_number mounted number d placed is = subst (λ found. IfSome found (λ one. o
 is_there : (mounted : List (Option Directory)) (number : ℕ) (d : Directory) → AreInPlace mounted → directory_at mounted number ≡ Some d → has_directory mounted d.drive ≡ true
 is_there mounted number d placed is = ap (has_directory mounted) (its_number mounted number d placed is) ∙ ap is_some is
 
-pub fits_after : {D : Type 0} (attached : D → ℕ → Option ℕ) (disks : D → Option Disks) (failed : D → List (List ℕ)) (mounted : List (Option Directory)) (number : ℕ) (d new : Option Directory)
+pub fits_after : {D : Type 0} (attached : D → ℕ → Option ℕ) (disks : D → Option Disks) (failed : D → List (List ℕ)) (unsynced : D → ℕ → Bool) (mounted : List (Option Directory)) (number : ℕ) (d new : Option Directory)
     (cached later : List (Place × List ℕ)) (old now : D) → AreInPlace mounted → directory_at mounted number ≡ d → option_map labelled new ≡ option_map labelled d
-    → HasLeft attached disks failed d cached later old now → FitsDrives attached disks mounted cached old → FitsDrives attached disks (slice_set mounted number new) later now
-fits_after attached disks failed mounted number None new cached later old now placed is same left fits =
+    → HasLeft attached disks failed unsynced d cached later old now → FitsDrives attached disks mounted cached old → FitsDrives attached disks (slice_set mounted number new) later now
+fits_after attached disks failed unsynced mounted number None new cached later old now placed is same left fits =
     let all : option_map labelled new ≡ option_map labelled (directory_at mounted number) = same ∙ sym (ap (option_map labelled) is) in
     let kept : FitsDrives attached disks mounted later now = subst (λ c. FitsDrives attached disks mounted c now) (sym left.cache) (subst (FitsDrives attached disks mounted cached) (sym left.drives) fits) in
     record {
@@ -102,7 +102,7 @@ fits_after attached disks failed mounted number None new cached later old now pl
       coherent = kept.coherent;
       apart = apart_among (has_directory mounted) (has_directory (slice_set mounted number new)) later (disks now) (λ other. there_stays mounted number other new all) kept.apart;
     }
-fits_after attached disks failed mounted number (Some d) new cached later old now placed is same left fits =
+fits_after attached disks failed unsynced mounted number (Some d) new cached later old now placed is same left fits =
     let all : option_map labelled new ≡ option_map labelled (directory_at mounted number) = same ∙ sym (ap (option_map labelled) is) in
     record {
       sizes = sizes_after mounted number new (attached old) (attached now) all left.drives fits.sizes;
@@ -125,11 +125,11 @@ elsewhere_told drive other (Some disks) None told own apart = absurd told
 elsewhere_told drive other (Some disks) (Some now) told own apart =
     image_named disks now other (disks.name_of other) (told.names other) refl (λ n is. told.others n (λ same. own apart (same ∙ sym is)))
 
-pub images_after : {D : Type 0} (attached : D → ℕ → Option ℕ) (disks : D → Option Disks) (failed : D → List (List ℕ)) (mounted : List (Option Directory)) (number : ℕ) (d : Option Directory)
-    (cached later : List (Place × List ℕ)) (old now : D) → AreInPlace mounted → directory_at mounted number ≡ d → HasLeft attached disks failed d cached later old now → FitsDrives attached disks mounted cached old
+pub images_after : {D : Type 0} (attached : D → ℕ → Option ℕ) (disks : D → Option Disks) (failed : D → List (List ℕ)) (unsynced : D → ℕ → Bool) (mounted : List (Option Directory)) (number : ℕ) (d : Option Directory)
+    (cached later : List (Place × List ℕ)) (old now : D) → AreInPlace mounted → directory_at mounted number ≡ d → HasLeft attached disks failed unsynced d cached later old now → FitsDrives attached disks mounted cached old
     → KeepsImages (Some number) mounted (disks old) (disks now)
-images_after attached disks failed mounted number None cached later old now placed is left fits = λ other apart there. ap (λ (device : _). told_image (disks device) other) left.drives
-images_after attached disks failed mounted number (Some d) cached later old now placed is left fits = λ other apart there.
+images_after attached disks failed unsynced mounted number None cached later old now placed is left fits = λ other apart there. ap (λ (device : _). told_image (disks device) other) left.drives
+images_after attached disks failed unsynced mounted number (Some d) cached later old now placed is left fits = λ other apart there.
     elsewhere_told d.drive other (disks old) (disks now) left.others (fits.apart.own d.drive other (is_there mounted number d placed is) there)
     (λ same. apart (ap (λ n. Some n) (sym (its_number mounted number d placed is) ∙ same)))
 
@@ -143,13 +143,31 @@ elsewhere_beside mounted drive None now there told = told
 elsewhere_beside mounted drive (Some disks) None there told = absurd told
 elsewhere_beside mounted drive (Some disks) (Some now) there told = record { names = told.names; others = λ name none. told.others name (none drive there) }
 
-pub stays_after : {D : Type 0} (attached : D → ℕ → Option ℕ) (disks : D → Option Disks) (failed : D → List (List ℕ)) (mounted : List (Option Directory)) (number : ℕ) (d : Option Directory)
-    (cached later : List (Place × List ℕ)) (old now : D) → AreInPlace mounted → directory_at mounted number ≡ d → HasLeft attached disks failed d cached later old now
+pub stays_after : {D : Type 0} (attached : D → ℕ → Option ℕ) (disks : D → Option Disks) (failed : D → List (List ℕ)) (unsynced : D → ℕ → Bool) (mounted : List (Option Directory)) (number : ℕ) (d : Option Directory)
+    (cached later : List (Place × List ℕ)) (old now : D) → AreInPlace mounted → directory_at mounted number ≡ d → HasLeft attached disks failed unsynced d cached later old now
     → Told (StaysBeside mounted) (disks old) (disks now)
-stays_after attached disks failed mounted number None cached later old now placed is left =
+stays_after attached disks failed unsynced mounted number None cached later old now placed is left =
     subst (λ (device : _). Told (StaysBeside mounted) (disks old) (disks device)) (sym left.drives) (stays_same mounted (disks old))
-stays_after attached disks failed mounted number (Some d) cached later old now placed is left =
+stays_after attached disks failed unsynced mounted number (Some d) cached later old now placed is left =
     elsewhere_beside mounted d.drive (disks old) (disks now) (is_there mounted number d placed is) left.others
+
+-- no drive is synced, and another than that of the place is synced or not as before
+pub unsynced_same : (drive : Option ℕ) (now : ℕ → Bool) → KeepsUnsynced drive now now
+unsynced_same drive now = record { beside = λ other apart. refl; owed = λ number was. was }
+
+pub unsynced_after : {D : Type 0} (attached : D → ℕ → Option ℕ) (disks : D → Option Disks) (failed : D → List (List ℕ)) (unsynced : D → ℕ → Bool) (mounted : List (Option Directory)) (number : ℕ) (d : Option Directory)
+    (cached later : List (Place × List ℕ)) (old now : D) → AreInPlace mounted → directory_at mounted number ≡ d → HasLeft attached disks failed unsynced d cached later old now
+    → KeepsUnsynced (Some number) (unsynced old) (unsynced now)
+unsynced_after attached disks failed unsynced mounted number None cached later old now placed is left =
+    let same : (other : ℕ) → unsynced now other ≡ unsynced old other = λ other. ap (λ (device : _). unsynced device other) left.drives in
+    record { beside = λ other apart. same other; owed = λ other was. same other ∙ was }
+unsynced_after attached disks failed unsynced mounted number (Some d) cached later old now placed is left = record {
+  beside = λ other apart. left.beside other (λ same. apart (ap (λ n. Some n) (sym (its_number mounted number d placed is) ∙ sym same)));
+  owed = λ other was. elim (cases_eq other d.drive) [
+    | inl same ↦ ap (unsynced now) same ∙ left.owed (ap (unsynced old) (sym same) ∙ was)
+    | inr apart ↦ left.beside other apart ∙ was
+  ];
+}
 
 -- over several turns: the same drives are mounted
 stays_told : (one other : List (Option Directory)) (first next last : Disks) → ((number : ℕ) → has_directory other number ≡ has_directory one number)

@@ -1,10 +1,11 @@
 -- Of a call that nothing refuses, no refusal of its row applies.
 use Rattle.std.proofs.Common.{◌≡◌, ◌∙◌, Bool, true, false, cond, List, [], ◌∷◌, ◌++◌, Option, Some, None, sym, refl, ap}
 use Rattle.std.specs.Prelude.{⊤, find, option_map}
-use Rattle.mpm_bdos.specs.declared.refusals.Refusal.{Refusal}
-use Rattle.mpm_bdos.specs.Filing.{Situation}
-use Rattle.mpm_bdos.specs.Subjects.{subject, deleted_files}
-use Rattle.mpm_bdos.specs.Refusals.{refusals_of, refusals_of_each, applies, Test, tests_for, tests_each, tests_of, does_apply, refusal_of}
+use Rattle.mpm_functions.specs.declared.refusals.Refusal.{Refusal}
+use Rattle.mpm_requests.specs.Filing.{Situation}
+use Rattle.mpm_requests.specs.Subjects.{subject, deleted_files}
+use Rattle.mpm_functions.specs.Refusals.{refusals_of, refusals_of_each}
+use Rattle.mpm_requests.specs.Refusals.{applies, Test, tests_for, tests_each, tests_of, does_apply, refusal_of}
 
 not_mapped : {X Y : Type 0} (f : X → Y) (found : Option X) → option_map f found ≡ None → found ≡ None
 not_mapped f None e = refl

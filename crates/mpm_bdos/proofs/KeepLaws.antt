@@ -6,18 +6,18 @@ use Rattle.mpm_base.specs.declared.kind.Kind.{Kind}
 use Rattle.mpm_names.specs.Matching.{does_match}
 use Rattle.mpm_mount.specs.Drives.{FileName, Drive}
 use Rattle.mpm_opens.proofs.Listing.{found_counts}
+use Rattle.mpm_mount.specs.Files.{entries_named, is_fitting}
 use Rattle.mpm_fcb.specs.declared.block.ControlBlock.{ControlBlock}
-use Rattle.mpm_files.specs.Plans.{entries_named, is_fitting}
-use Rattle.mpm_bdos.specs.declared.finding.FoundEntry.{FoundEntry}
-use Rattle.mpm_bdos.specs.declared.functions.FileFunction.{FileFunction}
-use Rattle.mpm_bdos.specs.declared.functions.FileFunction.TheVariants.{ResetDisks, OpenFile, CloseFile, SearchFirst, SearchNext, DeleteFile, ReadSequential, WriteSequential, MakeFile, RenameFile, ProtectDisk, SetAttributes, ReadRandom, WriteRandom, FileSize, ResetDrives, AccessDrives, FreeDrives, TestAndWrite, LockRecord, UnlockRecord, FreeSpace, FlushBuffers, SetLabel, LabelData, ReadXfcb, WriteXfcb}
-use Rattle.mpm_bdos.specs.declared.searches.LastSearch.{LastSearch}
-use Rattle.mpm_bdos.specs.declared.searching.EntryPlace.{EntryPlace}
-use Rattle.mpm_bdos.specs.Filing as filing
-use Rattle.mpm_bdos.specs.Subjects.{is_behind, is_next, is_of_extent, found_in, found_by}
-use Rattle.mpm_bdos.specs.Looking.{at_place}
-use Rattle.mpm_bdos.specs.Searches.{searched, user_sought}
-use Rattle.mpm_bdos.specs.Asking.{found_as}
+use Rattle.mpm_requests.specs.declared.finding.FoundEntry.{FoundEntry}
+use Rattle.mpm_functions.specs.declared.functions.FileFunction.{FileFunction}
+use Rattle.mpm_functions.specs.declared.functions.FileFunction.TheVariants.{ResetDisks, OpenFile, CloseFile, SearchFirst, SearchNext, DeleteFile, ReadSequential, WriteSequential, MakeFile, RenameFile, ProtectDisk, SetAttributes, ReadRandom, WriteRandom, FileSize, ResetDrives, AccessDrives, FreeDrives, TestAndWrite, LockRecord, UnlockRecord, FreeSpace, FlushBuffers, SetLabel, LabelData, ReadXfcb, WriteXfcb}
+use Rattle.mpm_requests.specs.declared.searches.LastSearch.{LastSearch}
+use Rattle.mpm_requests.specs.declared.searching.EntryPlace.{EntryPlace}
+use Rattle.mpm_requests.specs.Filing as filing
+use Rattle.mpm_requests.specs.Subjects.{is_behind, is_next, is_of_extent, found_in, found_by}
+use Rattle.mpm_requests.specs.Looking.{at_place}
+use Rattle.mpm_requests.specs.Searches.{searched, user_sought}
+use Rattle.mpm_requests.specs.Asking.{found_as}
 use Rattle.mpm_bdos.specs.Changes.{search_by, searches_by}
 
 -- what is found is of the user that is sought

@@ -12,8 +12,8 @@ use Rattle.mpm_files.specs.declared.errors.RecordError.TheVariants.{UnwrittenExt
 use Rattle.mpm_files.specs.Plans.{read_error}
 use Rattle.mpm_bdos.specs.declared.ends.RecordEnd.{RecordEnd}
 use Rattle.mpm_bdos.specs.declared.ends.RecordEnd.TheVariants.{Failing, LockedOff, TooManyLocks, NoLockRoom}
-use Rattle.mpm_bdos.specs.declared.functions.FileFunction.TheVariants.{LockRecord}
-use Rattle.mpm_bdos.specs.Subjects.{file_of}
+use Rattle.mpm_functions.specs.declared.functions.FileFunction.TheVariants.{LockRecord}
+use Rattle.mpm_requests.specs.Subjects.{file_of}
 use Rattle.mpm_bdos.specs.Records.{is_another, is_locked_off, is_too_many, has_no_room, ends, ends_of, end_of, refused_lock, lock_end}
 
 -- the last three rows of the table, by who has the lock

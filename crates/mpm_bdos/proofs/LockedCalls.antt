@@ -10,10 +10,10 @@ use Rattle.mpm_files.specs.Plans.{read_error}
 use Rattle.mpm_bdos.specs.declared.ends.Ended.{Ended}
 use Rattle.mpm_bdos.specs.declared.ends.RecordEnd.{RecordEnd}
 use Rattle.mpm_bdos.specs.declared.ends.RecordEnd.TheVariants.{Failing, LockedOff, TooManyLocks, NoLockRoom}
-use Rattle.mpm_bdos.specs.declared.functions.FileFunction.TheVariants.{LockRecord}
-use Rattle.mpm_bdos.specs.Filing.{Situation}
-use Rattle.mpm_bdos.specs.Subjects.{drive_at, file_of, subject_key, first_record, open_mode}
-use Rattle.mpm_bdos.specs.Refusals.{refusal_of}
+use Rattle.mpm_functions.specs.declared.functions.FileFunction.TheVariants.{LockRecord}
+use Rattle.mpm_requests.specs.Filing.{Situation}
+use Rattle.mpm_requests.specs.Subjects.{drive_at, file_of, subject_key, first_record, open_mode}
+use Rattle.mpm_requests.specs.Refusals.{refusal_of}
 use Rattle.mpm_bdos.specs.Records.{Locking, is_locked_off, end_of, unless_ended, locking, coded}
 use Rattle.mpm_bdos.specs.Jobs.{call_turns, turned}
 use Rattle.mpm_bdos.specs.Changes.{locking_of}

@@ -13,8 +13,8 @@ use Rattle.mpm_files.specs.declared.errors.RecordError.{RecordError}
 use Rattle.mpm_files.specs.Plans.{read_error}
 use Rattle.mpm_bdos.specs.declared.ends.RecordEnd.{RecordEnd}
 use Rattle.mpm_bdos.specs.declared.ends.RecordEnd.TheVariants.{LockedOff}
-use Rattle.mpm_bdos.specs.declared.functions.FileFunction.TheVariants.{LockRecord}
-use Rattle.mpm_bdos.specs.Subjects.{file_of}
+use Rattle.mpm_functions.specs.declared.functions.FileFunction.TheVariants.{LockRecord}
+use Rattle.mpm_requests.specs.Subjects.{file_of}
 use Rattle.mpm_bdos.specs.Records.{Asked, Locking, is_another, is_locked_off, end_of, unless_ended, locking, refused_lock, lock_end}
 use Rattle.mpm_bdos.proofs.LockEnds.{lock_ends}
 

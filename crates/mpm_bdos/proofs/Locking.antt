@@ -1,7 +1,7 @@
 -- Records that are locked, one after the other.
 use Rattle.std.proofs.Common.{◌≡◌, ◌∙◌, refl, sym, ap, ℕ, suc, ◌+◌, ◌<◌, List, [], Option, Some, None, arith}
+use Rattle.mpm_dirent.specs.Names.{plain}
 use Rattle.mpm_mount.specs.Drives.{Drive}
-use Rattle.mpm_mount.specs.Faults.{plain}
 use Rattle.mpm_mount.specs.Directories.{Directory, Stands}
 use Rattle.mpm_opens.specs.declared.kinds.FileKey.{FileKey}
 use Rattle.mpm_opens.specs.Locks.{lock_answer}
@@ -11,8 +11,8 @@ use Rattle.mpm_files.specs.declared.errors.RecordError.{RecordError}
 use Rattle.mpm_files.specs.Plans.{read_error}
 use Rattle.mpm_files.proofs.ReadCounts.{less_by}
 use Rattle.mpm_bdos.specs.declared.ends.RecordEnd.{RecordEnd}
-use Rattle.mpm_bdos.specs.declared.functions.FileFunction.TheVariants.{LockRecord}
-use Rattle.mpm_bdos.specs.Subjects.{file_of}
+use Rattle.mpm_functions.specs.declared.functions.FileFunction.TheVariants.{LockRecord}
+use Rattle.mpm_requests.specs.Subjects.{file_of}
 use Rattle.mpm_bdos.specs.Records.{Locking, end_of, one_locked, unless_ended, locking, lock_end}
 use Rattle.mpm_bdos.proofs.LockEnds.{lock_ends}
 

@@ -19,12 +19,13 @@ use Rattle.mpm_files.specs.Plans.{turns_of}
 use Rattle.mpm_files.specs.Serving.{units_done, IsInService}
 use Rattle.mpm_files.specs.Turning.{Suits, Contained}
 use Rattle.mpm_bdos.proofs.Fitting.{by_label}
-use Rattle.mpm_bdos.specs.Filing.{Situation}
-use Rattle.mpm_bdos.specs.Subjects.{drive_number, drive_at}
+use Rattle.mpm_requests.specs.Filing.{Situation}
+use Rattle.mpm_requests.specs.Subjects.{drive_number, drive_at}
 use Rattle.mpm_bdos.specs.Jobs.{job_of, turns_by, call_turns, turned_by, turned}
 use Rattle.mpm_bdos.specs.Changes.{drives_by}
 use Rattle.mpm_bdos.specs.Outcomes.{drives_after}
-use Rattle.mpm_bdos.specs.Serving.{InService, Kept, StandsWhere, StandEach, WorksOn, IsCallOf, Serves, directory_at, filing_of}
+use Rattle.mpm_bdos.specs.Serving.{InService, Kept, StandEach, WorksOn, IsCallOf, Serves, directory_at, filing_of}
+use Rattle.mpm_requests.specs.Asking.{StandsWhere}
 use Rattle.mpm_bdos.specs.Turns.{IsWorkingOn, IsServing, IsContainedAt, IsServiceContained, TurnKeeps, KeepsImages, StopsWithin, IsIdle, told_images, progress_after, drive_served, has_work, has_directory, without_work}
 
 -- an image upon which a directory stands is told

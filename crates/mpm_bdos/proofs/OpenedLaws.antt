@@ -7,17 +7,19 @@ use Rattle.std.specs.Cmp.{tied_itself}
 use Rattle.mpm_mount.specs.Drives.{FileName, entry_cmp, PhysicalExtent, Protection, Drive, with_xfcb, is_of, extents_of}
 use Rattle.mpm_mount.proofs.Orders.{file_total}
 use Rattle.mpm_opens.specs.declared.kinds.Mode.TheVariants.{ReadOnly}
+use Rattle.mpm_mount.specs.Attributes.{first_attributes}
+use Rattle.mpm_mount.specs.Files.{where_there}
 use Rattle.mpm_guard.specs.Passwords.{is_admitted}
 use Rattle.mpm_files.specs.declared.jobs.JobKind.{JobKind}
 use Rattle.mpm_files.specs.declared.jobs.JobKind.TheVariants.{Nothing}
 use Rattle.mpm_files.specs.declared.jobs.Job.{Job}
-use Rattle.mpm_files.specs.Units.{first_attributes, Idles, first_stamped, where_there, stages, last_of, applied, all_applied}
+use Rattle.mpm_files.specs.Units.{Idles, first_stamped, stages, last_of, applied, all_applied}
 use Rattle.mpm_files.specs.Plans.{file_of_job, plan_by, plan_of, turns_of}
 use Rattle.mpm_files.specs.Serving.{units_done}
 use Rattle.mpm_files.proofs.TurnLaws.{all_turns}
 use Rattle.mpm_fcb.specs.declared.block.ControlBlock.{ControlBlock}
 use Rattle.mpm_fcb.specs.Opening as fcb
-use Rattle.mpm_bdos.specs.Subjects.{attributes_in, shared_file, shared_by, is_shared, opened_in, data_byte, xfcb_admits, file_admits, mode_asked}
+use Rattle.mpm_requests.specs.Subjects.{attributes_in, shared_file, shared_by, is_shared, opened_in, data_byte, xfcb_admits, file_admits, mode_asked}
 
 -- two drives differ in the stamps of a file's XFCB alone
 pub record Alike (file : FileName) (one other : Drive) : Type 0 where

@@ -4,24 +4,26 @@ use Rattle.std.specs.Prelude.{option_map, unwrap_or, if◌then◌else◌}
 use Rattle.std.specs.FinMap.{get}
 use Rattle.std.proofs.lemmas.Bool.Decides.{nat_tests}
 use Rattle.mpm_base.specs.Calls.{byte_in, eight_at}
+use Rattle.mpm_dirent.specs.Names.{plain}
 use Rattle.mpm_mount.specs.Drives.{FileName, Protection, DirectoryLabel, Drive}
 use Rattle.mpm_mount.specs.Directories.{Directory}
-use Rattle.mpm_mount.specs.Faults.{plain}
 use Rattle.mpm_guard.specs.Passwords.{has_bit}
 use Rattle.mpm_opens.specs.declared.kinds.FileKey.{FileKey}
 use Rattle.mpm_fcb.specs.declared.block.ControlBlock.{ControlBlock}
 use Rattle.mpm_fcb.specs.Names.{new_name_of, has_f6}
 use Rattle.mpm_files.specs.declared.jobs.JobKind.TheVariants as kinds
 use Rattle.mpm_files.specs.declared.jobs.Job.{Job}
-use Rattle.mpm_bdos.specs.declared.functions.FileFunction.{FileFunction}
-use Rattle.mpm_bdos.specs.declared.functions.FileFunction.TheVariants.{ResetDisks, OpenFile, CloseFile, SearchFirst, SearchNext, DeleteFile, ReadSequential, WriteSequential, MakeFile, RenameFile, ProtectDisk, SetAttributes, ReadRandom, WriteRandom, FileSize, ResetDrives, AccessDrives, FreeDrives, TestAndWrite, LockRecord, UnlockRecord, FreeSpace, FlushBuffers, SetLabel, LabelData, ReadXfcb, WriteXfcb}
+use Rattle.mpm_functions.specs.declared.functions.FileFunction.{FileFunction}
+use Rattle.mpm_functions.specs.declared.functions.FileFunction.TheVariants.{ResetDisks, OpenFile, CloseFile, SearchFirst, SearchNext, DeleteFile, ReadSequential, WriteSequential, MakeFile, RenameFile, ProtectDisk, SetAttributes, ReadRandom, WriteRandom, FileSize, ResetDrives, AccessDrives, FreeDrives, TestAndWrite, LockRecord, UnlockRecord, FreeSpace, FlushBuffers, SetLabel, LabelData, ReadXfcb, WriteXfcb}
 use Rattle.mpm_bdos.specs.declared.planning.About.{About}
-use Rattle.mpm_bdos.specs.Filing.{Situation, block}
-use Rattle.mpm_bdos.specs.Subjects.{drive_at, subject, subject_key, first_record, has_written, data_byte}
-use Rattle.mpm_bdos.specs.Refusals.{makes_xfcb}
+use Rattle.mpm_requests.specs.Filing.{Situation, block}
+use Rattle.mpm_requests.specs.Subjects.{drive_at, subject, subject_key, first_record, has_written, data_byte}
+use Rattle.mpm_requests.specs.Refusals.{makes_xfcb}
 use Rattle.mpm_bdos.specs.Records.{is_locked_off}
-use Rattle.mpm_bdos.specs.Jobs.{job_for, stamp_where, with_records, with_stamp, with_bytes, with_one, with_new_name, with_protection, no_protection, given_xfcb, with_first_stamp, label_put, xfcb_put, testing_bytes, where_some, is_tested_off, is_cut_at, count_until, free_count, reading_job, writing_job, testing_job, labelling_job, guarding_job, job_by}
-use Rattle.mpm_bdos.specs.Planning.{has_records, IsAbout, stamp_on, written, tested}
+use Rattle.mpm_bdos.specs.Jobs.{job_for, stamp_where, with_records, with_stamp, with_bytes, with_one, with_new_name, with_protection, testing_bytes, where_some, is_tested_off, is_cut_at, count_until, free_count, reading_job, writing_job, testing_job, labelling_job, guarding_job, job_by}
+use Rattle.mpm_requests.specs.Protections.{no_protection, given_xfcb, with_first_stamp, label_put, xfcb_put}
+use Rattle.mpm_bdos.specs.Ending.{is_moving}
+use Rattle.mpm_bdos.specs.Planning.{IsAbout, stamp_on, written, tested}
 use Rattle.mpm_bdos.proofs.NamedFiles.{subject_name}
 
 pub making_so : (makes asks : Bool) (xfcb wanted : Protection) (job : Job) → makes ≡ asks → xfcb ≡ wanted
@@ -74,7 +76,7 @@ made s user b =
 -- what was looked up of a call
 pub record IsFound (s : Situation) (about : About) (b : ControlBlock) : Type 0 where
   pub file : about.file ≡ subject_key s
-  pub first : has_records s.function ≡ true → about.first ≡ first_record s
+  pub first : is_moving s.function ≡ true → about.first ≡ first_record s
   pub has_written : about.has_written ≡ has_written s
   pub block : b ≡ block s
 
@@ -110,7 +112,7 @@ setting_is s about b found =
     let name = name_is s about b found in
     λ i. Some (job_for kinds.Attributes (user i) (name i))
 
-reading_is : (s : Situation) (about : About) (b : ControlBlock) → IsFound s about b → has_records s.function ≡ true
+reading_is : (s : Situation) (about : About) (b : ControlBlock) → IsFound s about b → is_moving s.function ≡ true
     → with_records about.first s.caller.multi (job_for kinds.Read about.file.user b.name) ≡ reading_job s
 reading_is s about b found has =
     let user = user_is s about b found in
@@ -121,12 +123,12 @@ reading_is s about b found has =
 pub sequential_reading_is : (s : Situation) (about : About) (b : ControlBlock) → IsFound s about b → s.function ≡ ReadSequential
     → Some (with_records about.first s.caller.multi (job_for kinds.Read about.file.user b.name)) ≡ job_by s ReadSequential
 unfolding job_by
-sequential_reading_is s about b found is = ap Some (reading_is s about b found (ap has_records is))
+sequential_reading_is s about b found is = ap Some (reading_is s about b found (ap is_moving is))
 
 pub random_reading_is : (s : Situation) (about : About) (b : ControlBlock) → IsFound s about b → s.function ≡ ReadRandom
     → Some (with_records about.first s.caller.multi (job_for kinds.Read about.file.user b.name)) ≡ job_by s ReadRandom
 unfolding job_by
-random_reading_is s about b found is = ap Some (reading_is s about b found (ap has_records is))
+random_reading_is s about b found is = ap Some (reading_is s about b found (ap is_moving is))
 
 pub renaming_is : (s : Situation) (about : About) (b : ControlBlock) → IsFound s about b
     → Some (with_new_name (new_name_of b) (job_for kinds.Rename about.file.user b.name)) ≡ job_by s RenameFile
@@ -180,7 +182,7 @@ unfolding job_by
 making_is s about b found = ap Some (making_of s about b found)
 
 -- records that are written, and tested
-written_of : (s : Situation) (about : About) (b : ControlBlock) → IsFound s about b → has_records s.function ≡ true
+written_of : (s : Situation) (about : About) (b : ControlBlock) → IsFound s about b → is_moving s.function ≡ true
     → free_count s ≡ count_until (is_locked_off s.filing.opens s.caller.process (subject_key s)) (first_record s) s.caller.multi
     → written (drive_at s) (count_until (is_locked_off s.filing.opens s.caller.process about.file) about.first s.caller.multi) b.name s.call.bytes s.moment about
     ≡ where_some (free_count s) (writing_job s (free_count s))
@@ -198,14 +200,14 @@ written_of s about b found has free =
 pub sequential_writing_is : (s : Situation) (about : About) (b : ControlBlock) → IsFound s about b → s.function ≡ WriteSequential
     → written (drive_at s) (count_until (is_locked_off s.filing.opens s.caller.process about.file) about.first s.caller.multi) b.name s.call.bytes s.moment about ≡ job_by s WriteSequential
 unfolding job_by free_count
-sequential_writing_is s about b found is = written_of s about b found (ap has_records is) (ap (λ f. count_until (is_cut_at s f) (first_record s) s.caller.multi) is)
+sequential_writing_is s about b found is = written_of s about b found (ap is_moving is) (ap (λ f. count_until (is_cut_at s f) (first_record s) s.caller.multi) is)
 
 pub random_writing_is : (s : Situation) (about : About) (b : ControlBlock) → IsFound s about b → s.function ≡ WriteRandom
     → written (drive_at s) (count_until (is_locked_off s.filing.opens s.caller.process about.file) about.first s.caller.multi) b.name s.call.bytes s.moment about ≡ job_by s WriteRandom
 unfolding job_by free_count
-random_writing_is s about b found is = written_of s about b found (ap has_records is) (ap (λ f. count_until (is_cut_at s f) (first_record s) s.caller.multi) is)
+random_writing_is s about b found is = written_of s about b found (ap is_moving is) (ap (λ f. count_until (is_cut_at s f) (first_record s) s.caller.multi) is)
 
-tested_of : (s : Situation) (about : About) (b : ControlBlock) → IsFound s about b → has_records s.function ≡ true
+tested_of : (s : Situation) (about : About) (b : ControlBlock) → IsFound s about b → is_moving s.function ≡ true
     → free_count s ≡ count_until (is_tested_off (drive_at s) s.filing.opens s.caller.process (subject_key s)) (first_record s) s.caller.multi
     → tested (drive_at s) (count_until (is_tested_off (drive_at s) s.filing.opens s.caller.process about.file) about.first s.caller.multi) s.caller.multi b.name s.call.bytes s.moment about
     ≡ where_some (free_count s) (testing_job s (free_count s))
@@ -224,7 +226,7 @@ pub testing_is : (s : Situation) (about : About) (b : ControlBlock) → IsFound 
     → tested (drive_at s) (count_until (is_tested_off (drive_at s) s.filing.opens s.caller.process about.file) about.first s.caller.multi) s.caller.multi b.name s.call.bytes s.moment about
     ≡ job_by s TestAndWrite
 unfolding job_by free_count
-testing_is s about b found is = tested_of s about b found (ap has_records is) (ap (λ f. count_until (is_cut_at s f) (first_record s) s.caller.multi) is)
+testing_is s about b found is = tested_of s about b found (ap is_moving is) (ap (λ f. count_until (is_cut_at s f) (first_record s) s.caller.multi) is)
 
 -- the others have none
 pub record HasNone (function : FileFunction) : Type 0 where

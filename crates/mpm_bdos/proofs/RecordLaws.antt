@@ -13,8 +13,8 @@ use Rattle.mpm_files.specs.Plans.{Plan, behind, unless_failing, when, clears_blo
 use Rattle.mpm_files.specs.Serving.{records_moved}
 use Rattle.mpm_bdos.specs.declared.ends.Ended.{Ended}
 use Rattle.mpm_bdos.specs.declared.ends.RecordEnd.TheVariants.{Failing, LockedOff}
-use Rattle.mpm_bdos.specs.declared.functions.FileFunction.TheVariants.{ReadSequential, WriteSequential, ReadRandom, WriteRandom}
-use Rattle.mpm_bdos.specs.Subjects.{file_of}
+use Rattle.mpm_functions.specs.declared.functions.FileFunction.TheVariants.{ReadSequential, WriteSequential, ReadRandom, WriteRandom}
+use Rattle.mpm_requests.specs.Subjects.{file_of}
 use Rattle.mpm_bdos.specs.Records.{is_locked_off, ends, ends_of, end_of, end_by, one_done, ended_by, writing_ended, reading_ended}
 use Rattle.mpm_bdos.specs.Jobs.{count_until}
 

@@ -10,18 +10,18 @@ use Rattle.mpm_mount.specs.Drives.{Drive}
 use Rattle.mpm_files.specs.declared.jobs.Job.{Job}
 use Rattle.mpm_files.specs.Serving.{units_done}
 use Rattle.mpm_files.proofs.Contained.{turns_keep}
-use Rattle.mpm_bdos.specs.declared.caller.Caller.{Caller}
-use Rattle.mpm_bdos.specs.declared.functions.DirectFunction.{DirectFunction}
-use Rattle.mpm_bdos.specs.declared.functions.FileFunction.{FileFunction}
-use Rattle.mpm_bdos.specs.declared.refusals.Refusal.{Refusal}
+use Rattle.mpm_requests.specs.declared.caller.Caller.{Caller}
+use Rattle.mpm_functions.specs.declared.functions.DirectFunction.{DirectFunction}
+use Rattle.mpm_functions.specs.declared.functions.FileFunction.{FileFunction}
+use Rattle.mpm_functions.specs.declared.refusals.Refusal.{Refusal}
 use Rattle.mpm_bdos.specs.Direct.{Directly, direct, direct_by, is_protected, kind_of}
-use Rattle.mpm_bdos.specs.Filing.{Filing, Situation}
+use Rattle.mpm_requests.specs.Filing.{Filing, Situation}
 use Rattle.mpm_bdos.specs.Jobs.{job_by, unless_refused, job_of}
 use Rattle.mpm_bdos.specs.Outcomes.{drives_after}
-use Rattle.mpm_bdos.specs.Refusals.{refusal_of}
+use Rattle.mpm_requests.specs.Refusals.{refusal_of}
 use Rattle.mpm_bdos.specs.Serving.{Kept, StandEach, Serves, WorksOn, directory_at, filing_of}
 use Rattle.mpm_bdos.specs.Starting.{entering}
-use Rattle.mpm_bdos.specs.Subjects.{mounted, blank_drive, drive_number, drive_at}
+use Rattle.mpm_requests.specs.Subjects.{mounted, blank_drive, drive_number, drive_at}
 use Rattle.mpm_bdos.specs.Turns.{TurnKeeps, WorksOnDrives, has_work, labelled}
 use Rattle.mpm_bdos.proofs.NextTurns.{idle_drives, job_drives}
 use Rattle.mpm_bdos.proofs.Started.{nothing_some, unmounted_begins}

@@ -5,10 +5,12 @@ use Rattle.std.proofs.lemmas.List.{set-get_or}
 use Rattle.std.proofs.lemmas.Option.{same_Some}
 use Rattle.mpm_base.specs.Calls.{Taken}
 use Rattle.std.specs.FinMap.{get-empty}
+use Rattle.mpm_dirent.specs.Names.{plain}
+use Rattle.mpm_dirent.proofs.PlainNames.{plain_twice}
 use Rattle.mpm_mount.specs.Drives.{Drive, IsOfImage, entry_cmp}
 use Rattle.mpm_mount.proofs.InSlots.{extent_of_image}
-use Rattle.mpm_mount.specs.Faults.{plain}
 use Rattle.mpm_mount.specs.Directories.{Directory, Stands}
+use Rattle.mpm_mount.proofs.LookedUp.{kind_of}
 use Rattle.mpm_fcb.specs.declared.block.ControlBlock.{ControlBlock}
 use Rattle.mpm_fcb.specs.Positions.{sequential_record}
 use Rattle.mpm_files.specs.declared.jobs.Job.{Job}
@@ -16,27 +18,25 @@ use Rattle.mpm_files.specs.declared.work.Work.{Work}
 use Rattle.mpm_files.specs.Units.{all_applied}
 use Rattle.mpm_files.specs.Plans.{plan_of}
 use Rattle.mpm_files.specs.Turning.{Suits}
-use Rattle.mpm_bdos.specs.declared.caller.Caller.{Caller}
-use Rattle.mpm_bdos.specs.declared.functions.FileFunction.{FileFunction}
-use Rattle.mpm_bdos.specs.declared.functions.FileFunction.TheVariants.{ResetDisks, OpenFile, CloseFile, SearchFirst, SearchNext, DeleteFile, ReadSequential, WriteSequential, MakeFile, RenameFile, ProtectDisk, SetAttributes, ReadRandom, WriteRandom, FileSize, ResetDrives, AccessDrives, FreeDrives, TestAndWrite, LockRecord, UnlockRecord, FreeSpace, FlushBuffers, SetLabel, LabelData, ReadXfcb, WriteXfcb}
+use Rattle.mpm_requests.specs.declared.caller.Caller.{Caller}
+use Rattle.mpm_functions.specs.declared.functions.FileFunction.{FileFunction}
+use Rattle.mpm_functions.specs.declared.functions.FileFunction.TheVariants.{ResetDisks, OpenFile, CloseFile, SearchFirst, SearchNext, DeleteFile, ReadSequential, WriteSequential, MakeFile, RenameFile, ProtectDisk, SetAttributes, ReadRandom, WriteRandom, FileSize, ResetDrives, AccessDrives, FreeDrives, TestAndWrite, LockRecord, UnlockRecord, FreeSpace, FlushBuffers, SetLabel, LabelData, ReadXfcb, WriteXfcb}
 use Rattle.mpm_bdos.specs.declared.planning.About.{About}
-use Rattle.mpm_bdos.specs.declared.refusals.Refusal.{Refusal}
-use Rattle.mpm_bdos.specs.Filing.{Situation, block}
-use Rattle.mpm_bdos.specs.Subjects.{last_search, drive_by, drive_named, drive_number, mounted, blank_drive, drive_at, item_number, open_key, subject, first_record}
-use Rattle.mpm_bdos.specs.Refusals.{refusal_of}
+use Rattle.mpm_functions.specs.declared.refusals.Refusal.{Refusal}
+use Rattle.mpm_requests.specs.Filing.{Situation, block, HaveUsers}
+use Rattle.mpm_requests.specs.Subjects.{last_search, drive_by, drive_named, drive_number, mounted, blank_drive, drive_at, item_number, open_key, subject, first_record}
+use Rattle.mpm_requests.specs.Refusals.{refusal_of}
 use Rattle.mpm_bdos.specs.Jobs.{job_by, unless_refused, job_of, turns_by, call_turns, turned_by, turned}
 use Rattle.mpm_bdos.specs.Changes.{drives_by}
 use Rattle.mpm_bdos.specs.Outcomes.{drives_after}
 use Rattle.mpm_bdos.specs.Ending.{IsSound}
 use Rattle.mpm_bdos.specs.Planning.{IsAbout}
-use Rattle.mpm_bdos.specs.Asking.{StandsFor, unnamed_refusal}
-use Rattle.mpm_bdos.specs.Serving.{IsCaller, HaveUsers, InService, Kept, StandsWhere, StandEach, directory_at, WorksOn, Serves}
+use Rattle.mpm_requests.specs.Asking.{StandsFor, unnamed_refusal, StandsWhere}
+use Rattle.mpm_bdos.specs.Serving.{IsCaller, InService, Kept, StandEach, directory_at, WorksOn, Serves}
 use Rattle.mpm_bdos.specs.Starting.{entering, about_in, Begins, Enters, EntersAmong, turns_where}
-use Rattle.mpm_files.proofs.SearchSteps.{plain_twice}
-use Rattle.mpm_files.proofs.Tied.{kind_of}
 use Rattle.mpm_bdos.proofs.NamedFiles.{subject_name}
 use Rattle.mpm_bdos.proofs.Suited.{IsCall, each_suits, low_first}
-use Rattle.mpm_bdos.proofs.UnmountedLaws.{unmounted_so}
+use Rattle.mpm_requests.proofs.UnmountedLaws.{unmounted_so}
 use Rattle.mpm_bdos.proofs.OnDrives.{no_drive}
 use Rattle.mpm_bdos.proofs.EndingLaws.{own_job}
 

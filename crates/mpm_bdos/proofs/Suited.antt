@@ -6,30 +6,31 @@ use Rattle.std.proofs.lemmas.Bool.{or_parts}
 use Rattle.std.proofs.lemmas.Bool.Decides.{nat_tests}
 use Rattle.std.proofs.lemmas.Option.{same_Some}
 use Rattle.mpm_base.proofs.Choices.{either}
+use Rattle.mpm_dirent.specs.Names.{plain}
 use Rattle.mpm_dirent.proofs.Lengths.{part_size}
 use Rattle.mpm_mount.specs.Drives.{FileName, Drive, free_entries}
-use Rattle.mpm_mount.specs.Faults.{plain}
 use Rattle.mpm_mount.specs.Searching.{IsUnambiguous}
 use Rattle.mpm_opens.proofs.Listing.{fails_at}
+use Rattle.mpm_mount.specs.Files.{has_file}
 use Rattle.mpm_fcb.specs.Blocks.{block_of}
 use Rattle.mpm_fcb.specs.Names.{new_name_of, is_ambiguous}
 use Rattle.mpm_fcb.specs.Positions.{sequential_record, are_beyond}
 use Rattle.mpm_files.specs.declared.jobs.JobKind.TheVariants as kinds
 use Rattle.mpm_files.specs.declared.jobs.Job.{Job}
-use Rattle.mpm_files.specs.Plans.{has_file}
 use Rattle.mpm_files.specs.Counting.{bit}
 use Rattle.mpm_files.specs.Turning.{SuitsKind, Suits}
-use Rattle.mpm_bdos.specs.declared.functions.FileFunction.{FileFunction}
-use Rattle.mpm_bdos.specs.declared.functions.FileFunction.TheVariants.{ResetDisks, OpenFile, CloseFile, SearchFirst, SearchNext, DeleteFile, ReadSequential, WriteSequential, MakeFile, RenameFile, ProtectDisk, SetAttributes, ReadRandom, WriteRandom, FileSize, ResetDrives, AccessDrives, FreeDrives, TestAndWrite, LockRecord, UnlockRecord, FreeSpace, FlushBuffers, SetLabel, LabelData, ReadXfcb, WriteXfcb}
-use Rattle.mpm_bdos.specs.declared.refusals.Refusal.{Refusal}
-use Rattle.mpm_bdos.specs.declared.refusals.Refusal.TheVariants.{Ambiguous, BeyondFile, NotFound, FileExists, DirectoryFull}
-use Rattle.mpm_bdos.specs.Filing.{Situation, block}
-use Rattle.mpm_bdos.specs.Subjects.{drive_at, open_key, own_file, new_file, is_there, subject_by, subject, first_by, first_record, data_byte}
-use Rattle.mpm_bdos.specs.Refusals.{refusals_of, has_question, is_missing, makes_xfcb, one_if, lacks_xfcb, lacks_label, needed_by, existing_file, is_directory_full, applies, refusal_of}
+use Rattle.mpm_functions.specs.declared.functions.FileFunction.{FileFunction}
+use Rattle.mpm_functions.specs.declared.functions.FileFunction.TheVariants.{ResetDisks, OpenFile, CloseFile, SearchFirst, SearchNext, DeleteFile, ReadSequential, WriteSequential, MakeFile, RenameFile, ProtectDisk, SetAttributes, ReadRandom, WriteRandom, FileSize, ResetDrives, AccessDrives, FreeDrives, TestAndWrite, LockRecord, UnlockRecord, FreeSpace, FlushBuffers, SetLabel, LabelData, ReadXfcb, WriteXfcb}
+use Rattle.mpm_functions.specs.declared.refusals.Refusal.{Refusal}
+use Rattle.mpm_functions.specs.declared.refusals.Refusal.TheVariants.{Ambiguous, BeyondFile, NotFound, FileExists, DirectoryFull}
+use Rattle.mpm_requests.specs.Filing.{Situation, block, HaveUsers}
+use Rattle.mpm_requests.specs.Subjects.{drive_at, open_key, own_file, new_file, is_there, subject_by, subject, first_by, first_record, data_byte}
+use Rattle.mpm_functions.specs.Refusals.{refusals_of}
+use Rattle.mpm_requests.specs.Refusals.{has_question, is_missing, makes_xfcb, one_if, lacks_xfcb, lacks_label, needed_by, existing_file, is_directory_full, applies, refusal_of}
 use Rattle.mpm_bdos.specs.Jobs.{filled, with_stamp, with_one, with_protection, with_new_name, made_xfcb, job_on, is_cut_at, count_until, free_count, reading_job, writing_job, testing_job, making_job, labelling_job, guarding_job, job_by, unless_refused, job_of}
-use Rattle.mpm_bdos.specs.Planning.{has_records}
-use Rattle.mpm_bdos.specs.Serving.{IsCaller, HaveUsers}
-use Rattle.mpm_bdos.proofs.AskedLaws.{file_is}
+use Rattle.mpm_bdos.specs.Ending.{is_moving}
+use Rattle.mpm_bdos.specs.Serving.{IsCaller}
+use Rattle.mpm_requests.proofs.AskedLaws.{file_is}
 use Rattle.mpm_bdos.proofs.Filling.{filled_room}
 use Rattle.mpm_bdos.proofs.Granted.{none_applies}
 use Rattle.mpm_bdos.proofs.Absent.{absent, is_other}
@@ -269,7 +270,7 @@ each_suits s None call is = tt
 each_suits s (Some job) call is = job_suits s job call is
 
 -- the records of a job begin where a block can stand
-pub low_first : (s : Situation) (function : FileFunction) → IsCall s → refusal_of s ≡ None → s.function ≡ function → has_records function ≡ true → first_record s ≤ 262271
+pub low_first : (s : Situation) (function : FileFunction) → IsCall s → refusal_of s ≡ None → s.function ≡ function → is_moving function ≡ true → first_record s ≤ 262271
 unfolding refusals_of
 low_first s ReadSequential call none is has = omega (arith, sequential_first s is, call.low)
 low_first s WriteSequential call none is has =

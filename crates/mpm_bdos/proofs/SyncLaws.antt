@@ -1,8 +1,11 @@
 -- Mounted drives that are synced one after another.
-use Rattle.std.proofs.Common.{◌≡◌, ◌≢◌, ◌∙◌, ℕ, suc, ◌+◌, ◌<◌, inl, inr, Bool, false, List, Option, Some, None, IfSome, sym, ap, subst, length, get_or, arith}
-use Rattle.std.proofs.lemmas.Bool.{cases_eq}
+use Rattle.std.proofs.Common.{◌≡◌, ◌≢◌, ◌∙◌, ℕ, suc, ◌+◌, ◌<◌, ◌≤◌, inl, inr, Bool, true, false, List, Option, Some, None, IfSome, refl, sym, ap, subst, length, get_or, take, arith}
+use Rattle.std.specs.Prelude.{is_some, if◌then◌else◌}
+use Rattle.std.proofs.lemmas.Bool.{cases_eq, false≢true}
+use Rattle.std.proofs.lemmas.List.Sums.{count_by_more_yes, sum_by-take-le}
 use Rattle.mpm_mount.specs.Directories.{Directory}
 use Rattle.mpm_bdos.specs.Serving.{AreInPlace, directory_at}
+use Rattle.mpm_bdos.specs.Syncing.{StopsAtDrive, mounted_count}
 use Rattle.mpm_bdos.proofs.Fitting.{in_place}
 
 -- those of the first places are synced
@@ -51,3 +54,54 @@ away_from number (Some d) mounted k is placed none = elsewhere mounted k number 
 pub away : (mounted : List (Option Directory)) (k number : ℕ) (place : Option Directory) → AreInPlace mounted → k < length mounted → place ≡ get_or mounted k place → directory_at mounted number ≡ None
     → IfSome place (λ d. number ≢ d.drive)
 away mounted k number place placed within is none = away_from number place mounted k (item_there mounted k place within is) placed none
+
+-- nor of one behind it
+other_number : (number k : ℕ) (place : Option Directory) → k < number → IfSome place (λ d. d.drive ≡ k) → IfSome place (λ d. number ≢ d.drive)
+other_number number k None behind its = tt
+other_number number k (Some d) behind its = λ same. omega (arith, behind, same, its)
+
+its_place : (mounted : List (Option Directory)) (k : ℕ) (place : Option Directory) → AreInPlace mounted → directory_at mounted k ≡ place → IfSome place (λ d. d.drive ≡ k)
+its_place mounted k place placed is = subst (λ found. IfSome found (λ d. d.drive ≡ k)) is (placed.each k)
+
+pub behind_place : (mounted : List (Option Directory)) (k number : ℕ) (place : Option Directory) → AreInPlace mounted → k < length mounted → place ≡ get_or mounted k place → k < number
+    → IfSome place (λ d. number ≢ d.drive)
+behind_place mounted k number place placed within is behind =
+    other_number number k place behind (its_place mounted k place placed (item_there mounted k place within is))
+
+-- the drive of a place that failed is as it was, and so are those behind it
+from_here : (k : ℕ) (place : Option Directory) (old now : ℕ → Bool) → is_some place ≡ true → IfSome place (λ d. d.drive ≡ k) → IfSome place (λ d. now d.drive ≡ old d.drive)
+    → ((number : ℕ) → IfSome place (λ d. number ≢ d.drive) → now number ≡ old number) → (number : ℕ) → k ≤ number → now number ≡ old number
+from_here k None old now some its failed beside number from = absurd (false≢true some)
+from_here k (Some d) old now some its failed beside number from = elim (cases_eq number d.drive) [
+  | inl same ↦ ap now same ∙ failed ∙ ap old (sym same)
+  | inr apart ↦ beside number apart
+]
+
+still_to : (mounted : List (Option Directory)) (k : ℕ) (old now : ℕ → Bool) → AreSyncedTo k old mounted → ((n : ℕ) → old n ≡ false → now n ≡ false) → AreSyncedTo k now mounted
+still_to mounted k old now synced stay number less = still old now number (directory_at mounted number) stay (synced number less)
+
+one_place : (place : Option Directory) → is_some place ≡ true → ◌≡◌ {A = ℕ} (if is_some place then 1 else 0) 1
+one_place None some = absurd (false≢true some)
+one_place (Some d) some = refl
+
+-- no more are mounted in the first places than in all
+pub fewer_mounted : (mounted : List (Option Directory)) (k steps steps' : ℕ) → steps' ≡ steps + mounted_count (take k mounted) → steps' ≤ steps + mounted_count mounted
+fewer_mounted mounted k steps steps' calls = omega (arith, calls, sum_by-take-le (λ (d : Option Directory). if is_some d then 1 else 0) mounted k)
+
+pub stopped_there : (mounted : List (Option Directory)) (k : ℕ) (place : Option Directory) (first old now : ℕ → Bool) (steps between behind : ℕ) → AreInPlace mounted → k < length mounted
+    → place ≡ get_or mounted k place → is_some place ≡ true → AreSyncedTo k old mounted → ((n : ℕ) → old n ≡ false → now n ≡ false) → IfSome place (λ d. now d.drive ≡ old d.drive)
+    → ((number : ℕ) → IfSome place (λ d. number ≢ d.drive) → now number ≡ old number) → ((number : ℕ) → k ≤ number → old number ≡ first number)
+    → between ≡ steps + mounted_count (take k mounted) → behind ≡ between + (if is_some place then 1 else 0)
+    → StopsAtDrive mounted first now steps behind
+stopped_there mounted k place first old now steps between behind placed within is some synced stay failed beside rest calls more =
+    let there : directory_at mounted k ≡ place = item_there mounted k place within is in
+    let counted : mounted_count (take (k + 1) mounted) ≡ mounted_count (take k mounted) + 1 =
+    count_by_more_yes (λ (d : Option Directory). is_some d) mounted k place within (ap is_some (sym is) ∙ some) in
+    let one = one_place place some in
+    record {
+      drive = k;
+      there = ap is_some there ∙ some;
+      front = still_to mounted k old now synced stay;
+      rest = λ number from. from_here k place old now some (its_place mounted k place placed there) failed beside number from ∙ rest number from;
+      calls = omega (arith, more, calls, counted, one);
+    }

@@ -16,7 +16,7 @@ use Rattle.mpm_files.proofs.Tested.{same_reads, still_whole}
 use Rattle.mpm_bdos.specs.declared.ends.RecordEnd.{RecordEnd}
 use Rattle.mpm_bdos.specs.declared.ends.Ended.{Ended}
 use Rattle.mpm_bdos.specs.declared.ends.RecordEnd.TheVariants.{Failing, LockedOff}
-use Rattle.mpm_bdos.specs.Subjects.{file_of}
+use Rattle.mpm_requests.specs.Subjects.{file_of}
 use Rattle.mpm_bdos.specs.Records.{is_locked_off, ends, ends_of, end_of, end_by, one_done, ended_by, testing_ended}
 use Rattle.mpm_bdos.specs.Jobs.{count_until}
 use Rattle.mpm_bdos.proofs.RecordLaws.{planned, one_more, is_cut}

@@ -7,14 +7,16 @@ use Rattle.mpm_blocks.specs.Sectors.{sectors_of}
 use Rattle.mpm_dirent.specs.declared.kinds.Entry.{Entry}
 use Rattle.mpm_dirent.specs.declared.kinds.Entry.TheVariants.{Free, File, Xfcb, Label, Kept}
 use Rattle.mpm_dirent.specs.Proper.{IsProper}
+use Rattle.mpm_dirent.specs.Names.{plain}
 use Rattle.mpm_mount.specs.Drives.{FileName, PhysicalExtent, Drive, extents_of, entry_number, entry_name}
-use Rattle.mpm_mount.specs.Faults.{plain, first_fault}
+use Rattle.mpm_mount.specs.Faults.{first_fault}
 use Rattle.mpm_mount.specs.Images.{extent_in}
 use Rattle.mpm_mount.specs.Directories.{Directory, entry_in, extent_slot, Stands}
+use Rattle.mpm_mount.specs.Attributes.{attributes_of, first_attributes}
+use Rattle.mpm_mount.specs.Files.{where_there}
 use Rattle.mpm_mount.proofs.LookedUp.{extent_found, extent_missing}
 use Rattle.mpm_mount.proofs.Puts.{ranges_at}
-use Rattle.mpm_files.specs.Units.{attributes_of, first_attributes, where_there}
-use Rattle.mpm_bdos.specs.Subjects.{attributes_in, extent_count}
+use Rattle.mpm_requests.specs.Subjects.{attributes_in, extent_count}
 use Rattle.mpm_bdos.specs.Replies.{record_count, told_entry, found_bytes}
 use Rattle.mpm_bdos.specs.Telling.{CanTell, told_at, told_where, told_in}
 

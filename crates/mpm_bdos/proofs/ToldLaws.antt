@@ -13,24 +13,26 @@ use Rattle.mpm_opens.specs.declared.kinds.FileKey.{FileKey}
 use Rattle.mpm_opens.specs.declared.kinds.Mode.TheVariants.{Unlocked}
 use Rattle.mpm_opens.specs.Kinds.{is_same_mode}
 use Rattle.mpm_opens.specs.Opens.{OpenFiles, locked}
+use Rattle.mpm_mount.specs.Files.{where_there}
 use Rattle.mpm_files.specs.declared.errors.RecordError.{RecordError}
 use Rattle.mpm_files.specs.declared.errors.RecordError.TheVariants.{UnwrittenExtent, UnwrittenData, NoDirectorySpace, NoDataBlock, Mismatch}
 use Rattle.mpm_files.specs.declared.jobs.JobKind.TheVariants as kinds
 use Rattle.mpm_files.specs.declared.jobs.Job.{Job}
 use Rattle.mpm_files.specs.declared.work.Work.{Work}
-use Rattle.mpm_files.specs.Units.{ReadsRecord, where_there, stages, last_of, applied}
+use Rattle.mpm_files.specs.Units.{ReadsRecord, stages, last_of, applied}
 use Rattle.mpm_files.specs.Plans.{Plan, file_of_job, behind, unless_failing, reading, plan_by, plan_of, turns_of}
 use Rattle.mpm_files.specs.Serving.{records_moved, moved_after, all_read, records_after, IsServing}
 use Rattle.mpm_files.specs.Turning.{Suits}
 use Rattle.mpm_files.proofs.TurnLaws.{take_all}
 use Rattle.mpm_bdos.specs.declared.ends.RecordEnd.{RecordEnd}
 use Rattle.mpm_bdos.specs.declared.ends.RecordEnd.TheVariants.{Failing}
-use Rattle.mpm_bdos.specs.declared.functions.FileFunction.{FileFunction}
-use Rattle.mpm_bdos.specs.declared.functions.FileFunction.TheVariants.{ResetDisks, OpenFile, CloseFile, SearchFirst, SearchNext, DeleteFile, ReadSequential, WriteSequential, MakeFile, RenameFile, ProtectDisk, SetAttributes, ReadRandom, WriteRandom, FileSize, ResetDrives, AccessDrives, FreeDrives, TestAndWrite, LockRecord, UnlockRecord, FreeSpace, FlushBuffers, SetLabel, LabelData, ReadXfcb, WriteXfcb}
-use Rattle.mpm_bdos.specs.Filing.{Situation, block}
+use Rattle.mpm_functions.specs.declared.functions.FileFunction.{FileFunction}
+use Rattle.mpm_functions.specs.declared.functions.FileFunction.TheVariants.{ResetDisks, OpenFile, CloseFile, SearchFirst, SearchNext, DeleteFile, ReadSequential, WriteSequential, MakeFile, RenameFile, ProtectDisk, SetAttributes, ReadRandom, WriteRandom, FileSize, ResetDrives, AccessDrives, FreeDrives, TestAndWrite, LockRecord, UnlockRecord, FreeSpace, FlushBuffers, SetLabel, LabelData, ReadXfcb, WriteXfcb}
+use Rattle.mpm_requests.specs.Filing.{Situation, block}
 use Rattle.mpm_fcb.specs.Positions.{random_record}
-use Rattle.mpm_bdos.specs.Subjects.{drive_at, subject_key, first_by, first_record, open_mode}
-use Rattle.mpm_bdos.specs.Refusals.{refusals_of, applies, refusal_of}
+use Rattle.mpm_requests.specs.Subjects.{drive_at, subject_key, first_by, first_record, open_mode}
+use Rattle.mpm_functions.specs.Refusals.{refusals_of}
+use Rattle.mpm_requests.specs.Refusals.{applies, refusal_of}
 use Rattle.mpm_bdos.specs.Records.{Locking, error_code_of, unless_ended, end_of, end_by, locking, coded, done_by}
 use Rattle.mpm_bdos.specs.Jobs.{free_count, reading_job, writing_job, testing_job, job_by, job_of, turns_by, call_turns, Turned, turned_by, turned}
 use Rattle.mpm_bdos.specs.Changes.{locking_of}

@@ -1,38 +1,27 @@
 -- Open files stay those of users 0 to 15.
-use Rattle.std.proofs.Common.{◌≡◌, ℕ, zero, suc, ◌+◌, ◌<◌, ◌==◌, Bool, true, false, cond, List, [], ◌∷◌, Option, Some, None, IfSome, sym, subst, arith}
-use Rattle.std.specs.Prelude.{unwrap_or, nat_lt, slice_set}
+use Rattle.std.proofs.Common.{◌≡◌, ℕ, zero, suc, ◌+◌, ◌<◌, ◌==◌, Bool, true, false, cond, List, [], ◌∷◌, Option, Some, None, sym, subst}
+use Rattle.std.specs.Prelude.{nat_lt, slice_set}
 use Rattle.mpm_opens.specs.declared.kinds.FileKey.{FileKey}
 use Rattle.mpm_opens.specs.declared.kinds.Item.{Item}
 use Rattle.mpm_opens.specs.declared.kinds.Mode.{Mode}
 use Rattle.mpm_opens.specs.declared.kinds.OpenRefused.{OpenRefused}
 use Rattle.mpm_opens.specs.Kinds.{is_file}
-use Rattle.mpm_opens.specs.Items.{place_at, blank_item, with_changed, opened_again, closed_once, that_wrote, new_item, first_free, number_of, refusal_of, opened_at, opened, where_granted, items_added, items_without}
+use Rattle.mpm_opens.specs.Items.{place_at, with_changed, opened_again, closed_once, that_wrote, new_item, first_free, number_of, refusal_of, opened_at, opened, where_granted, items_added, items_without}
 use Rattle.mpm_opens.specs.Opens.{OpenFiles, item_of, process_of, file_of, added, given_back, with_its_item, closed_at, closed, written_at, written, unlocked}
 use Rattle.mpm_opens.proofs.ItemLaws.{place_left, so_of_left}
+use Rattle.mpm_functions.specs.declared.functions.FileFunction.{FileFunction}
+use Rattle.mpm_functions.specs.declared.functions.FileFunction.TheVariants.{ResetDisks, OpenFile, CloseFile, SearchFirst, SearchNext, DeleteFile, ReadSequential, WriteSequential, MakeFile, RenameFile, ProtectDisk, SetAttributes, ReadRandom, WriteRandom, FileSize, ResetDrives, AccessDrives, FreeDrives, TestAndWrite, LockRecord, UnlockRecord, FreeSpace, FlushBuffers, SetLabel, LabelData, ReadXfcb, WriteXfcb}
 use Rattle.mpm_fcb.specs.Names.{has_f5}
-use Rattle.mpm_bdos.specs.declared.asking.Asked.{Asked}
-use Rattle.mpm_bdos.specs.declared.functions.FileFunction.{FileFunction}
-use Rattle.mpm_bdos.specs.declared.functions.FileFunction.TheVariants.{ResetDisks, OpenFile, CloseFile, SearchFirst, SearchNext, DeleteFile, ReadSequential, WriteSequential, MakeFile, RenameFile, ProtectDisk, SetAttributes, ReadRandom, WriteRandom, FileSize, ResetDrives, AccessDrives, FreeDrives, TestAndWrite, LockRecord, UnlockRecord, FreeSpace, FlushBuffers, SetLabel, LabelData, ReadXfcb, WriteXfcb}
-use Rattle.mpm_bdos.specs.declared.subjects.OpenItem.{OpenItem}
-use Rattle.mpm_bdos.specs.Marks.{is_bit}
-use Rattle.mpm_bdos.specs.Subjects.{first_by}
+use Rattle.mpm_marks.specs.Marks.{is_bit}
+use Rattle.mpm_marks.specs.Driving.{freed_by}
+use Rattle.mpm_requests.specs.declared.asking.Asked.{Asked}
+use Rattle.mpm_requests.specs.declared.subjects.OpenItem.{OpenItem}
+use Rattle.mpm_requests.specs.Subjects.{first_by}
+use Rattle.mpm_requests.specs.Filing.{HaveUsers}
+use Rattle.mpm_requests.proofs.OwnItems.{HasUser, user_at}
 use Rattle.mpm_bdos.specs.Records.{unlocking}
 use Rattle.mpm_bdos.specs.Changes.{is_among}
-use Rattle.mpm_bdos.specs.Driving.{freed_by}
-use Rattle.mpm_bdos.specs.Leaving.{IsOwn, unlocked_where, left_by}
-use Rattle.mpm_bdos.specs.Serving.{HaveUsers}
-
--- what stands at a place
-abbrev pub HasUser : Option Item → Type 0
-HasUser place = IfSome place (λ item. item.file.user < 16)
-
--- an item by its number, and the one that stands for nothing
-user_of : (place : Option Item) → HasUser place → (unwrap_or place blank_item).file.user < 16
-user_of None so = omega arith
-user_of (Some item) so = so
-
-user_at : (opens : OpenFiles) (number : ℕ) → HaveUsers opens → (item_of opens number).file.user < 16
-user_at opens number users = user_of (place_at opens.items number) (users number)
+use Rattle.mpm_bdos.specs.Leaving.{unlocked_where, left_by}
 
 -- an item that is put in a place
 user_put : (items : List (Option Item)) (i : ℕ) (item : Item) → item.file.user < 16 → (k : ℕ) → HasUser (place_at items k) → HasUser (place_at (slice_set items i (Some item)) k)
@@ -114,11 +103,6 @@ unfolding added items_added opened
 users_added opens p file mode users low =
     granted_users opens (opened opens.items p file mode) (refusal_of opens.items p file mode) users
     (opened_users opens p file mode (number_of opens.items p file) users low)
-
--- an open file that a call names
-pub own_user : (opens : OpenFiles) (p : ℕ) (item : Option OpenItem) → HaveUsers opens → IfSome item (λ item. IsOwn opens p item) → IfSome item (λ item. item.file.user < 16)
-own_user opens p None users own = tt
-own_user opens p (Some item) users own = subst (λ (file : FileKey). file.user < 16) own.its.its_file (user_at opens item.number users)
 
 -- all that a call leaves
 users_after : (opens : OpenFiles) (a : Asked) (file : FileKey) (moved : ℕ) (deleted : List (Option FileKey)) (f : FileFunction) → HaveUsers opens → HaveUsers (left_by opens a file moved deleted f)

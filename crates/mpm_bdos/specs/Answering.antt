@@ -1,26 +1,24 @@
 -- What a call that the disk serves may be answered, whatever is on the drives: one that is refused by a refusal of its row; another
 -- one with bytes at its DMA address, so many as its function reads or tells, and with its file control block, which keeps all but what
 -- its function tells in it. (MP/M II Programmer's Guide, "BDOS Function Calls", "BDOS Error Handling".)
-use Rattle.std.specs.Prelude.{◌≡◌, ℕ, ◌*◌, ◌<◌, ◌≤◌, ◌⊎◌, Bool, List, [], ◌∷◌, ◌++◌, Option, Some, None, IfSome, length, unwrap_or}
+use Rattle.std.specs.Prelude.{◌≡◌, ℕ, ◌*◌, ◌<◌, ◌≤◌, Bool, List, [], Option, Some, None, IfSome, length}
 use Rattle.mpm_base.specs.Calls.{Taken, Answer, answering}
-use Rattle.mpm_mount.specs.Drives.{Protection}
 use Rattle.mpm_opens.specs.declared.kinds.Mode.{Mode}
+use Rattle.mpm_functions.specs.declared.functions.FileFunction.{FileFunction}
+use Rattle.mpm_functions.specs.declared.functions.FileFunction.TheVariants.{OpenFile, SearchFirst, SearchNext, ReadSequential, WriteSequential, MakeFile, ReadRandom, WriteRandom, FileSize, TestAndWrite, LockRecord, FreeSpace, LabelData, ReadXfcb}
+use Rattle.mpm_functions.specs.declared.refusals.Refusal.{Refusal}
+use Rattle.mpm_functions.specs.declared.refusals.Extended.{Extended}
+use Rattle.mpm_functions.specs.Refusals.{answered, refused_value, refused_extended, IsOfRow}
+use Rattle.mpm_mount.specs.Drives.{Protection}
 use Rattle.mpm_fcb.specs.declared.block.ControlBlock.{ControlBlock}
 use Rattle.mpm_fcb.specs.Blocks.{block_of, bytes_of}
 use Rattle.mpm_fcb.specs.Opening.{opened}
 use Rattle.mpm_fcb.specs.Positions.{at_position, with_random}
-use Rattle.mpm_bdos.specs.declared.caller.Caller.{Caller}
-use Rattle.mpm_bdos.specs.declared.functions.FileFunction.{FileFunction}
+use Rattle.mpm_requests.specs.declared.caller.Caller.{Caller}
+use Rattle.mpm_requests.specs.Protections.{told_xfcb}
+use Rattle.mpm_requests.specs.Subjects.{IsNamed}
 use Rattle.mpm_bdos.specs.declared.ends.RecordEnd.{RecordEnd}
-use Rattle.mpm_bdos.specs.declared.functions.FileFunction.TheVariants.{OpenFile, SearchFirst, SearchNext, ReadSequential, WriteSequential, MakeFile, ReadRandom, WriteRandom, FileSize, TestAndWrite, LockRecord, FreeSpace, LabelData, ReadXfcb}
-use Rattle.mpm_bdos.specs.declared.refusals.Refusal.{Refusal}
-use Rattle.mpm_bdos.specs.declared.refusals.Extended.{Extended}
-use Rattle.mpm_bdos.specs.Filing.{LastSearch}
-use Rattle.mpm_bdos.specs.Subjects.{drive_by}
 use Rattle.mpm_bdos.specs.Records.{coded, done_by}
-use Rattle.mpm_bdos.specs.Replies.{told_xfcb}
-use Rattle.mpm_bdos.specs.Refusals.{refusals_of, refusals_of_each, answered}
-use Rattle.mpm_bdos.specs.Outcomes.{refused_value, refused_extended}
 use Rattle.mpm_bdos.specs.Serving.{InService}
 
 -- bytes in whole parts of one size, at most so many of them
@@ -111,20 +109,6 @@ pub record MayGrant (multi : ℕ) (function : FileFunction) (given : List ℕ) (
   pub at : answer.at ≡ dma
   pub bytes : MayPlace function multi answer.hl answer.bytes
   pub block : IfSome answer.fcb (IsTold function given)
-
--- a refusal of some; and of a function's row, or of that of each file that it names
-unfoldable pub IsOneOf : Refusal → List Refusal → Type 0
-IsOneOf refusal [] = ⊥
-IsOneOf refusal (one ∷ others) = (refusal ≡ one) ⊎ IsOneOf refusal others
-
-abbrev pub IsOfRow : FileFunction → Refusal → Type 0
-IsOfRow function refusal = IsOneOf refusal (refusals_of function ++ refusals_of_each function)
-
--- the drive that a call names, as it is by its caller's own and last search where it names none itself
-pub record IsNamed (function : FileFunction) (call : Taken) (drive : ℕ) : Type 0 where
-  pub own : ℕ
-  pub search : Option LastSearch
-  pub is : drive ≡ unwrap_or (drive_by search own call.word (block_of call.fcb) function) own
 
 -- a call that is refused, on that drive
 pub record MayRefuse (function : FileFunction) (call : Taken) (refusal : Refusal) (answer : Answer) (extended : Option Extended) : Type 0 where

@@ -2,21 +2,22 @@
 use Rattle.std.specs.Prelude.{◌≡◌, ◌≢◌, ℕ, ◌<◌, ◌≤◌, Bool, true, false, List, Option, Some, None}
 use Rattle.mpm_port.specs.Disks.{Disks, Told}
 use Rattle.mpm_mount.specs.Directories.{Directory}
-use Rattle.mpm_bdos.specs.declared.functions.FileFunction.{FileFunction}
-use Rattle.mpm_bdos.specs.declared.functions.FileFunction.TheVariants.{OpenFile, DeleteFile, ReadSequential, WriteSequential, MakeFile, RenameFile, SetAttributes, ReadRandom, WriteRandom, TestAndWrite, SetLabel, WriteXfcb}
-use Rattle.mpm_bdos.specs.Filing.{Situation}
+use Rattle.mpm_functions.specs.declared.functions.FileFunction.{FileFunction}
+use Rattle.mpm_functions.specs.declared.functions.FileFunction.TheVariants.{OpenFile, DeleteFile, ReadSequential, WriteSequential, MakeFile, RenameFile, SetAttributes, ReadRandom, WriteRandom, TestAndWrite, SetLabel, WriteXfcb}
+use Rattle.mpm_requests.specs.Filing.{Situation}
 use Rattle.mpm_bdos.specs.Jobs.{job_of, call_turns}
 use Rattle.mpm_bdos.specs.Serving.{Kept, StandEach, directory_at}
-use Rattle.mpm_bdos.specs.Turns.{FitsDrives, KeepsImages, StaysBeside, TurnKeeps, StopsWithin, drive_served}
+use Rattle.mpm_bdos.specs.Turns.{FitsDrives, KeepsImages, KeepsUnsynced, StaysBeside, TurnKeeps, StopsWithin, drive_served}
 
 -- what some turns of the call in service leave of what is kept, of the drives and of their images
-pub record TurnsLeave {D : Type 0} (attached : D → ℕ → Option ℕ) (disks : D → Option Disks) (failed : D → List (List ℕ)) (old new : Kept) (drives now : D) : Type 0 where
+pub record TurnsLeave {D : Type 0} (attached : D → ℕ → Option ℕ) (disks : D → Option Disks) (failed : D → List (List ℕ)) (unsynced : D → ℕ → Bool) (old new : Kept) (drives now : D) : Type 0 where
   pub kept : TurnKeeps old new
   pub fits : FitsDrives attached disks new.mounted new.cached now
   pub images : KeepsImages (drive_served old.service) old.mounted (disks drives) (disks now)
   pub beside : Told (StaysBeside old.mounted) (disks drives) (disks now)
   pub names : failed now ≡ failed drives
   pub attached_are : (number : ℕ) → attached now number ≡ attached drives number
+  pub kept_unsynced : KeepsUnsynced (drive_served old.service) (unsynced drives) (unsynced now)
 
 -- where a device failed in a turn of a call of which so many had ended before, the image of the job's drive stands within that turn
 pub record FailsSince (disks : Option Disks) (s : Situation) (ended : ℕ) : Type 0 where

@@ -1,23 +1,23 @@
 -- What a call that isn't refused makes of drives, open files, marks, protection and searches, by what its turns have come to.
-use Rattle.std.specs.Prelude.{ℕ, ◌==◌, ◌&&◌, not, Bool, true, false, List, Option, Some, None, option_map, map, replicate, slice_index_or, slice_set, if◌then◌else◌}
-use Rattle.std.specs.List.{list_any, range_with_len}
-use Rattle.mpm_mount.specs.Drives.{FileName, Drive}
-use Rattle.mpm_mount.specs.Faults.{plain}
+use Rattle.std.specs.Prelude.{ℕ, ◌==◌, ◌&&◌, Bool, false, List, Option, Some, None, option_map, map, replicate, slice_set, if◌then◌else◌}
+use Rattle.std.specs.List.{list_any}
+use Rattle.mpm_dirent.specs.Names.{plain}
 use Rattle.mpm_opens.specs.declared.kinds.FileKey.{FileKey}
 use Rattle.mpm_opens.specs.declared.kinds.Mode.TheVariants.{Unlocked}
 use Rattle.mpm_opens.specs.Kinds.{is_same_mode, is_file}
 use Rattle.mpm_opens.specs.Items.{file_where, is_given_back}
 use Rattle.mpm_opens.specs.Opens.{OpenFiles, added, given_back, closed, written}
-use Rattle.mpm_fcb.specs.Names.{has_f5}
+use Rattle.mpm_functions.specs.declared.functions.FileFunction.{FileFunction}
+use Rattle.mpm_functions.specs.declared.functions.FileFunction.TheVariants.{OpenFile, CloseFile, SearchNext, DeleteFile, WriteSequential, MakeFile, RenameFile, WriteRandom, FreeDrives, TestAndWrite, LockRecord, UnlockRecord}
+use Rattle.mpm_mount.specs.Drives.{FileName, Drive}
+use Rattle.mpm_mount.specs.Files.{is_same_file}
 use Rattle.mpm_fcb.specs.declared.block.ControlBlock.{ControlBlock}
+use Rattle.mpm_fcb.specs.Names.{has_f5}
+use Rattle.mpm_marks.specs.Driving.{marks_by, protected_by}
 use Rattle.mpm_files.specs.declared.jobs.Job.{Job}
-use Rattle.mpm_files.specs.Plans.{is_same_file}
+use Rattle.mpm_requests.specs.Filing.{LastSearch, Filing, Situation, block}
+use Rattle.mpm_requests.specs.Subjects.{last_search, drive_number, drive_at, is_mounted, open_mode, subject_key, file_of, first_record, mode_by, found, deleted_in, names_drive}
 use Rattle.mpm_bdos.specs.declared.releasing.Deletion.{Deletion}
-use Rattle.mpm_bdos.specs.declared.functions.FileFunction.{FileFunction}
-use Rattle.mpm_bdos.specs.declared.functions.FileFunction.TheVariants.{ResetDisks, OpenFile, CloseFile, SearchNext, DeleteFile, WriteSequential, MakeFile, RenameFile, ProtectDisk, WriteRandom, ResetDrives, AccessDrives, FreeDrives, TestAndWrite, LockRecord, UnlockRecord}
-use Rattle.mpm_bdos.specs.Marks.{is_bit, with_marks, without_marks}
-use Rattle.mpm_bdos.specs.Filing.{LastSearch, Filing, Situation, block}
-use Rattle.mpm_bdos.specs.Subjects.{last_search, drive_number, drive_at, is_mounted, open_mode, subject_key, file_of, first_record, mode_by, found, deleted_in, names_drive}
 use Rattle.mpm_bdos.specs.Records.{Locking, locking, unlocking}
 use Rattle.mpm_bdos.specs.Jobs.{Turned, job_of}
 
@@ -68,31 +68,6 @@ opens_by s t TestAndWrite = written_where s t.moved
 opens_by s t LockRecord = (locking_of s).opens
 opens_by s t UnlockRecord = unlocking s.filing.opens s.caller.process (subject_key s) (first_record s) s.caller.multi
 opens_by s t function = s.filing.opens
-
--- the marks of a process by the mask that it names
-unfoldable pub marks_by : List ℕ → ℕ → ℕ → FileFunction → List ℕ
-marks_by marks p mask AccessDrives = with_marks marks p mask
-marks_by marks p mask FreeDrives = without_marks marks p mask
-marks_by marks p mask function = marks
-
--- the drives that are protected: none, those but the drives of a mask, and one more
-unfoldable pub none_protected : List Bool
-none_protected = replicate 16 false
-
-abbrev pub is_still_protected : List Bool → ℕ → ℕ → Bool
-is_still_protected protected mask drive = slice_index_or protected drive false && not (is_bit mask drive)
-
-unfoldable pub unprotected : List Bool → ℕ → List Bool
-unprotected protected mask = map (is_still_protected protected mask) (range_with_len 0 16)
-
-abbrev pub with_protected : List Bool → ℕ → List Bool
-with_protected protected drive = slice_set protected drive true
-
-abbrev pub protected_by : List Bool → Bool → ℕ → ℕ → FileFunction → List Bool
-protected_by protected is_mounted own mask ResetDisks = none_protected
-protected_by protected is_mounted own mask ResetDrives = unprotected protected mask
-protected_by protected is_mounted own mask ProtectDisk = if is_mounted then with_protected protected own else protected
-protected_by protected is_mounted own mask function = protected
 
 unfoldable pub protected_then : Situation → List Bool
 protected_then s = protected_by s.filing.protected (is_mounted s.filing s.caller.drive) s.caller.drive s.call.word s.function

@@ -1,31 +1,22 @@
 -- The calls on drives and positions that no disk serves: they are done in their gate step. (MP/M II Programmer's Guide, functions
 -- 14, 24, 29, 31 and 36.)
-use Rattle.std.specs.Prelude.{◌≡◌, ℕ, ◌%◌, ◌^◌, ◌==◌, ◌&&◌, Bool, false, List, [], ◌∷◌, Option, Some, None, is_some, option_map, map, find, sum, slice_index_or, if◌then◌else◌}
+use Rattle.std.specs.Prelude.{◌≡◌, ℕ, ◌%◌, ◌^◌, ◌&&◌, Bool, false, List, Option, Some, None, is_some, option_map, map, sum, slice_index_or, if◌then◌else◌}
 use Rattle.std.specs.List.{range_with_len}
-use Rattle.mpm_base.specs.Calls.{Taken, Answer, answering}
-use Rattle.mpm_base.specs.declared.functions.TheConstants.{SELECT_DISK, RETURN_LOGIN_VECTOR, GET_READ_ONLY_VECTOR, GET_DISK_PARAMETERS, SET_RANDOM_RECORD}
 use Rattle.mpm_base.specs.declared.kind.Kind.{Kind}
+use Rattle.mpm_base.specs.Calls.{Taken, Answer, answering}
 use Rattle.mpm_blocks.specs.Geometries.{parameters_of, parameter_bytes}
+use Rattle.mpm_functions.specs.declared.functions.DirectFunction.{DirectFunction}
+use Rattle.mpm_functions.specs.declared.functions.DirectFunction.TheVariants.{SelectDisk, LoginVector, ReadOnlyVector, DiskParameters, SetRandomRecord}
+use Rattle.mpm_functions.specs.declared.refusals.Extended.{Extended}
+use Rattle.mpm_functions.specs.declared.refusals.Refusal.TheVariants.{NotMounted}
+use Rattle.mpm_functions.specs.Refusals.{answered, refused_value, refused_extended}
 use Rattle.mpm_fcb.specs.declared.block.ControlBlock.{ControlBlock}
 use Rattle.mpm_fcb.specs.Blocks.{block_of, bytes_of}
 use Rattle.mpm_fcb.specs.Positions.{sequential_record, with_random}
-use Rattle.mpm_bdos.specs.declared.functions.DirectFunction.{DirectFunction}
-use Rattle.mpm_bdos.specs.declared.functions.DirectFunction.TheVariants.{SelectDisk, LoginVector, ReadOnlyVector, DiskParameters, SetRandomRecord}
-use Rattle.mpm_bdos.specs.declared.refusals.Extended.{Extended}
-use Rattle.mpm_bdos.specs.Filing.{Filing}
-use Rattle.mpm_bdos.specs.Subjects.{mounted}
-use Rattle.mpm_bdos.specs.Refusals.{answered}
-use Rattle.mpm_bdos.specs.declared.refusals.Refusal.TheVariants.{NotMounted}
+use Rattle.mpm_requests.specs.Filing.{Filing}
+use Rattle.mpm_requests.specs.Subjects.{mounted}
 use Rattle.mpm_bdos.specs.Replies.{where_changed}
-use Rattle.mpm_bdos.specs.Outcomes.{CallerChange, Stays, Selects, refused_value, refused_extended}
-
-abbrev pub direct_numbers : List (ℕ × DirectFunction)
-direct_numbers =
-    (SELECT_DISK, SelectDisk) ∷ (RETURN_LOGIN_VECTOR, LoginVector) ∷ (GET_READ_ONLY_VECTOR, ReadOnlyVector)
-    ∷ (GET_DISK_PARAMETERS, DiskParameters) ∷ (SET_RANDOM_RECORD, SetRandomRecord) ∷ []
-
-unfoldable pub direct_of : ℕ → Option DirectFunction
-direct_of number = option_map (λ row. row.1) (find (λ row. row.0 == number) direct_numbers)
+use Rattle.mpm_bdos.specs.Outcomes.{CallerChange, Stays, Selects}
 
 -- what becomes of the caller, the reply and its extended error
 pub record Directly : Type 0 where

@@ -7,8 +7,8 @@ use Rattle.mpm_files.specs.declared.jobs.Job.{Job}
 use Rattle.mpm_files.specs.declared.work.Work.{Work}
 use Rattle.mpm_files.specs.Serving.{with_records, told_error}
 use Rattle.mpm_bdos.specs.declared.ends.Ended.{Ended}
-use Rattle.mpm_bdos.specs.declared.functions.FileFunction.{FileFunction}
-use Rattle.mpm_bdos.specs.declared.functions.FileFunction.TheVariants.{ReadSequential, WriteSequential, ReadRandom, WriteRandom, TestAndWrite}
+use Rattle.mpm_functions.specs.declared.functions.FileFunction.{FileFunction}
+use Rattle.mpm_functions.specs.declared.functions.FileFunction.TheVariants.{ReadSequential, WriteSequential, ReadRandom, WriteRandom, TestAndWrite}
 use Rattle.mpm_bdos.specs.declared.granting.Granted.{Granted}
 use Rattle.mpm_bdos.specs.Records.{end_by}
 use Rattle.mpm_bdos.specs.Replies.{does_stay, position_of}
@@ -35,7 +35,7 @@ error_of (Some work) = told_error work
 unfoldable pub ended : FileFunction → ℕ → Option Work → Ended
 ended function multi work = record { moved = moved_by work; end = end_by (error_of work) (is_cut_short function (count_of work) multi) }
 
--- calls that move on a file's position
+-- the calls whose job is on records: they move on a file's position
 abbrev pub is_moving : FileFunction → Bool
 is_moving ReadSequential = true
 is_moving WriteSequential = true

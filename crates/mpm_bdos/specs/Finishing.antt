@@ -3,11 +3,12 @@ use Rattle.std.specs.Prelude.{◌≡◌, ℕ, Bool, List, [], Option, Some}
 use Rattle.mpm_base.specs.Calls.{Answer}
 use Rattle.mpm_mount.specs.Directories.{Directory}
 use Rattle.mpm_opens.specs.Opens.{OpenFiles}
-use Rattle.mpm_bdos.specs.declared.refusals.Extended.{Extended}
-use Rattle.mpm_bdos.specs.Filing.{LastSearch, Situation}
-use Rattle.mpm_bdos.specs.Subjects.{found}
+use Rattle.mpm_functions.specs.declared.refusals.Extended.{Extended}
+use Rattle.mpm_requests.specs.Filing.{LastSearch, Situation}
+use Rattle.mpm_requests.specs.Subjects.{found}
 use Rattle.mpm_bdos.specs.Jobs.{call_turns, turned}
-use Rattle.mpm_bdos.specs.Changes.{protected_then, opens_by, marks_by, searches_by, search_of_call}
+use Rattle.mpm_bdos.specs.Changes.{protected_then, opens_by, searches_by, search_of_call}
+use Rattle.mpm_marks.specs.Driving.{marks_by}
 use Rattle.mpm_bdos.specs.Replies.{answer_after}
 use Rattle.mpm_bdos.specs.Outcomes.{file_call}
 use Rattle.mpm_bdos.specs.Serving.{InService, Kept, StandEach, filing_of}

@@ -1,10 +1,15 @@
 -- What a call that isn't refused does on its drive, and what so many of its turns have come to.
-use Rattle.std.specs.Prelude.{ℕ, zero, suc, ◌+◌, ◌*◌, ◌==◌, ◌&&◌, not, Bool, List, [], ◌∷◌, ◌++◌, Option, Some, None, is_some, option_map, unwrap_or, length, take, drop, replicate, bit_and, bit_or, if◌then◌else◌}
+use Rattle.std.specs.Prelude.{ℕ, zero, suc, ◌+◌, ◌*◌, ◌==◌, ◌&&◌, not, Bool, List, [], ◌++◌, Option, Some, None, is_some, option_map, unwrap_or, length, take, drop, replicate, if◌then◌else◌}
 use Rattle.std.specs.FinMap.{get}
 use Rattle.mpm_base.specs.Calls.{byte_in, eight_at}
 use Rattle.mpm_base.specs.Lists.{zeros}
+use Rattle.mpm_opens.specs.declared.kinds.FileKey.{FileKey}
+use Rattle.mpm_opens.specs.Opens.{OpenFiles}
+use Rattle.mpm_functions.specs.declared.functions.FileFunction.{FileFunction}
+use Rattle.mpm_functions.specs.declared.functions.FileFunction.TheVariants.{OpenFile, DeleteFile, ReadSequential, WriteSequential, MakeFile, RenameFile, SetAttributes, ReadRandom, WriteRandom, TestAndWrite, SetLabel, WriteXfcb}
+use Rattle.mpm_functions.specs.declared.refusals.Refusal.{Refusal}
 use Rattle.mpm_mount.specs.Drives.{Protection, Drive}
-use Rattle.mpm_guard.specs.Passwords.{decode_byte, encoded, has_bit}
+use Rattle.mpm_guard.specs.Passwords.{has_bit}
 use Rattle.mpm_fcb.specs.Names.{new_name_of, has_f6}
 use Rattle.mpm_files.specs.declared.errors.RecordError.{RecordError}
 use Rattle.mpm_files.specs.declared.jobs.JobKind.{JobKind}
@@ -12,14 +17,10 @@ use Rattle.mpm_files.specs.declared.jobs.JobKind.TheVariants as kinds
 use Rattle.mpm_files.specs.declared.jobs.Job.{Job}
 use Rattle.mpm_files.specs.Plans.{read_error, turns_of}
 use Rattle.mpm_files.specs.Serving.{units_done, moved_after, error_after, records_after}
-use Rattle.mpm_bdos.specs.declared.functions.FileFunction.{FileFunction}
-use Rattle.mpm_bdos.specs.declared.functions.FileFunction.TheVariants.{OpenFile, DeleteFile, ReadSequential, WriteSequential, MakeFile, RenameFile, SetAttributes, ReadRandom, WriteRandom, TestAndWrite, SetLabel, WriteXfcb}
-use Rattle.mpm_bdos.specs.declared.refusals.Refusal.{Refusal}
-use Rattle.mpm_bdos.specs.Filing.{Situation, block}
-use Rattle.mpm_opens.specs.declared.kinds.FileKey.{FileKey}
-use Rattle.mpm_opens.specs.Opens.{OpenFiles}
-use Rattle.mpm_bdos.specs.Subjects.{file_of, drive_at, subject, subject_key, first_record, has_written, data_byte}
-use Rattle.mpm_bdos.specs.Refusals.{makes_xfcb, refusal_of}
+use Rattle.mpm_requests.specs.Filing.{Situation, block}
+use Rattle.mpm_requests.specs.Subjects.{file_of, drive_at, subject, subject_key, first_record, has_written, data_byte}
+use Rattle.mpm_requests.specs.Refusals.{makes_xfcb, refusal_of}
+use Rattle.mpm_requests.specs.Protections.{protection_bytes, no_protection, given_xfcb, with_first_stamp, label_put, xfcb_put}
 use Rattle.mpm_bdos.specs.Records.{is_locked_off}
 
 -- the room of a job's bytes: the 4,096 that count at most, and zeros behind them
@@ -98,23 +99,6 @@ testing_job s count =
 abbrev pub where_some : ℕ → Job → Option Job
 where_some count job = if count == 0 then None else (Some job)
 
--- an XFCB or a label as a job has it
-abbrev pub protection_bytes : Protection → List ℕ
-protection_bytes p = p.mode ∷ p.decode ∷ (p.password ++ (p.first ++ p.second))
-
-abbrev pub no_protection : Protection
-no_protection = record { mode = 0; decode = 0; password = zeros 8; first = zeros 4; second = zeros 4 }
-
-abbrev pub with_password : List ℕ → Protection → Protection
-with_password password p = record p { decode = decode_byte password; password = encoded password }
-
--- the XFCB of a file that is made: mode and password where the call gives them, the first stamp where the label asks for it
-abbrev pub given_xfcb : Bool → ℕ → List ℕ → Protection
-given_xfcb gives mode password = if gives then with_password password (record no_protection { mode = mode }) else no_protection
-
-abbrev pub with_first_stamp : Bool → List ℕ → Protection → Protection
-with_first_stamp asks moment p = if asks then record p { first = moment } else p
-
 -- the call gives them with F6', the label asks with 10h
 abbrev pub made_xfcb : Situation → Protection
 made_xfcb s =
@@ -131,17 +115,6 @@ with_one job = record job { count = 1 }
 abbrev pub making_job : Situation → Job
 making_job s =
     if makes_xfcb (data_byte (drive_at s)) (block s) then with_one (with_protection (made_xfcb s) (job_on s kinds.Make)) else (job_on s kinds.Make)
-
--- an XFCB or a label that is changed: byte 12 of the block has the mode or data byte, of which the XFCB's has three bits and the
--- label's always 01h, and with 01h asks for another password
-abbrev pub with_new_password : ℕ → List ℕ → Protection → Protection
-with_new_password asked password p = if has_bit 0x01 asked then with_password password p else p
-
-abbrev pub label_put : ℕ → List ℕ → Protection → Protection
-label_put asked password p = record (with_new_password asked password p) { mode = bit_or asked 1 }
-
-abbrev pub xfcb_put : ℕ → List ℕ → Protection → Protection
-xfcb_put asked password p = record (with_new_password asked password p) { mode = bit_and asked 0xE0 }
 
 -- the label that is made or changed
 abbrev pub label_there : Situation → Protection

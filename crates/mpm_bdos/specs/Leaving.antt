@@ -1,28 +1,27 @@
 -- What a call on a mounted drive leaves of open files, by what was looked up of it.
 use Rattle.std.specs.Prelude.{◌≡◌, ℕ, ◌≤◌, ◌==◌, true, List, Option, Some, None, if◌then◌else◌}
-use Rattle.mpm_mount.specs.Drives.{Drive}
-use Rattle.mpm_mount.specs.Faults.{plain}
 use Rattle.mpm_opens.specs.declared.kinds.FileKey.{FileKey}
 use Rattle.mpm_opens.specs.declared.kinds.Mode.{Mode}
 use Rattle.mpm_opens.specs.declared.kinds.Mode.TheVariants.{Locked, Unlocked, ReadOnly}
 use Rattle.mpm_opens.specs.Kinds.{is_file}
-use Rattle.mpm_opens.specs.Opens.{OpenFiles, IsItemOf, added, given_back, closed, written}
+use Rattle.mpm_opens.specs.Opens.{OpenFiles, added, given_back, closed, written}
 use Rattle.mpm_opens.specs.Items.{add_answer}
+use Rattle.mpm_functions.specs.declared.functions.FileFunction.{FileFunction}
+use Rattle.mpm_functions.specs.declared.functions.FileFunction.TheVariants.{OpenFile, CloseFile, MakeFile, LockRecord, DeleteFile, WriteSequential, RenameFile, WriteRandom, TestAndWrite, UnlockRecord}
+use Rattle.mpm_mount.specs.Drives.{Drive}
 use Rattle.mpm_fcb.specs.Names.{has_f5}
 use Rattle.mpm_fcb.specs.Positions.{random_record}
 use Rattle.mpm_files.specs.declared.work.Work.{Work}
-use Rattle.mpm_bdos.specs.declared.asking.Asked.{Asked}
+use Rattle.mpm_requests.specs.declared.asking.Asked.{Asked}
+use Rattle.mpm_requests.specs.declared.subjects.OpenItem.{OpenItem}
+use Rattle.mpm_requests.specs.Subjects.{first_by}
+use Rattle.mpm_requests.specs.Asking.{key_asked, mode_needed}
 use Rattle.mpm_bdos.specs.declared.ends.Ended.{Ended}
 use Rattle.mpm_bdos.specs.declared.granting.OpenedAs.{OpenedAs}
 use Rattle.mpm_bdos.specs.declared.granting.Granted.{Granted}
-use Rattle.mpm_bdos.specs.declared.functions.FileFunction.{FileFunction}
-use Rattle.mpm_bdos.specs.declared.functions.FileFunction.TheVariants.{OpenFile, CloseFile, MakeFile, LockRecord, DeleteFile, WriteSequential, RenameFile, WriteRandom, TestAndWrite, UnlockRecord}
-use Rattle.mpm_bdos.specs.declared.subjects.OpenItem.{OpenItem}
-use Rattle.mpm_bdos.specs.Subjects.{first_by}
 use Rattle.mpm_bdos.specs.Records.{Locking, locking, unlocking, done_by}
 use Rattle.mpm_bdos.specs.Changes.{is_among}
 use Rattle.mpm_bdos.specs.Replies.{opened_as, value_by}
-use Rattle.mpm_bdos.specs.Asking.{key_asked, mode_needed}
 use Rattle.mpm_bdos.specs.Ending.{moved_by, ended, is_moving, is_reading, HasRead, FewDone, IsPlaced}
 
 -- records are locked by way of a file that is open in unlocked mode; in others nothing is done
@@ -36,11 +35,6 @@ locked_by drive opens p file first count ReadOnly = nothing_locked opens
 
 abbrev pub ended_of : Locking → Ended
 ended_of locking = record { moved = locking.moved; end = locking.end }
-
--- an open file is a process's own, of a name without attributes
-pub record IsOwn (opens : OpenFiles) (p : ℕ) (item : OpenItem) : Type 0 where
-  pub its : IsItemOf opens p item.file item.number
-  pub named : plain item.file.name ≡ item.file.name
 
 -- by way of an open file that a call names, if its caller has that
 abbrev pub locked_where : Drive → OpenFiles → ℕ → ℕ → ℕ → Option OpenItem → Locking

@@ -1,10 +1,3 @@
-pub mod Functions
-pub mod Marks
-pub mod Filing
-pub mod Searches
-pub mod Subjects
-pub mod Refusals
-pub mod Order
 pub mod Records
 pub mod Jobs
 pub mod Changes
@@ -14,14 +7,10 @@ pub mod Direct
 pub mod Serving
 pub mod Answering
 pub mod Turns
-pub mod Looking
-pub mod Sizes
 pub mod Telling
 pub mod Ending
 pub mod Planning
-pub mod Asking
 pub mod Leaving
-pub mod Driving
 pub mod Replying
 pub mod Starting
 pub mod Finishing

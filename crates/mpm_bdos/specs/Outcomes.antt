@@ -1,19 +1,18 @@
 -- What a file call comes to. (MP/M II Programmer's Guide, "BDOS Function Calls", "BDOS Error Handling".)
-use Rattle.std.specs.Prelude.{ℕ, ◌+◌, ◌*◌, List, Option, Some, None, slice_set}
+use Rattle.std.specs.Prelude.{ℕ, List, Option, Some, None, slice_set}
 use Rattle.mpm_base.specs.Calls.{Answer, answering}
-use Rattle.mpm_mount.specs.Drives.{Drive}
 use Rattle.mpm_opens.specs.Kinds.{is_any}
 use Rattle.mpm_opens.specs.Opens.{given_back}
-use Rattle.mpm_bdos.specs.declared.answers.Answered.{Answered}
-use Rattle.mpm_bdos.specs.declared.answers.Answered.TheVariants.{AsExtended, AsRecord, AsNotFound}
-use Rattle.mpm_bdos.specs.declared.functions.FileFunction.{FileFunction}
-use Rattle.mpm_bdos.specs.declared.functions.FileFunction.TheVariants.{ResetDisks}
-use Rattle.mpm_bdos.specs.declared.refusals.Refusal.{Refusal}
-use Rattle.mpm_bdos.specs.declared.refusals.Extended.{Extended}
-use Rattle.mpm_bdos.specs.Marks.{left_marks}
-use Rattle.mpm_bdos.specs.Filing.{Filing, Situation}
-use Rattle.mpm_bdos.specs.Subjects.{drive_number}
-use Rattle.mpm_bdos.specs.Refusals.{answered, refusal_of}
+use Rattle.mpm_functions.specs.declared.functions.FileFunction.{FileFunction}
+use Rattle.mpm_functions.specs.declared.functions.FileFunction.TheVariants.{ResetDisks}
+use Rattle.mpm_functions.specs.declared.refusals.Refusal.{Refusal}
+use Rattle.mpm_functions.specs.declared.refusals.Extended.{Extended}
+use Rattle.mpm_functions.specs.Refusals.{answered, refused_value, refused_extended}
+use Rattle.mpm_mount.specs.Drives.{Drive}
+use Rattle.mpm_marks.specs.Marks.{left_marks}
+use Rattle.mpm_requests.specs.Filing.{Filing, Situation}
+use Rattle.mpm_requests.specs.Subjects.{drive_number}
+use Rattle.mpm_requests.specs.Refusals.{refusal_of}
 use Rattle.mpm_bdos.specs.Jobs.{Turned, job_of, call_turns, turned}
 use Rattle.mpm_bdos.specs.Changes.{drives_by, filing_after}
 use Rattle.mpm_bdos.specs.Replies.{answer_after}
@@ -35,17 +34,6 @@ pub record Outcome : Type 0 where
 abbrev pub caller_by : FileFunction → CallerChange
 caller_by ResetDisks = Resets
 caller_by function = Stays
-
--- a refused call changes nothing else
-abbrev pub refused_value : Answered → ℕ
-refused_value (AsExtended code) = 256 * code + 255
-refused_value (AsRecord code) = code
-refused_value AsNotFound = 255
-
-abbrev pub refused_extended : ℕ → Answered → Option Extended
-refused_extended drive (AsExtended code) = Some (record { code = code; drive = drive })
-refused_extended drive (AsRecord code) = None
-refused_extended drive AsNotFound = None
 
 abbrev pub refused_outcome : Situation → Refusal → Outcome
 refused_outcome s refusal = record {

@@ -1,16 +1,15 @@
 -- A call with what was looked up of it, of which its job is made.
-use Rattle.std.specs.Prelude.{◌≡◌, ℕ, ◌*◌, ◌&&◌, not, Bool, true, false, List, take, Option}
+use Rattle.std.specs.Prelude.{◌≡◌, ℕ, ◌*◌, ◌&&◌, not, true, List, take, Option}
 use Rattle.mpm_mount.specs.Drives.{Drive}
 use Rattle.mpm_mount.specs.Directories.{Directory, Stands}
 use Rattle.mpm_guard.specs.Passwords.{has_bit}
 use Rattle.mpm_files.specs.declared.jobs.Job.{Job}
 use Rattle.mpm_files.specs.declared.jobs.JobKind.TheVariants as kinds
-use Rattle.mpm_bdos.specs.declared.functions.FileFunction.{FileFunction}
-use Rattle.mpm_bdos.specs.declared.functions.FileFunction.TheVariants.{ReadSequential, WriteSequential, ReadRandom, WriteRandom, TestAndWrite}
 use Rattle.mpm_bdos.specs.declared.planning.About.{About}
-use Rattle.mpm_bdos.specs.Filing.{Situation}
-use Rattle.mpm_bdos.specs.Subjects.{drive_at, subject_key, first_record, has_written, data_byte}
+use Rattle.mpm_requests.specs.Filing.{Situation}
+use Rattle.mpm_requests.specs.Subjects.{drive_at, subject_key, first_record, has_written, data_byte}
 use Rattle.mpm_bdos.specs.Jobs.{job_for, stamp_where, with_records, with_stamp, with_bytes, testing_bytes, where_some}
+use Rattle.mpm_bdos.specs.Ending.{is_moving}
 
 -- the job that writes so many records, or tests and writes them, on a drive
 abbrev pub stamp_on : Drive → List ℕ → About → Option (List ℕ)
@@ -28,19 +27,10 @@ tested drive count records name bytes moment about =
     (with_bytes (testing_bytes bytes records count)
     (with_stamp (stamp_on drive moment about) (with_records about.first count (job_for kinds.TestWrite about.file.user name))))
 
--- the calls whose job is on records
-abbrev pub has_records : FileFunction → Bool
-has_records ReadSequential = true
-has_records WriteSequential = true
-has_records ReadRandom = true
-has_records WriteRandom = true
-has_records TestAndWrite = true
-has_records function = false
-
 -- its file, the first of its records, where it has any, and whether a record was written by way of its open file; and its drive is
 -- the one for which an image and a directory stand
 pub record IsAbout (image : List ℕ) (d : Directory) (about : About) (s : Situation) : Type 0 where
   pub stands : Stands image d (drive_at s)
   pub file : about.file ≡ subject_key s
-  pub first : has_records s.function ≡ true → about.first ≡ first_record s
+  pub first : is_moving s.function ≡ true → about.first ≡ first_record s
   pub has_written : about.has_written ≡ has_written s

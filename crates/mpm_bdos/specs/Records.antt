@@ -14,9 +14,9 @@ use Rattle.mpm_files.specs.Plans.{Test, needs_entry, needs_block, has_record, wr
 use Rattle.mpm_bdos.specs.declared.ends.RecordEnd.{RecordEnd}
 use Rattle.mpm_bdos.specs.declared.ends.Ended.{Ended}
 use Rattle.mpm_bdos.specs.declared.ends.RecordEnd.TheVariants.{Failing, LockedOff, TooManyLocks, NoLockRoom}
-use Rattle.mpm_bdos.specs.declared.functions.FileFunction.{FileFunction}
-use Rattle.mpm_bdos.specs.declared.functions.FileFunction.TheVariants.{ReadSequential, WriteSequential, ReadRandom, WriteRandom, TestAndWrite, LockRecord}
-use Rattle.mpm_bdos.specs.Subjects.{file_of}
+use Rattle.mpm_functions.specs.declared.functions.FileFunction.{FileFunction}
+use Rattle.mpm_functions.specs.declared.functions.FileFunction.TheVariants.{ReadSequential, WriteSequential, ReadRandom, WriteRandom, TestAndWrite, LockRecord}
+use Rattle.mpm_requests.specs.Subjects.{file_of}
 
 -- the table
 unfoldable pub ends_of : FileFunction → List RecordEnd

@@ -1,31 +1,34 @@
 -- What a call that isn't refused answers: its value, its file control block and its bytes, by what its turns have come to.
-use Rattle.std.specs.Prelude.{ℕ, ◌+◌, ◌*◌, ◌/◌, ◌%◌, ◌==◌, ◌&&◌, Bool, false, List, [], ◌∷◌, ◌++◌, Option, Some, None, Result, Ok, Err, is_some, unwrap_or, nat_lt, replicate, bytes_eq, if◌then◌else◌}
+use Rattle.std.specs.Prelude.{ℕ, ◌+◌, ◌/◌, ◌%◌, ◌==◌, ◌&&◌, Bool, false, List, [], ◌++◌, Option, Some, None, Result, Ok, Err, is_some, unwrap_or, nat_lt, replicate, bytes_eq, if◌then◌else◌}
 use Rattle.std.specs.List.{flat_map}
 use Rattle.std.specs.FinMap.{get}
 use Rattle.mpm_base.specs.Calls.{Answer}
 use Rattle.mpm_dirent.specs.declared.kinds.Entry.TheVariants.{File}
 use Rattle.mpm_dirent.specs.Entries as entry
-use Rattle.mpm_mount.specs.Drives.{FileName, PhysicalExtent, Protection, Drive, extents_of, free_records}
-use Rattle.mpm_mount.specs.Faults.{plain}
+use Rattle.mpm_dirent.specs.Names.{plain}
 use Rattle.mpm_opens.specs.declared.kinds.Mode.{Mode}
 use Rattle.mpm_opens.specs.declared.kinds.OpenRefused.{OpenRefused}
 use Rattle.mpm_opens.specs.Items.{add_answer}
+use Rattle.mpm_functions.specs.declared.functions.FileFunction.{FileFunction}
+use Rattle.mpm_functions.specs.declared.functions.FileFunction.TheVariants.{OpenFile, SearchFirst, SearchNext, ReadSequential, WriteSequential, MakeFile, ReadRandom, WriteRandom, FileSize, TestAndWrite, LockRecord, FreeSpace, LabelData, ReadXfcb}
+use Rattle.mpm_mount.specs.Drives.{FileName, PhysicalExtent, Drive, extents_of, free_records}
+use Rattle.mpm_mount.specs.Attributes.{attributes_of}
+use Rattle.mpm_mount.specs.Files.{where_there}
 use Rattle.mpm_fcb.specs.declared.block.ControlBlock.{ControlBlock}
 use Rattle.mpm_fcb.specs.Blocks.{bytes_of}
 use Rattle.mpm_fcb.specs.Names.{with_attributes}
 use Rattle.mpm_fcb.specs.Positions.{extent_of, at_position, with_random, three_bytes}
-use Rattle.mpm_fcb.specs.Opening.{opened, with_xfcb}
-use Rattle.mpm_files.specs.Units.{attributes_of, where_there}
+use Rattle.mpm_fcb.specs.Opening.{opened}
+use Rattle.mpm_requests.specs.Filing.{Situation, block}
+use Rattle.mpm_requests.specs.Subjects.{extent_count, subject, subject_key, first_record, mode_by, found, data_byte}
+use Rattle.mpm_requests.specs.Protections.{no_protection, told_xfcb}
+use Rattle.mpm_requests.specs.Sizes.{size_of}
 use Rattle.mpm_bdos.specs.declared.ends.RecordEnd.{RecordEnd}
 use Rattle.mpm_bdos.specs.declared.ends.Ended.{Ended}
 use Rattle.mpm_bdos.specs.declared.granting.OpenedAs.{OpenedAs}
 use Rattle.mpm_bdos.specs.declared.granting.Granted.{Granted}
-use Rattle.mpm_bdos.specs.declared.functions.FileFunction.{FileFunction}
-use Rattle.mpm_bdos.specs.declared.functions.FileFunction.TheVariants.{OpenFile, SearchFirst, SearchNext, ReadSequential, WriteSequential, MakeFile, ReadRandom, WriteRandom, FileSize, TestAndWrite, LockRecord, FreeSpace, LabelData, ReadXfcb}
-use Rattle.mpm_bdos.specs.Filing.{Situation, block}
-use Rattle.mpm_bdos.specs.Subjects.{extent_count, subject, subject_key, first_record, mode_by, found, data_byte}
 use Rattle.mpm_bdos.specs.Records.{end_by, coded}
-use Rattle.mpm_bdos.specs.Jobs.{Turned, no_protection, free_count}
+use Rattle.mpm_bdos.specs.Jobs.{Turned, free_count}
 use Rattle.mpm_bdos.specs.Changes.{locking_of}
 
 -- whether a call's job was cut before a record that another process has locked
@@ -110,15 +113,6 @@ abbrev pub moved_block : Drive → Granted → ControlBlock
 moved_block drive g =
     if does_stay g.ended.moved g.ended.end then g.block
     else (at_position g.block (position_of g) (record_count drive (file_in g) (extent_of (position_of g))))
-
--- the size of a file: one more than its last record
-unfoldable pub size_of : {K : Type 0} → List (K × PhysicalExtent) → ℕ
-size_of [] = 0
-size_of (entry ∷ []) = 128 * entry.1.last + entry.1.count
-size_of (entry ∷ (other ∷ entries)) = size_of (other ∷ entries)
-
-abbrev pub told_xfcb : Protection → ControlBlock → ControlBlock
-told_xfcb xfcb b = with_xfcb b xfcb.mode xfcb.first xfcb.second
 
 -- the file control block
 unfoldable pub block_by : Drive → Granted → FileFunction → ControlBlock

@@ -7,15 +7,15 @@ use Rattle.mpm_opens.specs.Opens.{OpenFiles}
 use Rattle.mpm_fcb.specs.Positions.{sequential_record}
 use Rattle.mpm_files.specs.declared.work.Work.{Work}
 use Rattle.mpm_files.specs.Turning.{Suits}
-use Rattle.mpm_bdos.specs.declared.functions.FileFunction.{FileFunction}
-use Rattle.mpm_bdos.specs.declared.functions.FileFunction.TheVariants.{ResetDisks, ProtectDisk, ResetDrives, AccessDrives, FreeDrives, FlushBuffers}
-use Rattle.mpm_bdos.specs.Filing.{LastSearch, Situation, block}
-use Rattle.mpm_bdos.specs.Subjects.{drive_at, found}
-use Rattle.mpm_bdos.specs.Refusals.{refusal_of}
+use Rattle.mpm_functions.specs.declared.functions.FileFunction.{FileFunction}
+use Rattle.mpm_functions.specs.declared.functions.FileFunction.TheVariants.{ResetDisks, ProtectDisk, ResetDrives, AccessDrives, FreeDrives, FlushBuffers}
+use Rattle.mpm_requests.specs.Filing.{LastSearch, Situation, block, HaveUsers}
+use Rattle.mpm_requests.specs.Subjects.{drive_at, found}
+use Rattle.mpm_requests.specs.Refusals.{refusal_of}
 use Rattle.mpm_bdos.specs.Jobs.{job_of, call_turns, turned}
 use Rattle.mpm_bdos.specs.Changes.{deleted_by, opens_by, searches_by, search_of_call}
 use Rattle.mpm_bdos.specs.Replies.{answer_after}
-use Rattle.mpm_bdos.specs.Serving.{IsCaller, HaveUsers, WorksOn}
+use Rattle.mpm_bdos.specs.Serving.{IsCaller, WorksOn}
 use Rattle.mpm_bdos.specs.Ending.{IsSound}
 
 -- calls on drives, which name none

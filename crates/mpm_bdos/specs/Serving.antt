@@ -1,27 +1,28 @@
 -- What is kept between file calls; a file call in service; and what the mounted drives stand for with some of its turns ended.
 use Rattle.std.specs.Prelude.{◌≡◌, ℕ, ◌<◌, ◌≤◌, Bool, List, [], ◌∷◌, Option, Some, None, IfSome, ⊤, length, option_map, replicate, slice_index_or, slice_set}
-use Rattle.mpm_base.specs.Calls.{Taken}
 use Rattle.mpm_base.specs.declared.kind.Kind.{Kind}
-use Rattle.mpm_cache.specs.declared.cache.Place.{Place}
-use Rattle.mpm_mount.specs.Drives.{Drive}
-use Rattle.mpm_mount.specs.Directories.{Directory, IsDirectory, Stands}
+use Rattle.mpm_base.specs.Calls.{Taken}
 use Rattle.mpm_opens.specs.declared.kinds.FileKey.{FileKey}
-use Rattle.mpm_opens.specs.Items.{place_at}
 use Rattle.mpm_opens.specs.Opens.{OpenFiles, none_open}
+use Rattle.mpm_cache.specs.declared.cache.Place.{Place}
+use Rattle.mpm_functions.specs.declared.functions.FileFunction.{FileFunction}
+use Rattle.mpm_functions.specs.declared.refusals.Refusal.{Refusal}
+use Rattle.mpm_mount.specs.Drives.{Drive}
+use Rattle.mpm_mount.specs.Directories.{Directory, IsDirectory}
+use Rattle.mpm_marks.specs.Marks.{no_marks}
+use Rattle.mpm_marks.specs.Protected.{none_protected}
 use Rattle.mpm_files.specs.declared.jobs.Job.{Job}
 use Rattle.mpm_files.specs.declared.work.Work.{Work}
 use Rattle.mpm_files.specs.Serving.{IsInService}
 use Rattle.mpm_files.specs.Turning.{Suits}
-use Rattle.mpm_bdos.specs.declared.caller.Caller.{Caller}
-use Rattle.mpm_bdos.specs.declared.functions.FileFunction.{FileFunction}
-use Rattle.mpm_bdos.specs.declared.refusals.Refusal.{Refusal}
-use Rattle.mpm_bdos.specs.Marks.{no_marks}
-use Rattle.mpm_bdos.specs.Filing.{LastSearch, Filing, Situation}
-use Rattle.mpm_bdos.specs.Searches.{no_searches}
-use Rattle.mpm_bdos.specs.Subjects.{drive_number, drive_at}
-use Rattle.mpm_bdos.specs.Refusals.{refusal_of}
+use Rattle.mpm_requests.specs.declared.caller.Caller.{Caller}
+use Rattle.mpm_requests.specs.Filing.{LastSearch, Filing, Situation}
+use Rattle.mpm_requests.specs.Searches.{no_searches}
+use Rattle.mpm_requests.specs.Subjects.{drive_number, drive_at}
+use Rattle.mpm_requests.specs.Refusals.{refusal_of}
+use Rattle.mpm_requests.specs.Asking.{StandsWhere}
 use Rattle.mpm_bdos.specs.Jobs.{job_of}
-use Rattle.mpm_bdos.specs.Changes.{none_protected, deleted_by}
+use Rattle.mpm_bdos.specs.Changes.{deleted_by}
 use Rattle.mpm_bdos.specs.Ending.{IsSound}
 use Rattle.mpm_bdos.specs.Outcomes.{drives_after}
 
@@ -73,10 +74,6 @@ all_put (directory ∷ directories) places = slice_set (all_put directories plac
 abbrev pub in_places : List Directory → List (Option Directory)
 in_places directories = all_put directories (replicate 16 None)
 
--- open files are of users 0 to 15
-abbrev pub HaveUsers : OpenFiles → Type 0
-HaveUsers opens = (number : ℕ) → IfSome (place_at opens.items number) (λ item. item.file.user < 16)
-
 -- before the first call
 abbrev pub nothing_kept : List (Option Directory) → Kept
 nothing_kept mounted = record {
@@ -92,18 +89,6 @@ nothing_kept mounted = record {
 abbrev pub filing_of : Kept → List (Option Drive) → Filing
 filing_of kept drives =
     record { drives = drives; protected = kept.protected; opens = kept.opens; marks = kept.marks; searches = kept.searches }
-
--- the image of a drive that is mounted, with its directory, stands for a drive, and the directory is of that drive's number; where
--- none is mounted there is none
-pub record StandsAt (number : ℕ) (image : List ℕ) (directory : Directory) (drive : Drive) : Type 0 where
-  pub number_is : directory.drive ≡ number
-  pub stands : Stands image directory drive
-
-abbrev pub StandsWhere : ℕ → List ℕ → Option Directory → Option Drive → Type 0
-StandsWhere number image None None = ⊤
-StandsWhere number image (Some directory) (Some drive) = StandsAt number image directory drive
-StandsWhere number image (Some directory) None = ⊥
-StandsWhere number image None (Some drive) = ⊥
 
 pub record StandEach (images : ℕ → List ℕ) (mounted : List (Option Directory)) (drives : List (Option Drive)) : Type 0 where
   pub each : (number : ℕ) → StandsWhere number (images number) (directory_at mounted number) (slice_index_or drives number None)

@@ -1,9 +1,9 @@
 -- A file call that enters service.
 use Rattle.std.specs.Prelude.{ℕ, ◌&&◌, List, Option, Some, None, IfSome, is_some, min, option_and_then, unwrap_or}
 use Rattle.mpm_base.specs.Calls.{Taken}
+use Rattle.mpm_dirent.specs.Names.{plain}
 use Rattle.mpm_procs.specs.declared.process.Process.{Process}
 use Rattle.mpm_mount.specs.Drives.{Drive}
-use Rattle.mpm_mount.specs.Faults.{plain}
 use Rattle.mpm_mount.specs.Directories.{Directory}
 use Rattle.mpm_opens.specs.Items.{file_named}
 use Rattle.mpm_opens.specs.Opens.{OpenFiles, item_of}
@@ -11,14 +11,14 @@ use Rattle.mpm_fcb.specs.declared.block.ControlBlock.{ControlBlock}
 use Rattle.mpm_files.specs.declared.work.Work.{Work}
 use Rattle.mpm_files.specs.Serving.{turns_in}
 use Rattle.mpm_files.specs.Turning.{Suits}
-use Rattle.mpm_bdos.specs.declared.caller.Caller.{Caller}
-use Rattle.mpm_bdos.specs.declared.functions.FileFunction.{FileFunction}
+use Rattle.mpm_requests.specs.declared.caller.Caller.{Caller}
+use Rattle.mpm_functions.specs.declared.functions.FileFunction.{FileFunction}
 use Rattle.mpm_bdos.specs.declared.planning.About.{About}
 use Rattle.mpm_bdos.specs.declared.starting.TheConstants.{LAST_POSITION}
-use Rattle.mpm_bdos.specs.Filing.{Situation}
-use Rattle.mpm_bdos.specs.Subjects.{drive_number, drive_at, first_by}
+use Rattle.mpm_requests.specs.Filing.{Situation}
+use Rattle.mpm_requests.specs.Subjects.{drive_number, drive_at, first_by}
 use Rattle.mpm_bdos.specs.Jobs.{job_of}
-use Rattle.mpm_bdos.specs.Asking.{called}
+use Rattle.mpm_requests.specs.Asking.{called}
 use Rattle.mpm_bdos.specs.Serving.{InService, Kept, directory_at, WorksOn, IsCallOf}
 
 -- a process as it calls

@@ -3,17 +3,17 @@ use Rattle.std.specs.Prelude.{ℕ, ◌<◌, ◌≤◌, ◌%◌, List, Option, So
 use Rattle.mpm_dirent.specs.declared.kinds.Entry.{Entry}
 use Rattle.mpm_dirent.specs.declared.kinds.Entry.TheVariants.{Free, File, Xfcb, Label, Kept}
 use Rattle.mpm_dirent.specs.declared.kinds.FileEntry.{FileEntry}
+use Rattle.mpm_dirent.specs.Names.{plain}
 use Rattle.mpm_mount.specs.Drives.{FileName, Drive, extents_of}
-use Rattle.mpm_mount.specs.Faults.{plain, extent_of}
+use Rattle.mpm_mount.specs.Faults.{extent_of}
 use Rattle.mpm_mount.specs.Directories.{Directory, entry_in, extent_slot}
 use Rattle.mpm_opens.specs.declared.kinds.Mode.{Mode}
+use Rattle.mpm_mount.specs.Attributes.{attributes_of, attributes_in}
 use Rattle.mpm_fcb.specs.declared.block.ControlBlock.{ControlBlock}
 use Rattle.mpm_fcb.specs.Names.{with_attributes}
 use Rattle.mpm_fcb.specs.Positions.{at_position}
 use Rattle.mpm_fcb.specs.Positions as positions
 use Rattle.mpm_fcb.specs.Opening.{opened}
-use Rattle.mpm_files.specs.Units.{attributes_of}
-use Rattle.mpm_files.specs.Plans.{attributes_in}
 use Rattle.mpm_bdos.specs.Replies.{record_count, told_bytes}
 
 -- an entry of a file, as a search tells it

@@ -15,8 +15,8 @@ use Rattle.mpm_files.specs.declared.turning.Progress.{Progress}
 use Rattle.mpm_files.specs.declared.turning.Progress.TheVariants.{Again, Done}
 use Rattle.mpm_files.specs.declared.work.Work.{Work}
 use Rattle.mpm_files.specs.Turning.{InService as IsInServiceOn, Contained, IsNextCached}
-use Rattle.mpm_bdos.specs.Filing.{Situation}
-use Rattle.mpm_bdos.specs.Subjects.{drive_number, drive_at}
+use Rattle.mpm_requests.specs.Filing.{Situation}
+use Rattle.mpm_requests.specs.Subjects.{drive_number, drive_at}
 use Rattle.mpm_bdos.specs.Jobs.{job_of}
 use Rattle.mpm_bdos.specs.Serving.{InService, Kept, directory_at}
 
@@ -68,9 +68,14 @@ pub record AreUntouched {D : Type 0} (cached new : List (Place × List ℕ)) (ol
   pub cache : new ≡ cached
   pub drives : now ≡ old
 
-abbrev pub HasLeft : {D : Type 0} → (D → ℕ → Option ℕ) → (D → Option Disks) → (D → List (List ℕ)) → Option Directory → List (Place × List ℕ) → List (Place × List ℕ) → D → D → Type 0
-HasLeft attached disks failed None cached new old now = AreUntouched cached new old now
-HasLeft attached disks failed (Some directory) cached new old now = Leaves attached disks failed directory.drive cached new old now
+abbrev pub HasLeft : {D : Type 0} → (D → ℕ → Option ℕ) → (D → Option Disks) → (D → List (List ℕ)) → (D → ℕ → Bool) → Option Directory → List (Place × List ℕ) → List (Place × List ℕ) → D → D → Type 0
+HasLeft attached disks failed unsynced None cached new old now = AreUntouched cached new old now
+HasLeft attached disks failed unsynced (Some directory) cached new old now = Leaves attached disks failed unsynced directory.drive cached new old now
+
+-- a turn syncs no drive, and each other drive than that of its call is synced or not as before
+pub record KeepsUnsynced (drive : Option ℕ) (before now : ℕ → Bool) : Type 0 where
+  pub beside : (other : ℕ) → drive ≢ Some other → now other ≡ before other
+  pub owed : (number : ℕ) → before number ≡ true → now number ≡ true
 
 -- the drive of the call in service
 abbrev pub drive_served : Option InService → Option ℕ

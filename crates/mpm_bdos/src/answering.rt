@@ -2,22 +2,22 @@ ghost use Rattle.std.specs.Prelude.{◌≡◌, ◌≤◌, ◌*◌, ℕ, true, Li
 ghost use Rattle.std.specs.List.{flat_map};
 ghost use Rattle.mpm_mount.specs.Drives.{FileName, Drive, free_records};
 ghost use Rattle.mpm_mount.specs.Directories.{Stands};
+ghost use Rattle.mpm_mount.specs.Files.{where_there};
 ghost use Rattle.mpm_fcb.specs.Blocks.{block_of, bytes_of};
 ghost use Rattle.mpm_fcb.specs.Positions.{three_bytes};
-ghost use Rattle.mpm_files.specs.Units.{where_there};
 ghost use Rattle.mpm_bdos.specs.Answering.{AreParts, IsCoded, MayAmount, MayPlace, MayGrant};
 ghost use Rattle.mpm_bdos.specs.Ending as ending;
 ghost use Rattle.mpm_bdos.specs.Records.{done_by};
 ghost use Rattle.mpm_bdos.specs.Replies as spec;
 
 use crate::ends::done_by as records_done;
-use crate::functions::FileFunction;
 use crate::granting::{Granted, block, value};
 use crate::replies::read_bytes;
 use crate::telling::free_bytes;
 use mpm_base::Reply;
 use mpm_fcb::ControlBlock;
 use mpm_files::Work;
+use mpm_functions::FileFunction;
 use mpm_mount::Mounted;
 
 /// The value of a reading that finds no record: its code, with no record done.

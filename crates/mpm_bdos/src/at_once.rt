@@ -1,11 +1,10 @@
 ghost use Rattle.std.specs.Prelude.{◌≡◌, is_some};
-ghost use Rattle.mpm_bdos.specs.Functions.{function_of};
+ghost use Rattle.mpm_functions.specs.Functions.{function_of};
 
 use crate::bdos::Bdos;
-use crate::functions::FileFunction;
-use crate::refusals::Extended;
 use mpm_base::{Call, Pid, Reply, Steps};
 use mpm_clock::Moment;
+use mpm_functions::{Extended, FileFunction};
 use mpm_port::{Drives, Failed};
 use mpm_procs::Process;
 use std::sync::ledger::Ledger;
@@ -24,13 +23,13 @@ impl Bdos {
     ghost use Rattle.mpm_clock.specs.Times.{IsTime};
     ghost use Rattle.mpm_clock.specs.PackedDecimal.{stamp as stamp_of};
     ghost use Rattle.mpm_mount.specs.Drives.{Drive};
-    ghost use Rattle.mpm_bdos.specs.declared.functions.FileFunction as functions;
-    ghost use Rattle.mpm_bdos.specs.Filing.{Situation};
-    ghost use Rattle.mpm_bdos.specs.Functions.{function_of};
-    ghost use Rattle.mpm_bdos.specs.Subjects.{drive_number};
+    ghost use Rattle.mpm_functions.specs.declared.functions.FileFunction as functions;
+    ghost use Rattle.mpm_requests.specs.Filing.{Situation};
+    ghost use Rattle.mpm_functions.specs.Functions.{function_of};
+    ghost use Rattle.mpm_requests.specs.Subjects.{drive_number};
     ghost use Rattle.mpm_bdos.specs.Jobs.{call_turns};
     ghost use Rattle.mpm_bdos.specs.Serving.{IsCaller, StandEach, StandForSome, Serves, directory_at};
-    ghost use Rattle.mpm_bdos.specs.Turns.{FitsDrives, StaysBeside, has_work, labelled, told_images};
+    ghost use Rattle.mpm_bdos.specs.Turns.{FitsDrives, KeepsUnsynced, StaysBeside, has_work, labelled, told_images};
     ghost use Rattle.mpm_bdos.specs.Starting.{caller_of, entering};
     ghost use Rattle.mpm_bdos.specs.Finishing.{ComesTo};
     ghost use Rattle.mpm_bdos.specs.Answering.{IsOfDrive, MayAnswer};
@@ -52,7 +51,7 @@ impl Bdos {
             → OnOk result (Serves (told_images (D.disks drives.new)) self.new s (ended + turns)) }
         ensures err { (s : Situation) (ended : ℕ) → Serves (told_images (D.disks drives.old)) self.old s ended → ended + turns ≤ call_turns s
             → OnErr result (FailsSince (D.disks drives.new) s ended) }
-        ensures left { TurnsLeave D.attached D.disks D.failed_names self.old self.new drives.old drives.new }
+        ensures left { TurnsLeave D.attached D.disks D.failed_names D.unsynced self.old self.new drives.old drives.new }
         ensures calls { steps.new ≤ steps.old + 20 * turns }
         ensures idle { has_work self.old.service ≡ false → IsAtRest self.old self.new drives.old drives.new steps.old steps.new }
         ensures unfailing { has_work self.old.service ≡ false → IsOk result }
@@ -107,6 +106,8 @@ impl Bdos {
             → (drives.new ≡ drives.old) × (steps.new ≡ steps.old) × IsOk result }
         ensures alone { (before : List (Option Drive)) (function : functions.FileFunction) → function_of call.now.function ≡ Some function
             → ChangesAlone (drive_number (entering self.old before (caller_of p process.now) function call.now (stamp_of now))) self.old.mounted self.new.mounted (D.disks drives.old) (D.disks drives.new) }
+        ensures unsynced { (before : List (Option Drive)) (function : functions.FileFunction) → function_of call.now.function ≡ Some function
+            → KeepsUnsynced (Some (drive_number (entering self.old before (caller_of p process.now) function call.now (stamp_of now)))) (D.unsynced drives.old) (D.unsynced drives.new) }
         ensures calls { (images : ℕ → List ℕ) (before : List (Option Drive)) (function : functions.FileFunction) → function_of call.now.function ≡ Some function
             → StandEach images self.old.mounted before
             → steps.new ≤ steps.old + 20 * call_turns (entering self.old before (caller_of p process.now) function call.now (stamp_of now)) }

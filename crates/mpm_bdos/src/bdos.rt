@@ -5,28 +5,27 @@ ghost use Rattle.mpm_cache.specs.Coherent.{IsCoherent, HasNoAlias};
 ghost use Rattle.mpm_files.specs.declared.turning.Progress.TheVariants as progress;
 ghost use Rattle.mpm_files.specs.Serving.{turns_in};
 ghost use Rattle.mpm_mount.specs.Drives.{Drive};
-ghost use Rattle.mpm_bdos.specs.Direct.{ComesDirectly, IsToldDirectly, is_protected, direct_of, direct};
-ghost use Rattle.mpm_bdos.specs.Filing.{Situation};
+ghost use Rattle.mpm_bdos.specs.Direct.{ComesDirectly, IsToldDirectly, is_protected, direct};
+ghost use Rattle.mpm_functions.specs.Functions.{direct_of};
+ghost use Rattle.mpm_requests.specs.Filing.{Situation};
 ghost use Rattle.mpm_bdos.specs.Outcomes.{left_by, without_search};
 ghost use Rattle.mpm_bdos.specs.Jobs.{call_turns};
-ghost use Rattle.mpm_bdos.specs.Turns.{FitsDrives, KeepsImages, StaysBeside, TurnKeeps, StopsWithin, ServesReading, ServesCached, HasCountedIn, OfWork, IsIdle, told_images, progress_after, drive_served, has_work};
+ghost use Rattle.mpm_bdos.specs.Turns.{FitsDrives, KeepsImages, KeepsUnsynced, StaysBeside, TurnKeeps, StopsWithin, ServesReading, ServesCached, HasCountedIn, OfWork, IsIdle, told_images, progress_after, drive_served, has_work};
 
 use crate::direct::do_directly;
 use crate::directories::Directories;
-use crate::functions::DirectFunction;
-use crate::marks::Marks;
-use crate::protected::Protected;
-use crate::refusals::Extended;
-use crate::searches::Searches;
 use crate::service::Service;
 use crate::turning::turn_service;
 use mpm_base::{Call, Pid, Reply, Steps};
 use mpm_cache::{Cache, OutOfMemory};
 use mpm_files::Progress;
+use mpm_functions::{DirectFunction, Extended};
+use mpm_marks::{Marks, Protected};
 use mpm_mount::Mounted;
 use mpm_opens::Opens;
 use mpm_port::{Drives, Failed};
 use mpm_procs::Process;
+use mpm_requests::Searches;
 use std::alloc::Global;
 use std::marker::Model;
 use std::sync::ledger::Ledger;
@@ -45,7 +44,8 @@ pub struct Bdos {
 }
 
 impl Model for Bdos {
-    ghost use Rattle.mpm_bdos.specs.Serving.{Kept, HaveUsers};
+    ghost use Rattle.mpm_bdos.specs.Serving.{Kept};
+    ghost use Rattle.mpm_requests.specs.Filing.{HaveUsers};
 
     ghost Value = { Kept };
 
@@ -174,9 +174,11 @@ impl Bdos {
         ensures images { KeepsImages (drive_served self.old.service) self.old.mounted (D.disks drives.old) (D.disks drives.new) }
         ensures beside { Told (StaysBeside self.old.mounted) (D.disks drives.old) (D.disks drives.new) }
         ensures names { D.failed_names drives.new ≡ D.failed_names drives.old }
+        ensures unsynced { KeepsUnsynced (drive_served self.old.service) (D.unsynced drives.old) (D.unsynced drives.new) }
         ensures attached { (other : ℕ) → D.attached drives.new other ≡ D.attached drives.old other }
         ensures calls { steps.new ≤ steps.old + 20 }
         ensures reads { ServesReading self.old.service → steps.new ≤ steps.old + 1 }
+        ensures reads_only { ServesReading self.old.service → (other : ℕ) → D.unsynced drives.new other ≡ D.unsynced drives.old other }
         ensures cached { ServesCached self.old.cached self.old.mounted self.old.service → steps.new ≡ steps.old }
         ensures cause { HasCause (D.faults drives.old) (D.faults drives.new) result }
     {

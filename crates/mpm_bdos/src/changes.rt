@@ -1,15 +1,12 @@
-ghost use Rattle.std.specs.Prelude.{◌≡◌, ◌≤◌, ◌<◌, ◌==◌, ℕ, List, None, IfSome, if◌then◌else◌};
+ghost use Rattle.std.specs.Prelude.{◌≡◌, ◌≤◌, ◌==◌, ℕ, List, None, IfSome, if◌then◌else◌};
+ghost use Rattle.mpm_dirent.specs.Names.{plain};
 ghost use Rattle.mpm_opens.specs.Locks.{lock_answer};
-ghost use Rattle.mpm_opens.specs.Opens.{IsLive, process_of, file_of, given_back, closed, written, locked};
-ghost use Rattle.mpm_opens.specs.Kinds.{is_on_drive};
-ghost use Rattle.mpm_bdos.specs.Marks as marks;
+ghost use Rattle.mpm_opens.specs.Opens.{IsLive, process_of, file_of, closed, written, locked};
 ghost use Rattle.mpm_mount.specs.Drives.{Drive};
-ghost use Rattle.mpm_mount.specs.Faults.{plain};
 ghost use Rattle.mpm_mount.specs.Directories.{Stands};
 ghost use Rattle.mpm_bdos.specs.Records as spec;
 
 use crate::ends::{Ended, RecordEnd};
-use crate::marks::is_bit;
 use mpm_base::Pid;
 use mpm_files::{RecordError, read_error};
 use mpm_mount::Mounted;
@@ -89,27 +86,6 @@ pub(crate) fn unlock_records(opens: &mut Opens, item: u8, first: u32, count: u8)
 {
     for k in 0..count {
         opens.unlock(item, first + u32::from(k));
-    }
-}
-
-/// Gives back a process's open files on a drive, if it is one of a mask.
-fn free_drive(opens: &mut Opens, p: Pid, mask: u16, drive: u8)
-    requires { drive < 16 }
-    ensures { opens.new ≡ (if marks.is_bit mask drive then given_back opens.old p (is_on_drive drive) else opens.old) }
-{
-    if is_bit(mask, drive) {
-        opens.leave_drive(p, drive);
-    }
-}
-
-/// Gives back a process's open files on the drives of a mask, with its locks there. (MP/M II Programmer's Guide, "Function 39:
-/// Free Drive".)
-#[tactic(auto, using(crate::proofs::Freed::no_drive_freed, crate::proofs::Freed::one_drive_freed))]
-pub(crate) fn free_drives(opens: &mut Opens, p: Pid, mask: u16)
-    ensures { opens.new ≡ given_back opens.old p (λ key. marks.is_bit mask key.drive) }
-{
-    for drive in 0..16 {
-        free_drive(opens, p, mask, drive);
     }
 }
 

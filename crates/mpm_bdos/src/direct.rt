@@ -6,12 +6,11 @@ ghost use Rattle.mpm_bdos.specs.Replies.{where_changed};
 ghost use Rattle.mpm_bdos.specs.Serving.{kind_at};
 
 use crate::directories::Directories;
-use crate::functions::DirectFunction;
-use crate::protected::Protected;
-use crate::refusals::{Extended, Refusal};
 use mpm_base::{Call, Reply};
 use mpm_blocks::parameter_block;
 use mpm_fcb::ControlBlock;
+use mpm_functions::{DirectFunction, Extended, Refusal};
+use mpm_marks::Protected;
 
 /// Where the disk parameter block lies, in the system's own memory.
 const PARAMETERS: u16 = 0xFE80;

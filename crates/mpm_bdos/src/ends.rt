@@ -2,8 +2,8 @@ ghost use Rattle.std.specs.Prelude.{◌≡◌, ◌≤◌, IfSome};
 ghost use Rattle.mpm_bdos.specs.Records as spec;
 ghost use Rattle.mpm_bdos.specs.Replies as replies;
 
-use crate::functions::FileFunction;
 use mpm_files::RecordError;
+use mpm_functions::FileFunction;
 
 /// What ends the records of a call. (MP/M II Programmer's Guide, functions 20, 21, 33, 34, 40, 41 and 42.)
 #[derive(Clone, Copy, Debug, PartialEq, Eq)]

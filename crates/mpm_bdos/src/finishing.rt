@@ -5,38 +5,34 @@ ghost use Rattle.mpm_mount.specs.Directories.{Directory};
 ghost use Rattle.mpm_mount.specs.Drives.{Drive};
 ghost use Rattle.mpm_fcb.specs.Blocks.{block_of};
 ghost use Rattle.mpm_fcb.specs.Positions.{sequential_record};
-ghost use Rattle.mpm_bdos.specs.declared.refusals.Refusal.{Refusal as Refused};
-ghost use Rattle.mpm_bdos.specs.Answering.{IsOfDrive, IsOfRow, IsNamed, MayGrant, MayAnswer};
-ghost use Rattle.mpm_bdos.specs.Asking.{called};
-ghost use Rattle.mpm_bdos.specs.Changes.{marks_by, protected_by};
-ghost use Rattle.mpm_bdos.specs.Driving.{freed_by};
+ghost use Rattle.mpm_functions.specs.declared.refusals.Refusal.{Refusal as Refused};
+ghost use Rattle.mpm_bdos.specs.Answering.{IsOfDrive, MayGrant, MayAnswer};
+ghost use Rattle.mpm_functions.specs.Refusals.{IsOfRow};
+ghost use Rattle.mpm_requests.specs.Subjects.{IsNamed};
+ghost use Rattle.mpm_requests.specs.Asking.{called};
+ghost use Rattle.mpm_marks.specs.Driving.{marks_by, protected_by, freed_by};
 ghost use Rattle.mpm_bdos.specs.Ending as ending;
-ghost use Rattle.mpm_bdos.specs.Filing.{Situation};
+ghost use Rattle.mpm_requests.specs.Filing.{Situation, HaveUsers};
 ghost use Rattle.mpm_bdos.specs.Finishing as spec;
 ghost use Rattle.mpm_bdos.specs.Jobs.{call_turns};
-ghost use Rattle.mpm_bdos.specs.Outcomes as outcomes;
-ghost use Rattle.mpm_bdos.specs.Refusals as refusals;
+ghost use Rattle.mpm_functions.specs.Refusals as outcomes;
+ghost use Rattle.mpm_requests.specs.Refusals as refusals;
 ghost use Rattle.mpm_bdos.specs.Replying as replying;
-ghost use Rattle.mpm_bdos.specs.Serving.{IsCaller, HaveUsers, Serves};
+ghost use Rattle.mpm_bdos.specs.Serving.{IsCaller, Serves};
 
 use crate::answering::NOTHING_READ;
-use crate::asking::word_of_call;
 use crate::bdos::Bdos;
-use crate::caller::Caller;
 use crate::directories::Directories;
-use crate::driving::{leave_drives, mark_drives, protect_drives};
-use crate::functions::FileFunction;
-use crate::marks::Marks;
-use crate::protected::Protected;
-use crate::refusals::{Extended, Refusal};
 use crate::replying::reply_mounted;
-use crate::searches::Searches;
 use crate::service::Service;
 use crate::starting::{block_taken, first_position};
 use mpm_base::{Call, Reply};
 use mpm_files::Work;
+use mpm_functions::{Extended, FileFunction, Refusal};
+use mpm_marks::{Marks, Protected, leave_drives, mark_drives, protect_drives};
 use mpm_mount::Mounted;
 use mpm_opens::{FileKey, Opens};
+use mpm_requests::{Caller, Searches, word_of_call};
 
 /// Whether a call is one on drives, which names none.
 fn is_on_drives(function: FileFunction) -> bool
@@ -56,8 +52,8 @@ fn is_on_drives(function: FileFunction) -> bool
 
 /// Answers a call that is refused, on a drive.
 fn refuse(reply: &mut Reply, refusal: Refusal, drive: u8) -> Option<Extended>
-    ensures reply { reply.new ≡ answering (outcomes.refused_value (refusals.answered refusal)) }
-    ensures extended { result ≡ outcomes.refused_extended drive (refusals.answered refusal) }
+    ensures reply { reply.new ≡ answering (outcomes.refused_value (outcomes.answered refusal)) }
+    ensures extended { result ≡ outcomes.refused_extended drive (outcomes.answered refusal) }
 {
     let answered = refusal.answer();
     reply.answer(answered.value());
@@ -241,10 +237,10 @@ fn reply_service(
 impl Bdos {
     ghost use Rattle.std.specs.Prelude.{◌≡◌, ℕ, List, Some, None};
     ghost use Rattle.mpm_base.specs.Calls.{Taken};
-    ghost use Rattle.mpm_bdos.specs.declared.caller.Caller as callers;
-    ghost use Rattle.mpm_bdos.specs.declared.functions.FileFunction as functions;
+    ghost use Rattle.mpm_requests.specs.declared.caller.Caller as callers;
+    ghost use Rattle.mpm_functions.specs.declared.functions.FileFunction as functions;
     ghost use Rattle.mpm_bdos.specs.Answering.{HasEntered, IsOfDrive, MayAnswer};
-    ghost use Rattle.mpm_bdos.specs.Filing.{Situation};
+    ghost use Rattle.mpm_requests.specs.Filing.{Situation};
     ghost use Rattle.mpm_bdos.specs.Finishing.{ComesTo};
     ghost use Rattle.mpm_bdos.specs.Jobs.{call_turns};
     ghost use Rattle.mpm_bdos.specs.Serving.{Serves};

@@ -3,23 +3,24 @@ ghost use Rattle.std.specs.FinMap.{get};
 ghost use Rattle.mpm_mount.specs.Drives.{Drive, extents_of};
 ghost use Rattle.mpm_mount.specs.Directories.{Stands};
 ghost use Rattle.mpm_fcb.specs.Positions.{with_random};
-ghost use Rattle.mpm_bdos.specs.Jobs.{no_protection};
+ghost use Rattle.mpm_requests.specs.Protections.{no_protection};
 ghost use Rattle.mpm_bdos.specs.Answering.{TellsOpened, TellsPosition, TellsSize, TellsXfcb, MayTellIn, IsCoded, MayAmount};
 ghost use Rattle.mpm_bdos.specs.Ending as ending;
 ghost use Rattle.mpm_bdos.specs.Records as records;
 ghost use Rattle.mpm_bdos.specs.Replies as spec;
+ghost use Rattle.mpm_requests.specs.Protections as protections;
+ghost use Rattle.mpm_requests.specs.Sizes as sizes;
 ghost use Rattle.mpm_bdos.specs.Telling as telling;
 
 use crate::ends::{Ended, RecordEnd, coded, does_stay};
-use crate::functions::FileFunction;
-use crate::looking::label_byte;
 use crate::replies::position_behind;
-use crate::sizes::size;
 use crate::telling::{open_block, position_block, xfcb_block};
 use mpm_fcb::ControlBlock;
 use mpm_files::{RecordError, Work};
+use mpm_functions::FileFunction;
 use mpm_mount::Mounted;
 use mpm_opens::Mode;
+use mpm_requests::{label_byte, size};
 
 /// How a call opened a file, or made it.
 #[derive(Clone, Copy, Debug, PartialEq, Eq)]
@@ -214,7 +215,7 @@ pub(crate) fn block(granted: &Granted, mounted: &Mounted) -> ControlBlock
 /// The block that tells a file's size.
 fn sized_block(granted: &Granted, mounted: &Mounted) -> ControlBlock
     ensures all { (image : List ℕ) (drive : Drive) → Stands image mounted.now drive
-        → result ≡ with_random granted.now.block (spec.size_of (extents_of drive (spec.file_in granted.now))) }
+        → result ≡ with_random granted.now.block (sizes.size_of (extents_of drive (spec.file_in granted.now))) }
     ensures told { TellsSize granted.now.block result }
 {
     let mut block = granted.block;
@@ -225,7 +226,7 @@ fn sized_block(granted: &Granted, mounted: &Mounted) -> ControlBlock
 /// The block that tells of a file's XFCB.
 fn guarded_block(granted: &Granted, mounted: &Mounted) -> ControlBlock
     ensures all { (image : List ℕ) (drive : Drive) → Stands image mounted.now drive
-        → result ≡ spec.told_xfcb (unwrap_or (get drive.xfcbs (spec.file_in granted.now)) no_protection) granted.now.block }
+        → result ≡ protections.told_xfcb (unwrap_or (get drive.xfcbs (spec.file_in granted.now)) no_protection) granted.now.block }
     ensures told { TellsXfcb granted.now.block result }
 {
     let mut block = granted.block;

@@ -1,18 +1,18 @@
 ghost use Rattle.std.specs.Prelude.{◌≡◌, ◌≤◌, ◌+◌, ◌*◌, ◌++◌, ℕ, List, length, take, if◌then◌else◌};
 ghost use Rattle.mpm_base.specs.Lists.{zeros};
+ghost use Rattle.mpm_dirent.specs.Names.{plain};
 ghost use Rattle.mpm_guard.specs.Passwords.{has_bit};
 ghost use Rattle.mpm_mount.specs.Drives.{Drive};
-ghost use Rattle.mpm_mount.specs.Faults.{plain};
 ghost use Rattle.mpm_mount.specs.Directories.{Stands};
 ghost use Rattle.mpm_files.specs.declared.jobs.JobKind.TheVariants as kinds;
 ghost use Rattle.mpm_bdos.specs.Jobs as spec;
 ghost use Rattle.mpm_bdos.specs.Records as records;
 
-use crate::protection::Protection;
 use mpm_base::Pid;
 use mpm_files::{Job, JobKind, read_error};
 use mpm_mount::Mounted;
 use mpm_opens::{FileKey, Opens};
+use mpm_requests::Protection;
 
 /// The room of a job's bytes: zeros behind those that count, at most 4,096.
 fn filled(bytes: &[u8]) -> [u8; 4096]

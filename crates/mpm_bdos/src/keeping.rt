@@ -1,18 +1,17 @@
 ghost use Rattle.std.specs.Prelude.{◌≡◌, ℕ, None, IfSome, slice_index_or, slice_set, option_map};
+ghost use Rattle.mpm_dirent.specs.Names.{plain};
 ghost use Rattle.mpm_mount.specs.Drives.{FileName, Drive};
-ghost use Rattle.mpm_mount.specs.Faults.{plain};
-ghost use Rattle.mpm_bdos.specs.Asking.{found_as};
-ghost use Rattle.mpm_bdos.specs.Looking.{at_place};
-ghost use Rattle.mpm_bdos.specs.Searches.{searched, user_sought};
-ghost use Rattle.mpm_bdos.specs.Subjects.{found_by};
+ghost use Rattle.mpm_requests.specs.Asking.{found_as};
+ghost use Rattle.mpm_requests.specs.Looking.{at_place};
+ghost use Rattle.mpm_requests.specs.Searches.{searched, user_sought};
+ghost use Rattle.mpm_requests.specs.Subjects.{found_by};
 ghost use Rattle.mpm_bdos.specs.Changes as spec;
 
-use crate::finding::FoundEntry;
-use crate::functions::FileFunction;
-use crate::searches::{LastSearch, Searches};
-use crate::searching::{EntryPlace, place_of};
 use mpm_base::{Kind, Pid};
-use mpm_fcb::{ControlBlock, plain_name};
+use mpm_dirent::plain_name;
+use mpm_fcb::ControlBlock;
+use mpm_functions::FileFunction;
+use mpm_requests::{EntryPlace, FoundEntry, LastSearch, Searches, place_of};
 
 /// A search behind another entry.
 fn behind(search: &LastSearch, place: EntryPlace) -> LastSearch

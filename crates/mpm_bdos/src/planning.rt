@@ -1,36 +1,34 @@
 ghost use Rattle.std.specs.Prelude.{◌≡◌, ◌≤◌, ◌*◌, ◌&&◌, not, ℕ, Bool, List, Option, take, option_map, unwrap_or, if◌then◌else◌};
 ghost use Rattle.std.specs.FinMap.{get};
 ghost use Rattle.mpm_base.specs.Calls.{byte_in, eight_at};
+ghost use Rattle.mpm_dirent.specs.Names.{plain};
 ghost use Rattle.mpm_mount.specs.Drives.{Drive};
 ghost use Rattle.mpm_mount.specs.Directories.{Stands};
-ghost use Rattle.mpm_mount.specs.Faults.{plain};
 ghost use Rattle.mpm_guard.specs.Passwords.{has_bit};
 ghost use Rattle.mpm_fcb.specs.Names.{has_f6};
 ghost use Rattle.mpm_files.specs.declared.jobs.JobKind.TheVariants as kinds;
 ghost use Rattle.mpm_fcb.specs.Blocks.{block_of};
-ghost use Rattle.mpm_bdos.specs.Subjects.{data_byte};
-ghost use Rattle.mpm_bdos.specs.Asking.{called};
-ghost use Rattle.mpm_bdos.specs.Filing.{LastSearch};
+ghost use Rattle.mpm_requests.specs.Subjects.{data_byte};
+ghost use Rattle.mpm_requests.specs.Asking.{called};
+ghost use Rattle.mpm_requests.specs.Filing.{LastSearch};
 ghost use Rattle.mpm_bdos.specs.Planning.{IsAbout};
 ghost use Rattle.mpm_bdos.specs.Planning as planning;
 ghost use Rattle.mpm_bdos.specs.Records as records;
-ghost use Rattle.mpm_bdos.specs.Refusals as refusals;
+ghost use Rattle.mpm_requests.specs.Refusals as refusals;
 ghost use Rattle.mpm_bdos.specs.Jobs as spec;
+ghost use Rattle.mpm_requests.specs.Protections as protections;
 
-use crate::caller::Caller;
-use crate::functions::FileFunction;
 use crate::jobs::{
     count_free, count_tested, guarding_job, job_on, labelling_job, making_job, opening_job,
     reading_job, renaming_job, stamp_where, testing_job, writing_job,
 };
-use crate::looking::{label, label_byte, xfcb};
-use crate::protection::Protection;
-use crate::room::makes_xfcb;
 use mpm_base::Call;
 use mpm_fcb::ControlBlock;
 use mpm_files::{Job, JobKind};
+use mpm_functions::FileFunction;
 use mpm_mount::Mounted;
 use mpm_opens::{FileKey, Opens};
+use mpm_requests::{Caller, Protection, label, label_byte, makes_xfcb, xfcb};
 
 /// In the label's data byte: files are stamped as they are made.
 const MAKING: u8 = 0x10;
@@ -114,7 +112,7 @@ fn testing(
 
 /// The XFCB of a file that is made, by the label's data byte.
 fn made_xfcb(label: u8, block: &ControlBlock, call: &Call, moment: [u8; 4]) -> Protection
-    ensures { result ≡ spec.with_first_stamp (has_bit 0x10 label) moment (spec.given_xfcb (has_f6 block.now) (byte_in call.now 8) (eight_at call.now 0)) }
+    ensures { result ≡ protections.with_first_stamp (has_bit 0x10 label) moment (protections.given_xfcb (has_f6 block.now) (byte_in call.now 8) (eight_at call.now 0)) }
 {
     let mut xfcb = Protection::given(block.has_f6(), call.byte(8), &call.eight(0));
     xfcb.stamp_where(label & MAKING != 0, moment);
@@ -124,7 +122,7 @@ fn made_xfcb(label: u8, block: &ControlBlock, call: &Call, moment: [u8; 4]) -> P
 /// The job of a making on a drive.
 fn making(mounted: &Mounted, user: u8, block: &ControlBlock, call: &Call, moment: [u8; 4]) -> Job
     ensures { (image : List ℕ) (drive : Drive) → Stands image mounted.now drive
-        → result ≡ (if refusals.makes_xfcb (data_byte drive) block.now then spec.with_one (spec.with_protection (spec.with_first_stamp (has_bit 0x10 (data_byte drive)) moment (spec.given_xfcb (has_f6 block.now) (byte_in call.now 8) (eight_at call.now 0))) (spec.job_for kinds.Make user block.now.name)) else (spec.job_for kinds.Make user block.now.name)) }
+        → result ≡ (if refusals.makes_xfcb (data_byte drive) block.now then spec.with_one (spec.with_protection (protections.with_first_stamp (has_bit 0x10 (data_byte drive)) moment (protections.given_xfcb (has_f6 block.now) (byte_in call.now 8) (eight_at call.now 0))) (spec.job_for kinds.Make user block.now.name)) else (spec.job_for kinds.Make user block.now.name)) }
 {
     let label = label_byte(mounted);
     let xfcb = made_xfcb(label, block, call, moment);
@@ -134,7 +132,7 @@ fn making(mounted: &Mounted, user: u8, block: &ControlBlock, call: &Call, moment
 /// What the label of a drive keeps; nothing where there is none.
 fn label_there(mounted: &Mounted) -> Protection
     ensures { (image : List ℕ) (drive : Drive) → Stands image mounted.now drive
-        → result ≡ unwrap_or (option_map (λ label. label.protection) drive.label) spec.no_protection }
+        → result ≡ unwrap_or (option_map (λ label. label.protection) drive.label) protections.no_protection }
 {
     match label(mounted) {
         Some(label) => Protection::of_label(&label),
@@ -145,7 +143,7 @@ fn label_there(mounted: &Mounted) -> Protection
 /// The job of a labelling on a drive.
 fn labelling(mounted: &Mounted, user: u8, block: &ControlBlock, call: &Call) -> Job
     ensures { (image : List ℕ) (drive : Drive) → Stands image mounted.now drive
-        → result ≡ spec.with_protection (spec.label_put block.now.ex (eight_at call.now 8) (unwrap_or (option_map (λ label. label.protection) drive.label) spec.no_protection)) (spec.with_new_name block.now.name (spec.job_for kinds.Label user block.now.name)) }
+        → result ≡ spec.with_protection (protections.label_put block.now.ex (eight_at call.now 8) (unwrap_or (option_map (λ label. label.protection) drive.label) protections.no_protection)) (spec.with_new_name block.now.name (spec.job_for kinds.Label user block.now.name)) }
 {
     let mut label = label_there(mounted);
     label.change_label(block.ex, &call.eight(8));
@@ -155,7 +153,7 @@ fn labelling(mounted: &Mounted, user: u8, block: &ControlBlock, call: &Call) -> 
 /// What the XFCB of a user's file keeps; nothing where there is none.
 fn xfcb_there(mounted: &Mounted, user: u8, name: &[u8; 11]) -> Protection
     ensures { (image : List ℕ) (drive : Drive) → Stands image mounted.now drive
-        → result ≡ unwrap_or (get drive.xfcbs (record { user = user; name = plain name.now })) spec.no_protection }
+        → result ≡ unwrap_or (get drive.xfcbs (record { user = user; name = plain name.now })) protections.no_protection }
 {
     match xfcb(mounted, user, name) {
         Some(xfcb) => Protection::of_xfcb(&xfcb),
@@ -166,7 +164,7 @@ fn xfcb_there(mounted: &Mounted, user: u8, name: &[u8; 11]) -> Protection
 /// The job that makes or changes the XFCB of a user's file on a drive.
 fn guarding(mounted: &Mounted, user: u8, block: &ControlBlock, call: &Call) -> Job
     ensures { (image : List ℕ) (drive : Drive) → Stands image mounted.now drive
-        → result ≡ spec.with_protection (spec.xfcb_put block.now.ex (eight_at call.now 8) (unwrap_or (get drive.xfcbs (record { user = user; name = plain block.now.name })) spec.no_protection)) (spec.job_for kinds.Xfcb user block.now.name) }
+        → result ≡ spec.with_protection (protections.xfcb_put block.now.ex (eight_at call.now 8) (unwrap_or (get drive.xfcbs (record { user = user; name = plain block.now.name })) protections.no_protection)) (spec.job_for kinds.Xfcb user block.now.name) }
 {
     let mut xfcb = xfcb_there(mounted, user, &block.name);
     xfcb.change_xfcb(block.ex, &call.eight(8));

@@ -3,9 +3,9 @@ ghost use Rattle.std.specs.List.{flat_map};
 ghost use Rattle.mpm_bdos.specs.Ending.{IsRead};
 ghost use Rattle.mpm_bdos.specs.Replies as spec;
 
-use crate::functions::FileFunction;
 use mpm_dirent::{Entry, FileEntry, write_entry};
 use mpm_files::Work;
+use mpm_functions::FileFunction;
 
 /// The position behind a call on records from one on, of which so many were moved.
 pub(crate) fn position_behind(function: FileFunction, first: u32, moved: u8) -> u32

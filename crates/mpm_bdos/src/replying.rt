@@ -4,28 +4,25 @@ ghost use Rattle.mpm_mount.specs.Directories.{Stands};
 ghost use Rattle.mpm_opens.specs.Opens.{AreOpen};
 ghost use Rattle.mpm_fcb.specs.Blocks.{block_of};
 ghost use Rattle.mpm_bdos.specs.Answering.{MayGrant};
-ghost use Rattle.mpm_bdos.specs.Asking.{called, found_as};
+ghost use Rattle.mpm_requests.specs.Asking.{called, found_as};
 ghost use Rattle.mpm_bdos.specs.Leaving as spec;
+ghost use Rattle.mpm_requests.specs.Asking as asking;
 ghost use Rattle.mpm_bdos.specs.Replies as replies;
-ghost use Rattle.mpm_bdos.specs.Serving.{HaveUsers};
+ghost use Rattle.mpm_requests.specs.Filing.{HaveUsers};
 ghost use Rattle.mpm_bdos.specs.Replying.{IsAnswering, IsReplied};
 
 use crate::answering::answer;
-use crate::applies::subject_key;
-use crate::asking::{Asked, ask};
-use crate::caller::Caller;
-use crate::finding::{FoundEntry, found};
-use crate::functions::FileFunction;
 use crate::granting::moved_by;
 use crate::keeping::keep_found;
 use crate::leaving::{grant, leave};
-use crate::protected::Protected;
-use crate::searches::Searches;
 use crate::telling::told_found;
 use mpm_base::{Call, Reply};
 use mpm_files::Work;
+use mpm_functions::FileFunction;
+use mpm_marks::Protected;
 use mpm_mount::Mounted;
 use mpm_opens::{FileKey, Opens};
+use mpm_requests::{Asked, Caller, FoundEntry, Searches, ask, found, subject_key};
 
 /// Answers a call on a mounted drive, which isn't refused, and does what it leaves of open files and of locks.
 pub(crate) fn answer_mounted(
@@ -39,7 +36,7 @@ pub(crate) fn answer_mounted(
     fcb: &[u8; 36],
     dma: u16,
 )
-    requires own { IfSome asked.now.item (λ item. spec.IsOwn opens.old asked.now.caller.process item) }
+    requires own { IfSome asked.now.item (λ item. asking.IsOwn opens.old asked.now.caller.process item) }
     requires some { 1 ≤ asked.now.caller.multi }
     requires few { asked.now.caller.multi ≤ 16 }
     requires block { asked.now.block ≡ block_of fcb.now }

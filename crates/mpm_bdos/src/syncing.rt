@@ -2,7 +2,7 @@ ghost use Rattle.std.specs.Prelude.{◌≡◌, ◌≢◌, ℕ, ◌≤◌, ◌<�
 ghost use Rattle.mpm_port.specs.Causes.{HasCause};
 ghost use Rattle.mpm_mount.specs.Mounting.{SameDrives};
 ghost use Rattle.mpm_bdos.specs.Serving.{directory_at};
-ghost use Rattle.mpm_bdos.specs.Syncing.{AreAttached, AreSynced, mounted_count};
+ghost use Rattle.mpm_bdos.specs.Syncing.{AreAttached, AreSynced, StopsAtDrive, mounted_count};
 
 use crate::bdos::Bdos;
 use crate::directories::Directories;
@@ -25,6 +25,7 @@ fn sync_place<D: Drives, L: Ledger>(
     ensures none { place.now ≡ None → drives.new ≡ drives.old }
     ensures synced { IfSome place.now (λ directory. OnOk result (D.unsynced drives.new directory.drive ≡ false)) }
     ensures stay { (number : ℕ) → D.unsynced drives.old number ≡ false → D.unsynced drives.new number ≡ false }
+    ensures failed { IfSome place.now (λ directory. OnErr result (D.unsynced drives.new directory.drive ≡ D.unsynced drives.old directory.drive)) }
     ensures beside { (number : ℕ) → IfSome place.now (λ directory. number ≢ directory.drive) → D.unsynced drives.new number ≡ D.unsynced drives.old number }
 {
     match place {
@@ -48,6 +49,7 @@ impl Directories {
         ensures none { mounted_count self.now ≡ 0 → drives.new ≡ drives.old }
         ensures synced { OnOk result (AreSynced (D.unsynced drives.new) self.now) }
         ensures stay { (number : ℕ) → D.unsynced drives.old number ≡ false → D.unsynced drives.new number ≡ false }
+        ensures stops { OnErr result (StopsAtDrive self.now (D.unsynced drives.old) (D.unsynced drives.new) steps.old steps.new) }
         ensures beside { (number : ℕ) → directory_at self.now number ≡ None → D.unsynced drives.new number ≡ D.unsynced drives.old number }
     {
         for place in self.places.as_slice() {
@@ -64,7 +66,7 @@ impl Bdos {
     ghost use Rattle.mpm_port.specs.Causes.{HasCause};
     ghost use Rattle.mpm_mount.specs.Mounting.{SameDrives};
     ghost use Rattle.mpm_bdos.specs.Serving.{directory_at};
-    ghost use Rattle.mpm_bdos.specs.Syncing.{AreSynced, mounted_count};
+    ghost use Rattle.mpm_bdos.specs.Syncing.{AreSynced, StopsAtDrive, mounted_count};
     ghost use Rattle.mpm_bdos.specs.Turns.{FitsDrives};
 
     /// Brings what was written to the mounted drives to where it stays, one drive after another in order of their letters, up to
@@ -84,6 +86,7 @@ impl Bdos {
         ensures none { mounted_count self.now.mounted ≡ 0 → drives.new ≡ drives.old }
         ensures synced { OnOk result (AreSynced (D.unsynced drives.new) self.now.mounted) }
         ensures stay { (number : ℕ) → D.unsynced drives.old number ≡ false → D.unsynced drives.new number ≡ false }
+        ensures stops { OnErr result (StopsAtDrive self.now.mounted (D.unsynced drives.old) (D.unsynced drives.new) steps.old steps.new) }
         ensures beside { (number : ℕ) → directory_at self.now.mounted number ≡ None → D.unsynced drives.new number ≡ D.unsynced drives.old number }
     {
         self.mounted.sync(drives, steps)

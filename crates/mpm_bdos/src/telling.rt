@@ -1,25 +1,25 @@
 ghost use Rattle.std.specs.Prelude.{◌≡◌, ◌<◌, ◌≤◌, ℕ, List, Some, length, option_map, unwrap_or};
-ghost use Rattle.mpm_mount.specs.Faults.{plain, extent_of};
-ghost use Rattle.mpm_mount.specs.Drives.{Drive, extents_of, entry_number};
+ghost use Rattle.mpm_mount.specs.Faults.{extent_of};
+ghost use Rattle.mpm_mount.specs.Drives.{Drive, extents_of, entry_number, free_records};
 ghost use Rattle.mpm_mount.specs.Directories.{Stands};
 ghost use Rattle.mpm_fcb.specs.Positions.{three_bytes};
-ghost use Rattle.mpm_files.specs.Units.{attributes_of as attributes_there, where_there};
-ghost use Rattle.mpm_mount.specs.Drives.{free_records};
 ghost use Rattle.std.specs.FinMap.{get};
+ghost use Rattle.mpm_dirent.specs.Names.{plain};
+ghost use Rattle.mpm_mount.specs.Attributes.{attributes_of as attributes_there};
+ghost use Rattle.mpm_mount.specs.Files.{where_there};
 ghost use Rattle.mpm_bdos.specs.Answering.{TellsOpened, TellsPosition, TellsXfcb};
-ghost use Rattle.mpm_bdos.specs.Asking.{found_as};
-ghost use Rattle.mpm_bdos.specs.Jobs.{no_protection};
+ghost use Rattle.mpm_requests.specs.Asking.{found_as};
+ghost use Rattle.mpm_requests.specs.Protections.{no_protection};
 ghost use Rattle.mpm_bdos.specs.Replies as replies;
+ghost use Rattle.mpm_requests.specs.Protections as protections;
 ghost use Rattle.mpm_bdos.specs.Telling as spec;
 
-use crate::finding::FoundEntry;
-use crate::looking::{attributes, attributes_of, count, xfcb};
-use crate::protection::Protection;
 use crate::replies::told_bytes;
-use mpm_dirent::{Entry, FileEntry};
-use mpm_fcb::{ControlBlock, plain_name, three_bytes, with_attributes};
+use mpm_dirent::{Entry, FileEntry, plain_name};
+use mpm_fcb::{ControlBlock, three_bytes, with_attributes};
 use mpm_mount::Mounted;
 use mpm_opens::Mode;
+use mpm_requests::{FoundEntry, Protection, attributes, attributes_of, count, xfcb};
 
 /// The last extent of an entry of a file.
 fn last_of(file: &FileEntry) -> u16
@@ -50,7 +50,7 @@ fn told_at(entry: &Entry) -> Option<[u8; 128]>
 }
 
 /// The entry that covers an extent of a user's file, as a search tells it, in a drive's directory.
-#[tactic(auto, using(mpm_files::proofs::Slots::slot_within, crate::proofs::Told::can_tell), unfolding(crate::specs::Telling::told_in))]
+#[tactic(auto, using(mpm_mount::proofs::Positions::slot_within, crate::proofs::Told::can_tell), unfolding(crate::specs::Telling::told_in))]
 fn told_in(mounted: &Mounted, user: u8, name: &[u8; 11], extent: u16) -> Option<[u8; 128]>
     ensures { result ≡ spec.told_in mounted.now (record { user = user; name = plain name.now }) extent }
 {
@@ -153,7 +153,7 @@ fn xfcb_or_none(mounted: &Mounted, user: u8, name: &[u8; 11]) -> Protection
 /// XFCB".)
 pub(crate) fn xfcb_block(block: &mut ControlBlock, mounted: &Mounted, user: u8)
     ensures all { (image : List ℕ) (drive : Drive) → Stands image mounted.now drive
-        → block.new ≡ replies.told_xfcb (unwrap_or (get drive.xfcbs (record { user = user; name = plain block.old.name })) no_protection) block.old }
+        → block.new ≡ protections.told_xfcb (unwrap_or (get drive.xfcbs (record { user = user; name = plain block.old.name })) no_protection) block.old }
     ensures told { TellsXfcb block.old block.new }
 {
     let xfcb = xfcb_or_none(mounted, user, &block.name);

@@ -12,7 +12,7 @@ ghost use Rattle.mpm_files.specs.Plans.{turns_of};
 ghost use Rattle.mpm_files.specs.Serving.{turns_in};
 ghost use Rattle.mpm_files.specs.Turning.{Suits, IsNextCached};
 ghost use Rattle.mpm_bdos.specs.Serving.{directory_at};
-ghost use Rattle.mpm_bdos.specs.Turns.{FitsDrives, KeepsImages, StaysBeside, progress_after, labelled, HasLeft, IsWorking, IsWorkingOn, IsContainedAt, IsServing, IsServiceContained, IsReading, IsReadingCached, ServesReading, ServesCached, IsCounted, HasCounted, HasCountedIn, WhereMounted, OfWork, IsIdle, has_work, drive_served, without_work};
+ghost use Rattle.mpm_bdos.specs.Turns.{FitsDrives, KeepsImages, KeepsUnsynced, StaysBeside, progress_after, labelled, HasLeft, IsWorking, IsWorkingOn, IsContainedAt, IsServing, IsServiceContained, IsReading, IsReadingCached, ServesReading, ServesCached, IsCounted, HasCounted, HasCountedIn, WhereMounted, OfWork, IsIdle, has_work, drive_served, without_work};
 
 use crate::directories::Directories;
 use crate::service::Service;
@@ -46,9 +46,10 @@ pub(crate) fn turn_at<D: Drives, L: Ledger>(
     ensures same { option_map labelled place.new ≡ option_map labelled place.old }
     ensures calls { steps.new ≤ steps.old + 20 }
     ensures reads { work.old.job.kind ≡ kinds.Read → steps.new ≤ steps.old + 1 }
+    ensures reads_only { work.old.job.kind ≡ kinds.Read → (other : ℕ) → D.unsynced drives.new other ≡ D.unsynced drives.old other }
     ensures cached { work.old.job.kind ≡ kinds.Read → IfSome place.old (λ d. IsNextCached cache.old d work.old) → steps.new ≡ steps.old }
     ensures directory { IfSome place.new (λ d. IsDirectory d.kind d.entries) }
-    ensures leaves { HasLeft D.attached D.disks D.failed_names place.old cache.old cache.new drives.old drives.new }
+    ensures leaves { HasLeft D.attached D.disks D.failed_names D.unsynced place.old cache.old cache.new drives.old drives.new }
     ensures cause { HasCause (D.faults drives.old) (D.faults drives.new) result }
 {
     match place {
@@ -64,7 +65,7 @@ pub(crate) fn turn_at<D: Drives, L: Ledger>(
 
 impl Directories {
     /// Does the next unit of a job on the drive of a number, where it is mounted.
-    #[tactic(auto, using(crate::proofs::Fitting::labels_stay, crate::proofs::Fitting::in_place_after, crate::proofs::Fitting::images_after, crate::proofs::Fitting::stays_after, crate::proofs::Fitting::stays_same))]
+    #[tactic(auto, using(crate::proofs::Fitting::labels_stay, crate::proofs::Fitting::in_place_after, crate::proofs::Fitting::images_after, crate::proofs::Fitting::stays_after, crate::proofs::Fitting::stays_same, crate::proofs::Fitting::unsynced_after, crate::proofs::Fitting::unsynced_same))]
     pub(crate) fn turn<D: Drives, L: Ledger>(
         &mut self,
         number: u8,
@@ -88,9 +89,11 @@ impl Directories {
         ensures images { KeepsImages (Some number) self.old (D.disks drives.old) (D.disks drives.new) }
         ensures beside { Told (StaysBeside self.old) (D.disks drives.old) (D.disks drives.new) }
         ensures names { D.failed_names drives.new ≡ D.failed_names drives.old }
+        ensures unsynced { KeepsUnsynced (Some number) (D.unsynced drives.old) (D.unsynced drives.new) }
         ensures attached { (other : ℕ) → D.attached drives.new other ≡ D.attached drives.old other }
         ensures calls { steps.new ≤ steps.old + 20 }
         ensures reads { work.old.job.kind ≡ kinds.Read → steps.new ≤ steps.old + 1 }
+        ensures reads_only { work.old.job.kind ≡ kinds.Read → (other : ℕ) → D.unsynced drives.new other ≡ D.unsynced drives.old other }
         ensures cached { work.old.job.kind ≡ kinds.Read → IfSome (directory_at self.old number) (λ d. IsNextCached cache.old d work.old) → steps.new ≡ steps.old }
         ensures cause { HasCause (D.faults drives.old) (D.faults drives.new) result }
     {
@@ -105,7 +108,7 @@ impl Directories {
 
 impl Service {
     /// Does the next unit of the job, where the call has one.
-    #[tactic(auto, using(crate::proofs::Fitting::stays_same))]
+    #[tactic(auto, using(crate::proofs::Fitting::stays_same, crate::proofs::Fitting::unsynced_same))]
     pub(crate) fn turn<D: Drives, L: Ledger>(
         &mut self,
         mounted: &mut Directories,
@@ -132,9 +135,11 @@ impl Service {
         ensures images { KeepsImages (Some self.old.drive) mounted.old (D.disks drives.old) (D.disks drives.new) }
         ensures beside { Told (StaysBeside mounted.old) (D.disks drives.old) (D.disks drives.new) }
         ensures names { D.failed_names drives.new ≡ D.failed_names drives.old }
+        ensures unsynced { KeepsUnsynced (Some self.old.drive) (D.unsynced drives.old) (D.unsynced drives.new) }
         ensures attached { (other : ℕ) → D.attached drives.new other ≡ D.attached drives.old other }
         ensures calls { steps.new ≤ steps.old + 20 }
         ensures reads { IsReading self.old.work → steps.new ≤ steps.old + 1 }
+        ensures reads_only { IsReading self.old.work → (other : ℕ) → D.unsynced drives.new other ≡ D.unsynced drives.old other }
         ensures cached { IsReadingCached cache.old (directory_at mounted.old self.old.drive) self.old.work → steps.new ≡ steps.old }
         ensures cause { HasCause (D.faults drives.old) (D.faults drives.new) result }
     {
@@ -147,7 +152,7 @@ impl Service {
 }
 
 /// Does the next unit of the job of the call in service, where one is and has one.
-#[tactic(auto, using(crate::proofs::Fitting::stays_same))]
+#[tactic(auto, using(crate::proofs::Fitting::stays_same, crate::proofs::Fitting::unsynced_same))]
 pub(crate) fn turn_service<D: Drives, L: Ledger>(
     service: &mut Option<Service>,
     mounted: &mut Directories,
@@ -174,9 +179,11 @@ pub(crate) fn turn_service<D: Drives, L: Ledger>(
     ensures images { KeepsImages (drive_served service.old) mounted.old (D.disks drives.old) (D.disks drives.new) }
     ensures beside { Told (StaysBeside mounted.old) (D.disks drives.old) (D.disks drives.new) }
     ensures names { D.failed_names drives.new ≡ D.failed_names drives.old }
+    ensures unsynced { KeepsUnsynced (drive_served service.old) (D.unsynced drives.old) (D.unsynced drives.new) }
     ensures attached { (other : ℕ) → D.attached drives.new other ≡ D.attached drives.old other }
     ensures calls { steps.new ≤ steps.old + 20 }
     ensures reads { ServesReading service.old → steps.new ≤ steps.old + 1 }
+    ensures reads_only { ServesReading service.old → (other : ℕ) → D.unsynced drives.new other ≡ D.unsynced drives.old other }
     ensures cached { ServesCached cache.old mounted.old service.old → steps.new ≡ steps.old }
     ensures cause { HasCause (D.faults drives.old) (D.faults drives.new) result }
 {

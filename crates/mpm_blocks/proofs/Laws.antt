@@ -1,19 +1,11 @@
 -- A block that is claimed or freed: what is free then, and how many are.
-use Rattle.std.proofs.Common.{◌≡◌, ◌≢◌, ℕ, ◌+◌, ◌<◌, Bool, true, false, not, cond, List, Some, length, ap, ◌∙◌, arith, refl, sym}
+use Rattle.std.proofs.Common.{◌≡◌, ◌≢◌, ℕ, ◌+◌, ◌<◌, Bool, true, false, not, cond, List, Some, length, ap, ◌∙◌, arith, sym}
 use Rattle.std.specs.Prelude.{slice_set}
-use Rattle.std.proofs.lemmas.Bool.{false≢true}
+use Rattle.std.proofs.lemmas.Bool.{not-true, not-false}
 use Rattle.std.proofs.lemmas.List.{get_or-set_same, get_or-set_other, set-get_or}
 use Rattle.std.proofs.lemmas.List.Quantifiers.{position-Some}
 use Rattle.std.proofs.lemmas.List.Sums.{sum_by-set}
 use Rattle.mpm_blocks.specs.Maps.{Blocks, is_used, least_of, free_count, claimed, freed}
-
-not_true_only : (b : Bool) → not b ≡ true → b ≡ false
-not_true_only true h = absurd (false≢true h)
-not_true_only false h = refl
-
-not_false_only : (b : Bool) → not b ≡ false → b ≡ true
-not_false_only true h = refl
-not_false_only false h = absurd (false≢true (sym h))
 
 pub claimed_is_used : (blocks : Blocks) (block : ℕ) → block < length blocks.used → is_used (claimed blocks block) block ≡ true
 claimed_is_used blocks block h = get_or-set_same blocks.used block true true h
@@ -56,7 +48,7 @@ least_within blocks block found = (position-Some not blocks.used block true foun
 
 -- it is free, and each block below it is used
 pub least_is_free : (blocks : Blocks) (block : ℕ) → least_of blocks ≡ Some block → is_used blocks block ≡ false
-least_is_free blocks block found = not_true_only (is_used blocks block) ((position-Some not blocks.used block true found).1)
+least_is_free blocks block found = not-true (is_used blocks block) ((position-Some not blocks.used block true found).1)
 
 pub below_least : (blocks : Blocks) (block other : ℕ) → least_of blocks ≡ Some block → other < block → is_used blocks other ≡ true
-below_least blocks block other found below = not_false_only (is_used blocks other) ((position-Some not blocks.used block true found).2 other below)
+below_least blocks block other found below = not-false (is_used blocks other) ((position-Some not blocks.used block true found).2 other below)

@@ -3,16 +3,13 @@ use Rattle.std.proofs.Common.{◌≡◌, ◌≢◌, ℕ, List, length, refl, sym
 use Rattle.std.specs.Prelude.{Option, Some, None, IfSome, IsSomeAnd, is_some, option_and_then}
 use Rattle.std.proofs.lemmas.Bool.{false≢true}
 use Rattle.mpm_port.specs.Disks.{Disks, SameDisks, Writes, Told, image_of, with_sector}
+use Rattle.mpm_port.proofs.Images.{same_image}
 use Rattle.mpm_blocks.specs.Sectors.{told_image}
 
 -- the image of a name, among other images where that one is the same
 image_through : (name : Option (List ℕ)) (now was : List ℕ → Option (List ℕ)) → ((n : List ℕ) → name ≡ Some n → now n ≡ was n) → option_and_then now name ≡ option_and_then was name
 image_through None now was same = refl
 image_through (Some n) now was same = same n refl
-
-same_image : (old new : Disks) (drive : ℕ) → SameDisks old new → image_of new drive ≡ image_of old drive
-same_image old new drive same =
-    ap (option_and_then new.image) (same.names drive) ∙ image_through (old.name_of drive) new.image old.image (λ n is. same.images n)
 
 pub told_image_same : (old new : Option Disks) (drive : ℕ) → Told SameDisks old new → told_image new drive ≡ told_image old drive
 unfolding told_image

@@ -1,4 +1,4 @@
-ghost use Rattle.std.specs.Prelude.{◌≡◌, ◌≤◌, ◌<◌, ℕ, IfOk, IfSome, not, vec_len, length, position, count_by};
+ghost use Rattle.std.specs.Prelude.{◌≡◌, ◌≤◌, ◌<◌, IfOk, IfSome, not, vec_len, length, position, count_by};
 ghost use Rattle.mpm_blocks.specs.Geometries.{last_block};
 ghost use Rattle.mpm_blocks.specs.Maps.{used_to, new_map, is_used, least_of, free_count, claimed, freed};
 

@@ -1,4 +1,4 @@
-ghost use Rattle.std.specs.Prelude.{◌≡◌, ◌<◌, ◌≤◌, ℕ, slice_index};
+ghost use Rattle.std.specs.Prelude.{◌≡◌, ◌<◌, slice_index};
 ghost use Rattle.mpm_blocks.specs.Geometries.{geometry_of, parameters_of, parameter_bytes, image_sectors, logical_sectors, skew, place_of};
 
 use crate::parameters::Geometry;

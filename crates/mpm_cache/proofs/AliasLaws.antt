@@ -1,6 +1,7 @@
 -- A drive has no alias in the cache, and keeps having none.
 use Rattle.std.proofs.Common.{◌≡◌, ◌≢◌, ◌⊎◌, ℕ, Bool, true, false, List, [], Option, Some, None, IfSome, IsSome, refl, sym, subst, ◌∙◌, inl, inr}
 use Rattle.std.proofs.lemmas.Bool.{false≢true}
+use Rattle.std.proofs.lemmas.Option.{same_Some}
 use Rattle.mpm_port.specs.Disks.{Disks, SameDisks, Writes, Told}
 use Rattle.mpm_cache.specs.declared.cache.Place.{Place}
 use Rattle.mpm_cache.specs.Cached.{is_at, cached_at, SameCached, Keeps, Forgets}
@@ -40,10 +41,7 @@ own_image (Some told) drive = λ ne. absurd (ne refl)
 pub own_images_named : (told : Disks) (drive other : ℕ) (name name_too : List ℕ) → told.name_of drive ≡ Some name → told.name_of other ≡ Some name_too → name ≢ name_too
     → HaveOwnImages (Some told) drive other
 unfolding HaveOwnImages
-own_images_named told drive other name name_too h k apart = λ ne same. apart (some_same name name_too (sym h ∙ same ∙ k))
-  where
-    some_same : (a b : List ℕ) → Some a ≡ Some b → a ≡ b
-    some_same a b h = cc
+own_images_named told drive other name name_too h k apart = λ ne same. apart (same_Some name name_too (sym h ∙ same ∙ k))
 
 -- of no drive but one a sector is cached now of which none was
 abbrev AddsAtMost : ℕ → List (Place × List ℕ) → List (Place × List ℕ) → Type 0

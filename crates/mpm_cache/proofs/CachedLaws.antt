@@ -1,10 +1,10 @@
 -- What the changes of a list of cached sectors are to look-ups.
-use Rattle.std.proofs.Common.{◌≡◌, ◌⊎◌, ℕ, zero, suc, ◌-◌, ◌==◌, ◌&&◌, Bool, true, false, cond, List, [], ◌∷◌, take, Option, Some, None, IfSome, IfNone, IsSome, is_some, if◌then◌else◌, Result, Ok, Err, OnOk, OnErr, IsOk, refl, sym, ap, subst, ◌∙◌, inl, inr}
+use Rattle.std.proofs.Common.{◌≡◌, ◌⊎◌, ℕ, zero, suc, ◌-◌, ◌==◌, Bool, true, false, cond, List, [], ◌∷◌, take, Option, Some, None, IfSome, IfNone, IsSome, is_some, if◌then◌else◌, Result, Ok, Err, OnOk, OnErr, IsOk, refl, sym, ap, subst, ◌∙◌, inl, inr}
 use Rattle.std.specs.Cmp.{IsEquivalence}
 use Rattle.std.specs.List.{IsDistinct}
 use Rattle.std.specs.Map.{keys_of, lookup, lookup_entry, remove_entry}
 use Rattle.std.specs.Option.{option_map_or}
-use Rattle.std.proofs.lemmas.Bool.{false≢true, eqb-true, eq-eqb, false_from_ne_true}
+use Rattle.std.proofs.lemmas.Bool.{false≢true, eqb-true, eq-eqb, false_from_ne_true, and_parts, and_from}
 use Rattle.std.proofs.lemmas.Map.{lookup-remove_entry}
 use Rattle.lru.specs.LruCache.{LruCache, lru_cache, promoted, put_entries}
 use Rattle.lru.proofs.CallerLemmas.{Contains-lookup_entry}
@@ -18,19 +18,11 @@ abbrev pub at : ℕ → ℕ → Place
 at drive sector = record { drive = drive; sector = sector }
 
 -- two numbers each are the same
-both_true : (a b : Bool) → (a && b) ≡ true → (a ≡ true) × (b ≡ true)
-both_true true b h = (refl, h)
-both_true false b h = absurd (false≢true h)
-
-two_true : (a b : Bool) → a ≡ true → b ≡ true → (a && b) ≡ true
-two_true true b h k = k
-two_true false b h k = absurd (false≢true h)
-
 pub known_same : (d s o p : ℕ) → is_at d s (at o p) ≡ true → (d ≡ o) × (s ≡ p)
-known_same d s o p h = let two = both_true (d == o) (s == p) h in (eqb-true d o two.0, eqb-true s p two.1)
+known_same d s o p h = let two = and_parts (d == o) (s == p) h in (eqb-true d o two.0, eqb-true s p two.1)
 
 pub same_known : (d s o p : ℕ) → d ≡ o → s ≡ p → is_at d s (at o p) ≡ true
-same_known d s o p h k = two_true (d == o) (s == p) (eq-eqb d o h) (eq-eqb s p k)
+same_known d s o p h k = and_from (d == o) (s == p) (eq-eqb d o h) (eq-eqb s p k)
 
 alike : (a b : Bool) → (a ≡ true → b ≡ true) → (b ≡ true → a ≡ true) → a ≡ b
 alike true true f g = refl

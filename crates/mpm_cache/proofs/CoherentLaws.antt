@@ -3,6 +3,7 @@ use Rattle.std.proofs.Common.{◌≡◌, ◌≢◌, ◌⊎◌, ℕ, ◌+◌, ◌
 use Rattle.std.specs.Prelude.{option_and_then}
 use Rattle.std.proofs.lemmas.Bool.{cases_eq, false≢true}
 use Rattle.mpm_port.specs.Disks.{Disks, IsInside, image_of, sector_of, with_sector, SameDisks, Writes, Told}
+use Rattle.mpm_port.proofs.Images.{same_image}
 use Rattle.mpm_cache.specs.declared.cache.Place.{Place}
 use Rattle.mpm_cache.specs.Cached.{is_at, cached_at, SameCached, Keeps, Forgets}
 use Rattle.mpm_cache.specs.Coherent.{AreOf, IsCoherent, HaveOwnImages, HasNoAlias}
@@ -17,14 +18,6 @@ was : (cached : List (Place × List ℕ)) (told : Disks) (drive sector : ℕ) (k
 was cached told drive sector kept are h = found_so (cached_at cached drive sector) (Has told drive sector) kept (are drive sector) h
 
 -- ---- where no image has changed
-
-same_image : (old now : Disks) (drive : ℕ) → SameDisks old now → image_of now drive ≡ image_of old drive
-same_image old now drive same =
-    ap (λ (o : Option (List ℕ)). option_and_then now.image o) (same.names drive) ∙ by_name (old.name_of drive)
-  where
-    by_name : (o : Option (List ℕ)) → option_and_then now.image o ≡ option_and_then old.image o
-    by_name None = refl
-    by_name (Some name) = same.images name
 
 has_same : (old now : Disks) (drive sector : ℕ) (kept : List ℕ) → SameDisks old now → Has old drive sector kept → Has now drive sector kept
 has_same old now drive sector kept same has = subst (λ (o : Option (List ℕ)). IfSome o (λ image. sector_of image sector ≡ kept)) (sym (same_image old now drive same)) has
@@ -161,10 +154,6 @@ pub coherent_none : (disks : Option Disks) → IsCoherent [] disks
 unfolding IsCoherent cached_at
 coherent_none None = tt
 coherent_none (Some told) = λ d s. tt
-
-pub same_told : (disks : Option Disks) → Told SameDisks disks disks
-same_told None = refl
-same_told (Some told) = record { images = λ name. refl; names = λ drive. refl }
 
 pub coherent_read : (cached new : List (Place × List ℕ)) (disks now : Option Disks) (drive sector : ℕ) (bytes : List ℕ) → Keeps drive sector bytes cached new → Told SameDisks disks now
     → IfSome disks (λ told. IfSome (image_of told drive) (λ image. bytes ≡ sector_of image sector)) → IsCoherent cached disks → IsCoherent new now

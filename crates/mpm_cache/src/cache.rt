@@ -1,4 +1,4 @@
-ghost use Rattle.std.specs.Prelude.{◌≡◌, ◌⊎◌, ℕ, ◌+◌, ◌≤◌, [], length, Option, IfOk, IfSome, IfNone, IsSome, IsOk, OnOk, OnErr, is_some, if◌then◌else◌};
+ghost use Rattle.std.specs.Prelude.{◌≡◌, ◌≢◌, ◌⊎◌, ℕ, true, ◌+◌, ◌≤◌, [], length, Option, IfOk, IfSome, IfNone, IsSome, IsOk, OnOk, OnErr, is_some, if◌then◌else◌};
 ghost use Rattle.mpm_port.specs.Causes.{HasCause};
 ghost use Rattle.mpm_port.specs.Disks.{IsInside, SameDisks, Writes, Told, image_of, sector_of, Disks};
 
@@ -129,6 +129,7 @@ impl Cache {
         ensures cause { HasCause (D.faults drives.old) (D.faults drives.new) result }
         ensures names { D.failed_names drives.new ≡ D.failed_names drives.old }
         ensures drives { (other : ℕ) → D.attached drives.new other ≡ D.attached drives.old other }
+        ensures unsynced { (other : ℕ) → D.unsynced drives.new other ≡ D.unsynced drives.old other }
         ensures disks { Told SameDisks (D.disks drives.old) (D.disks drives.new) }
     {
         if let Some(bytes) = self.find(drive, sector) {
@@ -160,6 +161,7 @@ impl Cache {
         ensures cause { HasCause (D.faults drives.old) (D.faults drives.new) result }
         ensures names { D.failed_names drives.new ≡ D.failed_names drives.old }
         ensures drives { (other : ℕ) → D.attached drives.new other ≡ D.attached drives.old other }
+        ensures unsynced { (other : ℕ) → D.unsynced drives.new other ≡ D.unsynced drives.old other }
         ensures disks { Told SameDisks (D.disks drives.old) (D.disks drives.new) }
     {
         steps.tick();
@@ -204,6 +206,8 @@ impl Cache {
         ensures cause { HasCause (D.faults drives.old) (D.faults drives.new) result }
         ensures names { D.failed_names drives.new ≡ D.failed_names drives.old }
         ensures drives { (other : ℕ) → D.attached drives.new other ≡ D.attached drives.old other }
+        ensures unsynced { D.unsynced drives.new drive ≡ true }
+        ensures beside { (other : ℕ) → other ≢ drive → D.unsynced drives.new other ≡ D.unsynced drives.old other }
     {
         steps.tick();
         match drives.write(drive, sector, bytes) {

@@ -1,12 +1,13 @@
 -- How long what an interpreter fills in is: the base page has 256 bytes, as the tail of a command has 127 at most.
-use Rattle.std.proofs.Common.{◌≡◌, ◌∙◌, ℕ, zero, suc, ◌+◌, ◌-◌, ◌≤◌, ◌==◌, ◌||◌, not, List, [], ◌∷◌, ◌++◌, length, take, drop, min, Option, Some, None, refl, sym, ap, arith, length-append, length-drop, length-take}
+use Rattle.std.proofs.Common.{◌≡◌, ◌∙◌, ℕ, zero, suc, ◌+◌, ◌-◌, ◌≤◌, ◌==◌, ◌||◌, not, List, [], ◌∷◌, ◌++◌, length, take, drop, Option, Some, None, refl, sym, ap, arith, length-append, length-drop, length-take}
 use Rattle.std.specs.List.{prefix_len}
-use Rattle.std.proofs.lemmas.List.{length-map, length-replicate}
+use Rattle.std.proofs.lemmas.List.{length-map}
 use Rattle.std.proofs.lemmas.List.FromFn.{length-map-range_with_len}
 use Rattle.std.specs.Char.{to_ascii_uppercase}
 use Rattle.mpm_base.specs.Lists.{zeros}
 use Rattle.mpm_base.proofs.Choices.{either}
 use Rattle.mpm_base.proofs.Widths.{length_in_width}
+use Rattle.mpm_base.proofs.Lists.{length_zeros}
 use Rattle.mpm_names.specs.Spellings.{Spelling, spelling, is_form, star_of, kept_at, filled, meaning, parsed}
 use Rattle.mpm_names.specs.declared.file_name.Parsed.{Parsed}
 use Rattle.mpm_command.specs.Texts.{first_word, second_word}
@@ -15,10 +16,6 @@ use Rattle.mpm_command.specs.declared.command.Command.{Command}
 use Rattle.mpm_command.specs.BasePages.{gate_jumps, block_named, block_or_none, block_of, upper_tail, tail_bytes, base_page}
 use Rattle.mpm_command.proofs.Naming.{is_no_name}
 use Rattle.mpm_cli.specs.Interpreters.{message_in}
-
-zeros_size : (n : ℕ) → length (zeros n) ≡ n
-unfolding zeros
-zeros_size n = length-replicate n 0
 
 -- a file control block as it stands in a base page has sixteen bytes
 
@@ -42,7 +39,7 @@ tail_size : (tail : List ℕ) → length tail ≤ 127 → length (tail_bytes tai
 tail_size tail few =
     let rest = drop (length tail) (zeros 127) in
     let upper : length (upper_tail tail) ≡ length (tail ++ rest) = length-map (tail ++ rest) to_ascii_uppercase in
-    omega (arith, few, upper, length-append tail rest, length-drop (length tail) (zeros 127), zeros_size 127)
+    omega (arith, few, upper, length-append tail rest, length-drop (length tail) (zeros 127), length_zeros 127)
 
 pub base_page_size : (page : ℕ) (tail : List ℕ) → length tail ≤ 127 → length (base_page page tail) ≡ 256
 unfolding base_page
@@ -57,8 +54,8 @@ base_page_size page tail few =
       length-append one (two ++ last),
       length-append two last,
       length-append (zeros 4) (tail_bytes tail),
-      zeros_size 84,
-      zeros_size 4,
+      length_zeros 84,
+      length_zeros 4,
       block_size (first_word tail),
       block_size (second_word tail),
       tail_size tail few,

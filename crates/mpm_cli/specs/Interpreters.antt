@@ -1,7 +1,7 @@
 -- The command line interpreter: what it does in each row of its table, and where it goes by the answer. (MP/M II User's
 -- Guide, "Command Line Interpreter"; System Guide, "Page Relocatable Programs"; Programmer's Guide, "Function 150: Send CLI
 -- Command", and those of the functions that it calls.)
-use Rattle.std.specs.Prelude.{ℕ, ◌+◌, ◌-◌, ◌*◌, ◌%◌, ◌<◌, ◌≤◌, ◌≡◌, ◌==◌, ◌&&◌, Bool, true, false, nat_lt, nat_le, if◌then◌else◌, List, [], ◌∷◌, ◌++◌, length, take, drop, codes, slice_index, slice_index_or, slice_set, bit_or, Option, Some, None}
+use Rattle.std.specs.Prelude.{ℕ, ◌+◌, ◌-◌, ◌*◌, ◌%◌, ◌<◌, ◌≤◌, ◌≡◌, ◌==◌, ◌&&◌, Bool, true, false, nat_lt, nat_le, if◌then◌else◌, List, [], ◌∷◌, ◌++◌, length, take, codes, slice_index, slice_index_or, slice_set, bit_or, Option, Some, None}
 use Rattle.z80_regs.specs.Words.{low, high, word_of}
 use Rattle.mpm_base.specs.Lists.{zeros, in_width}
 use Rattle.mpm_base.specs.Calls.{Taken, Answer}

@@ -10,6 +10,3 @@ mod table;
 
 pub use act::Act;
 pub use cli::Cli;
-
-#[cfg(test)]
-mod tests;

@@ -1,4 +1,4 @@
-ghost use Rattle.std.specs.Prelude.{◌≡◌, ◌≤◌, ◌<◌, ◌-◌, ℕ, Some, None, IfOk, OnOk, OnErr, length, drop};
+ghost use Rattle.std.specs.Prelude.{◌≡◌, ◌≤◌, ◌<◌, ◌-◌, Some, None, IfOk, OnOk, OnErr, length, drop};
 ghost use Rattle.mpm_command.specs.Commands.{text_of as text_in, command_in, console_in, tail_in, command_named, program_drive, IsCommand};
 
 use crate::text::{Run, front, rest};

@@ -1,4 +1,4 @@
-ghost use Rattle.std.specs.Prelude.{◌≡◌, ◌≤◌, length, drop};
+ghost use Rattle.std.specs.Prelude.{◌≡◌, ◌≤◌, length};
 ghost use Rattle.std.specs.List.{prefix_len};
 ghost use Rattle.mpm_command.specs.Texts.{is_of, run_of, behind_run as behind_run_of, first_word as first_word_of, second_word as second_word_of, behind_first as behind_first_of};
 

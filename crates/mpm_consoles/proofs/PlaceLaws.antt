@@ -6,7 +6,7 @@ use Rattle.std.proofs.lemmas.Bool.{false≢true, ne_eqb, eqb-true, and_right}
 use Rattle.std.proofs.lemmas.List.Sums.{sum_by-set}
 use Rattle.mpm_base.proofs.CountLaws.{one_if, one_if_false, count_cons}
 use Rattle.mpm_ready.specs.Order.{Member}
-use Rattle.mpm_ready.specs.Tables.{list_of, removed}
+use Rattle.mpm_ready.specs.Tables.{list_of, removed, dequeued}
 use Rattle.mpm_ready.proofs.TableLaws.{list_of_inserted, list_of_inserted_other, list_of_removed, list_of_removed_other}
 use Rattle.mpm_base.proofs.Choices.{either}
 use Rattle.mpm_consoles.specs.Console.{Console, new_console, is_owner, without_wait_of}
@@ -41,11 +41,6 @@ unfolding listed waits
 waits_listed_other t p priority unit r sound has small nowhere apart =
     ap (λ (o : Option ℕ). option_map_or (λ _. 1) o 0)
     (list_of_inserted_other t.waiters (place_of unit) (record { slot = p; priority = priority }) r sound.table (let low = place_below t unit sound has in omega arith) small nowhere (ne_eqb p r (λ same. apart (sym same))))
-
--- the waiters without the one whose wait is over, if any
-abbrev pub dequeued : Option ℕ → List (List Member) → List (List Member)
-dequeued None waiters = waiters
-dequeued (Some p) waiters = removed waiters p
 
 pub waits_dequeued : (o : Option ℕ) (t new : Consoles) (p : ℕ) → new.waiters ≡ dequeued o t.waiters → o ≡ Some p → waits new p ≡ 0
 waits_dequeued None t new p is gone = absurd (cc)

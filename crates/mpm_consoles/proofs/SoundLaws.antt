@@ -1,11 +1,12 @@
 -- What is so of the consoles and printers stays so after each call.
-use Rattle.std.proofs.Common.{◌≡◌, ◌≢◌, ◌∙◌, inl, inr, ℕ, ◌+◌, ◌<◌, ◌≤◌, Bool, true, false, List, [], ◌∷◌, Option, Some, None, ◌||◌, eqb, map, length, get_or, set, replicate, refl, sym, ap, subst, arith}
-use Rattle.std.proofs.lemmas.Bool.{false≢true, cases_eq, cases_lt, eq-eqb, ne_eqb, and_right}
-use Rattle.std.proofs.lemmas.List.{get_or-set_same, get_or-set_other, get_or_past, get_or_default, get_or-replicate, length-replicate, length-set, length-map}
+use Rattle.mpm_base.proofs.Lists.{all_at}
+use Rattle.std.proofs.Common.{◌≡◌, ◌≢◌, ◌∙◌, inl, inr, ℕ, ◌+◌, ◌<◌, ◌≤◌, Bool, true, false, List, [], Option, Some, None, eqb, map, length, get_or, set, replicate, refl, sym, ap, subst, arith}
+use Rattle.std.proofs.lemmas.Bool.{false≢true, cases_eq, eq-eqb, ne_eqb, and_right, or_from}
+use Rattle.std.proofs.lemmas.List.{get_or-set_same, get_or-set_other, get_or_default, length-replicate, length-set, length-map}
 use Rattle.std.proofs.Math.ListN.{get_or-map}
-use Rattle.mpm_ready.specs.Order.{Member, first_of, in_list, without_slot, put_in}
+use Rattle.mpm_ready.specs.Order.{Member, in_list, without_slot, put_in}
 use Rattle.mpm_ready.specs.Tables.{list_at, no_lists, inserted, removed}
-use Rattle.mpm_ready.proofs.OrderLaws.{in_list_put_in, in_list_without_slot, without_slot_absent}
+use Rattle.mpm_ready.proofs.OrderLaws.{in_list_put_in, in_list_without_slot, without_slot_absent, first_none}
 use Rattle.mpm_ready.proofs.TableLaws.{list_at_inserted, list_at_inserted_other, list_at_removed, table_removed, table_inserted, table_none, list_at_none, none_in_none, not_itself}
 use Rattle.mpm_consoles.specs.Console.{Console, new_console, is_owner, passed_to, with_raw, with_output_stopped, awaited_for, awaiting, without_wait_of, resumed, typed, without_first, spoken, written, IsProper}
 use Rattle.mpm_consoles.specs.Consoles.{Consoles, no_owners, console_at, HasConsole, HasUnit, owner_of, owns, place_of, waiters_of, first_waiter, waits_for, WaitsNowhere, with_console, MayWait, IsSound}
@@ -143,14 +144,10 @@ not_owner (Some x) p r apart is = let same : x ≡ r = cc in subst (λ y. eqb p 
     swapped : (a b : ℕ) → eqb a b ≡ false → eqb b a ≡ false
     swapped a b apart = ne_eqb b a (λ same. false≢true (sym apart ∙ eq-eqb a b (sym same)))
 
-neither : (a b : Bool) → a ≡ false → b ≡ false → (a || b) ≡ false
-neither true b x y = absurd (false≢true (sym x))
-neither false b x y = y
-
 for_more : (owner : Option ℕ) (ms : List Member) (member : Member) → MayWait owner ms → owner ≢ None → is_owner owner member.slot ≡ false → MayWait owner (put_in ms member)
 for_more owner ms member is some other = record {
   free = λ none. absurd (some none);
-  others = λ r owned. in_list_put_in r ms member ∙ neither _ _ (not_owner owner member.slot r other owned) (is.others r owned);
+  others = λ r owned. in_list_put_in r ms member ∙ or_from _ _ (not_owner owner member.slot r other owned) (is.others r owned);
 }
 
 pub sound_listed : (t : Consoles) (p priority : ℕ) (unit : Unit) → IsSound t → HasUnit t unit → p < 32 → WaitsNowhere t p → owner_of t unit ≢ None → owns t p unit ≡ false → IsSound (listed t p priority unit)
@@ -171,14 +168,9 @@ sound_listed t p priority unit sound has small nowhere some other = record {
     member : Member
     member = record { slot = p; priority = priority }
 
--- nobody waits, or the first waits no more
-nobody : (ms : List Member) → first_of ms ≡ None → ms ≡ []
-unfolding first_of
-nobody [] none = refl
-nobody (m ∷ ms) none = absurd (cc)
-
+-- first_none waits, or the first waits no more
 pub nobody_first : (t : Consoles) (unit : Unit) → first_waiter t unit ≡ None → MayWait None (waiters_of t unit)
-nobody_first t unit none = record { free = λ _. nobody (waiters_of t unit) none; others = λ p is. absurd (cc) }
+nobody_first t unit none = record { free = λ _. first_none (waiters_of t unit) none; others = λ p is. absurd (cc) }
 
 out : (ms : List Member) (p : ℕ) → in_list p (without_slot p ms) ≡ false
 out ms p = in_list_without_slot ms p p ∙ not_itself _ _ (eq-eqb p p refl)
@@ -238,12 +230,6 @@ sound_leaving t p consoles waiters sound each fewer =
     (subst (λ (ws : List (List Member)). IsSound (record { consoles = map (without_wait_of p) t.consoles; printers = t.printers; waiters = ws })) (sym fewer) (sound_units_without t p sound))
 
 -- as it is at first
-all_at : {X : Type 0} (n k : ℕ) (x : X) → get_or (replicate n x) k x ≡ x
-all_at n k x = elim (cases_lt k n) [
-  | inl h ↦ get_or-replicate n k x x h
-  | inr h ↦ get_or_past (replicate n x) k x (subst (λ (j : ℕ). j ≤ k) (sym (length-replicate n x)) h)
-]
-
 nobody_for : (owner : Option ℕ) → MayWait owner []
 nobody_for owner = record { free = λ none. refl; others = λ p is. none_in_none p }
 

@@ -1,7 +1,7 @@
 ghost use Rattle.std.specs.Prelude.{◌≡◌, length, nat_lt, is_some, IfOk};
 ghost use Rattle.mpm_consoles.specs.Console.{new_console, is_owner, passed_to, with_raw, with_output_stopped, awaited_for, awaiting, is_for as is_one_for, woken, awakened, without_wait_of, resumed, has_room, with_key, typed, first_key, without_first, written};
 ghost use Rattle.mpm_consoles.specs.declared.console.Awaited.TheVariants.{Output};
-ghost use Rattle.mpm_consoles.specs.Handling.{typed_answer, wake_answer};
+ghost use Rattle.mpm_consoles.specs.Handling.{typed_answer};
 ghost use Rattle.mpm_consoles.specs.Columns.{spaces_for};
 
 use crate::OutOfMemory;

@@ -1,6 +1,5 @@
 ghost use Rattle.std.specs.Prelude.{◌≡◌, ◌≤◌, None, map, replicate, IfOk};
 ghost use Rattle.mpm_consoles.specs.Console.{new_console, without_wait_of};
-ghost use Rattle.mpm_consoles.specs.Handling.{attaches as may_be_attached};
 
 use crate::OutOfMemory;
 use crate::console::Console;

@@ -3,3 +3,4 @@ pub mod Sorts
 pub mod Back
 pub mod Examples
 pub mod Lengths
+pub mod PlainNames

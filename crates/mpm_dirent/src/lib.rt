@@ -4,9 +4,11 @@
 
 mod kinds;
 mod maps;
+mod names;
 mod read;
 mod write;
 
 pub use kinds::{Entry, FileEntry, LabelEntry, XfcbEntry};
+pub use names::plain_name;
 pub use read::read_entry;
 pub use write::write_entry;

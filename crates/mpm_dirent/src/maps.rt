@@ -1,4 +1,4 @@
-ghost use Rattle.std.specs.Prelude.{◌≡◌, ℕ, length, true, false};
+ghost use Rattle.std.specs.Prelude.{◌≡◌, length, true, false};
 ghost use Rattle.mpm_dirent.specs.Entries.{blocks_of, map_of};
 ghost use Rattle.mpm_dirent.specs.Proper.{MapFits};
 

@@ -1,4 +1,4 @@
-ghost use Rattle.std.specs.Prelude.{◌≡◌, ◌+◌, ◌≤◌, ℕ, slice_index};
+ghost use Rattle.std.specs.Prelude.{◌≡◌, ◌+◌, ◌≤◌, slice_index};
 ghost use Rattle.mpm_dirent.specs.Entries.{part, file_of, xfcb_of, label_of, entry_of};
 ghost use Rattle.mpm_dirent.specs.Proper.{IsProper, MapFits, HasSizes};
 

@@ -1,4 +1,4 @@
-ghost use Rattle.std.specs.Prelude.{◌≡◌, ◌∷◌, ◌++◌, ℕ, length};
+ghost use Rattle.std.specs.Prelude.{◌≡◌, ◌∷◌, ◌++◌, length};
 ghost use Rattle.mpm_dirent.specs.Entries.{bytes_of, entry_of};
 ghost use Rattle.mpm_dirent.specs.Proper.{IsProper};
 

@@ -1,7 +1,7 @@
 //! Scenes of the cache before drives in memory, whose calls are counted by those that are to fail.
-ghost use Rattle.std.specs.Prelude.{◌≡◌, ℕ, ◌<◌, Some, IfOk};
+ghost use Rattle.std.specs.Prelude.{◌≡◌, ℕ, ◌<◌, List, Some, IfOk, OnOk, length};
 ghost use Rattle.mpm_port.specs.Disks.{IsInside};
-ghost use Rattle.mpm_port.specs.MemoryDisks.{size_of, disks_of};
+ghost use Rattle.mpm_port.specs.MemoryDisks.{size_of, disks_of, IsFree};
 ghost use Rattle.mpm_cache.specs.Coherent.{IsCoherent, HasNoAlias};
 
 use mpm_base::Steps;
@@ -35,23 +35,31 @@ fn first_byte(sector: u32) -> u8 {
     (sector % 251) as u8
 }
 
-/// Drives 0 and 1 in memory, which have one image. Their attaching was calls 1 and 2.
-fn two_drives(alloc: Global) -> Result<MemoryDrives, Fail>
-    ensures inside { IfOk result (λ drives. (sector : ℕ) → sector < 257 → IsInside (size_of drives 0) sector) }
-    ensures alias { IfOk result (λ drives. (sector : ℕ) → sector < 257 → IsInside (size_of drives 1) sector) }
+/// The image: each sector has its first byte throughout.
+fn sectors(alloc: Global) -> Result<Vec<u8>, Fail>
+    ensures { IfOk result (λ image. length image.items ≡ 32896) }
 {
     let mut image = Vec::with_capacity(alloc, 32896)?;
     for sector in 0..SECTORS {
         image.extend_from_slice(&[first_byte(sector); 128])?;
     }
-    let mut drives = MemoryDrives::new(alloc);
+    Ok(image)
+}
+
+/// Attaches drives 0 and 1 to one image, which is calls 1 and 2.
+fn attach_both(alloc: Global, drives: &mut MemoryDrives) -> Result<(), Fail>
+    requires { (name : List ℕ) → IsFree drives.old name }
+    ensures inside { OnOk result ((sector : ℕ) → sector < 257 → IsInside (size_of drives.new 0) sector) }
+    ensures alias { OnOk result ((sector : ℕ) → sector < 257 → IsInside (size_of drives.new 1) sector) }
+{
+    let image = sectors(alloc)?;
     drives.add("A", image.as_slice())?;
     match drives.attach(0, "A") {
         Ok(()) => {}
         Err(_) => return Err(Fail::from("the drive is not attached")),
     }
     match drives.attach(1, "A") {
-        Ok(()) => Ok(drives),
+        Ok(()) => Ok(()),
         Err(_) => Err(Fail::from("the other drive is not attached")),
     }
 }
@@ -143,33 +151,85 @@ fn passes<L: Ledger>(
     }
 }
 
-/// Plays a scene on a drive of which these two calls fail.
-fn play_counted<L: Ledger>(
-    alloc: Global,
-    blank: Blank,
-    failing: [u64; 2],
+/// Plays lines one after the other.
+fn pass_all<L: Ledger>(
+    cache: &mut Cache,
+    drives: &mut MemoryDrives,
+    steps: &mut Steps<L>,
     lines: &[Line],
 ) -> Result<(), Fail>
-    requires name { blank.name ≡ L.name }
-    requires parts { blank.parts ≡ L.parts }
-    requires some { 0 < L.parts }
+    requires coherent { IsCoherent cache.old (Some (disks_of drives.old)) }
+    requires apart { HasNoAlias cache.old (Some (disks_of drives.old)) 0 }
+    requires inside { (sector : ℕ) → sector < 257 → IsInside (size_of drives.old 0) sector }
 {
-    let mut steps = Steps::<L>::new(blank);
-    let mut drives = two_drives(alloc)?;
-    drives.fail_at(failing[0])?;
-    drives.fail_at(failing[1])?;
-    let mut cache = Cache::new(alloc)?;
     for (number, line) in lines.iter().enumerate() {
-        if !passes(&mut cache, &mut drives, &mut steps, *line) {
+        if !passes(cache, drives, steps, *line) {
             return Err(Fail::new(format_args!("line {number} of the scene, from 0")));
         }
     }
     Ok(())
 }
 
+/// Writes a sector of drive 0, and says whether drive 1 has it, whose image is the same.
+fn is_read_by_the_other<L: Ledger>(
+    cache: &mut Cache,
+    drives: &mut MemoryDrives,
+    steps: &mut Steps<L>,
+) -> bool
+    requires coherent { IsCoherent cache.old (Some (disks_of drives.old)) }
+    requires apart { HasNoAlias cache.old (Some (disks_of drives.old)) 0 }
+    requires inside { (sector : ℕ) → sector < 257 → IsInside (size_of drives.old 0) sector }
+    requires alias { (sector : ℕ) → sector < 257 → IsInside (size_of drives.old 1) sector }
+{
+    let mut out = [0; 128];
+    cache.write(drives, 0, 7, &[90; 128], steps) == Ok(())
+        && cache.read(drives, 1, 7, &mut out, steps) == Ok(())
+        && out[0] == 90
+}
+
+/// A scene: lines that are played, or none, where drive 1 is to read what is written to drive 0.
+type Scene<'a> = Option<&'a [Line]>;
+
+/// Plays a scene with an empty cache, on drives of which these two calls fail. The drives are lent, so that little is held where
+/// something isn't as it should be.
+fn play_on<L: Ledger>(
+    alloc: Global,
+    blank: Blank,
+    drives: &mut MemoryDrives,
+    failing: [u64; 2],
+    scene: Scene,
+) -> Result<(), Fail>
+    requires name { blank.name ≡ L.name }
+    requires parts { blank.parts ≡ L.parts }
+    requires some { 0 < L.parts }
+    requires free { (name : List ℕ) → IsFree drives.old name }
+{
+    let mut steps = Steps::<L>::new(blank);
+    attach_both(alloc, drives)?;
+    drives.fail_at(failing[0])?;
+    drives.fail_at(failing[1])?;
+    let mut cache = Cache::new(alloc)?;
+    match scene {
+        Some(lines) => pass_all(&mut cache, drives, &mut steps, lines),
+        None => {
+            if is_read_by_the_other(&mut cache, drives, &mut steps) {
+                Ok(())
+            } else {
+                Err(Fail::from("drive 1 has other bytes"))
+            }
+        }
+    }
+}
+
 /// The same, with a count of the calls.
+fn play_scene(alloc: Global, failing: [u64; 2], scene: Scene) -> Result<(), Fail> {
+    let mut drives = MemoryDrives::new(alloc);
+    play_on::<Brand>(alloc, Blank::new(1), &mut drives, failing, scene)
+}
+
+/// Plays lines on drives of which these two calls fail.
 fn play(alloc: Global, failing: [u64; 2], lines: &[Line]) -> Result<(), Fail> {
-    play_counted::<Brand>(alloc, Blank::new(1), failing, lines)
+    play_scene(alloc, failing, Some(lines))
 }
 
 /// The second read of a sector makes no call of the drive, so that call 4 is that of another sector.
@@ -245,29 +305,8 @@ fn other_sectors_stay_cached(rt: HostRuntime) -> Result<(), Fail> {
     )
 }
 
-/// Writes a sector of drive 0, and says whether drive 1 has it, whose image is the same.
-fn is_read_by_the_other<L: Ledger>(alloc: Global, blank: Blank) -> Result<bool, Fail>
-    requires name { blank.name ≡ L.name }
-    requires parts { blank.parts ≡ L.parts }
-    requires some { 0 < L.parts }
-{
-    let mut steps = Steps::<L>::new(blank);
-    let mut drives = two_drives(alloc)?;
-    let mut cache = Cache::new(alloc)?;
-    let mut out = [0; 128];
-    Ok(
-        cache.write(&mut drives, 0, 7, &[90; 128], &mut steps) == Ok(())
-            && cache.read(&mut drives, 1, 7, &mut out, &mut steps) == Ok(())
-            && out[0] == 90,
-    )
-}
-
 /// A drive may be written while another one that isn't cached has its image, and what was written is read by that one.
 #[test]
 fn a_drive_with_the_same_image_reads_what_was_written(rt: HostRuntime) -> Result<(), Fail> {
-    if is_read_by_the_other::<Brand>(rt.alloc(), Blank::new(1))? {
-        Ok(())
-    } else {
-        Err(Fail::from("drive 1 has other bytes"))
-    }
+    play_scene(rt.alloc(), [0, 0], None)
 }

@@ -1,7 +1,8 @@
 //! File control blocks: what their bytes mean, and what calls put into them.
 ghost use Rattle.std.specs.Prelude.{◌<◌};
 
-use mpm_fcb::{ControlBlock, are_beyond, is_ambiguous, item_numbered, plain_name, three_bytes};
+use mpm_dirent::plain_name;
+use mpm_fcb::{ControlBlock, are_beyond, is_ambiguous, item_numbered, three_bytes};
 use mpm_opens::Mode;
 use std::test::Fail;
 

@@ -1,4 +1,7 @@
 //! Which images are mounted, with what is free then, and what is told of the others.
+ghost use Rattle.std.specs.Prelude.{ℕ, List};
+ghost use Rattle.mpm_port.specs.MemoryDisks.{IsFree};
+
 use mpm_base::Kind;
 use mpm_dirent::Entry;
 use mpm_mount::{MountError, Mounted, mount};
@@ -36,9 +39,21 @@ fn mounts_image(
     image: &[u8],
 ) -> Result<Result<Mounted, MountError>, Fail> {
     let mut drives = MemoryDrives::new(alloc);
+    mounts_on(alloc, &mut drives, kind, image)
+}
+
+/// Attaches drive A to an image, and mounts it.
+fn mounts_on(
+    alloc: Global,
+    drives: &mut MemoryDrives,
+    kind: Kind,
+    image: &[u8],
+) -> Result<Result<Mounted, MountError>, Fail>
+    requires { (name : List ℕ) → IsFree drives.old name }
+{
     drives.add("disk", image)?;
     drives.attach(0, "disk")?;
-    Ok(mount(alloc, &mut drives, 0, kind))
+    Ok(mount(alloc, drives, 0, kind))
 }
 
 /// How many bytes the image of a kind has.

@@ -1,6 +1,6 @@
 //! What is written on disks in memory, where each call of the drives fails in turn.
-ghost use Rattle.std.specs.Prelude.{◌≡◌, ◌<◌, Some, IfOk};
-ghost use Rattle.mpm_port.specs.MemoryDisks.{size_of, disks_of};
+ghost use Rattle.std.specs.Prelude.{◌≡◌, ℕ, ◌<◌, List, Some, OnOk};
+ghost use Rattle.mpm_port.specs.MemoryDisks.{size_of, disks_of, IsFree};
 ghost use Rattle.mpm_blocks.specs.Geometries.{geometry_of};
 ghost use Rattle.mpm_cache.specs.Coherent.{IsCoherent, HasNoAlias};
 
@@ -27,24 +27,30 @@ struct Fresh {
 /// The first block that is written: it isn't the directory's on any disk.
 const FIRST: u16 = 10;
 
-/// Drive 0 in memory, of bytes E5h. Its attaching is call 1; of the calls of writers that make one more call each, from 1 on,
+/// Attaches drive 0 to an image of bytes E5h, which is call 1; of the calls of writers that make one more call each, from 1 on,
 /// the last one fails, up to a number of writers.
-fn one_drive(alloc: Global, kind: Kind, writers: u8) -> Result<MemoryDrives, Fail>
-    ensures size { IfOk result (λ drives. size_of drives 0 ≡ Some (geometry_of kind).bytes) }
+fn attach_one(alloc: Global, drives: &mut MemoryDrives, kind: Kind, writers: u8) -> Result<(), Fail>
+    requires { (name : List ℕ) → IsFree drives.old name }
+    ensures size { OnOk result (size_of drives.new 0 ≡ Some (geometry_of kind).bytes) }
 {
     let image = vec![in alloc; 0xE5; geometry(kind).bytes as usize]?;
-    let mut drives = MemoryDrives::new(alloc);
     drives.add("A", image.as_slice())?;
     match drives.attach(0, "A") {
-        Ok(()) => {}
-        Err(_) => return Err(Fail::from("the drive is not attached")),
+        Ok(()) => fail_last(drives, writers),
+        Err(_) => Err(Fail::from("the drive is not attached")),
     }
+}
+
+/// The last call of each writer is to fail, from the first writer on, behind call 1.
+fn fail_last(drives: &mut MemoryDrives, writers: u8) -> Result<(), Fail>
+    ensures { OnOk result (size_of drives.new 0 ≡ size_of drives.old 0) }
+{
     let mut call: u64 = 1;
     for number in 0..writers {
         call = call.saturating_add(u64::from(number) + 1);
         drives.fail_at(call)?;
     }
-    Ok(drives)
+    Ok(())
 }
 
 /// Writes the record into a block, and says whether that went well.
@@ -121,22 +127,23 @@ fn byte_after(fresh: Fresh, writes: u8, sector: u8) -> u8 {
 
 /// Writes the record into one block after the other, where one more write goes well each time, and all of them at last.
 fn put_blocks<L: Ledger>(
-    alloc: Global,
+    cache: &mut Cache,
     drives: &mut MemoryDrives,
     steps: &mut Steps<L>,
     fresh: Fresh,
-) -> Result<bool, Fail>
+) -> bool
     requires size { size_of drives.old 0 ≡ Some (geometry_of fresh.kind).bytes }
-    ensures size { size_of drives.new 0 ≡ Some (geometry_of fresh.kind).bytes }
+    requires coherent { IsCoherent cache.old (Some (disks_of drives.old)) }
+    requires apart { HasNoAlias cache.old (Some (disks_of drives.old)) 0 }
+    ensures { size_of drives.new 0 ≡ Some (geometry_of fresh.kind).bytes }
 {
-    let mut cache = Cache::new(alloc)?;
     for number in 0..u16::from(fresh.writes) + 1 {
-        let went_well = put_block(&mut cache, drives, steps, FIRST + number, fresh);
+        let went_well = put_block(cache, drives, steps, FIRST + number, fresh);
         if went_well != (number == u16::from(fresh.writes)) {
-            return Ok(false);
+            return false;
         }
     }
-    Ok(true)
+    true
 }
 
 /// Whether each sector of a block has what so many writes leave.
@@ -188,50 +195,114 @@ fn blocks_hold<L: Ledger>(
     Ok(true)
 }
 
-/// Writes a record into fresh blocks, and says whether each failure leaves the sectors before it written, and no other.
-fn is_contained<L: Ledger>(alloc: Global, blank: Blank, fresh: Fresh) -> Result<bool, Fail>
+/// What is tried on a disk.
+#[derive(Clone, Copy)]
+enum Trial {
+    /// A record is written into fresh blocks: each failure leaves the sectors before it written, and no other.
+    Blocks { clear: u8, index: u8, writes: u8 },
+    /// The first sector of a floppy's directory is acted on.
+    Entries,
+    /// A sector of a floppy is written.
+    Place,
+}
+
+/// Tries it with an empty cache, and says whether all is as it should be.
+fn passes<L: Ledger>(
+    alloc: Global,
+    cache: &mut Cache,
+    drives: &mut MemoryDrives,
+    steps: &mut Steps<L>,
+    kind: Kind,
+    trial: Trial,
+) -> Result<bool, Fail>
+    requires size { size_of drives.old 0 ≡ Some (geometry_of kind).bytes }
+    requires coherent { IsCoherent cache.old (Some (disks_of drives.old)) }
+    requires apart { HasNoAlias cache.old (Some (disks_of drives.old)) 0 }
+{
+    match trial {
+        Trial::Blocks {
+            clear,
+            index,
+            writes,
+        } => {
+            let fresh = Fresh {
+                kind,
+                clear,
+                index,
+                writes,
+            };
+            if !put_blocks(cache, drives, steps, fresh) {
+                return Ok(false);
+            }
+            blocks_hold(alloc, drives, steps, fresh)
+        }
+        Trial::Entries => match kind {
+            Kind::Ibm3740 => Ok(are_written(cache, drives, steps)),
+            _ => Ok(false),
+        },
+        Trial::Place => match kind {
+            Kind::Ibm3740 => Ok(is_placed(cache, drives, steps)),
+            _ => Ok(false),
+        },
+    }
+}
+
+/// Tries it on a drive in memory, so many writers on which fail in turn. The drives are lent, so that little is held where something
+/// isn't as it should be.
+fn is_so<L: Ledger>(
+    alloc: Global,
+    blank: Blank,
+    drives: &mut MemoryDrives,
+    kind: Kind,
+    writers: u8,
+    trial: Trial,
+) -> Result<bool, Fail>
     requires name { blank.name ≡ L.name }
     requires parts { blank.parts ≡ L.parts }
     requires some { 0 < L.parts }
+    requires free { (name : List ℕ) → IsFree drives.old name }
 {
     let mut steps = Steps::<L>::new(blank);
-    let mut drives = one_drive(alloc, fresh.kind, fresh.writes)?;
-    Ok(
-        put_blocks(alloc, &mut drives, &mut steps, fresh)?
-            && blocks_hold(alloc, &mut drives, &mut steps, fresh)?,
-    )
+    attach_one(alloc, drives, kind, writers)?;
+    let mut cache = Cache::new(alloc)?;
+    passes(alloc, &mut cache, drives, &mut steps, kind, trial)
 }
 
 /// The same, with a count of the calls.
-fn check(alloc: Global, kind: Kind, clear: u8, index: u8, writes: u8) -> Result<(), Fail> {
-    let fresh = Fresh {
-        kind,
+fn check(alloc: Global, kind: Kind, writers: u8, trial: Trial) -> Result<(), Fail> {
+    let mut drives = MemoryDrives::new(alloc);
+    match is_so::<Brand>(alloc, Blank::new(1), &mut drives, kind, writers, trial) {
+        Ok(true) => Ok(()),
+        Ok(false) => Err(Fail::from("the disk has other bytes")),
+        Err(fail) => Err(fail),
+    }
+}
+
+/// Writes a record into fresh blocks, where one more write goes well each time.
+fn check_blocks(alloc: Global, kind: Kind, clear: u8, index: u8, writes: u8) -> Result<(), Fail> {
+    let trial = Trial::Blocks {
         clear,
         index,
         writes,
     };
-    if is_contained::<Brand>(alloc, Blank::new(1), fresh)? {
-        Ok(())
-    } else {
-        Err(Fail::from("a block has other bytes"))
-    }
+    check(alloc, kind, writes, trial)
 }
 
 #[test]
 fn a_record_comes_behind_the_zeros_of_its_block(rt: HostRuntime) -> Result<(), Fail> {
-    check(rt.alloc(), Kind::Ibm3740, 0, 0, 8)?;
-    check(rt.alloc(), Kind::Ibm3740, 0, 5, 8)?;
-    check(rt.alloc(), Kind::Hd4, 0, 15, 16)
+    check_blocks(rt.alloc(), Kind::Ibm3740, 0, 0, 8)?;
+    check_blocks(rt.alloc(), Kind::Ibm3740, 0, 5, 8)?;
+    check_blocks(rt.alloc(), Kind::Hd4, 0, 15, 16)
 }
 
 #[test]
 fn a_block_that_was_cleared_in_part_gets_the_rest(rt: HostRuntime) -> Result<(), Fail> {
-    check(rt.alloc(), Kind::Hd8, 18, 5, 15)
+    check_blocks(rt.alloc(), Kind::Hd8, 18, 5, 15)
 }
 
 #[test]
 fn a_record_may_lie_in_the_rest_of_its_block(rt: HostRuntime) -> Result<(), Fail> {
-    check(rt.alloc(), Kind::Hd8, 18, 20, 14)
+    check_blocks(rt.alloc(), Kind::Hd8, 18, 20, 14)
 }
 
 /// An XFCB of user 1.
@@ -271,6 +342,40 @@ enum Line {
     Free(u16),
     /// A slot gets the XFCB, and another one a free entry.
     PutBoth(u16, u16),
+    /// Nothing: the sector's slots are as these.
+    Has([Slot; 4]),
+}
+
+/// What a slot has.
+#[derive(Clone, Copy)]
+enum Slot {
+    /// Bytes E5h.
+    Unused,
+    /// The XFCB.
+    New,
+    /// The XFCB, which is freed.
+    Freed,
+    /// Bytes 12h.
+    Other,
+    /// Bytes 12h, which are freed.
+    FreedOther,
+    /// The XFCB in the place of bytes 12h.
+    Changed,
+}
+
+/// The bytes of a slot.
+fn bytes_of(slot: Slot) -> [u8; 32] {
+    let mut bytes = match slot {
+        Slot::Unused => [0xE5; 32],
+        Slot::New | Slot::Freed => xfcb_bytes(0),
+        Slot::Other | Slot::FreedOther => [0x12; 32],
+        Slot::Changed => xfcb_bytes(0x12),
+    };
+    match slot {
+        Slot::Freed | Slot::FreedOther => bytes[0] = 0xE5,
+        _ => {}
+    }
+    bytes
 }
 
 /// Does it, and says whether that went well.
@@ -301,15 +406,16 @@ fn acts<L: Ledger>(
         Line::PutBoth(slot, other) if slot < 4 && other < 4 => {
             disk.put_slots(cache, drives, slot, &xfcb, other, &Entry::Free, steps) == Ok(())
         }
+        Line::Has(slots) => has(cache, drives, steps, sector(&slots)),
         _ => false,
     }
 }
 
-/// A sector of four entries.
-fn sector(entries: [[u8; 32]; 4]) -> [u8; 128] {
+/// A sector of four slots.
+fn sector(slots: &[Slot; 4]) -> [u8; 128] {
     let mut bytes = [0; 128];
-    for (place, entry) in entries.iter().enumerate() {
-        for (byte, value) in entry.iter().enumerate() {
+    for (place, slot) in slots.iter().enumerate() {
+        for (byte, value) in bytes_of(*slot).iter().enumerate() {
             if let Some(old) = bytes.get_mut(32 * place + byte) {
                 *old = *value;
             }
@@ -340,78 +446,89 @@ fn has<L: Ledger>(
     disk.read(cache, drives, 0, &mut out, steps) == Ok(()) && out == bytes
 }
 
-/// Acts on the first sector of the directory: its reading fails, a write of one entry, and the one write of two.
-fn entries_are_written<L: Ledger>(alloc: Global, blank: Blank) -> Result<bool, Fail>
-    requires name { blank.name ≡ L.name }
-    requires parts { blank.parts ≡ L.parts }
-    requires some { 0 < L.parts }
+/// Acts line by line, and says whether each went as it says.
+fn go_so<L: Ledger>(
+    cache: &mut Cache,
+    drives: &mut MemoryDrives,
+    steps: &mut Steps<L>,
+    lines: &[(Line, bool)],
+) -> bool
+    requires size { size_of drives.old 0 ≡ Some 256256 }
+    requires coherent { IsCoherent cache.old (Some (disks_of drives.old)) }
+    requires apart { HasNoAlias cache.old (Some (disks_of drives.old)) 0 }
 {
-    let mut steps = Steps::<L>::new(blank);
-    let mut drives = one_drive(alloc, Kind::Ibm3740, 3)?;
-    let mut cache = Cache::new(alloc)?;
-    let free = [0xE5; 32];
-    let mut freed = xfcb_bytes(0);
-    freed[0] = 0xE5;
-    let other = [0x12; 32];
-    let mut freed_other = other;
-    freed_other[0] = 0xE5;
-    let new = xfcb_bytes(0);
-    let changed = xfcb_bytes(0x12);
-    let (c, d, s) = (&mut cache, &mut drives, &mut steps);
-    Ok(
-        !acts(c, d, s, Line::PutXfcb(1))
-            && !acts(c, d, s, Line::PutXfcb(1))
-            && has(c, d, s, sector([free, free, free, free]))
-            && acts(c, d, s, Line::PutXfcb(1))
-            && has(c, d, s, sector([free, new, free, free]))
-            && !acts(c, d, s, Line::PutBoth(0, 1))
-            && has(c, d, s, sector([free, new, free, free]))
-            && acts(c, d, s, Line::PutBoth(0, 1))
-            && has(c, d, s, sector([new, freed, free, free]))
-            && acts(c, d, s, Line::Put(0x12))
-            && acts(c, d, s, Line::PutXfcb(3))
-            && acts(c, d, s, Line::Free(2))
-            && has(c, d, s, sector([other, other, freed_other, changed])),
-    )
+    for (line, goes_well) in lines {
+        if acts(cache, drives, steps, *line) != *goes_well {
+            return false;
+        }
+    }
+    true
+}
+
+/// Acts on the first sector of the directory: its reading fails, a write of one entry, and the one write of two.
+fn are_written<L: Ledger>(
+    cache: &mut Cache,
+    drives: &mut MemoryDrives,
+    steps: &mut Steps<L>,
+) -> bool
+    requires size { size_of drives.old 0 ≡ Some 256256 }
+    requires coherent { IsCoherent cache.old (Some (disks_of drives.old)) }
+    requires apart { HasNoAlias cache.old (Some (disks_of drives.old)) 0 }
+{
+    let lines = [
+        (Line::PutXfcb(1), false),
+        (Line::PutXfcb(1), false),
+        (Line::Has([Slot::Unused; 4]), true),
+        (Line::PutXfcb(1), true),
+        (
+            Line::Has([Slot::Unused, Slot::New, Slot::Unused, Slot::Unused]),
+            true,
+        ),
+        (Line::PutBoth(0, 1), false),
+        (
+            Line::Has([Slot::Unused, Slot::New, Slot::Unused, Slot::Unused]),
+            true,
+        ),
+        (Line::PutBoth(0, 1), true),
+        (
+            Line::Has([Slot::New, Slot::Freed, Slot::Unused, Slot::Unused]),
+            true,
+        ),
+        (Line::Put(0x12), true),
+        (Line::PutXfcb(3), true),
+        (Line::Free(2), true),
+        (
+            Line::Has([Slot::Other, Slot::Other, Slot::FreedOther, Slot::Changed]),
+            true,
+        ),
+    ];
+    go_so(cache, drives, steps, &lines)
 }
 
 /// Calls 2, 4 and 7 fail: the sector's reading, its writing, and the one write of two entries. What fails changes nothing, and
 /// other entries and the bytes that an entry has no field for stay.
 #[test]
 fn entries_are_written_by_their_sectors(rt: HostRuntime) -> Result<(), Fail> {
-    if entries_are_written::<Brand>(rt.alloc(), Blank::new(1))? {
-        Ok(())
-    } else {
-        Err(Fail::from("the directory has other entries"))
-    }
+    check(rt.alloc(), Kind::Ibm3740, 3, Trial::Entries)
 }
 
 /// Sector 16 of a floppy behind the system's tracks, the first of block 2, is sector 71 of the image.
-fn sector_is_placed<L: Ledger>(alloc: Global, blank: Blank) -> Result<bool, Fail>
-    requires name { blank.name ≡ L.name }
-    requires parts { blank.parts ≡ L.parts }
-    requires some { 0 < L.parts }
+fn is_placed<L: Ledger>(cache: &mut Cache, drives: &mut MemoryDrives, steps: &mut Steps<L>) -> bool
+    requires size { size_of drives.old 0 ≡ Some 256256 }
+    requires coherent { IsCoherent cache.old (Some (disks_of drives.old)) }
+    requires apart { HasNoAlias cache.old (Some (disks_of drives.old)) 0 }
 {
-    let mut steps = Steps::<L>::new(blank);
-    let mut drives = one_drive(alloc, Kind::Ibm3740, 0)?;
-    let mut cache = Cache::new(alloc)?;
     let disk = Disk {
         drive: 0,
         kind: Kind::Ibm3740,
     };
     let mut out = [0; 128];
-    Ok(
-        disk.put(&mut cache, &mut drives, 16, &[9; 128], &mut steps) == Ok(())
-            && drives.read(0, 71, &mut out) == Ok(())
-            && out == [9; 128],
-    )
+    disk.put(cache, drives, 16, &[9; 128], steps) == Ok(())
+        && drives.read(0, 71, &mut out) == Ok(())
+        && out == [9; 128]
 }
 
 #[test]
 fn sectors_go_where_the_skew_puts_them(rt: HostRuntime) -> Result<(), Fail> {
-    if sector_is_placed::<Brand>(rt.alloc(), Blank::new(1))? {
-        Ok(())
-    } else {
-        Err(Fail::from("the sector is elsewhere"))
-    }
+    check(rt.alloc(), Kind::Ibm3740, 0, Trial::Place)
 }

@@ -1,10 +1,10 @@
 -- The processes whose held calls were completed, as the front of an array.
 use Rattle.std.proofs.Common.{◌≡◌, ◌∙◌, ℕ, zero, suc, ◌+◌, ◌-◌, ◌<◌, ◌≤◌, List, [], ◌∷◌, ◌++◌, length, get_or, take, drop, Some, refl, sym, ap, arith}
 use Rattle.std.proofs.lemmas.List.{take-append-le, drop-take, length-drop}
+use Rattle.std.proofs.lemmas.Option.{same_Some}
 use Rattle.std.specs.List.{AllByRecursion}
 use Rattle.mpm_procs.specs.Table.{Table, lives, Lives}
 use Rattle.mpm_dispatcher.specs.Dispatch.{first_completed}
-use Rattle.mpm_dispatcher.proofs.ReadyLaws.{some_same}
 
 -- what was copied to the front is what stands there
 pub taken_front : (ps rest : List ℕ) → take (length ps) (ps ++ rest) ≡ ps
@@ -29,4 +29,4 @@ rest_of_some pids count some fits =
 -- each of them lives, and so does the first
 pub first_lives : (procs : Table) (ps : List ℕ) (p : ℕ) → AllByRecursion (λ q. Lives procs q) ps → first_completed ps ≡ Some p → Lives procs p
 first_lives procs [] p live e = absurd (cc)
-first_lives procs (q ∷ ps) p live e = ap (lives procs) (sym (some_same q p e)) ∙ live.0
+first_lives procs (q ∷ ps) p live e = ap (lives procs) (sym (same_Some q p e)) ∙ live.0

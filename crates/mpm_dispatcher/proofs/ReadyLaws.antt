@@ -3,7 +3,7 @@ use Rattle.std.proofs.Common.{◌≡◌, ◌≢◌, ◌∙◌, ◌<◌, ℕ, zer
 use Rattle.std.specs.List.{AllByRecursion}
 use Rattle.std.proofs.lemmas.Bool.Decides.{nat_tests}
 use Rattle.mpm_base.proofs.Choices.{either}
-use Rattle.mpm_ready.specs.Order.{Member, first_of, in_list}
+use Rattle.mpm_ready.specs.Order.{Member, first_of}
 use Rattle.mpm_ready.specs.Tables.{list_at, list_of, inserted, removed, IsTable}
 use Rattle.mpm_ready.proofs.TableLaws.{table_inserted, table_removed, list_of_inserted, list_of_inserted_other, list_of_removed, list_of_removed_other}
 use Rattle.mpm_procs.specs.Table.{Table, Lives}
@@ -12,9 +12,6 @@ use Rattle.mpm_dispatcher.specs.declared.dispatcher.Dispatcher.{Dispatcher}
 
 pub not_equal : (p q : ℕ) → p ≢ q → eqb p q ≡ false
 not_equal p q h = grind (arith, nat_tests)
-
-pub some_same : (a b : ℕ) → Some a ≡ Some b → a ≡ b
-some_same a b e = grind (e, arith)
 
 -- a process is taken out of its list, if it is in one, and put into another
 abbrev pub moved_lists : List (List Member) → ℕ → ℕ → ℕ → List (List Member)
@@ -37,11 +34,6 @@ list_moved_other lists list p priority q table below slot other =
     ∙ list_of_removed_other lists p q table apart
 
 -- the first of a list is in it
-pub first_is_in : (ms : List Member) (p : ℕ) → first_of ms ≡ Some p → in_list p ms ≡ true
-unfolding first_of in_list
-first_is_in [] p e = absurd (cc)
-first_is_in (m ∷ ms) p e = grind (arith, nat_tests, e)
-
 pub is_ready_true : (o : Option ℕ) → is_ready o ≡ true → o ≡ Some ready
 is_ready_true None e = absurd (cc)
 is_ready_true (Some list) e = grind (arith, nat_tests, e)

@@ -3,21 +3,22 @@ use Rattle.std.proofs.Common.{eqb-true, ◌≡◌, ◌∙◌, ℕ, ◌<◌, ◌�
 use Rattle.std.specs.Prelude.{count_by}
 use Rattle.std.specs.List.{AllByRecursion}
 use Rattle.std.proofs.lemmas.Bool.{cases_eq}
+use Rattle.std.proofs.lemmas.Option.{same_Some}
 use Rattle.mpm_base.proofs.CountLaws.{count_cons, few_numbers, one_if, one_if_true, one_if_false}
 use Rattle.mpm_ready.specs.Order.{Member, first_of, in_list, without_slot, IsOnce}
 use Rattle.mpm_ready.specs.Tables.{list_at, list_of, removed, IsTable}
-use Rattle.mpm_ready.proofs.OrderLaws.{without_slot_head, without_slot_absent}
+use Rattle.mpm_ready.proofs.OrderLaws.{without_slot_head, without_slot_absent, first_is_in, first_none}
 use Rattle.mpm_ready.proofs.TableLaws.{list_at_inserted_other, list_at_removed, list_of_known}
 use Rattle.mpm_procs.specs.Table.{lives, Lives, process_in}
 use Rattle.mpm_dispatcher.specs.Dispatch.{ready, moved, slots_in}
 use Rattle.mpm_dispatcher.specs.declared.dispatcher.Dispatcher.{Dispatcher}
-use Rattle.mpm_dispatcher.proofs.ReadyLaws.{some_same, first_is_in, table_moved, list_moved_other}
+use Rattle.mpm_dispatcher.proofs.ReadyLaws.{table_moved, list_moved_other}
 
 -- the first of them is in the list, and the others are those who are left
 first_polls : (ms : List Member) (p : ℕ) → first_of ms ≡ Some p → (rest : List Member) × ((m : Member) × ((ms ≡ m ∷ rest) × (m.slot ≡ p)))
 unfolding first_of
 first_polls [] p e = absurd (cc)
-first_polls (m ∷ ms) p e = (ms, (m, (refl, some_same m.slot p e)))
+first_polls (m ∷ ms) p e = (ms, (m, (refl, same_Some m.slot p e)))
 
 once_apart : (m : Member) (rest : List Member) → IsOnce (m ∷ rest) → in_list m.slot rest ≡ false
 unfolding IsOnce
@@ -49,7 +50,7 @@ pub record Walks (list p : ℕ) (d : Dispatcher) : Type 0 where
 slot_below : (ms : List Member) (p : ℕ) → AllByRecursion (λ m. m.slot < 32) ms → first_of ms ≡ Some p → p < 32
 unfolding first_of
 slot_below [] p small e = absurd (cc)
-slot_below (m ∷ ms) p small e = omega (arith, small.0, some_same m.slot p e)
+slot_below (m ∷ ms) p small e = omega (arith, small.0, same_Some m.slot p e)
 
 still_live : (d : Dispatcher) (list p q : ℕ) → IsTable d.lists → AllLive d list → 0 < list → p < 32 → Lives d.procs p
     → list_of (moved ready p d).lists q ≡ Some list → Lives d.procs q
@@ -77,11 +78,6 @@ walks list p d table live other e =
       live = λ q there. still_live d list p q table live other below is_alive there;
       rest = ap slots is ∙ ap (λ slot. slot ∷ slots rest) own ∙ ap (λ l. p ∷ slots l) (sym left);
     }
-
-first_none : (ms : List Member) → first_of ms ≡ None → ms ≡ []
-unfolding first_of
-first_none [] e = refl
-first_none (m ∷ ms) e = absurd (cc)
 
 pub nobody_left : (list : ℕ) (d : Dispatcher) → first_of (list_at d.lists list) ≡ None → slots_in d.lists list ≡ []
 nobody_left list d e = ap (map (λ m. m.slot)) (first_none (list_at d.lists list) e)

@@ -16,7 +16,7 @@ use Rattle.mpm_drives.specs.declared.error.BootError.TheVariants.{Image, DiskFau
 use Rattle.mpm_mount.specs.declared.errors.MountError.{MountError}
 use Rattle.mpm_mount.specs.declared.errors.MountError.TheVariants.{Image as BadImage}
 use Rattle.mpm_blocks.specs.Sectors.{told_image}
-use Rattle.mpm_mount.specs.Mounting.{IsMounted, IsImageFault, Counts}
+use Rattle.mpm_mount.specs.Mounting.{IsMounted, IsImageFault, IsErrorOfSome, Counts}
 use Rattle.mpm_blocks.proofs.ToldImages.{told_image_same}
 use Rattle.mpm_drives.specs.Images.{ToldImage, Images, image_named, HasFault}
 use Rattle.mpm_drives.specs.Mounted.{number_of, IsImageOf, IsNamed, HasDirectory, IsMountedAs, AreMounted, OnlyDrive, SameBeside}
@@ -139,15 +139,15 @@ mounted_as a a' x y z spec name size d is attaches bytes drives same number kind
       directory = directory_told (image_named x spec.image) (told_image y (number_of spec)) spec.kind d image without mounted;
     }
 
-pub fault_as : (x y : Option Disks) (spec : DriveSpec) (name : List ℕ) (size : Option ℕ) (error : MountError) (cause place : ℕ) → name ≡ spec.image
+pub fault_as : (x y : Option Disks) (spec : DriveSpec) (name : List ℕ) (size its : Option ℕ) (error : MountError) (cause place : ℕ) → name ≡ spec.image
     → error ≡ BadImage cause place → Told (Attaches (number_of spec) name size) x y
-    → IfSome (told_image y (number_of spec)) (λ image. IsImageFault image spec.kind error)
+    → IfSome (told_image y (number_of spec)) (λ image. IsImageFault image spec.kind error) → IsErrorOfSome its spec.kind error
     → HasFault (image_named x spec.image) spec.kind (record { cause = cause; place = place })
-fault_as x y spec name size error cause place is fault attaches has =
+fault_as x y spec name size its error cause place is fault attaches has some =
     let P : List ℕ → Type 0 = λ n. IsImageOf (image_named x n) (told_image y (number_of spec)) in
     let Q : MountError → Type 0 = λ e. IfSome (told_image y (number_of spec)) (λ image. IsImageFault image spec.kind e) in
-    fault_told (image_named x spec.image) (told_image y (number_of spec)) spec.kind (record { cause = cause; place = place })
-    (subst P is (attached_image x y (number_of spec) name size attaches)) (subst Q fault has)
+    fault_told (image_named x spec.image) (told_image y (number_of spec)) its spec.kind (record { cause = cause; place = place })
+    (subst P is (attached_image x y (number_of spec) name size attaches)) (subst Q fault has) (subst (IsErrorOfSome its spec.kind) fault some)
 
 pub count_as : (A : Type 0) (before now : ℕ) (error : MountError) (cause place : ℕ) → error ≡ BadImage cause place → Counts {A = A} before now (Err error) → now ≡ before
 count_as A before now error cause place fault counts =

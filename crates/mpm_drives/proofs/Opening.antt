@@ -12,7 +12,7 @@ use Rattle.mpm_blocks.specs.Geometries.{geometry_of}
 use Rattle.mpm_blocks.specs.Sectors.{sectors_of, told_image}
 use Rattle.mpm_mount.specs.Mounting.{drive_in}
 use Rattle.mpm_drives.specs.Images.{ToldImage, Untold, Missing, Bytes, Images, HasFiles}
-use Rattle.mpm_drives.specs.Mounted.{NumberedDrive, IsImageOf, HasDirectory, AreMounted, AreAttached, AreDrivesOf, bytes_if, drives_on}
+use Rattle.mpm_drives.specs.Mounted.{IsImageOf, HasDirectory, AreMounted, AreAttached, AreDrivesOf, bytes_if, drives_on}
 
 files_told : (image : ToldImage) (told : Option (List ℕ)) (kind : Kind) (d : Directory) → d.kind ≡ kind → IsImageOf image told → HasDirectory image kind d
     → HasFiles image kind (drive_in (bytes_if told) d)

@@ -7,7 +7,7 @@ use Rattle.mpm_mount.specs.declared.errors.ImageFault.{ImageFault}
 use Rattle.mpm_mount.specs.Directories.{Directory, IsDirectory}
 use Rattle.mpm_mount.specs.Images.{files_of}
 use Rattle.mpm_blocks.specs.Sectors.{told_image}
-use Rattle.mpm_mount.specs.Mounting.{IsMounted}
+use Rattle.mpm_mount.specs.Mounting.{IsFaultOfSome, IsMounted}
 use Rattle.mpm_blocks.proofs.ToldImages.{told_image_same}
 use Rattle.mpm_drives.specs.Images.{ToldImage, Untold, Missing, Bytes, found, image_named, HasFault, IsFaultless}
 use Rattle.mpm_drives.specs.Mounted.{IsImageOf, IsNamed, HasDirectory, OnlyDrive}
@@ -120,12 +120,12 @@ directory_told (Bytes bytes) (Some other) kind d is without mounted =
     let same : other ≡ bytes = cc in
     subst (λ (b : List ℕ). IsMounted b kind d) same mounted
 
-pub fault_told : (image : ToldImage) (told : Option (List ℕ)) (kind : Kind) (fault : ImageFault) → IsImageOf image told → IfSome told (λ bytes. files_of bytes kind ≡ Err fault)
-    → HasFault image kind fault
-fault_told Untold told kind fault is has = tt
-fault_told Missing told kind fault is has = absurd is
-fault_told (Bytes bytes) None kind fault is has = absurd (cc)
-fault_told (Bytes bytes) (Some other) kind fault is has =
+pub fault_told : (image : ToldImage) (told : Option (List ℕ)) (size : Option ℕ) (kind : Kind) (fault : ImageFault) → IsImageOf image told → IfSome told (λ bytes. files_of bytes kind ≡ Err fault)
+    → IsFaultOfSome size kind fault → HasFault image kind fault
+fault_told Untold told size kind fault is has some = (size, some)
+fault_told Missing told size kind fault is has some = absurd is
+fault_told (Bytes bytes) None size kind fault is has some = absurd (cc)
+fault_told (Bytes bytes) (Some other) size kind fault is has some =
     let same : other ≡ bytes = cc in
     subst (λ (b : List ℕ). files_of b kind ≡ Err fault) same has
 

@@ -5,7 +5,7 @@ use Rattle.mpm_port.specs.Disks.{Disks}
 use Rattle.mpm_mount.specs.declared.errors.ImageFault.{ImageFault}
 use Rattle.mpm_mount.specs.Drives.{Drive}
 use Rattle.mpm_mount.specs.Images.{files_of}
-use Rattle.mpm_mount.specs.Mounting.{AreOfDirectory}
+use Rattle.mpm_mount.specs.Mounting.{AreOfDirectory, IsFaultOfSome}
 
 -- what is told of the image of a name: nothing, that there is none, or its bytes
 pub data ToldImage : Type 0 where
@@ -38,8 +38,8 @@ IsFaultless Untold kind = ⊤
 IsFaultless Missing kind = ⊥
 IsFaultless (Bytes image) kind = IsOk (files_of image kind)
 
--- the image has this first fault
+-- the image has this first fault. One that isn't told has one that some image has
 abbrev pub HasFault : ToldImage → Kind → ImageFault → Type 0
-HasFault Untold kind fault = ⊤
+HasFault Untold kind fault = (size : Option ℕ) × IsFaultOfSome size kind fault
 HasFault Missing kind fault = ⊥
 HasFault (Bytes image) kind fault = files_of image kind ≡ Err fault

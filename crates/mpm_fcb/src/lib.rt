@@ -8,6 +8,6 @@ mod opening;
 mod positions;
 
 pub use block::ControlBlock;
-pub use names::{is_ambiguous, plain_name, with_attributes};
+pub use names::{is_ambiguous, with_attributes};
 pub use opening::item_numbered;
 pub use positions::{are_beyond, three_bytes};

@@ -1,20 +1,7 @@
-ghost use Rattle.std.specs.Prelude.{◌≡◌, Bool};
-ghost use Rattle.mpm_mount.specs.Faults.{plain};
+ghost use Rattle.std.specs.Prelude.{◌≡◌};
 ghost use Rattle.mpm_fcb.specs.Names as spec;
 
 use crate::block::ControlBlock;
-
-/// A name without the attributes in bit 7.
-#[tactic(auto, using(mpm_mount::proofs::Ranges::plain_all))]
-pub fn plain_name(name: &[u8; 11]) -> [u8; 11]
-    ensures { result ≡ plain name.now }
-{
-    let mut plain = *name;
-    for place in 0..11 {
-        plain[place] = name[place] % 128;
-    }
-    plain
-}
 
 /// Whether a name or type has a `?`, which names more than one file. (MP/M II Programmer's Guide, "File Control Block
 /// Definition".)

@@ -13,16 +13,14 @@ use Rattle.mpm_mount.specs.Drives.{FileName, entry_cmp, file_cmp, Drive, is_of, 
 use Rattle.mpm_mount.specs.Faults.{first_fault}
 use Rattle.mpm_mount.specs.Images.{extent_from, xfcb_from, drive_of}
 use Rattle.mpm_mount.specs.Directories.{Directory, Stands, xfcb_slot}
-use Rattle.mpm_mount.proofs.Tails.{EachWithRest, by_others}
-use Rattle.mpm_mount.proofs.InAll.{alone_less}
-use Rattle.mpm_mount.proofs.Collected.{StandsAlone}
+use Rattle.mpm_mount.specs.Files.{is_same_file, entries_named, is_entry_of, is_fitting, file_in, is_part_of}
 use Rattle.mpm_mount.proofs.Orders.{entry_total, file_total}
 use Rattle.mpm_mount.proofs.LookedUp.{xfcb_found, xfcb_missing}
-use Rattle.mpm_mount.proofs.FreeEntries.{extents_apart, xfcbs_alone}
+use Rattle.mpm_mount.proofs.FreeEntries.{extents_apart, xfcbs_apart}
+use Rattle.mpm_mount.proofs.Names.{same_back}
 use Rattle.mpm_files.specs.Units.{FileUnit, RemovesXfcb, RenamesXfcb}
-use Rattle.mpm_files.specs.Plans.{when, is_same_file, entries_named, is_entry_of, is_fitting, of_entries, of_xfcb, deleting, renaming}
-use Rattle.mpm_files.specs.Counting.{bit, file_in, is_part_of, is_deleted}
-use Rattle.mpm_files.proofs.Names.{same_back}
+use Rattle.mpm_files.specs.Plans.{when, of_entries, of_xfcb, deleting, renaming}
+use Rattle.mpm_files.specs.Counting.{bit, is_deleted}
 use Rattle.mpm_files.proofs.Pairs.{sums_alike, sum_mapped, sum_both, any_counted, of_item, pairs_collected}
 use Rattle.mpm_files.proofs.Deletions.{xfcbs_among, deleting_counted}
 
@@ -35,9 +33,6 @@ extents_counted sectors d files is faultless test =
     ap (λ (x : Drive). sum_by (λ e. bit (test (record { user = e.0.user; name = e.0.name }))) (entries x.extents)) is
     ∙ pairs_collected entry_cmp entry_total (λ p. bit (test (record { user = p.0.user; name = p.0.name }))) (map (extent_from sectors d.kind) d.entries) (extents_apart sectors d.kind d.entries faultless)
     ∙ sum_mapped (of_item (λ p. bit (test (record { user = p.0.user; name = p.0.name })))) (extent_from sectors d.kind) d.entries
-
-xfcbs_apart : (kind : Kind) (es : List Entry) → first_fault kind es ≡ None → EachWithRest (StandsAlone file_cmp) (map xfcb_from es)
-xfcbs_apart kind es faultless = by_others (StandsAlone file_cmp) None (alone_less file_cmp) (map xfcb_from es) (xfcbs_alone kind es faultless)
 
 xfcbs_counted : (sectors : Sectors) (d : Directory) (files : Drive) → files ≡ drive_of sectors d.kind d.entries → first_fault d.kind d.entries ≡ None → (test : FileName → Bool)
     → sum_by (λ q. bit (test q.0)) (entries files.xfcbs) ≡ sum_by (λ e. of_item (λ p. bit (test p.0)) (xfcb_from e)) d.entries

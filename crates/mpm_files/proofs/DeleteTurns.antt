@@ -12,31 +12,31 @@ use Rattle.mpm_blocks.specs.Geometries.{geometry_of}
 use Rattle.mpm_blocks.specs.Sectors.{sectors_of}
 use Rattle.mpm_dirent.specs.declared.kinds.Entry.TheVariants.{Free}
 use Rattle.mpm_dirent.specs.declared.kinds.FileEntry.{FileEntry}
+use Rattle.mpm_dirent.specs.Names.{plain}
+use Rattle.mpm_dirent.proofs.PlainNames.{plain_twice}
 use Rattle.mpm_mount.specs.declared.searching.Found.{Found}
 use Rattle.mpm_mount.specs.Drives.{FileName, Protection, Drive, without_extent, without_xfcb}
-use Rattle.mpm_mount.specs.Faults.{plain, name_of, is_xfcb}
+use Rattle.mpm_mount.specs.Faults.{name_of, is_xfcb}
 use Rattle.mpm_mount.specs.Changes.{exchanged}
 use Rattle.mpm_mount.specs.Directories.{Directory, Stands, entry_in, xfcb_slot}
 use Rattle.mpm_mount.specs.Searching.{search_of, IsLeast, IsNext}
+use Rattle.mpm_mount.specs.Files.{entries_named, has_file, is_fitting, is_part_of, file_in}
 use Rattle.mpm_mount.proofs.Sorts.{extent_freed, xfcb_freed}
 use Rattle.mpm_mount.proofs.Orders.{file_total}
 use Rattle.mpm_mount.proofs.NextFound.{next_found, next_none, is_sought_pair}
-use Rattle.mpm_mount.proofs.LookedUp.{xfcb_found, xfcb_missing}
+use Rattle.mpm_mount.proofs.LookedUp.{xfcb_found, xfcb_missing, kind_of}
 use Rattle.mpm_mount.proofs.Replaced.{and_all}
 use Rattle.mpm_files.specs.declared.jobs.JobKind.TheVariants.{Delete}
 use Rattle.mpm_files.specs.declared.jobs.Job.{Job}
 use Rattle.mpm_files.specs.declared.work.Work.{Work}
 use Rattle.mpm_files.specs.Units.{FileUnit, Idles, RemovesEntry, RemovesXfcb, stages, last_of, applied}
-use Rattle.mpm_files.specs.Plans.{plan_of, file_of_job, when, entries_named, has_file, each, is_fitting, of_xfcb, deleting_entry, deleting}
-use Rattle.mpm_files.specs.Counting.{is_part_of, file_in}
+use Rattle.mpm_files.specs.Plans.{plan_of, file_of_job, when, each, of_xfcb, deleting_entry, deleting}
 use Rattle.mpm_files.specs.Serving.{units_done, missed_by, has_missed, xfcb_left, left_of, Follows, IsServing}
 use Rattle.mpm_files.specs.Turning.{xfcb_due, xfcb_due_by, one_ended}
 use Rattle.mpm_files.proofs.CountedEntries.{there_same}
-use Rattle.mpm_files.proofs.Tied.{kind_of}
 use Rattle.mpm_files.proofs.NextEntries.{deletion_next, deleted_xfcb_next}
 use Rattle.mpm_files.proofs.Served.{left_as, serves_quietly}
 use Rattle.mpm_files.proofs.NextDone.{IsDone, place_within}
-use Rattle.mpm_files.proofs.SearchSteps.{plain_twice}
 use Rattle.mpm_files.proofs.Left.{no_front}
 
 -- the first of a list by a test of what it is made to

@@ -6,12 +6,13 @@ use Rattle.std.specs.FinMap.{get, entries}
 use Rattle.std.proofs.lemmas.List.{length-append}
 use Rattle.std.proofs.lemmas.List.Sums.{sum_by-cons}
 use Rattle.mpm_mount.specs.Drives.{FileName, file_cmp, Drive}
+use Rattle.mpm_mount.specs.Files.{is_same_file, is_entry_of, is_fitting}
 use Rattle.mpm_mount.proofs.Orders.{file_total, file_same}
 use Rattle.mpm_mount.proofs.Replaced.{and_all}
+use Rattle.mpm_mount.proofs.Names.{one_file, same_back, same_by_cmp}
 use Rattle.mpm_files.specs.Units.{FileUnit, RemovesEntry, RemovesXfcb}
-use Rattle.mpm_files.specs.Plans.{when, is_same_file, is_entry_of, is_fitting, deleting_entry, deleting}
+use Rattle.mpm_files.specs.Plans.{when, deleting_entry, deleting}
 use Rattle.mpm_files.specs.Counting.{bit}
-use Rattle.mpm_files.proofs.Names.{one_file, same_back, same_by_cmp}
 use Rattle.mpm_files.proofs.Pairs.{sums_alike, sum_both, sum_nothing, one_key}
 
 -- the units of one entry: its own, and after the last one of its file that of the XFCB

@@ -11,8 +11,9 @@ use Rattle.mpm_dirent.specs.declared.kinds.Entry.TheVariants.{Free, File, Xfcb}
 use Rattle.mpm_dirent.specs.declared.kinds.FileEntry.{FileEntry}
 use Rattle.mpm_dirent.specs.declared.kinds.XfcbEntry.{XfcbEntry}
 use Rattle.mpm_dirent.specs.Proper.{IsProper}
+use Rattle.mpm_dirent.specs.Names.{plain}
 use Rattle.mpm_mount.specs.Drives.{FileName, entry_number, entry_name}
-use Rattle.mpm_mount.specs.Faults.{plain, extent_of, name_of, is_named, is_xfcb, cause_of, first_fault}
+use Rattle.mpm_mount.specs.Faults.{extent_of, name_of, is_named, is_xfcb, cause_of, first_fault}
 use Rattle.mpm_mount.specs.Changes.{HasRanges}
 use Rattle.mpm_mount.specs.Directories.{Directory, entry_in, extent_slot, xfcb_slot, others}
 use Rattle.mpm_mount.proofs.Distinct.{named_by}

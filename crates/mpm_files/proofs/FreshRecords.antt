@@ -16,7 +16,7 @@ use Rattle.mpm_mount.specs.Faults.{extent_of, name_of, has_at, file_cause, cause
 use Rattle.mpm_mount.specs.Images.{contents_of, extent_in}
 use Rattle.mpm_mount.specs.Changes.{TakesBlock, exchanged, with_block}
 use Rattle.mpm_mount.specs.Directories.{Directory, Stands, entry_in, others, free_block}
-use Rattle.mpm_mount.proofs.LookedUp.{free_block_unheld}
+use Rattle.mpm_mount.proofs.LookedUp.{free_block_unheld, kind_of}
 use Rattle.mpm_mount.proofs.KeptRecords.{place_within}
 use Rattle.mpm_mount.proofs.Taking.{extent_with_block, still_taking}
 use Rattle.mpm_mount.proofs.Puts.{ranges_at}
@@ -24,7 +24,6 @@ use Rattle.mpm_mount.proofs.Sorts.{extent_changed}
 use Rattle.mpm_files.specs.Units.{is_raising}
 use Rattle.mpm_files.specs.Lookups.{HasEntry, is_above, with_number, taken_entry}
 use Rattle.mpm_files.specs.Standing.{with_taken}
-use Rattle.mpm_files.proofs.Tied.{kind_of}
 use Rattle.mpm_files.proofs.FoundEntries.{entry_inside, entry_numbered}
 use Rattle.mpm_files.proofs.HeldRecords.{at_record, same_name, record_ranges}
 

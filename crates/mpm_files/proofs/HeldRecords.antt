@@ -23,11 +23,11 @@ use Rattle.mpm_mount.proofs.Recorded.{record_written}
 use Rattle.mpm_mount.proofs.KeptRecords.{place_within}
 use Rattle.mpm_mount.proofs.Puts.{ranges_at, still_changed}
 use Rattle.mpm_mount.proofs.Sorts.{extent_changed}
+use Rattle.mpm_mount.proofs.LookedUp.{kind_of}
 use Rattle.mpm_sectors.specs.Writes.{written, Puts}
 use Rattle.mpm_files.specs.Units.{is_raising, raised, last_of}
 use Rattle.mpm_files.specs.Lookups.{HasEntry, IsHeldAt, is_above, raised_entry}
 use Rattle.mpm_files.specs.Standing.{GoesThrough, with_record, raises}
-use Rattle.mpm_files.proofs.Tied.{kind_of}
 use Rattle.mpm_files.proofs.EntryPuts.{one_put}
 use Rattle.mpm_files.proofs.FoundEntries.{entry_inside, entry_numbered}
 

@@ -4,11 +4,11 @@ use Rattle.std.specs.List.{AllByRecursion}
 use Rattle.std.specs.FinMap.{get, get-insert, get-remove}
 use Rattle.std.proofs.lemmas.Bool.{or_parts}
 use Rattle.mpm_mount.specs.Drives.{FileName, PhysicalExtent, Protection, Drive, with_extent, without_extent, with_xfcb, without_xfcb}
+use Rattle.mpm_mount.specs.Files.{is_same_file}
 use Rattle.mpm_mount.proofs.Orders.{entry_total, file_total}
+use Rattle.mpm_mount.proofs.Names.{entries_differ, files_differ}
 use Rattle.mpm_files.specs.Units.{last_of}
-use Rattle.mpm_files.specs.Plans.{is_same_file}
 use Rattle.mpm_files.specs.Containment.{Keeps}
-use Rattle.mpm_files.proofs.Names.{entries_differ, files_differ}
 
 pub keeps_itself : (p : FileName → Bool) (l : Bool) (drive : Drive) → Keeps p l drive drive
 keeps_itself p l drive = record { kind = refl; kept = refl; files = λ file no. record { extents = λ number. refl; xfcb = refl }; label = λ no. refl }

@@ -2,7 +2,6 @@ pub mod SetTurns
 pub mod TestTurns
 pub mod TurnLaws
 pub mod Left
-pub mod Names
 pub mod Keeping
 pub mod Seen
 pub mod Within
@@ -24,7 +23,6 @@ pub mod TestedRecords
 pub mod NextEntries
 pub mod NextRenamed
 pub mod NextAttributes
-pub mod Slots
 pub mod Tested
 pub mod Tied
 pub mod WritesCounted
@@ -40,8 +38,6 @@ pub mod NoFile
 pub mod RenameTurns
 pub mod WriteTurns
 pub mod Placing
-pub mod SearchSteps
-pub mod Lowest
 pub mod Settled
 pub mod StandingLaws
 pub mod EntryPuts

@@ -3,7 +3,7 @@ use Rattle.std.proofs.Common.{◌≡◌, ℕ, ◌+◌, ◌*◌, ◌/◌, ◌%◌
 use Rattle.std.proofs.lemmas.Bool.Decides.{nat_tests}
 use Rattle.std.specs.Prelude.{nat_le}
 use Rattle.std.proofs.lemmas.List.{ext_get_or, length-map, get_or-map}
-use Rattle.mpm_mount.specs.Faults.{plain}
+use Rattle.mpm_dirent.specs.Names.{plain}
 
 -- byte by byte
 pub mark_of : (a b : ℕ) → b < 256 → nat_le 128 (a % 128 + b / 128 * 128) ≡ nat_le 128 b

@@ -14,15 +14,16 @@ use Rattle.std.proofs.lemmas.Simd.{map-map}
 use Rattle.mpm_base.specs.declared.kind.Kind.{Kind}
 use Rattle.mpm_mount.specs.declared.searching.Found.{Found}
 use Rattle.mpm_mount.specs.Drives.{FileName, entry_cmp, PhysicalExtent, Drive, entry_number, is_of, extents_of, with_extent}
+use Rattle.mpm_mount.specs.Files.{where_there, is_same_file}
 use Rattle.mpm_mount.proofs.Orders.{entry_total, entry_same}
-use Rattle.mpm_files.specs.Units.{FileUnit, SetsAttributes, where_there, with_attributes, stages, last_of, applied}
-use Rattle.mpm_files.specs.Plans.{is_same_file, each}
+use Rattle.mpm_mount.proofs.Names.{one_file}
+use Rattle.mpm_mount.proofs.SearchSteps.{is_true}
+use Rattle.mpm_files.specs.Units.{FileUnit, SetsAttributes, with_attributes, stages, last_of, applied}
+use Rattle.mpm_files.specs.Plans.{each}
 use Rattle.mpm_files.specs.Serving.{Follows, is_later, left_setting}
-use Rattle.mpm_files.proofs.Names.{one_file}
 use Rattle.mpm_files.proofs.Sums.{as_it_was}
 use Rattle.mpm_files.proofs.NextUnits.{Next, next_of}
 use Rattle.mpm_files.proofs.NextEntries.{filter_mapped}
-use Rattle.mpm_files.proofs.SearchSteps.{is_true}
 
 -- numbers that rise
 unfoldable AllAbove : ℕ → List ℕ → Type 0

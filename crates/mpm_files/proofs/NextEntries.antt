@@ -12,12 +12,13 @@ use Rattle.std.proofs.lemmas.Bool.{true≢false, false_from_ne_true, or_parts, o
 use Rattle.std.proofs.lemmas.Option.{same_Some}
 use Rattle.std.proofs.lemmas.List.Sums.{sum_by-cons, sum_by-append}
 use Rattle.mpm_mount.specs.Drives.{FileName, entry_cmp, Protection, Drive, without_extent}
+use Rattle.mpm_mount.specs.Files.{is_same_file, entries_named, is_entry_of, has_file, is_fitting}
 use Rattle.mpm_mount.proofs.Orders.{entry_total, entry_same, file_total}
+use Rattle.mpm_mount.proofs.Names.{one_file, is_itself, entry_parts, files_differ, same_back, one_test}
 use Rattle.mpm_files.specs.Units.{FileUnit, RemovesEntry, RemovesXfcb, stages, last_of, applied}
-use Rattle.mpm_files.specs.Plans.{when, is_same_file, entries_named, is_entry_of, has_file, is_fitting, of_xfcb, deleting_entry, deleting}
+use Rattle.mpm_files.specs.Plans.{when, of_xfcb, deleting_entry, deleting}
 use Rattle.mpm_files.specs.Counting.{bit}
 use Rattle.mpm_files.specs.Serving.{Follows}
-use Rattle.mpm_files.proofs.Names.{one_file, is_itself, entry_parts, files_differ, same_back, one_test}
 use Rattle.mpm_files.proofs.Pairs.{sums_alike, sum_mapped, one_key}
 use Rattle.mpm_files.proofs.NextUnits.{Next, next_of}
 

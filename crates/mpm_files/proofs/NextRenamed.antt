@@ -12,13 +12,14 @@ use Rattle.std.proofs.lemmas.Bool.{true≢false, eq-eqb}
 use Rattle.std.proofs.lemmas.Simd.{map-map}
 use Rattle.std.proofs.lemmas.List.Sums.{sum_by-cons}
 use Rattle.mpm_mount.specs.Drives.{FileName, entry_cmp, PhysicalExtent, Protection, Drive, is_of, extents_of, with_extent, without_extent, without_xfcb}
+use Rattle.mpm_mount.specs.Files.{where_there, is_same_file}
 use Rattle.mpm_mount.proofs.Orders.{entry_total, entry_same, file_total}
-use Rattle.mpm_files.specs.Units.{FileUnit, RenamesEntry, RemovesXfcb, RenamesXfcb, where_there, stages, last_of, applied}
-use Rattle.mpm_files.specs.Plans.{when, is_same_file, each, of_entries, of_xfcb, renaming}
+use Rattle.mpm_mount.proofs.Names.{one_file, entry_parts, files_differ, same_back}
+use Rattle.mpm_files.specs.Units.{FileUnit, RenamesEntry, RemovesXfcb, RenamesXfcb, stages, last_of, applied}
+use Rattle.mpm_files.specs.Plans.{when, each, of_entries, of_xfcb, renaming}
 use Rattle.mpm_files.specs.Counting.{bit}
 use Rattle.mpm_files.specs.Serving.{Follows}
 use Rattle.mpm_files.proofs.NextUnits.{Next, next_of}
-use Rattle.mpm_files.proofs.Names.{one_file, entry_parts, files_differ, same_back}
 use Rattle.mpm_files.proofs.Pairs.{one_key}
 use Rattle.mpm_files.proofs.NextEntries.{entries_without, all_kept, small, tied_name, named_by}
 

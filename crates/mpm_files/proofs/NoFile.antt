@@ -12,10 +12,10 @@ use Rattle.mpm_mount.specs.Drives.{FileName, entry_cmp, Drive, is_of, extents_of
 use Rattle.mpm_mount.specs.Faults.{name_of, is_named}
 use Rattle.mpm_mount.specs.Images.{extent_in}
 use Rattle.mpm_mount.specs.Directories.{Directory, Stands, entry_in}
+use Rattle.mpm_mount.specs.Files.{is_same_file, entries_named, is_entry_of, has_file}
 use Rattle.mpm_mount.proofs.LookedUp.{extent_there}
 use Rattle.mpm_mount.proofs.Distinct.{own_name}
-use Rattle.mpm_files.specs.Plans.{is_same_file, entries_named, is_entry_of, has_file}
-use Rattle.mpm_files.proofs.Names.{entry_parts}
+use Rattle.mpm_mount.proofs.Names.{entry_parts}
 
 -- a key of which no entry passes a test that all its ties pass
 no_tie : {K X : Type 0} (R : K → K → Ordering) (p : K → Bool) (q : K) (e : K × X) (es : List (K × X)) (b : Bool) → eq_by_cmp R q e.0 ≡ b → (eq_by_cmp R q e.0 ≡ true → p e.0 ≡ true) → p e.0 ≡ false

@@ -13,26 +13,27 @@ use Rattle.mpm_dirent.specs.declared.kinds.Entry.{Entry}
 use Rattle.mpm_dirent.specs.declared.kinds.Entry.TheVariants.{Free, File, Xfcb, Label}
 use Rattle.mpm_dirent.specs.declared.kinds.FileEntry.{FileEntry}
 use Rattle.mpm_dirent.specs.declared.kinds.XfcbEntry.{XfcbEntry}
+use Rattle.mpm_dirent.specs.Names.{plain}
+use Rattle.mpm_dirent.proofs.PlainNames.{plain_twice}
 use Rattle.mpm_mount.specs.Drives.{FileName, PhysicalExtent, Drive, places, entry_number, entry_name, extents_of, with_extent, without_extent, with_xfcb, without_xfcb, free_entries}
-use Rattle.mpm_mount.specs.Faults.{plain, extent_of, name_of, is_named, is_label, is_xfcb, cause_of, first_fault}
+use Rattle.mpm_mount.specs.Faults.{extent_of, name_of, is_named, is_label, is_xfcb, cause_of, first_fault}
 use Rattle.mpm_mount.specs.Images.{extent_in}
 use Rattle.mpm_mount.specs.Changes.{exchanged, HasNoBlock}
 use Rattle.mpm_mount.specs.Directories.{Directory, Stands, others, entry_in, extent_slot, xfcb_slot, label_slot, free_slot}
+use Rattle.mpm_mount.specs.Files.{where_there, file_in}
+use Rattle.mpm_mount.specs.Attributes.{first_attributes, attributes_of, attributes_in, attributes_at}
 use Rattle.mpm_mount.proofs.Sorts.{xfcb_added, xfcb_changed, xfcb_renamed, label_added, label_changed, extent_added, extent_changed, extent_renamed}
 use Rattle.mpm_mount.proofs.Puts.{ranges_at, still_changed, still_renamed, still_added, still_xfcb_added, still_xfcb_changed, still_label_added, still_label_changed, extent_without_blocks}
-use Rattle.mpm_mount.proofs.LookedUp.{nowhere, extent_found, xfcb_found, xfcb_missing, label_found, label_missing, free_slot_found}
+use Rattle.mpm_mount.proofs.LookedUp.{nowhere, extent_found, xfcb_found, xfcb_missing, label_found, label_missing, free_slot_found, kind_of}
 use Rattle.mpm_mount.proofs.FreeEntries.{no_free_slot}
 use Rattle.mpm_mount.proofs.Distinct.{xfcb_by, label_by}
 use Rattle.mpm_files.specs.declared.jobs.Job.{Job}
-use Rattle.mpm_files.specs.Units.{FileUnit, AddsEntry, SetsAttributes, RenamesEntry, PutsXfcb, RenamesXfcb, PutsLabel, where_there, first_attributes, attributes_of, new_entry, with_attributes, stages, last_of, applied}
-use Rattle.mpm_files.specs.Plans.{file_of_job, new_file_of_job, protection_in, attributes_in}
-use Rattle.mpm_files.specs.Lookups.{attributes_at}
-use Rattle.mpm_files.specs.Counting.{bit, file_in}
+use Rattle.mpm_files.specs.Units.{FileUnit, AddsEntry, SetsAttributes, RenamesEntry, PutsXfcb, RenamesXfcb, PutsLabel, new_entry, with_attributes, stages, last_of, applied}
+use Rattle.mpm_files.specs.Plans.{file_of_job, new_file_of_job, protection_in}
+use Rattle.mpm_files.specs.Counting.{bit}
 use Rattle.mpm_files.specs.Standing.{StandsOn, Does}
 use Rattle.mpm_files.specs.Turning.{IsFileAt, xfcb_of_job, label_of_job, marks_set}
-use Rattle.mpm_files.proofs.Tied.{kind_of}
 use Rattle.mpm_files.proofs.NoFile.{there_at}
-use Rattle.mpm_files.proofs.SearchSteps.{plain_twice}
 
 -- an XFCB comes, or another in its place
 pub clean_over : (d : Directory) (job : Job) (slot : ℕ) → first_fault d.kind d.entries ≡ None → xfcb_slot d (file_of_job job) ≡ Some slot

@@ -15,7 +15,7 @@ use Rattle.mpm_mount.specs.Drives.{FileName, PhysicalExtent, Drive, places, entr
 use Rattle.mpm_mount.specs.Faults.{block_at}
 use Rattle.mpm_mount.specs.Images.{contents_of, extent_in}
 use Rattle.mpm_mount.specs.Directories.{Directory, Stands, extent_slot}
-use Rattle.mpm_mount.proofs.LookedUp.{extent_found}
+use Rattle.mpm_mount.proofs.LookedUp.{extent_found, kind_of}
 use Rattle.mpm_mount.proofs.KeptRecords.{place_within}
 use Rattle.mpm_mount.proofs.Ranges.{map_at}
 use Rattle.mpm_sectors.specs.declared.disk.Disk.{Disk}
@@ -27,7 +27,7 @@ use Rattle.mpm_files.specs.Standing.{Does}
 use Rattle.mpm_files.proofs.StandingLaws.{goes_nowhere, stays, does}
 use Rattle.mpm_files.proofs.HeldRecords.{index_within, held_inside}
 use Rattle.mpm_files.proofs.RecordUnits.{lacks_is}
-use Rattle.mpm_files.proofs.Tied.{kind_of, block_needed, read_in, read_by_tests, read_tested, read_error_same}
+use Rattle.mpm_files.proofs.Tied.{block_needed, read_in, read_by_tests, read_tested, read_error_same}
 
 -- a record of a block that is held
 held_contents : (sectors : Sectors) (kind : Kind) (n : ℕ) (b : Bool) (block : ℕ) → (block == 0) ≡ b → b ≡ false

@@ -11,9 +11,9 @@ use Rattle.mpm_base.specs.declared.kind.Kind.{Kind}
 use Rattle.mpm_blocks.specs.Geometries.{block_records}
 use Rattle.mpm_mount.specs.Drives.{FileName, PhysicalExtent, Protection, Drive, entry_cmp, block_place, held_blocks, with_record_in, with_extent, with_xfcb}
 use Rattle.mpm_mount.proofs.Orders.{entry_total, entry_same, file_total}
+use Rattle.mpm_mount.proofs.Names.{entry_parts}
 use Rattle.mpm_files.specs.Units.{holds_block, fresh_records, with_fresh_block}
 use Rattle.mpm_files.specs.Counting.{bit}
-use Rattle.mpm_files.proofs.Names.{entry_parts}
 use Rattle.mpm_files.proofs.Sums.{sum_new, sum_there, sum_values}
 
 -- how many entries and blocks are held

@@ -16,20 +16,19 @@ use Rattle.mpm_mount.specs.Images.{extent_in}
 use Rattle.mpm_mount.specs.Changes.{exchanged}
 use Rattle.mpm_mount.specs.Directories.{Directory, Stands, entry_in, xfcb_slot}
 use Rattle.mpm_mount.specs.Searching.{IsUnambiguous, search_of, IsLeast, IsNext}
+use Rattle.mpm_mount.specs.Files.{where_there, is_same_file, has_file, file_in}
 use Rattle.mpm_mount.proofs.Orders.{entry_total}
 use Rattle.mpm_mount.proofs.Sorts.{xfcb_freed}
-use Rattle.mpm_mount.proofs.LookedUp.{xfcb_found, xfcb_missing}
+use Rattle.mpm_mount.proofs.LookedUp.{xfcb_found, xfcb_missing, kind_of}
 use Rattle.mpm_mount.proofs.OneFile.{lowest_found, lowest_missing}
+use Rattle.mpm_mount.proofs.Names.{one_file, entries_differ, same_back}
 use Rattle.mpm_files.specs.declared.jobs.JobKind.TheVariants.{Rename}
 use Rattle.mpm_files.specs.declared.jobs.Job.{Job}
 use Rattle.mpm_files.specs.declared.work.Work.{Work}
-use Rattle.mpm_files.specs.Units.{FileUnit, Idles, ReadsRecord, PassesRecord, AddsEntry, ClearsBlock, WritesRecord, RemovesEntry, SetsAttributes, RenamesEntry, PutsXfcb, RemovesXfcb, RenamesXfcb, PutsLabel, where_there, stages, last_of, applied, all_applied}
-use Rattle.mpm_files.specs.Plans.{plan_of, file_of_job, new_file_of_job, is_same_file, has_file, each, when, of_xfcb, of_entries, renaming, plan_by, unit_at}
-use Rattle.mpm_files.specs.Counting.{file_in}
+use Rattle.mpm_files.specs.Units.{FileUnit, Idles, ReadsRecord, PassesRecord, AddsEntry, ClearsBlock, WritesRecord, RemovesEntry, SetsAttributes, RenamesEntry, PutsXfcb, RemovesXfcb, RenamesXfcb, PutsLabel, stages, last_of, applied, all_applied}
+use Rattle.mpm_files.specs.Plans.{plan_of, file_of_job, new_file_of_job, each, when, of_xfcb, of_entries, renaming, plan_by, unit_at}
 use Rattle.mpm_files.specs.Serving.{units_done, records_moved, record_read, missed_by, has_missed, Follows, IsServing}
 use Rattle.mpm_files.specs.Turning.{MayRename, SuitsKind, Suits, one_ended}
-use Rattle.mpm_files.proofs.Names.{one_file, entries_differ, same_back}
-use Rattle.mpm_files.proofs.Tied.{kind_of}
 use Rattle.mpm_files.proofs.NextRenamed.{renaming_as, renaming_next, renamed_over_next, renamed_xfcb_next}
 use Rattle.mpm_files.proofs.Left.{nothing_left}
 use Rattle.mpm_files.proofs.Served.{left_as, serves_quietly}

@@ -12,9 +12,9 @@ use Rattle.mpm_blocks.specs.Geometries.{block_records}
 use Rattle.mpm_mount.specs.Drives.{FileName, PhysicalExtent, Protection, Drive, entry_cmp, entry_number, entry_name, with_extent_there, extent_at, count_in, block_place, record_in, visible_in, visible_of, with_record_in, with_extent, with_xfcb}
 use Rattle.mpm_mount.proofs.Orders.{entry_total}
 use Rattle.mpm_mount.proofs.KeptRecords.{one_place, record_in_kept}
+use Rattle.mpm_mount.proofs.Names.{entry_parts, one_file}
 use Rattle.mpm_files.specs.Units.{is_raising, holds_block}
 use Rattle.mpm_files.specs.Containment.{SameRecords}
-use Rattle.mpm_files.proofs.Names.{entry_parts, one_file}
 
 pub seen_itself : (a : Drive) → SameRecords a a
 seen_itself a = record { counts = λ file extent. refl; visible = λ file n. refl }

@@ -15,18 +15,19 @@ use Rattle.mpm_mount.specs.Faults.{name_of}
 use Rattle.mpm_mount.specs.Images.{extent_in}
 use Rattle.mpm_mount.specs.Directories.{Directory, Stands, entry_in}
 use Rattle.mpm_mount.specs.Searching.{found_name, search_of, is_above, IsLeast, IsNext, IsUnambiguous}
+use Rattle.mpm_mount.specs.Files.{is_same_file, file_in}
+use Rattle.mpm_mount.specs.Attributes.{attributes_in}
 use Rattle.mpm_mount.proofs.NextFound.{is_sought_pair, next_found, next_none}
 use Rattle.mpm_mount.proofs.OneFile.{extents_sought, first_filtered, none_filtered}
+use Rattle.mpm_mount.proofs.Names.{one_file, is_itself}
+use Rattle.mpm_mount.proofs.LookedUp.{kind_of}
 use Rattle.mpm_files.specs.declared.jobs.JobKind.TheVariants.{Attributes}
 use Rattle.mpm_files.specs.declared.jobs.Job.{Job}
 use Rattle.mpm_files.specs.declared.work.Work.{Work}
 use Rattle.mpm_files.specs.Units.{FileUnit, Idles, SetsAttributes, applied}
-use Rattle.mpm_files.specs.Plans.{plan_of, file_of_job, is_same_file, each, attributes_in}
-use Rattle.mpm_files.specs.Counting.{file_in}
+use Rattle.mpm_files.specs.Plans.{plan_of, file_of_job, each}
 use Rattle.mpm_files.specs.Serving.{units_done, missed_by, has_missed, is_later, left_setting, Follows, IsServing}
 use Rattle.mpm_files.specs.Turning.{last_named, last_of_job, SuitsKind, Suits, one_ended}
-use Rattle.mpm_files.proofs.Names.{one_file, is_itself}
-use Rattle.mpm_files.proofs.Tied.{kind_of}
 use Rattle.mpm_files.proofs.NoFile.{there_at, all_of_file}
 use Rattle.mpm_files.proofs.NextEntries.{filter_mapped}
 use Rattle.mpm_files.proofs.NextAttributes.{order_of_one, setting_next}

@@ -9,13 +9,15 @@ use Rattle.std.specs.FinMap.{get, remove, get-insert, get-remove}
 use Rattle.std.proofs.lemmas.Bool.{true≢false, false_from_ne_true, cases_eq}
 use Rattle.mpm_base.specs.declared.kind.Kind.{Kind}
 use Rattle.mpm_mount.specs.Drives.{FileName, PhysicalExtent, Protection, Drive, entry_cmp, entry_number, with_extent_there, extent_at, visible_in, visible_of, extents_of, with_extent, without_extent, with_xfcb, without_xfcb}
+use Rattle.mpm_mount.specs.Files.{where_there, is_same_file, entries_named, is_entry_of, is_fitting}
+use Rattle.mpm_mount.specs.Attributes.{attributes_in}
 use Rattle.mpm_mount.proofs.Orders.{entry_total}
+use Rattle.mpm_mount.proofs.Names.{one_file, entry_parts, entries_differ}
 use Rattle.mpm_files.specs.declared.jobs.JobKind.TheVariants.{Make, Delete, Rename, Attributes}
 use Rattle.mpm_files.specs.declared.jobs.Job.{Job}
-use Rattle.mpm_files.specs.Units.{FileUnit, AddsEntry, RemovesEntry, SetsAttributes, RenamesEntry, PutsXfcb, RemovesXfcb, RenamesXfcb, where_there, with_attributes, stages, last_of, applied, all_applied}
-use Rattle.mpm_files.specs.Plans.{is_same_file, entries_named, is_entry_of, is_fitting, each, of_entries, of_xfcb, deleting_entry, deleting, renaming, making, file_of_job, new_file_of_job, attributes_in, protection_in, plan_by, plan_of, turns_of}
+use Rattle.mpm_files.specs.Units.{FileUnit, AddsEntry, RemovesEntry, SetsAttributes, RenamesEntry, PutsXfcb, RemovesXfcb, RenamesXfcb, with_attributes, stages, last_of, applied, all_applied}
+use Rattle.mpm_files.specs.Plans.{each, of_entries, of_xfcb, deleting_entry, deleting, renaming, making, file_of_job, new_file_of_job, protection_in, plan_by, plan_of, turns_of}
 use Rattle.mpm_files.specs.Serving.{units_done}
-use Rattle.mpm_files.proofs.Names.{one_file, entry_parts, entries_differ}
 use Rattle.mpm_files.proofs.TurnLaws.{all_turns}
 
 -- a unit leaves what is seen of a drive, or settles it: what is settled no unit changes

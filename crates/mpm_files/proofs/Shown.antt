@@ -1,7 +1,7 @@
 -- What a written record changes of what is seen: what is seen stays, but for the record itself; what is seen anew stands before it, or is
 -- of a fresh block.
 use Rattle.std.proofs.Common.{◌≡◌, ◌≢◌, ◌⊎◌, inl, inr, ℕ, ◌+◌, ◌/◌, ◌%◌, ◌<◌, ◌≤◌, Bool, true, false, ◌==◌, ◌&&◌, ◌||◌, List, [], Option, Some, None, refl, sym, ap, subst, ◌∙◌, arith}
-use Rattle.std.specs.Prelude.{is_some, nat_lt, nat_le, option_map, option_and_then, slice_set, slice_index_or, replicate, if◌then◌else◌}
+use Rattle.std.specs.Prelude.{is_some, nat_lt, nat_le, option_map, option_and_then, slice_index_or, replicate, if◌then◌else◌}
 use Rattle.std.proofs.lemmas.Bool.{true≢false, cases_eq, cases_lt}
 use Rattle.std.proofs.lemmas.Bool.Decides.{nat_tests}
 use Rattle.std.proofs.lemmas.Option.{same_Some}
@@ -10,7 +10,7 @@ use Rattle.mpm_base.specs.declared.kind.Kind.{Kind}
 use Rattle.mpm_base.specs.declared.kind.Kind.TheVariants.{Ibm3740, Hd4, Hd8}
 use Rattle.mpm_blocks.specs.Geometries.{block_records}
 use Rattle.mpm_mount.specs.Drives.{PhysicalExtent, entry_number, count_in, block_place, record_in, visible_in}
-use Rattle.mpm_mount.proofs.KeptRecords.{one_place}
+use Rattle.mpm_mount.proofs.KeptRecords.{other_record, one_place}
 use Rattle.mpm_files.specs.Units.{zero_record, is_raising, raised, holds_block, fresh_records}
 use Rattle.mpm_files.proofs.Seen.{seen}
 use Rattle.mpm_files.proofs.Writes.{block_written, still_some}
@@ -109,11 +109,6 @@ pub record IsWritten (kind : Kind) (n : ℕ) (bytes : List ℕ) (old new : Physi
   pub block : slice_index_or new.blocks (block_place kind n) None ≡ block_written kind n bytes old (holds_block kind n old)
 
 -- its records
-other_record : (o : Option (List (List ℕ))) (r q : ℕ) (bytes : List ℕ) → q ≢ r
-    → option_map (λ rs. slice_index_or rs q []) (option_map (λ rs. slice_set rs r bytes) o) ≡ option_map (λ rs. slice_index_or rs q []) o
-other_record None r q bytes apart = refl
-other_record (Some records) r q bytes apart = ap (λ (b : List ℕ). Some b) (get_or-set_other records r q bytes [] apart)
-
 mapped_some : (o : Option (List (List ℕ))) (f : List (List ℕ) → List ℕ) → is_some (option_map f o) ≡ is_some o
 mapped_some None f = refl
 mapped_some (Some records) f = refl

@@ -9,11 +9,12 @@ use Rattle.mpm_dirent.specs.declared.kinds.XfcbEntry.{XfcbEntry}
 use Rattle.mpm_mount.specs.Drives.{FileName, Protection, Drive, with_xfcb}
 use Rattle.mpm_mount.specs.Changes.{exchanged}
 use Rattle.mpm_mount.specs.Directories.{Directory, Stands, entry_in, xfcb_slot}
+use Rattle.mpm_mount.specs.Files.{where_there}
 use Rattle.mpm_mount.proofs.Sorts.{file_of, protection_of, xfcb_changed}
 use Rattle.mpm_mount.proofs.LookedUp.{xfcb_found, xfcb_missing}
 use Rattle.mpm_files.specs.declared.stamps.Stamp.{Stamp}
 use Rattle.mpm_files.specs.declared.stamps.Stamp.TheVariants.{First, Second}
-use Rattle.mpm_files.specs.Units.{Idles, first_stamped, second_stamped, where_there, stamped, with_stamp, stages, last_of}
+use Rattle.mpm_files.specs.Units.{Idles, first_stamped, second_stamped, stamped, with_stamp, stages, last_of}
 use Rattle.mpm_files.specs.Lookups.{HasXfcb, stamped_in, stamped_entry}
 use Rattle.mpm_files.specs.Standing.{GoesThrough, Does}
 use Rattle.mpm_files.proofs.StandingLaws.{goes_nowhere, goes_on, goes_stopped, does}

@@ -1,5 +1,5 @@
 -- Sums over the pairs of a finite map, when a pair is put.
-use Rattle.std.proofs.Common.{◌≡◌, ℕ, ◌+◌, Bool, true, false, cond, List, [], ◌∷◌, Option, Some, None, map, refl, sym, ap, ◌∙◌, arith}
+use Rattle.std.proofs.Common.{◌≡◌, ℕ, ◌+◌, Bool, true, false, cond, List, [], ◌∷◌, Some, None, map, refl, sym, ap, ◌∙◌, arith}
 use Rattle.std.specs.Prelude.{is_some, sum_by}
 use Rattle.std.specs.declared.cmp.Ordering.{Ordering}
 use Rattle.std.specs.declared.cmp.Ordering.TheVariants.{Less, Equal, Greater}
@@ -9,9 +9,8 @@ use Rattle.std.specs.FinMap.{FinMap, IsAntisymmetric, get, insert, remove, entri
 use Rattle.std.specs.FinMap.Entries.{by_order}
 use Rattle.std.proofs.lemmas.Bool.{true≢false}
 use Rattle.std.proofs.lemmas.List.Sums.{sum_by-cons}
-
-regroup : (a s v t w : ℕ) → s ≡ v + t → w ≡ a + t → a + s ≡ v + w
-regroup a s v t w one two = omega arith
+use Rattle.mpm_mount.proofs.Sorts.{shadowed}
+use Rattle.mpm_mount.proofs.InAll.{regroup}
 
 sum_placed : {K X : Type 0} (R : K → K → Ordering) (g : K × X → ℕ) (k : K) (v : X) (e : K × X) (es : List (K × X)) (r : Ordering) → cond (is_eq r) (Some e.1) (find R k es) ≡ None
     → (find R k es ≡ None → sum_by g (put R k v es) ≡ g (k, v) + sum_by g es)
@@ -32,13 +31,9 @@ pub sum_new : {K X : Type 0} (R : K → K → Ordering) → IsTotalOrder R → (
 sum_new R o g m k v none = ap (sum_by g) (entries-insert o m k v) ∙ sum_put R g k v (entries m) (sym (get-entries m k) ∙ none)
 
 -- a key that is there
-hidden_key : {X : Type 0} (b : Bool) (x y z : Option X) → cond b x (cond b y z) ≡ cond b x z
-hidden_key true x y z = refl
-hidden_key false x y z = refl
-
 pub put_again : {K X : Type 0} (R : K → K → Ordering) → IsTotalOrder R → IsAntisymmetric R → (m : FinMap R X) (k : K) (v : X) → insert m k v ≡ insert (remove m k) k v
 put_again R o same m k v = same_map o same (insert m k v) (insert (remove m k) k v) (λ q.
-    get-insert o m k v q ∙ sym (hidden_key (eq_by_cmp R q k) (Some v) None (get m q))
+    get-insert o m k v q ∙ sym (shadowed (eq_by_cmp R q k) (Some v) None (get m q))
     ∙ sym (get-insert o (remove m k) k v q ∙ ap (cond (eq_by_cmp R q k) (Some v)) (get-remove o m k q)))
 
 pub as_it_was : {K X : Type 0} (R : K → K → Ordering) → IsTotalOrder R → IsAntisymmetric R → (m : FinMap R X) (k : K) (w : X) → get m k ≡ Some w → insert m k w ≡ m

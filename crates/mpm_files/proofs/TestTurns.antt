@@ -8,12 +8,13 @@ use Rattle.std.proofs.lemmas.List.FromFn.{length-map-range_with_len}
 use Rattle.mpm_port.specs.Disks.{Disks}
 use Rattle.mpm_mount.specs.Drives.{FileName, Drive, record_of}
 use Rattle.mpm_mount.specs.Directories.{Directory, Stands}
+use Rattle.mpm_mount.specs.Files.{where_there}
 use Rattle.mpm_mount.proofs.UsedBlocks.{or_last}
 use Rattle.mpm_mount.proofs.Ranges.{or_none}
 use Rattle.mpm_files.specs.declared.jobs.JobKind.TheVariants.{TestWrite}
 use Rattle.mpm_files.specs.declared.jobs.Job.{Job}
 use Rattle.mpm_files.specs.declared.work.Work.{Work}
-use Rattle.mpm_files.specs.Units.{FileUnit, Idles, PassesRecord, WritesRecord, where_there, stages, applied}
+use Rattle.mpm_files.specs.Units.{FileUnit, Idles, PassesRecord, WritesRecord, stages, applied}
 use Rattle.mpm_files.specs.Plans.{Test, file_of_job, read_error, has_record, test_at, tests_of_job, plan_by, plan_of, unit_at}
 use Rattle.mpm_files.specs.Counting.{lacks_block}
 use Rattle.mpm_files.specs.Serving.{units_done, records_after, with_records, is_passing, missed_by, has_missed, left_passing, left_testing, stamp_left, Follows, IsServing}

@@ -1,7 +1,6 @@
 -- What the directory in memory says of a record, against the drive that it stands for with its image.
-use Rattle.std.proofs.Common.{◌≡◌, inl, inr, ℕ, ◌+◌, ◌*◌, ◌/◌, ◌%◌, Bool, true, false, ◌==◌, ◌||◌, not, List, [], map, Option, Some, None, length, refl, sym, ap, ◌∙◌, arith}
+use Rattle.std.proofs.Common.{◌≡◌, inl, inr, ℕ, ◌+◌, ◌*◌, ◌/◌, ◌%◌, Bool, true, false, ◌==◌, ◌||◌, not, List, [], Option, Some, None, length, refl, sym, ap, ◌∙◌, arith}
 use Rattle.std.specs.Prelude.{is_some, nat_lt, nat_le, option_map, option_and_then, slice_index_or, if◌then◌else◌}
-use Rattle.std.specs.List.{range_with_len}
 use Rattle.std.specs.FinMap.{get}
 use Rattle.std.proofs.lemmas.Bool.{true≢false, cases_lt, lt-ltb, le-ltb, le-leb, lt-leb}
 use Rattle.std.proofs.lemmas.List.FromFn.{get_or-map-range_with_len}
@@ -13,9 +12,10 @@ use Rattle.mpm_dirent.specs.declared.kinds.FileEntry.{FileEntry}
 use Rattle.mpm_mount.specs.Drives.{FileName, PhysicalExtent, Drive, covered, places, entry_number, entry_name, with_extent_there, extent_at, count_in, block_place, visible_in, visible_of}
 use Rattle.mpm_mount.specs.Faults.{extent_of, block_at}
 use Rattle.mpm_blocks.specs.Sectors.{Sectors, sectors_of}
-use Rattle.mpm_mount.specs.Images.{contents_of, extent_in, drive_of}
+use Rattle.mpm_mount.specs.Images.{contents_of, extent_in}
 use Rattle.mpm_mount.specs.Directories.{Directory, Stands, extent_slot}
-use Rattle.mpm_mount.proofs.LookedUp.{extent_found, extent_missing}
+use Rattle.mpm_mount.proofs.LookedUp.{kind_of, extent_found, extent_missing}
+use Rattle.mpm_mount.proofs.FreeRecords.{held_where}
 use Rattle.mpm_mount.proofs.KeptRecords.{all_places, place_within}
 use Rattle.mpm_files.specs.declared.errors.RecordError.{RecordError}
 use Rattle.mpm_files.specs.declared.errors.RecordError.TheVariants.{UnwrittenExtent, UnwrittenData}
@@ -24,23 +24,12 @@ use Rattle.mpm_files.specs.Counting.{lacks_entry, number_in, lacks_block_at, lac
 use Rattle.mpm_files.proofs.Needs.{IsWhole}
 
 -- a block that an entry of the image holds
-held_number : (sectors : Sectors) (kind : Kind) (block : ℕ) → is_some (contents_of sectors kind block) ≡ not (block == 0)
-unfolding contents_of
-held_number sectors kind block = by_test (block == 0) (map_of sectors kind block)
-  where
-    map_of : Sectors → Kind → ℕ → List (List ℕ)
-    map_of s k b = map (λ r. s (b * block_records k + r)) (range_with_len 0 (block_records k))
-
-    by_test : (b : Bool) (records : List (List ℕ)) → is_some (if b then None else Some records) ≡ not b
-    by_test true records = refl
-    by_test false records = refl
-
 pub held_at : (sectors : Sectors) (kind : Kind) (f : FileEntry) (n : ℕ)
     → is_some (slice_index_or (extent_in sectors kind f).blocks (block_place kind n) None) ≡ not (block_at f (block_place kind n) == 0)
 unfolding extent_in
 held_at sectors kind f n =
     ap is_some (get_or-map-range_with_len (λ i. contents_of sectors kind (block_at f i)) 0 (places kind) (block_place kind n) (block_place kind n) None (place_within kind n) (from_zero (block_place kind n)))
-    ∙ held_number sectors kind (block_at f (block_place kind n))
+    ∙ held_where sectors kind (block_at f (block_place kind n))
   where
     from_zero : (i : ℕ) → 0 + i ≡ i
     from_zero i = omega arith
@@ -54,10 +43,6 @@ entry_by : (image : List ℕ) (d : Directory) (files : Drive) (file : FileName) 
     → is_some (get files.extents (entry_name d.kind file (n / 128))) ≡ is_some o
 entry_by image d files file n stands None none = ap is_some (extent_missing image d files file (n / 128) stands none)
 entry_by image d files file n stands (Some slot) found = ap is_some ((extent_found image d files file (n / 128) slot stands found).extent)
-
-pub kind_of : (image : List ℕ) (d : Directory) (files : Drive) → Stands image d files → files.kind ≡ d.kind
-unfolding drive_of
-kind_of image d files stands = ap (λ (drive : Drive). drive.kind) stands.drive
 
 pub entry_needed : (image : List ℕ) (d : Directory) (files : Drive) (file : FileName) (n : ℕ) → Stands image d files → needs_entry files file n ≡ lacks_entry d file n
 entry_needed image d files file n stands =

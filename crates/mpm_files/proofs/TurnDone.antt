@@ -14,7 +14,7 @@ use Rattle.mpm_files.specs.Standing.{StandsOn}
 use Rattle.mpm_files.specs.Containment.{IsContained}
 use Rattle.mpm_files.specs.Turning.{InService, Contained, one_ended}
 use Rattle.mpm_mount.proofs.Mounts.{mounts}
-use Rattle.mpm_files.proofs.Tied.{kind_of}
+use Rattle.mpm_mount.proofs.LookedUp.{kind_of}
 use Rattle.mpm_files.proofs.Contained.{turn_contained}
 use Rattle.mpm_files.proofs.StandingLaws.{among_all}
 use Rattle.mpm_files.proofs.Served.{serves_idly, done_idly}

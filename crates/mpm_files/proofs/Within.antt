@@ -7,8 +7,8 @@ use Rattle.std.proofs.lemmas.List.{append-nil}
 use Rattle.mpm_base.proofs.Choices.{either}
 use Rattle.mpm_blocks.specs.Geometries.{block_records}
 use Rattle.mpm_mount.specs.Drives.{FileName, PhysicalExtent, Protection, DirectoryLabel, Drive, entry_number, entry_name, block_place, with_record_in, with_extent, without_extent, with_xfcb, without_xfcb}
-use Rattle.mpm_files.specs.Units.{FileUnit, Idles, ReadsRecord, PassesRecord, AddsEntry, ClearsBlock, WritesRecord, RemovesEntry, SetsAttributes, RenamesEntry, PutsXfcb, RemovesXfcb, RenamesXfcb, PutsLabel, new_entry, is_raising, raised, holds_block, with_fresh_block, rewritten, written_extents, where_there, last_of, second_stamped, stamped, with_attributes, stages, applied}
-use Rattle.mpm_files.specs.Plans.{is_same_file}
+use Rattle.mpm_mount.specs.Files.{where_there, is_same_file}
+use Rattle.mpm_files.specs.Units.{FileUnit, Idles, ReadsRecord, PassesRecord, AddsEntry, ClearsBlock, WritesRecord, RemovesEntry, SetsAttributes, RenamesEntry, PutsXfcb, RemovesXfcb, RenamesXfcb, PutsLabel, new_entry, is_raising, raised, holds_block, with_fresh_block, rewritten, written_extents, last_of, second_stamped, stamped, with_attributes, stages, applied}
 use Rattle.mpm_files.specs.Containment.{Keeps, SameRecords, IsWithin, unit_names, names_label}
 use Rattle.mpm_files.proofs.Keeping.{keeps_itself, keeps_after, Of, entry_put, entry_taken, xfcb_put, xfcb_taken, first_of_both, second_of_both, last_too, all_both, all_so, last_append}
 use Rattle.mpm_files.proofs.Seen.{seen_itself, seen_after, xfcb_unseen, xfcb_unseen_back, hidden_record}

@@ -13,9 +13,10 @@ use Rattle.mpm_files.specs.declared.moving.Step.{Step}
 use Rattle.mpm_files.specs.declared.moving.Step.TheVariants.{Entry, Block, Record}
 use Rattle.mpm_files.specs.declared.work.Work.{Work}
 use Rattle.mpm_files.specs.Stepping.{step_by, step_of, record_next}
-use Rattle.mpm_files.proofs.Tied.{kind_of, entry_needed, block_needed}
+use Rattle.mpm_files.proofs.Tied.{entry_needed, block_needed}
 use Rattle.std.specs.FinMap.{get}
 use Rattle.mpm_blocks.specs.Sectors.{Sectors, sectors_of}
+use Rattle.mpm_mount.proofs.LookedUp.{kind_of}
 use Rattle.mpm_files.specs.Counting.{lacks_entry, lacks_block}
 use Rattle.mpm_files.specs.Standing.{HasFreshBlock}
 use Rattle.mpm_files.specs.Units.{FileUnit, Idles, AddsEntry, ClearsBlock, WritesRecord, stages, last_of, applied}

@@ -6,8 +6,9 @@ use Rattle.std.proofs.lemmas.List.{get_or-set_same, get_or-set_other, length-set
 use Rattle.mpm_base.specs.declared.kind.Kind.{Kind}
 use Rattle.mpm_blocks.specs.Geometries.{block_records}
 use Rattle.mpm_mount.specs.Drives.{FileName, PhysicalExtent, Protection, Drive, places, entry_number, entry_name, block_place, held_blocks, with_record_in, with_extent, with_xfcb}
+use Rattle.mpm_mount.specs.Files.{where_there}
 use Rattle.mpm_mount.proofs.KeptRecords.{place_within}
-use Rattle.mpm_files.specs.Units.{WritesRecord, is_raising, raised, holds_block, fresh_records, with_fresh_block, rewritten, written_extents, where_there, last_of, second_stamped, stamped, with_stamp, stages, applied}
+use Rattle.mpm_files.specs.Units.{WritesRecord, is_raising, raised, holds_block, fresh_records, with_fresh_block, rewritten, written_extents, last_of, second_stamped, stamped, with_stamp, stages, applied}
 use Rattle.mpm_files.specs.Counting.{bit}
 use Rattle.mpm_files.proofs.Keeping.{last_append}
 use Rattle.mpm_files.proofs.Recorded.{Puts, put_there, puts_stamped, recorded_held, fresh_held}

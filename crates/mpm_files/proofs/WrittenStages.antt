@@ -11,12 +11,14 @@ use Rattle.mpm_mount.specs.Drives.{FileName, PhysicalExtent, Drive, entry_cmp, e
 use Rattle.mpm_mount.specs.Faults.{name_of, block_at}
 use Rattle.mpm_mount.specs.Images.{extent_in}
 use Rattle.mpm_mount.specs.Directories.{Directory, Stands}
+use Rattle.mpm_mount.specs.Files.{where_there}
 use Rattle.mpm_mount.proofs.Orders.{entry_total, entry_same}
-use Rattle.mpm_mount.proofs.LookedUp.{extent_found}
-use Rattle.mpm_files.specs.Units.{WritesRecord, is_raising, raised, holds_block, fresh_records, with_fresh_block, rewritten, written_extents, where_there, with_stamp, stages}
+use Rattle.mpm_mount.proofs.Sorts.{shadowed}
+use Rattle.mpm_mount.proofs.LookedUp.{extent_found, kind_of}
+use Rattle.mpm_files.specs.Units.{WritesRecord, is_raising, raised, holds_block, fresh_records, with_fresh_block, rewritten, written_extents, with_stamp, stages}
 use Rattle.mpm_files.specs.Lookups.{HasEntry}
 use Rattle.mpm_files.specs.Standing.{with_record, with_taken, raises}
-use Rattle.mpm_files.proofs.Tied.{kind_of, held_at}
+use Rattle.mpm_files.proofs.Tied.{held_at}
 use Rattle.mpm_files.proofs.Recorded.{at_itself}
 use Rattle.mpm_files.proofs.FoundEntries.{same_file_entry, entry_named}
 
@@ -41,10 +43,6 @@ by_entry image d files file n slot f bytes moment stands has =
     ∙ ap (λ q. with_stamp file moment files (map (with_extent files q) (written_extents d.kind n bytes (extent_in (sectors_of image d.kind) d.kind f)))) (sym (entry_named d file n slot f has))
 
 -- a key that is put twice
-shadowed : {X : Type 0} (b : Bool) (x y z : X) → cond b x (cond b y z) ≡ cond b x z
-shadowed true x y z = refl
-shadowed false x y z = refl
-
 put_over : (files : Drive) (kind : Kind) (f : FileEntry) (one two : PhysicalExtent)
     → with_extent (with_extent files (name_of kind f) one) (name_of kind f) two ≡ with_extent files (name_of kind f) two
 put_over files kind f one two =

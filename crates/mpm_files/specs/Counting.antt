@@ -7,8 +7,9 @@ use Rattle.mpm_dirent.specs.declared.kinds.Entry.{Entry}
 use Rattle.mpm_dirent.specs.declared.kinds.Entry.TheVariants.{Free, File, Xfcb, Label, Kept}
 use Rattle.mpm_dirent.specs.declared.kinds.FileEntry.{FileEntry}
 use Rattle.mpm_mount.specs.Drives.{FileName, entry_number, block_place}
-use Rattle.mpm_mount.specs.Faults.{plain, extent_of, block_at}
+use Rattle.mpm_mount.specs.Faults.{extent_of, block_at}
 use Rattle.mpm_mount.specs.Directories.{Directory, entry_in, extent_slot, xfcb_slot, free_records_in, free_entries_in}
+use Rattle.mpm_mount.specs.Files.{is_fitting, file_in, is_part_of}
 use Rattle.mpm_files.specs.declared.errors.RecordError.{RecordError}
 use Rattle.mpm_files.specs.declared.errors.RecordError.TheVariants.{UnwrittenExtent, UnwrittenData, NoDirectorySpace, NoDataBlock}
 use Rattle.mpm_files.specs.declared.jobs.JobKind.{JobKind}
@@ -17,7 +18,7 @@ use Rattle.mpm_files.specs.declared.jobs.Job.{Job}
 use Rattle.mpm_files.specs.declared.counting.Count.{Count}
 use Rattle.mpm_files.specs.declared.searching.Sought.{Sought}
 use Rattle.mpm_files.specs.declared.searching.Sought.TheVariants.{OfFile, Deleted}
-use Rattle.mpm_files.specs.Plans.{file_of_job, new_file_of_job, clears_blocks, is_same_file, is_fitting}
+use Rattle.mpm_files.specs.Plans.{file_of_job, new_file_of_job, clears_blocks}
 
 abbrev pub bit : Bool → ℕ
 bit b = if b then 1 else 0
@@ -108,16 +109,6 @@ abbrev pub record_error : Directory → FileName → ℕ → Option RecordError
 record_error d file n = error_at d n (extent_slot d file (n / 128))
 
 -- which directory entries are counted: those of a job's file, those that a deletion removes
-abbrev pub file_in : ℕ → List ℕ → FileName
-file_in user name = record { user = user; name = plain name }
-
-abbrev pub is_part_of : FileName → Entry → Bool
-is_part_of file (File f) = is_same_file file (file_in f.user f.name)
-is_part_of file Free = false
-is_part_of file (Xfcb x) = false
-is_part_of file (Label l) = false
-is_part_of file (Kept bytes) = false
-
 abbrev pub is_deleted : Directory → ℕ → List ℕ → Entry → Bool
 is_deleted d user pattern (File f) = is_fitting user pattern (file_in f.user f.name)
 is_deleted d user pattern (Xfcb x) = is_fitting user pattern (file_in x.user x.name) && list_any (is_part_of (file_in x.user x.name)) d.entries

@@ -1,23 +1,20 @@
 -- What is found in a directory: the entry of a record, a file's XFCB; and what they are to become.
-use Rattle.std.specs.Prelude.{Bool, true, false, ◌≡◌, ◌≢◌, ℕ, ◌+◌, ◌*◌, ◌/◌, ◌%◌, ◌≤◌, ◌==◌, ◌&&◌, ◌||◌, List, Option, Some, None, length, nat_lt, nat_le, IsSome, slice_set, if◌then◌else◌}
+use Rattle.std.specs.Prelude.{Bool, ◌≡◌, ◌≢◌, ℕ, ◌+◌, ◌*◌, ◌/◌, ◌%◌, ◌≤◌, ◌==◌, ◌&&◌, ◌||◌, List, Option, Some, None, length, nat_lt, nat_le, IsSome, slice_set, if◌then◌else◌}
 use Rattle.mpm_base.specs.declared.kind.Kind.{Kind}
 use Rattle.mpm_blocks.specs.Geometries.{geometry_of, block_records, place_of}
 use Rattle.mpm_cache.specs.declared.cache.Place.{Place}
 use Rattle.mpm_cache.specs.Cached.{cached_at}
-use Rattle.mpm_dirent.specs.declared.kinds.Entry.{Entry}
-use Rattle.mpm_dirent.specs.declared.kinds.Entry.TheVariants.{Free, File, Xfcb, Label, Kept}
+use Rattle.mpm_dirent.specs.declared.kinds.Entry.TheVariants.{File, Xfcb}
 use Rattle.mpm_dirent.specs.declared.kinds.FileEntry.{FileEntry}
 use Rattle.mpm_dirent.specs.declared.kinds.XfcbEntry.{XfcbEntry}
 use Rattle.mpm_dirent.specs.Proper.{IsProper}
-use Rattle.mpm_mount.specs.declared.searching.Found.{Found}
 use Rattle.mpm_mount.specs.Drives.{FileName, Protection, block_place}
 use Rattle.mpm_mount.specs.Faults.{extent_of, block_at, first_fault}
 use Rattle.mpm_mount.specs.Directories.{Directory, entry_in, extent_slot, xfcb_slot}
 use Rattle.mpm_files.specs.declared.stamps.Stamp.{Stamp}
 use Rattle.mpm_files.specs.declared.stamps.Stamp.TheVariants.{First, Second}
 use Rattle.mpm_files.specs.Units.{first_stamped, second_stamped}
-use Rattle.mpm_files.specs.Plans.{attributes_in}
-use Rattle.mpm_files.specs.Counting.{number_in, is_part_of}
+use Rattle.mpm_files.specs.Counting.{number_in}
 
 -- a directory has all its slots and no fault
 pub record IsSound (d : Directory) : Type 0 where
@@ -80,30 +77,3 @@ stamped_in Second = second_stamped
 abbrev pub stamped_entry : Stamp → List ℕ → XfcbEntry → XfcbEntry
 stamped_entry First moment xfcb = record xfcb { first = moment }
 stamped_entry Second moment xfcb = record xfcb { second = moment }
-
--- the attributes of a file's entry, F1' to F8' and T1' to T3', and of one that was found. ("File Attributes".)
-abbrev pub attributes_at : Entry → Option (List Bool)
-attributes_at (File f) = Some (attributes_in f.name)
-attributes_at Free = None
-attributes_at (Xfcb x) = None
-attributes_at (Label label) = None
-attributes_at (Kept bytes) = None
-
-abbrev pub attributes_where : Directory → Option Found → Option (List Bool)
-attributes_where d None = None
-attributes_where d (Some found) = attributes_at (entry_in d found.slot)
-
--- what was found is a directory entry of a file
-pub record IsEntryOf (d : Directory) (file : FileName) (found : Found) : Type 0 where
-  pub entry : FileEntry
-  pub there : entry_in d found.slot ≡ File entry
-  pub its : is_part_of file (File entry) ≡ true
-  pub name : found.name ≡ file.name
-  pub extent : found.extent ≡ extent_of entry
-
-abbrev pub is_file : Entry → Bool
-is_file (File f) = true
-is_file Free = false
-is_file (Xfcb x) = false
-is_file (Label l) = false
-is_file (Kept bytes) = false

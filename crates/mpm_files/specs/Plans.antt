@@ -1,19 +1,20 @@
 -- The units of a job, in order, each upon the drive that those before it left. (MP/M II Programmer's Guide, functions 15, 19 to
 -- 23, 30, 33, 34, 40, 41, 100 and 103.)
-use Rattle.std.specs.Prelude.{ℕ, zero, suc, ◌+◌, ◌*◌, ◌/◌, ◌==◌, ◌&&◌, not, Bool, false, List, [], ◌∷◌, ◌++◌, Option, Some, None, length, map, max, nat_le, is_some, bytes_eq, slice_index, slice_index_or, slice_range, if◌then◌else◌}
+use Rattle.std.specs.Prelude.{ℕ, zero, suc, ◌+◌, ◌*◌, ◌/◌, ◌==◌, ◌&&◌, not, Bool, false, List, [], ◌∷◌, ◌++◌, Option, Some, None, length, map, max, is_some, bytes_eq, slice_index, slice_index_or, slice_range, if◌then◌else◌}
 use Rattle.std.specs.List.{range_with_len, list_any}
-use Rattle.std.specs.FinMap.{get, keys}
+use Rattle.std.specs.FinMap.{get}
 use Rattle.mpm_base.specs.declared.kind.Kind.{Kind}
-use Rattle.mpm_names.specs.Matching.{does_match}
+use Rattle.mpm_dirent.specs.Names.{plain}
 use Rattle.mpm_blocks.specs.Geometries.{geometry_of}
 use Rattle.mpm_mount.specs.Drives.{FileName, PhysicalExtent, Protection, Drive, entry_name, extents_of, extent_at, record_of, visible_of, free_records, free_entries}
-use Rattle.mpm_mount.specs.Faults.{plain}
+use Rattle.mpm_mount.specs.Attributes.{attributes_in}
+use Rattle.mpm_mount.specs.Files.{entries_named, is_entry_of, is_fitting, where_there}
 use Rattle.mpm_files.specs.declared.errors.RecordError.{RecordError}
 use Rattle.mpm_files.specs.declared.errors.RecordError.TheVariants.{UnwrittenExtent, UnwrittenData, Mismatch, NoDirectorySpace, NoDataBlock}
 use Rattle.mpm_files.specs.declared.jobs.JobKind.{JobKind}
 use Rattle.mpm_files.specs.declared.jobs.JobKind.TheVariants.{Read, Write, TestWrite, Make, Delete, Rename, Attributes, Label, Xfcb, Nothing}
 use Rattle.mpm_files.specs.declared.jobs.Job.{Job}
-use Rattle.mpm_files.specs.Units.{FileUnit, Idles, ReadsRecord, PassesRecord, AddsEntry, ClearsBlock, WritesRecord, RemovesEntry, SetsAttributes, RenamesEntry, PutsXfcb, RemovesXfcb, RenamesXfcb, PutsLabel, holds_block, where_there, applied, all_applied}
+use Rattle.mpm_files.specs.Units.{FileUnit, Idles, ReadsRecord, PassesRecord, AddsEntry, ClearsBlock, WritesRecord, RemovesEntry, SetsAttributes, RenamesEntry, PutsXfcb, RemovesXfcb, RenamesXfcb, PutsLabel, holds_block, applied, all_applied}
 
 -- the units of a call, and why it ends after them, where a record can't be done
 pub record Plan : Type 0 where
@@ -116,22 +117,8 @@ testing drive file n (test ∷ tests) stamp =
     (if has_record drive file n test.expected then behind (unit ∷ []) (testing (applied drive unit) file (n + 1) tests None)
     else passing drive file n (test ∷ tests))
 
-abbrev pub is_same_file : FileName → FileName → Bool
-is_same_file a b = (a.user == b.user) && bytes_eq a.name b.name
-
 abbrev pub each : {X Y : Type 0} → List X → (X → Y) → List Y
 each items f = map f items
-
--- the directory entries of files, each by its file and its number, in the order of users, names and numbers
-unfoldable pub entries_named : Drive → List (FileName × ℕ)
-entries_named drive = each (keys drive.extents) (λ name. (record { user = name.user; name = name.name }, name.number))
-
--- a file is there where it has an entry
-abbrev pub is_entry_of : FileName → (FileName × ℕ) → Bool
-is_entry_of file entry = is_same_file file entry.0
-
-unfoldable pub has_file : Drive → FileName → Bool
-has_file drive file = list_any (is_entry_of file) (entries_named drive)
 
 -- of each entry of a file, by its number; of its XFCB, where it has one
 abbrev pub of_entries : Drive → FileName → (ℕ → FileUnit) → List FileUnit
@@ -141,9 +128,6 @@ abbrev pub of_xfcb : Drive → FileName → FileUnit → List FileUnit
 of_xfcb drive file unit = when (is_some (get drive.xfcbs file)) unit
 
 -- a user's files whose names fit go, entry by entry, and each one's XFCB after its last entry. ("Function 19: Delete File".)
-abbrev pub is_fitting : ℕ → List ℕ → FileName → Bool
-is_fitting user pattern file = (file.user == user) && does_match pattern file.name
-
 abbrev pub deleting_entry : Drive → (FileName × ℕ) → List (FileName × ℕ) → List FileUnit
 deleting_entry drive entry entries =
     RemovesEntry entry.0 entry.1 ∷ (if list_any (is_entry_of entry.0) entries then [] else of_xfcb drive entry.0 (RemovesXfcb entry.0))
@@ -158,10 +142,6 @@ abbrev pub renaming : Drive → FileName → FileName → List FileUnit
 renaming drive file other =
     of_xfcb drive other (RemovesXfcb other)
     ++ (of_entries drive file (λ number. RenamesEntry file number other) ++ of_xfcb drive file (RenamesXfcb file other))
-
--- attributes are bit 7 of the eleven bytes of a name. ("Function 30: Set File Attributes".)
-abbrev pub attributes_in : List ℕ → List Bool
-attributes_in name = map (nat_le 128) name
 
 -- the XFCB or the label of a job. ("Function 100: Set Directory Label", "Function 103: Write File XFCB".)
 abbrev pub protection_in : Job → Protection

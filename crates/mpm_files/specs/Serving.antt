@@ -2,12 +2,14 @@
 use Rattle.std.specs.Prelude.{◌≡◌, ℕ, suc, ◌+◌, ◌-◌, ◌*◌, ◌<◌, ◌==◌, Bool, true, false, List, [], ◌∷◌, ◌++◌, Option, Some, None, length, map, max, take, drop, is_some, IfSome, nat_lt, sum_by, if◌then◌else◌}
 use Rattle.std.specs.List.{filter, flat_map, range_with_len, list_any}
 use Rattle.mpm_base.specs.declared.kind.Kind.{Kind}
+use Rattle.mpm_dirent.specs.Names.{plain}
 use Rattle.mpm_blocks.specs.Geometries.{block_records}
 use Rattle.mpm_blocks.specs.Sectors.{Sectors, sectors_of}
 use Rattle.mpm_mount.specs.declared.searching.Found.{Found}
 use Rattle.mpm_mount.specs.Drives.{FileName, Drive, entry_number, extents_of, visible_of}
-use Rattle.mpm_mount.specs.Faults.{plain}
 use Rattle.mpm_mount.specs.Directories.{Directory, Stands, free_block}
+use Rattle.mpm_mount.specs.Files.{where_there, entries_named, has_file}
+use Rattle.mpm_mount.specs.Attributes.{attributes_in}
 use Rattle.mpm_files.specs.declared.errors.RecordError.{RecordError}
 use Rattle.mpm_files.specs.declared.errors.RecordError.TheVariants.{UnwrittenExtent, UnwrittenData, Mismatch, NoDirectorySpace, NoDataBlock}
 use Rattle.mpm_files.specs.declared.jobs.JobKind.{JobKind}
@@ -15,8 +17,8 @@ use Rattle.mpm_files.specs.declared.jobs.JobKind.TheVariants.{Read, Write, TestW
 use Rattle.mpm_files.specs.declared.jobs.Job.{Job}
 use Rattle.mpm_files.specs.declared.counting.Count.{Count}
 use Rattle.mpm_files.specs.declared.work.Work.{Work}
-use Rattle.mpm_files.specs.Units.{FileUnit, Idles, ReadsRecord, PassesRecord, AddsEntry, ClearsBlock, WritesRecord, RemovesEntry, SetsAttributes, RenamesEntry, PutsXfcb, RemovesXfcb, RenamesXfcb, PutsLabel, zero_record, where_there, applied, all_applied}
-use Rattle.mpm_files.specs.Plans.{Plan, Test, file_of_job, new_file_of_job, has_record, each, entries_named, has_file, of_xfcb, deleting, renaming, attributes_in, protection_in, making, records_of_job, tests_of_job, needs_entry, plan_by, plan_of, turns_of, write_units}
+use Rattle.mpm_files.specs.Units.{FileUnit, Idles, ReadsRecord, PassesRecord, AddsEntry, ClearsBlock, WritesRecord, RemovesEntry, SetsAttributes, RenamesEntry, PutsXfcb, RemovesXfcb, RenamesXfcb, PutsLabel, zero_record, applied, all_applied}
+use Rattle.mpm_files.specs.Plans.{Plan, Test, file_of_job, new_file_of_job, has_record, each, of_xfcb, deleting, renaming, protection_in, making, records_of_job, tests_of_job, needs_entry, plan_by, plan_of, turns_of, write_units}
 
 -- the drive after the first j turns of a call
 abbrev pub units_done : Drive → Job → ℕ → Drive

@@ -1,10 +1,12 @@
 -- The units of a file call, and what each makes of a drive. (MP/M II Programmer's Guide, "File Organization", "File Control
 -- Block Definition", "Extended File Control Block (XFCB)", "Directory Labels".)
-use Rattle.std.specs.Prelude.{ℕ, ◌+◌, ◌/◌, ◌%◌, ◌==◌, ◌&&◌, ◌||◌, Bool, false, List, [], ◌∷◌, ◌++◌, Option, Some, None, nat_lt, nat_le, is_some, unwrap_or, replicate, slice_set, slice_index_or, map, take, drop, if◌then◌else◌}
+use Rattle.std.specs.Prelude.{ℕ, ◌+◌, ◌/◌, ◌%◌, ◌==◌, ◌&&◌, ◌||◌, Bool, List, [], ◌∷◌, ◌++◌, Option, Some, None, nat_lt, nat_le, is_some, replicate, slice_set, slice_index_or, map, take, drop, if◌then◌else◌}
 use Rattle.std.specs.FinMap.{get}
 use Rattle.mpm_base.specs.declared.kind.Kind.{Kind}
 use Rattle.mpm_blocks.specs.Geometries.{block_records}
 use Rattle.mpm_mount.specs.Drives.{FileName, PhysicalExtent, Protection, DirectoryLabel, Drive, places, entry_name, block_place, with_record_in, extents_of, with_extent, without_extent, with_xfcb, without_xfcb}
+use Rattle.mpm_mount.specs.Attributes.{attributes_of}
+use Rattle.mpm_mount.specs.Files.{where_there}
 
 -- a single change of a drive, as it is asked for
 pub data FileUnit : Type 0 where
@@ -35,14 +37,6 @@ pub data FileUnit : Type 0 where
 -- a record that was never written, in a block that is
 abbrev pub zero_record : List ℕ
 zero_record = replicate 128 0
-
--- the attributes of a file that is there are those of its lowest entry; of one that isn't, none is set. ("File Attributes".)
-abbrev pub first_attributes : {K : Type 0} → List (K × PhysicalExtent) → Option (List Bool)
-first_attributes [] = None
-first_attributes (entry ∷ entries) = Some entry.1.attributes
-
-abbrev pub attributes_of : {K : Type 0} → List (K × PhysicalExtent) → List Bool
-attributes_of entries = unwrap_or (first_attributes entries) (replicate 11 false)
 
 -- a new entry of a file, for an extent: it holds no block
 unfoldable pub new_entry : Drive → FileName → ℕ → PhysicalExtent
@@ -81,11 +75,6 @@ abbrev pub written_extents : Kind → ℕ → List ℕ → PhysicalExtent → Li
 written_extents kind n bytes entry =
     if holds_block kind n entry then rewritten n (with_record_in entry (block_place kind n) (n % block_records kind) bytes)
     else (raised n (with_fresh_block kind n bytes entry) ∷ [])
-
--- of what is there
-abbrev pub where_there : {X Y : Type 0} → Option X → (X → List Y) → List Y
-where_there None f = []
-where_there (Some x) f = f x
 
 -- the last of some drives, or the one before them
 unfoldable pub last_of : Drive → List Drive → Drive

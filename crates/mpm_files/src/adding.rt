@@ -1,26 +1,26 @@
 ghost use Rattle.std.specs.Prelude.{◌≡◌, ◌≢◌, ◌+◌, ◌/◌, ◌%◌, ◌<◌, ◌≤◌, ℕ, List, Some, None, map, nat_le, replicate};
 ghost use Rattle.std.specs.FinMap.{get};
 ghost use Rattle.mpm_port.specs.Causes.{HasCause};
+ghost use Rattle.mpm_dirent.specs.Names.{plain};
 ghost use Rattle.mpm_blocks.specs.Geometries.{geometry_of};
 ghost use Rattle.mpm_blocks.specs.Sectors.{told_image};
 ghost use Rattle.mpm_mount.specs.Drives.{Drive, entry_name, extents_of, free_entries};
 ghost use Rattle.mpm_mount.specs.Directories.{Stands};
 ghost use Rattle.mpm_cache.specs.Coherent.{IsCoherent, HasNoAlias};
+ghost use Rattle.mpm_mount.specs.Attributes.{attributes_of};
 ghost use Rattle.mpm_sectors.specs.Disks.{Leaves};
 ghost use Rattle.mpm_files.specs.Standing.{Does};
-ghost use Rattle.mpm_mount.specs.Faults.{plain};
-ghost use Rattle.mpm_files.specs.Units.{AddsEntry, attributes_of};
+ghost use Rattle.mpm_files.specs.Units.{AddsEntry};
 ghost use Rattle.mpm_files.specs.Plans.{file_of_job};
 
 use crate::entries::put_entry;
 use crate::jobs::Job;
 use crate::marking::marked;
 use crate::renaming::file_at;
-use crate::searching::lowest_entry;
 use mpm_base::Steps;
 use mpm_cache::Cache;
 use mpm_dirent::{Entry, FileEntry};
-use mpm_mount::Mounted;
+use mpm_mount::{Mounted, lowest_entry};
 use mpm_port::{Drives, Failed};
 use std::sync::ledger::Ledger;
 
@@ -80,7 +80,7 @@ pub(crate) fn add_entry<D: Drives, L: Ledger>(
     ensures drive { mounted.new.drive ≡ mounted.old.drive }
     ensures kind { mounted.new.kind ≡ mounted.old.kind }
     ensures calls { steps.new ≤ steps.old + 2 }
-    ensures leaves { Leaves D.attached D.disks D.failed_names mounted.old.drive cache.old cache.new drives.old drives.new }
+    ensures leaves { Leaves D.attached D.disks D.failed_names D.unsynced mounted.old.drive cache.old cache.new drives.old drives.new }
     ensures cause { HasCause (D.faults drives.old) (D.faults drives.new) result }
 {
     let _kind = mounted.kind();

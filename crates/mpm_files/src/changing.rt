@@ -55,7 +55,7 @@ pub(crate) fn delete_next<D: Drives, L: Ledger>(
     ensures drive { mounted.new.drive ≡ mounted.old.drive }
     ensures kind { mounted.new.kind ≡ mounted.old.kind }
     ensures calls { steps.new ≤ steps.old + 2 }
-    ensures leaves { Leaves D.attached D.disks D.failed_names mounted.old.drive cache.old cache.new drives.old drives.new }
+    ensures leaves { Leaves D.attached D.disks D.failed_names D.unsynced mounted.old.drive cache.old cache.new drives.old drives.new }
     ensures cause { HasCause (D.faults drives.old) (D.faults drives.new) result }
 {
     let _kind = mounted.kind();
@@ -90,7 +90,7 @@ pub(crate) fn rename_next<D: Drives, L: Ledger>(
     ensures drive { mounted.new.drive ≡ mounted.old.drive }
     ensures kind { mounted.new.kind ≡ mounted.old.kind }
     ensures calls { steps.new ≤ steps.old + 2 }
-    ensures leaves { Leaves D.attached D.disks D.failed_names mounted.old.drive cache.old cache.new drives.old drives.new }
+    ensures leaves { Leaves D.attached D.disks D.failed_names D.unsynced mounted.old.drive cache.old cache.new drives.old drives.new }
     ensures cause { HasCause (D.faults drives.old) (D.faults drives.new) result }
 {
     let _kind = mounted.kind();
@@ -121,7 +121,7 @@ pub(crate) fn make_next<D: Drives, L: Ledger>(
     ensures drive { mounted.new.drive ≡ mounted.old.drive }
     ensures kind { mounted.new.kind ≡ mounted.old.kind }
     ensures calls { steps.new ≤ steps.old + 2 }
-    ensures leaves { Leaves D.attached D.disks D.failed_names mounted.old.drive cache.old cache.new drives.old drives.new }
+    ensures leaves { Leaves D.attached D.disks D.failed_names D.unsynced mounted.old.drive cache.old cache.new drives.old drives.new }
     ensures cause { HasCause (D.faults drives.old) (D.faults drives.new) result }
 {
     work.cleared = None;
@@ -151,7 +151,7 @@ pub(crate) fn put_next<D: Drives, L: Ledger>(
     ensures drive { mounted.new.drive ≡ mounted.old.drive }
     ensures kind { mounted.new.kind ≡ mounted.old.kind }
     ensures calls { steps.new ≤ steps.old + 2 }
-    ensures leaves { Leaves D.attached D.disks D.failed_names mounted.old.drive cache.old cache.new drives.old drives.new }
+    ensures leaves { Leaves D.attached D.disks D.failed_names D.unsynced mounted.old.drive cache.old cache.new drives.old drives.new }
     ensures cause { HasCause (D.faults drives.old) (D.faults drives.new) result }
 {
     work.cleared = None;

@@ -46,7 +46,7 @@ pub(crate) fn clear_block<D: Drives, L: Ledger>(
     ensures cleared { (image : List ℕ) (files : Drive) → told_image (D.disks drives.old) mounted.now.drive ≡ Some image → Stands image mounted.now files
         → IfOk result (λ block. StandsCleared (D.disks drives.new) mounted.now files block) }
     ensures calls { steps.new ≤ steps.old + 18 }
-    ensures leaves { Leaves D.attached D.disks D.failed_names mounted.now.drive cache.old cache.new drives.old drives.new }
+    ensures leaves { Leaves D.attached D.disks D.failed_names D.unsynced mounted.now.drive cache.old cache.new drives.old drives.new }
     ensures cause { HasCause (D.faults drives.old) (D.faults drives.new) result }
 {
     if !clears_blocks(mounted.kind()) {
@@ -77,7 +77,7 @@ fn clear_first<D: Drives, L: Ledger>(
     requires free { free_block mounted.now ≡ Some block }
     ensures puts { Puts mounted.now.drive mounted.now.kind (zeros_from (block_sector mounted.now.kind block) 18) (D.disks drives.old) (D.disks drives.new) result }
     ensures calls { steps.new ≤ steps.old + 18 }
-    ensures leaves { Leaves D.attached D.disks D.failed_names mounted.now.drive cache.old cache.new drives.old drives.new }
+    ensures leaves { Leaves D.attached D.disks D.failed_names D.unsynced mounted.now.drive cache.old cache.new drives.old drives.new }
     ensures cause { HasCause (D.faults drives.old) (D.faults drives.new) result }
 {
     let first = u32::from(block) * block_records(mounted.kind());

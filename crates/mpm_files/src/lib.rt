@@ -28,6 +28,5 @@ pub use errors::RecordError;
 pub use jobs::{Job, JobKind};
 pub use planning::{plan, turns};
 pub use records::read_error;
-pub use searching::lowest_entry;
 pub use turning::{Progress, turn};
 pub use work::Work;

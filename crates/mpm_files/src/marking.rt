@@ -1,5 +1,5 @@
 ghost use Rattle.std.specs.Prelude.{◌≡◌, ◌%◌, map, nat_le};
-ghost use Rattle.mpm_mount.specs.Faults.{plain};
+ghost use Rattle.mpm_dirent.specs.Names.{plain};
 ghost use Rattle.mpm_files.specs.Turning.{marks_set};
 
 /// A byte of a name with bit 7 of another.

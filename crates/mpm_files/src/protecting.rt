@@ -15,10 +15,9 @@ ghost use Rattle.mpm_files.specs.Turning.{xfcb_of_job, label_of_job};
 
 use crate::entries::put_entry;
 use crate::jobs::Job;
-use crate::searching::plain;
 use mpm_base::Steps;
 use mpm_cache::Cache;
-use mpm_dirent::{Entry, LabelEntry, XfcbEntry};
+use mpm_dirent::{Entry, LabelEntry, XfcbEntry, plain_name};
 use mpm_mount::Mounted;
 use mpm_port::{Drives, Failed};
 use std::sync::ledger::Ledger;
@@ -39,7 +38,7 @@ fn xfcb_of(job: &Job) -> XfcbEntry
 {
     XfcbEntry {
         user: job.user,
-        name: plain(&job.name),
+        name: plain_name(&job.name),
         mode: job.bytes[0],
         decode: job.bytes[1],
         password: bytes_at(job, 2),
@@ -79,7 +78,7 @@ pub(crate) fn put_xfcb<D: Drives, L: Ledger>(
     ensures drive { mounted.new.drive ≡ mounted.old.drive }
     ensures kind { mounted.new.kind ≡ mounted.old.kind }
     ensures calls { steps.new ≤ steps.old + 2 }
-    ensures leaves { Leaves D.attached D.disks D.failed_names mounted.old.drive cache.old cache.new drives.old drives.new }
+    ensures leaves { Leaves D.attached D.disks D.failed_names D.unsynced mounted.old.drive cache.old cache.new drives.old drives.new }
     ensures cause { HasCause (D.faults drives.old) (D.faults drives.new) result }
 {
     let _kind = mounted.kind();
@@ -113,7 +112,7 @@ pub(crate) fn put_label<D: Drives, L: Ledger>(
     ensures drive { mounted.new.drive ≡ mounted.old.drive }
     ensures kind { mounted.new.kind ≡ mounted.old.kind }
     ensures calls { steps.new ≤ steps.old + 2 }
-    ensures leaves { Leaves D.attached D.disks D.failed_names mounted.old.drive cache.old cache.new drives.old drives.new }
+    ensures leaves { Leaves D.attached D.disks D.failed_names D.unsynced mounted.old.drive cache.old cache.new drives.old drives.new }
     ensures cause { HasCause (D.faults drives.old) (D.faults drives.new) result }
 {
     let _kind = mounted.kind();

@@ -45,7 +45,8 @@ pub(crate) fn read_record<D: Drives, L: Ledger>(
     ensures calls { steps.new ≤ steps.old + 1 }
     ensures cached { IsRecordCached cache.old mounted.now (file_of_job job.now) n → steps.new ≡ steps.old }
     ensures disks { Told SameDisks (D.disks drives.old) (D.disks drives.new) }
-    ensures leaves { Leaves D.attached D.disks D.failed_names mounted.now.drive cache.old cache.new drives.old drives.new }
+    ensures unsynced { (other : ℕ) → D.unsynced drives.new other ≡ D.unsynced drives.old other }
+    ensures leaves { Leaves D.attached D.disks D.failed_names D.unsynced mounted.now.drive cache.old cache.new drives.old drives.new }
     ensures cause { HasCause (D.faults drives.old) (D.faults drives.new) result }
 {
     let found = match find_entry(mounted, job, n) {

@@ -1,8 +1,8 @@
 ghost use Rattle.std.specs.Prelude.{◌≡◌, ◌/◌, ◌≤◌, ℕ, List};
+ghost use Rattle.mpm_dirent.specs.Names.{plain};
 ghost use Rattle.mpm_blocks.specs.Geometries as geometries;
 ghost use Rattle.mpm_mount.specs.Drives as drives;
 ghost use Rattle.mpm_mount.specs.Drives.{Drive};
-ghost use Rattle.mpm_mount.specs.Faults.{plain};
 ghost use Rattle.mpm_mount.specs.Directories.{extent_slot, Stands};
 ghost use Rattle.mpm_files.specs.Plans.{file_of_job};
 ghost use Rattle.mpm_files.specs.Plans as plans;
@@ -65,7 +65,7 @@ fn block_number(kind: Kind, entry: &Entry, n: u32) -> u16
 }
 
 /// Whether no block is held for a record.
-#[tactic(auto, using(crate::proofs::Slots::slot_within))]
+#[tactic(auto, using(mpm_mount::proofs::Positions::slot_within))]
 pub(crate) fn lacks_block(mounted: &Mounted, job: &Job, n: u32) -> bool
     requires { n ≤ 262286 }
     ensures { result ≡ spec.lacks_block mounted.now (file_of_job job.now) n }
@@ -112,7 +112,7 @@ fn entry_error(kind: Kind, entry: &Entry, n: u32) -> Option<RecordError>
 }
 
 /// What keeps a record of a user's file from being read.
-#[tactic(auto, using(crate::proofs::Slots::slot_within))]
+#[tactic(auto, using(mpm_mount::proofs::Positions::slot_within))]
 fn error_of(mounted: &Mounted, user: u8, name: &[u8; 11], n: u32) -> Option<RecordError>
     requires { n ≤ 262286 }
     ensures { result ≡ spec.record_error mounted.now (record { user = user; name = plain name.now }) n }

@@ -10,21 +10,21 @@ ghost use Rattle.mpm_sectors.specs.Disks.{Leaves};
 ghost use Rattle.mpm_files.specs.Standing.{Does};
 ghost use Rattle.mpm_dirent.specs.declared.kinds.Entry.TheVariants.{File};
 ghost use Rattle.mpm_dirent.specs.declared.kinds.FileEntry.{FileEntry};
-ghost use Rattle.mpm_mount.specs.Faults.{extent_of, name_of};
+ghost use Rattle.mpm_mount.specs.Faults.{name_of};
+ghost use Rattle.mpm_mount.specs.Attributes.{attributes_in};
+ghost use Rattle.mpm_mount.specs.Files.{file_in};
 ghost use Rattle.mpm_files.specs.Units.{SetsAttributes, RenamesEntry, RenamesXfcb};
-ghost use Rattle.mpm_files.specs.Plans.{file_of_job, new_file_of_job, attributes_in};
-ghost use Rattle.mpm_files.specs.Counting.{file_in};
+ghost use Rattle.mpm_files.specs.Plans.{file_of_job, new_file_of_job};
 ghost use Rattle.mpm_files.specs.Turning.{IsFileAt};
 
 use crate::entries::put_entry;
 use crate::jobs::Job;
 use crate::lookups::find_xfcb;
 use crate::marking::{attributes_over, marked};
-use crate::searching::plain;
 use mpm_base::Steps;
 use mpm_cache::Cache;
-use mpm_dirent::{Entry, FileEntry, XfcbEntry};
-use mpm_mount::Mounted;
+use mpm_dirent::{Entry, FileEntry, XfcbEntry, plain_name};
+use mpm_mount::{Mounted, last_extent};
 use mpm_port::{Drives, Failed};
 use std::sync::ledger::Ledger;
 
@@ -39,13 +39,6 @@ pub(crate) fn file_at(mounted: &Mounted, slot: u16) -> Option<FileEntry>
         Entry::File { file } => Some(*file),
         _ => None,
     }
-}
-
-/// The last extent of a directory entry.
-fn last_extent(file: &FileEntry) -> u16
-    ensures { result ≡ extent_of file.now }
-{
-    32 * u16::from(file.s2) + u16::from(file.ex)
 }
 
 /// Gives the entry in a slot the attributes of a job.
@@ -67,7 +60,7 @@ pub(crate) fn set_attributes<D: Drives, L: Ledger>(
     ensures drive { mounted.new.drive ≡ mounted.old.drive }
     ensures kind { mounted.new.kind ≡ mounted.old.kind }
     ensures calls { steps.new ≤ steps.old + 2 }
-    ensures leaves { Leaves D.attached D.disks D.failed_names mounted.old.drive cache.old cache.new drives.old drives.new }
+    ensures leaves { Leaves D.attached D.disks D.failed_names D.unsynced mounted.old.drive cache.old cache.new drives.old drives.new }
     ensures cause { HasCause (D.faults drives.old) (D.faults drives.new) result }
 {
     let Some(file) = file_at(mounted, slot) else {
@@ -100,7 +93,7 @@ pub(crate) fn rename_entry<D: Drives, L: Ledger>(
     ensures drive { mounted.new.drive ≡ mounted.old.drive }
     ensures kind { mounted.new.kind ≡ mounted.old.kind }
     ensures calls { steps.new ≤ steps.old + 2 }
-    ensures leaves { Leaves D.attached D.disks D.failed_names mounted.old.drive cache.old cache.new drives.old drives.new }
+    ensures leaves { Leaves D.attached D.disks D.failed_names D.unsynced mounted.old.drive cache.old cache.new drives.old drives.new }
     ensures cause { HasCause (D.faults drives.old) (D.faults drives.new) result }
 {
     let _kind = mounted.kind();
@@ -134,7 +127,7 @@ pub(crate) fn rename_xfcb<D: Drives, L: Ledger>(
     ensures drive { mounted.new.drive ≡ mounted.old.drive }
     ensures kind { mounted.new.kind ≡ mounted.old.kind }
     ensures calls { steps.new ≤ steps.old + 2 }
-    ensures leaves { Leaves D.attached D.disks D.failed_names mounted.old.drive cache.old cache.new drives.old drives.new }
+    ensures leaves { Leaves D.attached D.disks D.failed_names D.unsynced mounted.old.drive cache.old cache.new drives.old drives.new }
     ensures cause { HasCause (D.faults drives.old) (D.faults drives.new) result }
 {
     let Some(found) = find_xfcb(mounted, job) else {
@@ -144,7 +137,7 @@ pub(crate) fn rename_xfcb<D: Drives, L: Ledger>(
         Some(_) => Ok(()),
         None => {
             let xfcb = XfcbEntry {
-                name: plain(&job.new_name),
+                name: plain_name(&job.new_name),
                 ..found.xfcb
             };
             put_entry(

@@ -1,18 +1,14 @@
-ghost use Rattle.std.specs.Prelude.{◌≡◌, ◌<◌, ◌≤◌, ℕ, List, IfSome, length, count_by, bytes_eq};
+ghost use Rattle.std.specs.Prelude.{◌≡◌, ◌≤◌, ℕ, count_by, bytes_eq};
 ghost use Rattle.std.specs.List.{list_any};
-ghost use Rattle.mpm_mount.specs.Faults as faults;
-ghost use Rattle.mpm_mount.specs.Drives.{Drive, extents_of};
+ghost use Rattle.mpm_dirent.specs.Names as names;
 ghost use Rattle.mpm_mount.specs.Directories as directory;
-ghost use Rattle.mpm_mount.specs.Directories.{Stands};
-ghost use Rattle.mpm_files.specs.Plans as plans;
+ghost use Rattle.mpm_mount.specs.Files as lookups;
 ghost use Rattle.mpm_files.specs.Counting as spec;
-ghost use Rattle.mpm_files.specs.Units.{first_attributes};
-ghost use Rattle.mpm_files.specs.Lookups.{attributes_where, IsEntryOf};
 
 use crate::jobs::Job;
 use mpm_blocks::geometry;
-use mpm_dirent::Entry;
-use mpm_mount::{Found, Mounted};
+use mpm_dirent::{Entry, plain_name};
+use mpm_mount::Mounted;
 use mpm_names::matches;
 
 /// Which directory entries are counted.
@@ -24,28 +20,16 @@ pub(crate) enum Sought {
     Deleted,
 }
 
-/// A name without the attributes in bit 7.
-#[tactic(auto, using(mpm_mount::proofs::Ranges::plain_all))]
-pub(crate) fn plain(name: &[u8; 11]) -> [u8; 11]
-    ensures { result ≡ faults.plain name.now }
-{
-    let mut plain = *name;
-    for place in 0..11 {
-        plain[place] = name[place] % 128;
-    }
-    plain
-}
-
 /// Whether two names are one without the attributes in bit 7.
 fn is_same_name(a: &[u8; 11], b: &[u8; 11]) -> bool
-    ensures { result ≡ bytes_eq (faults.plain a.now) (faults.plain b.now) }
+    ensures { result ≡ bytes_eq (names.plain a.now) (names.plain b.now) }
 {
-    plain(a) == plain(b)
+    plain_name(a) == plain_name(b)
 }
 
 /// Whether an entry is of a user's file.
 fn is_part_of(user: u8, name: &[u8; 11], entry: &Entry) -> bool
-    ensures { result ≡ spec.is_part_of (spec.file_in user name.now) entry.now }
+    ensures { result ≡ lookups.is_part_of (lookups.file_in user name.now) entry.now }
 {
     match entry {
         Entry::File { file } => user == file.user && is_same_name(name, &file.name),
@@ -55,15 +39,15 @@ fn is_part_of(user: u8, name: &[u8; 11], entry: &Entry) -> bool
 
 /// Whether a user's file fits the name of a job.
 fn is_fitting(job: &Job, user: u8, name: &[u8; 11]) -> bool
-    ensures { result ≡ plans.is_fitting job.now.user job.now.name (spec.file_in user name.now) }
+    ensures { result ≡ lookups.is_fitting job.now.user job.now.name (lookups.file_in user name.now) }
 {
-    user == job.user && matches(&job.name, &plain(name))
+    user == job.user && matches(&job.name, &plain_name(name))
 }
 
 /// Whether a user's file is there.
 #[tactic(auto, using(crate::proofs::EntryCounts::any_more, crate::proofs::EntryCounts::any_found, crate::proofs::EntryCounts::taken_whole))]
 pub(crate) fn has_file(mounted: &Mounted, user: u8, name: &[u8; 11]) -> bool
-    ensures { result ≡ list_any (spec.is_part_of (spec.file_in user name.now)) mounted.now.entries }
+    ensures { result ≡ list_any (lookups.is_part_of (lookups.file_in user name.now)) mounted.now.entries }
 {
     let kind = mounted.kind();
     for slot in 0..geometry(kind).drm + 1 {
@@ -72,24 +56,6 @@ pub(crate) fn has_file(mounted: &Mounted, user: u8, name: &[u8; 11]) -> bool
         }
     }
     false
-}
-
-/// The lowest directory entry of a user's file, by its exact name: bytes that fit each other byte in a search are sought as they are.
-pub fn lowest_entry(mounted: &Mounted, user: u8, name: &[u8; 11]) -> Option<Found>
-    ensures attributes { (image : List ℕ) (files : Drive) → Stands image mounted.now files
-        → first_attributes (extents_of files (record { user = user; name = faults.plain name.now })) ≡ attributes_where mounted.now result }
-    ensures within { IfSome result (λ found. found.slot < length mounted.now.entries) }
-    ensures found { IfSome result (λ found. IsEntryOf mounted.now (record { user = user; name = faults.plain name.now }) found) }
-{
-    let sought = plain(name);
-    let mut last = None;
-    while let Some(found) = mounted.next(user, name, last) {
-        if found.name == sought {
-            return Some(found);
-        }
-        last = Some(found);
-    }
-    None
 }
 
 /// Whether a job deletes an entry.

@@ -9,10 +9,11 @@ ghost use Rattle.mpm_mount.specs.Faults.{cause_of};
 ghost use Rattle.mpm_mount.specs.Changes.{exchanged};
 ghost use Rattle.mpm_mount.specs.Directories.{Stands, others, entry_in};
 ghost use Rattle.mpm_cache.specs.Coherent.{IsCoherent, HasNoAlias};
+ghost use Rattle.mpm_mount.specs.Files.{is_file};
 ghost use Rattle.mpm_sectors.specs.Disks.{Leaves};
 ghost use Rattle.mpm_files.specs.Units.{Idles, stamped, with_stamp};
 ghost use Rattle.mpm_files.specs.Plans.{file_of_job};
-ghost use Rattle.mpm_files.specs.Lookups.{HasXfcb, is_file, stamped_in, stamped_entry};
+ghost use Rattle.mpm_files.specs.Lookups.{HasXfcb, stamped_in, stamped_entry};
 ghost use Rattle.mpm_files.specs.Standing.{GoesThrough, Does};
 
 use crate::entries::{put_entries, put_entry};
@@ -69,7 +70,7 @@ pub(crate) fn put_stamp<D: Drives, L: Ledger>(
     ensures drive { mounted.new.drive ≡ mounted.old.drive }
     ensures kind { mounted.new.kind ≡ mounted.old.kind }
     ensures calls { steps.new ≤ steps.old + 2 }
-    ensures leaves { Leaves D.attached D.disks D.failed_names mounted.old.drive cache.old cache.new drives.old drives.new }
+    ensures leaves { Leaves D.attached D.disks D.failed_names D.unsynced mounted.old.drive cache.old cache.new drives.old drives.new }
     ensures cause { HasCause (D.faults drives.old) (D.faults drives.new) result }
 {
     let moment = match moment {
@@ -108,7 +109,7 @@ pub(crate) fn idle<D: Drives, L: Ledger>(
     ensures drive { mounted.new.drive ≡ mounted.old.drive }
     ensures kind { mounted.new.kind ≡ mounted.old.kind }
     ensures calls { steps.new ≤ steps.old + 2 }
-    ensures leaves { Leaves D.attached D.disks D.failed_names mounted.old.drive cache.old cache.new drives.old drives.new }
+    ensures leaves { Leaves D.attached D.disks D.failed_names D.unsynced mounted.old.drive cache.old cache.new drives.old drives.new }
     ensures cause { HasCause (D.faults drives.old) (D.faults drives.new) result }
 {
     put_stamp(mounted, cache, drives, job, Stamp::First, moment, steps)
@@ -140,7 +141,7 @@ pub(crate) fn put_stamped<D: Drives, L: Ledger>(
     ensures drive { mounted.new.drive ≡ mounted.old.drive }
     ensures kind { mounted.new.kind ≡ mounted.old.kind }
     ensures calls { steps.new ≤ steps.old + 4 }
-    ensures leaves { Leaves D.attached D.disks D.failed_names mounted.old.drive cache.old cache.new drives.old drives.new }
+    ensures leaves { Leaves D.attached D.disks D.failed_names D.unsynced mounted.old.drive cache.old cache.new drives.old drives.new }
     ensures cause { HasCause (D.faults drives.old) (D.faults drives.new) result }
 {
     let second = match moment {
@@ -179,7 +180,7 @@ fn put_apart<D: Drives, L: Ledger>(
     ensures drive { mounted.new.drive ≡ mounted.old.drive }
     ensures kind { mounted.new.kind ≡ mounted.old.kind }
     ensures calls { steps.new ≤ steps.old + 4 }
-    ensures leaves { Leaves D.attached D.disks D.failed_names mounted.old.drive cache.old cache.new drives.old drives.new }
+    ensures leaves { Leaves D.attached D.disks D.failed_names D.unsynced mounted.old.drive cache.old cache.new drives.old drives.new }
     ensures cause { HasCause (D.faults drives.old) (D.faults drives.new) result }
 {
     match put_entry(
@@ -223,7 +224,7 @@ fn put_both<D: Drives, L: Ledger>(
     ensures drive { mounted.new.drive ≡ mounted.old.drive }
     ensures kind { mounted.new.kind ≡ mounted.old.kind }
     ensures calls { steps.new ≤ steps.old + 2 }
-    ensures leaves { Leaves D.attached D.disks D.failed_names mounted.old.drive cache.old cache.new drives.old drives.new }
+    ensures leaves { Leaves D.attached D.disks D.failed_names D.unsynced mounted.old.drive cache.old cache.new drives.old drives.new }
     ensures cause { HasCause (D.faults drives.old) (D.faults drives.new) result }
 {
     let xfcb = stamped(&found.xfcb, Stamp::Second, moment);

@@ -49,8 +49,9 @@ fn do_next<D: Drives, L: Ledger>(
     ensures kind { mounted.new.kind ≡ mounted.old.kind }
     ensures calls { steps.new ≤ steps.old + 20 }
     ensures reads { work.old.job.kind ≡ kinds.Read → steps.new ≤ steps.old + 1 }
+    ensures reads_only { work.old.job.kind ≡ kinds.Read → (other : ℕ) → D.unsynced drives.new other ≡ D.unsynced drives.old other }
     ensures cached { work.old.job.kind ≡ kinds.Read → IsNextCached cache.old mounted.old work.old → steps.new ≡ steps.old }
-    ensures leaves { Leaves D.attached D.disks D.failed_names mounted.old.drive cache.old cache.new drives.old drives.new }
+    ensures leaves { Leaves D.attached D.disks D.failed_names D.unsynced mounted.old.drive cache.old cache.new drives.old drives.new }
     ensures cause { HasCause (D.faults drives.old) (D.faults drives.new) result }
 {
     match work.job.kind {
@@ -88,8 +89,9 @@ fn do_unit<D: Drives, L: Ledger>(
     ensures kind { mounted.new.kind ≡ mounted.old.kind }
     ensures calls { steps.new ≤ steps.old + 20 }
     ensures reads { work.old.job.kind ≡ kinds.Read → steps.new ≤ steps.old + 1 }
+    ensures reads_only { work.old.job.kind ≡ kinds.Read → (other : ℕ) → D.unsynced drives.new other ≡ D.unsynced drives.old other }
     ensures cached { work.old.job.kind ≡ kinds.Read → IsNextCached cache.old mounted.old work.old → steps.new ≡ steps.old }
-    ensures leaves { Leaves D.attached D.disks D.failed_names mounted.old.drive cache.old cache.new drives.old drives.new }
+    ensures leaves { Leaves D.attached D.disks D.failed_names D.unsynced mounted.old.drive cache.old cache.new drives.old drives.new }
     ensures cause { HasCause (D.faults drives.old) (D.faults drives.new) result }
 {
     if work.ended < work.units {
@@ -122,8 +124,9 @@ pub fn turn<D: Drives, L: Ledger>(
     ensures kind { mounted.new.kind ≡ mounted.old.kind }
     ensures calls { steps.new ≤ steps.old + 20 }
     ensures reads { work.old.job.kind ≡ kinds.Read → steps.new ≤ steps.old + 1 }
+    ensures reads_only { work.old.job.kind ≡ kinds.Read → (other : ℕ) → D.unsynced drives.new other ≡ D.unsynced drives.old other }
     ensures cached { work.old.job.kind ≡ kinds.Read → IsNextCached cache.old mounted.old work.old → steps.new ≡ steps.old }
-    ensures leaves { Leaves D.attached D.disks D.failed_names mounted.old.drive cache.old cache.new drives.old drives.new }
+    ensures leaves { Leaves D.attached D.disks D.failed_names D.unsynced mounted.old.drive cache.old cache.new drives.old drives.new }
     ensures cause { HasCause (D.faults drives.old) (D.faults drives.new) result }
 {
     match do_unit(mounted, cache, drives, work, steps) {

@@ -122,7 +122,7 @@ pub(crate) fn put_held<D: Drives, L: Ledger>(
     ensures drive { mounted.new.drive ≡ mounted.old.drive }
     ensures kind { mounted.new.kind ≡ mounted.old.kind }
     ensures calls { steps.new ≤ steps.old + 5 }
-    ensures leaves { Leaves D.attached D.disks D.failed_names mounted.old.drive cache.old cache.new drives.old drives.new }
+    ensures leaves { Leaves D.attached D.disks D.failed_names D.unsynced mounted.old.drive cache.old cache.new drives.old drives.new }
     ensures cause { HasCause (D.faults drives.old) (D.faults drives.new) result }
 {
     let found = match find_entry(mounted, job, record.number) {
@@ -164,7 +164,7 @@ pub(crate) fn put_fresh<D: Drives, L: Ledger>(
     ensures drive { mounted.new.drive ≡ mounted.old.drive }
     ensures kind { mounted.new.kind ≡ mounted.old.kind }
     ensures calls { steps.new ≤ steps.old + 20 }
-    ensures leaves { Leaves D.attached D.disks D.failed_names mounted.old.drive cache.old cache.new drives.old drives.new }
+    ensures leaves { Leaves D.attached D.disks D.failed_names D.unsynced mounted.old.drive cache.old cache.new drives.old drives.new }
     ensures cause { HasCause (D.faults drives.old) (D.faults drives.new) result }
 {
     let found = match find_entry(mounted, job, record.number) {
@@ -211,7 +211,7 @@ fn put_sector<D: Drives, L: Ledger>(
     ensures puts { Puts mounted.now.drive mounted.now.kind (record { sector = sector; bytes = bytes.now } ∷ []) (D.disks drives.old) (D.disks drives.new) result }
     ensures long { length bytes.now ≡ 128 }
     ensures calls { steps.new ≤ steps.old + 1 }
-    ensures leaves { Leaves D.attached D.disks D.failed_names mounted.now.drive cache.old cache.new drives.old drives.new }
+    ensures leaves { Leaves D.attached D.disks D.failed_names D.unsynced mounted.now.drive cache.old cache.new drives.old drives.new }
     ensures cause { HasCause (D.faults drives.old) (D.faults drives.new) result }
 {
     disk_of(mounted).put(cache, drives, sector, bytes, steps)
@@ -238,7 +238,7 @@ fn put_in_block<D: Drives, L: Ledger>(
         (with_extent files (name_of mounted.now.kind found.now.file)
         (spec.with_record mounted.now.kind record.now.number record.now.bytes (extent_in (sectors_of image mounted.now.kind) mounted.now.kind found.now.file)) ∷ []) result }
     ensures calls { steps.new ≤ steps.old + 1 }
-    ensures leaves { Leaves D.attached D.disks D.failed_names mounted.now.drive cache.old cache.new drives.old drives.new }
+    ensures leaves { Leaves D.attached D.disks D.failed_names D.unsynced mounted.now.drive cache.old cache.new drives.old drives.new }
     ensures cause { HasCause (D.faults drives.old) (D.faults drives.new) result }
 {
     put_sector(mounted, cache, drives, sector, &record.bytes, steps)
@@ -265,7 +265,7 @@ fn put_raised<D: Drives, L: Ledger>(
     ensures drive { mounted.new.drive ≡ mounted.old.drive }
     ensures kind { mounted.new.kind ≡ mounted.old.kind }
     ensures calls { steps.new ≤ steps.old + 4 }
-    ensures leaves { Leaves D.attached D.disks D.failed_names mounted.old.drive cache.old cache.new drives.old drives.new }
+    ensures leaves { Leaves D.attached D.disks D.failed_names D.unsynced mounted.old.drive cache.old cache.new drives.old drives.new }
     ensures cause { HasCause (D.faults drives.old) (D.faults drives.new) result }
 {
     if is_above(&found.file, record.number) {
@@ -315,7 +315,7 @@ fn put_with_block<D: Drives, L: Ledger>(
         (block_writes mounted.now.kind block clear index bytes.now) (D.disks drives.old) (D.disks drives.new) result }
     ensures long { length bytes.now ≡ 128 }
     ensures calls { steps.new ≤ steps.old + 16 }
-    ensures leaves { Leaves D.attached D.disks D.failed_names mounted.now.drive cache.old cache.new drives.old drives.new }
+    ensures leaves { Leaves D.attached D.disks D.failed_names D.unsynced mounted.now.drive cache.old cache.new drives.old drives.new }
     ensures cause { HasCause (D.faults drives.old) (D.faults drives.new) result }
 {
     disk_of(mounted).put_block(cache, drives, block, clear, index, bytes, steps)
@@ -346,7 +346,7 @@ fn put_taken<D: Drives, L: Ledger>(
     ensures drive { mounted.new.drive ≡ mounted.old.drive }
     ensures kind { mounted.new.kind ≡ mounted.old.kind }
     ensures calls { steps.new ≤ steps.old + 4 }
-    ensures leaves { Leaves D.attached D.disks D.failed_names mounted.old.drive cache.old cache.new drives.old drives.new }
+    ensures leaves { Leaves D.attached D.disks D.failed_names D.unsynced mounted.old.drive cache.old cache.new drives.old drives.new }
     ensures cause { HasCause (D.faults drives.old) (D.faults drives.new) result }
 {
     let taken = taken(mounted, &found.file, record.number, block);

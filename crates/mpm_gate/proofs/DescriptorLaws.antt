@@ -1,9 +1,9 @@
 -- Process descriptors that are chained, as they are taken one by one.
 use Rattle.std.proofs.Common.{◌≡◌, ◌≢◌, ℕ, zero, suc, ◌+◌, ◌*◌, ◌%◌, ◌<◌, ◌≤◌, ◌==◌, Bool, true, false, cond, List, [], ◌++◌, length, refl, ap, sym, ◌∙◌, arith, eq-eqb, ne_eqb}
 use Rattle.std.proofs.lemmas.List.{append-nil, append_assoc, length-append}
-use Rattle.z80_regs.specs.Words.{onward}
+use Rattle.z80_regs.specs.Words.{onward, word_from}
 use Rattle.mpm_base.specs.Calls.{Taken}
-use Rattle.mpm_gate.specs.Bytes.{word_from, bytes_from}
+use Rattle.mpm_gate.specs.Bytes.{bytes_from}
 use Rattle.mpm_gate.specs.Calls.{with_more, descriptor_from, descriptors_from}
 use Rattle.mpm_gate.proofs.BytesLaws.{length_bytes}
 

@@ -5,9 +5,9 @@ use Rattle.std.proofs.Math.Nat.{mul-le-mul_right}
 use Rattle.std.proofs.lemmas.List.{length-append}
 use Rattle.std.proofs.lemmas.Bool.Decides.{nat_tests}
 use Rattle.mpm_base.proofs.Choices.{either}
-use Rattle.z80_regs.specs.Words.{onward, word_of}
+use Rattle.z80_regs.specs.Words.{onward, word_of, word_from}
 use Rattle.z80_regs.specs.declared.regs.Regs.{Regs}
-use Rattle.mpm_gate.specs.Bytes.{word_from, bytes_from}
+use Rattle.mpm_gate.specs.Bytes.{bytes_from}
 use Rattle.mpm_gate.specs.Texts.{text_from}
 use Rattle.mpm_base.specs.Lists.{is_among}
 use Rattle.mpm_gate.specs.Reads.{Row, table, reads_by, reads_of, most_read}

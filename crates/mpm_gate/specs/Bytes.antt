@@ -1,11 +1,7 @@
 -- Bytes of a caller's memory, which is seen as the byte of each address. Addresses go on from FFFFh to 0000h.
 use Rattle.std.specs.Prelude.{◌≡◌, ℕ, ◌<◌, List, map}
 use Rattle.std.specs.List.{range_with_len}
-use Rattle.z80_regs.specs.Words.{onward, word_of}
-
--- the word at an address, low byte first
-abbrev pub word_from : (ℕ → ℕ) → ℕ → ℕ
-word_from memory address = word_of (memory address) (memory (onward address 1))
+use Rattle.z80_regs.specs.Words.{onward}
 
 -- so many bytes from an address on
 unfoldable pub bytes_from : (ℕ → ℕ) → ℕ → ℕ → List ℕ

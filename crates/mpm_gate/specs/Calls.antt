@@ -1,11 +1,11 @@
 -- A kernel call as it is taken in its gate step. (MP/M II Programmer's Guide, "BDOS Calling Conventions", "XDOS Function
 -- Calls"; MP/M II System Guide, "Process Descriptor".)
 use Rattle.std.specs.Prelude.{ℕ, zero, suc, ◌*◌, List, [], ◌++◌, ◌==◌, if◌then◌else◌}
-use Rattle.z80_regs.specs.Words.{onward, word_of}
+use Rattle.z80_regs.specs.Words.{onward, word_of, word_from}
 use Rattle.z80_regs.specs.declared.regs.Regs.{Regs}
 use Rattle.mpm_base.specs.Lists.{zeros}
 use Rattle.mpm_base.specs.Calls.{Taken}
-use Rattle.mpm_gate.specs.Bytes.{word_from, bytes_from}
+use Rattle.mpm_gate.specs.Bytes.{bytes_from}
 use Rattle.mpm_gate.specs.Texts.{text_from}
 use Rattle.mpm_gate.specs.Reads.{reads_of}
 use Rattle.mpm_gate.specs.declared.take.TextEnd.TheVariants.{Dollar, NullOrReturn}

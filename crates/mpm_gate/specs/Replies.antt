@@ -1,11 +1,11 @@
 -- The reply of a kernel call as it is placed, and the return address as it is taken. (MP/M II Programmer's Guide, "BDOS
 -- Calling Conventions".)
 use Rattle.std.specs.Prelude.{ℕ, List, Option, Some, None, false, length, ◌⊎◌}
-use Rattle.z80_regs.specs.Words.{onward, low, high}
+use Rattle.z80_regs.specs.Words.{onward, low, high, word_from}
 use Rattle.z80_regs.specs.declared.regs.Regs.{Regs}
 use Rattle.mpm_base.specs.Calls.{Answer}
 use Rattle.mpm_banks.specs.Memory.{Memory, with_bytes}
-use Rattle.mpm_gate.specs.Bytes.{word_from, IsNamed}
+use Rattle.mpm_gate.specs.Bytes.{IsNamed}
 
 -- the registers with an answer: HL, and the same in A and B
 unfoldable pub answered : ℕ → Regs → Regs

@@ -1,7 +1,8 @@
 ghost use Rattle.std.specs.Prelude.{◌≡◌, ◌<◌, ◌↔◌, length, IsSome, IfSome};
 ghost use Rattle.mpm_banks.specs.Memory.{byte_at};
 ghost use Rattle.mpm_banks.specs.Ranges.{range_of};
-ghost use Rattle.mpm_gate.specs.Bytes.{word_from, bytes_from};
+ghost use Rattle.z80_regs.specs.Words.{word_from};
+ghost use Rattle.mpm_gate.specs.Bytes.{bytes_from};
 
 use mpm_banks::Banks;
 use mpm_base::Seg;

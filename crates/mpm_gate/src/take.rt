@@ -1,6 +1,7 @@
-ghost use Rattle.std.specs.Prelude.{◌≡◌, ◌<◌, ◌≤◌, ◌+◌, length};
+ghost use Rattle.std.specs.Prelude.{◌≡◌, ◌≤◌, ◌+◌, length};
 ghost use Rattle.mpm_banks.specs.Memory.{byte_at};
-ghost use Rattle.mpm_gate.specs.Bytes.{word_from, bytes_from};
+ghost use Rattle.z80_regs.specs.Words.{word_from};
+ghost use Rattle.mpm_gate.specs.Bytes.{bytes_from};
 ghost use Rattle.mpm_gate.specs.Texts.{text_from};
 ghost use Rattle.mpm_gate.specs.Calls.{with_more, descriptor_from, descriptors_from, taken_call};
 

@@ -1,9 +1,9 @@
 -- What was encoded is decoded again; and who is let in, by equal passwords.
-use Rattle.std.proofs.Common.{◌≡◌, ◌∙◌, ℕ, Bool, true, false, ◌||◌, List, [], ◌∷◌, ◌++◌, map, reverse, sym, refl, ap, inl, inr}
+use Rattle.std.proofs.Common.{◌≡◌, ◌∙◌, ℕ, true, List, [], ◌∷◌, ◌++◌, map, reverse, sym, refl, ap, inl, inr}
 use Rattle.std.specs.Prelude.{bit_xor, bytes_eq, replicate}
 use Rattle.std.proofs.lemmas.List.{map-append, reverse-append, reverse-reverse}
 use Rattle.std.proofs.lemmas.Slice.Eq.{bytes_eq-Decides}
-use Rattle.std.proofs.lemmas.Bool.{or_right, or_cases}
+use Rattle.std.proofs.lemmas.Bool.{or_right, or_cases, or_left}
 use lib.Bits.{xor_assoc, xor_self, xor_zero_r}
 use Rattle.mpm_dirent.specs.declared.kinds.XfcbEntry.{XfcbEntry}
 use Rattle.mpm_dirent.specs.declared.kinds.LabelEntry.{LabelEntry}
@@ -31,10 +31,6 @@ decoded_back decode bytes =
     let f : ℕ → ℕ = λ byte. bit_xor byte decode in
     ap (map f) (reverse_map f (reverse bytes) ∙ ap (map f) (reverse-reverse bytes)) ∙ each_back decode bytes
 
-left : (a b : Bool) → a ≡ true → (a || b) ≡ true
-left true b e = refl
-left false b e = absurd (cc)
-
 -- who knows the password that is kept
 knows : (decode : ℕ) (stored given default : List ℕ) → has_password decode stored given default ≡ true → Knows decode stored given default
 knows decode stored given default e =
@@ -48,7 +44,7 @@ has : (decode : ℕ) (stored given default : List ℕ) → Knows decode stored g
 has decode stored given default known =
     let kept = decoded decode stored in
     elim known [
-      | inl own ↦ left (bytes_eq given kept) (bytes_eq default kept) ((bytes_eq-Decides given kept).1 own)
+      | inl own ↦ or_left (bytes_eq given kept) (bytes_eq default kept) ((bytes_eq-Decides given kept).1 own)
       | inr by_default ↦ or_right (bytes_eq given kept) (bytes_eq default kept) ((bytes_eq-Decides default kept).1 by_default)
     ]
 
@@ -68,7 +64,7 @@ unfolding is_admitted
 is_let_in label xfcb need given default may =
     let kept = has_password xfcb.decode xfcb.password given default in
     elim may [
-      | inl unguarded ↦ left (is_unguarded label xfcb need) kept unguarded
+      | inl unguarded ↦ or_left (is_unguarded label xfcb need) kept unguarded
       | inr known ↦ or_right (is_unguarded label xfcb need) kept (has xfcb.decode xfcb.password given default known)
     ]
 
@@ -86,6 +82,6 @@ unfolding is_label_admitted
 may_change label given default may =
     let kept = has_password label.decode label.password given default in
     elim may [
-      | inl blank ↦ left (bytes_eq label.password (replicate 8 0)) kept ((bytes_eq-Decides label.password (replicate 8 0)).1 blank)
+      | inl blank ↦ or_left (bytes_eq label.password (replicate 8 0)) kept ((bytes_eq-Decides label.password (replicate 8 0)).1 blank)
       | inr known ↦ or_right (bytes_eq label.password (replicate 8 0)) kept (has label.decode label.password given default known)
     ]

@@ -1,7 +1,7 @@
 -- Who is ready stays so, and no held call of its is completed, whatever other processes do with the lists.
-use Rattle.std.proofs.Common.{◌≡◌, ◌≢◌, ◌∙◌, ℕ, ◌+◌, ◌<◌, ◌≤◌, Bool, true, false, ◌==◌, ◌||◌, List, [], ◌∷◌, ◌++◌, Option, Some, None, inl, inr, map, refl, sym, ap, subst, arith}
+use Rattle.std.proofs.Common.{◌≡◌, ◌≢◌, ◌∙◌, ℕ, ◌+◌, ◌<◌, ◌≤◌, false, ◌==◌, List, [], ◌∷◌, ◌++◌, Option, Some, None, inl, inr, map, refl, sym, ap, subst, arith}
 use Rattle.std.specs.List.{AllByRecursion}
-use Rattle.std.proofs.lemmas.Bool.{cases_eq, cases_lt, ne_eqb}
+use Rattle.std.proofs.lemmas.Bool.{cases_eq, cases_lt, ne_eqb, or_parts}
 use Rattle.std.proofs.lemmas.Bool.Decides.{nat_tests}
 use Rattle.mpm_base.proofs.CountLaws.{one_if, count_cons, one_if_true, one_if_false}
 use Rattle.mpm_ready.specs.Order.{Member, in_list, IsOnce}
@@ -165,11 +165,8 @@ absent : (q : ℕ) (ms : List Member) → in_list q ms ≡ false → completions
 unfolding in_list
 absent q [] none = refl
 absent q (m ∷ ms) none =
-    let parts = neither (m.slot == q) (in_list q ms) none in
-    omega (arith, count_cons (λ x. x == q) m.slot (map (λ n. n.slot) ms), one_if_false (m.slot == q) parts.0, absent q ms parts.1) where
-      neither : (b c : Bool) → (b || c) ≡ false → (b ≡ false) × (c ≡ false)
-      neither true c none = absurd (cc)
-      neither false c none = (refl, none)
+    let parts = or_parts (m.slot == q) (in_list q ms) none in
+    omega (arith, count_cons (λ x. x == q) m.slot (map (λ n. n.slot) ms), one_if_false (m.slot == q) parts.0, absent q ms parts.1)
 
 pub once_in_list : (q : ℕ) (ms : List Member) → IsOnce ms → completions q (map (λ m. m.slot) ms) ≤ 1
 unfolding IsOnce

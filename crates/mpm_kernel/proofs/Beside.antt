@@ -96,7 +96,8 @@ no_call_changed : (procs : Table) (p : ℕ) (call : Taken) → length procs.call
 unfolding with_call
 no_call_changed procs p call past = ap (λ (calls : List Taken). record procs { calls = calls }) (set_past procs.calls p call past)
 
-call_beside : (procs : Table) (p q : ℕ) (call : Taken) → q ≢ p → call_of (with_call procs p call) q ≡ call_of procs q
+-- the call of one process stays where another asks
+pub call_beside : (procs : Table) (p q : ℕ) (call : Taken) → q ≢ p → call_of (with_call procs p call) q ≡ call_of procs q
 unfolding with_call
 call_beside procs p q call other = get_or-set_other procs.calls p q call no_call other
 

@@ -1,7 +1,7 @@
 -- Where processes live, and which calls they keep, after the calls that wait, those on queues and the others but those on units.
-use Rattle.std.proofs.Common.{◌≡◌, ◌≢◌, ◌∙◌, ℕ, Bool, true, false, ◌==◌, List, Option, Some, None, if◌then◌else◌, refl, sym, ap, length, subst, arith, get_or-set_other}
-use Rattle.mpm_base.specs.Calls.{Taken, no_call, name_at, word_at}
-use Rattle.mpm_procs.specs.Table.{Table, HasSlots, lives, Lives, process_in, call_of, with_call}
+use Rattle.std.proofs.Common.{◌≡◌, ◌≢◌, ◌∙◌, ℕ, Bool, true, false, ◌==◌, List, Option, Some, None, if◌then◌else◌, refl, sym, ap, length, subst, arith}
+use Rattle.mpm_base.specs.Calls.{Taken, name_at, word_at}
+use Rattle.mpm_procs.specs.Table.{HasSlots, lives, Lives, process_in, call_of, with_call}
 use Rattle.mpm_procs.specs.declared.process.Process.{Process}
 use Rattle.mpm_procs.proofs.MapLaws.{call_after}
 use Rattle.mpm_kernel.specs.Kernel.{Kernel, IsSound, with_changed, dispatched}
@@ -29,7 +29,7 @@ use Rattle.mpm_queues.proofs.WaitLaws.{waits_one}
 use Rattle.mpm_dispatcher.specs.Dispatch.{with_other, lists_ready, also_completed, behind_equals, with_priority, with_procs}
 use Rattle.mpm_kernel.specs.Queueing.{with_queue, queue_made, opened, may_delete, deleted, queued, blocked_or_refused, taken_from, was_read, read_at, given_to, was_written, write_at}
 use Rattle.mpm_base.specs.declared.functions.TheConstants.{SET_MULTI_SECTOR_COUNT, SET_BDOS_ERROR_MODE}
-use Rattle.mpm_kernel.proofs.Beside.{StaysBeside, beside_same, beside_both, beside_changed, beside_call}
+use Rattle.mpm_kernel.proofs.Beside.{StaysBeside, beside_same, beside_both, beside_changed, beside_call, call_beside}
 use Rattle.mpm_kernel.proofs.Homes.{SameHomes, homes_stay, homes_both, homes_changed, homes_call}
 use Rattle.mpm_kernel.proofs.AnswerLaws.{function_given}
 
@@ -184,10 +184,6 @@ kept_read_at None may_wait call p kernel = kept_same kernel _ refl refl
 kept_read_at (Some q) may_wait call p kernel = kept_was_read (read_outcome kernel.queues q) may_wait call p q kernel
 
 -- a message may come into the call of a process that waits for it
-call_else : (procs : Table) (r q : ℕ) (call : Taken) → q ≢ r → call_of (with_call procs r call) q ≡ call_of procs q
-unfolding with_call
-call_else procs r q call other = get_or-set_other procs.calls r q call no_call other
-
 pub kept_delivered_to : (b : Bool) (o : Option ℕ) (message : List ℕ) (kernel : Kernel) (called : Called)
     → called.kernel.dispatcher.procs ≡ (if b then kernel.dispatcher.procs else (delivered_to o message kernel.dispatcher.procs)) → ((r : ℕ) → o ≡ Some r → waits kernel.queues r ≡ 1)
     → length called.kernel.units.consoles ≡ length kernel.units.consoles → KeepsHome kernel called
@@ -198,7 +194,7 @@ kept_delivered_to false (Some r) message kernel called e one count =
     let afterwards = dispatched (with_procs (with_call kernel.dispatcher.procs r call)) kernel in
     record {
       homes = homes_both kernel afterwards called.kernel (homes_call kernel r call) (homes_stay afterwards called.kernel e);
-      call = λ q none. ap (λ procs. call_of procs q) e ∙ call_else kernel.dispatcher.procs r q call (λ same. omega (arith, one r refl, none, ap (waits kernel.queues) same));
+      call = λ q none. ap (λ procs. call_of procs q) e ∙ call_beside kernel.dispatcher.procs r q call (λ same. omega (arith, one r refl, none, ap (waits kernel.queues) same));
       beside = λ q. beside_both q kernel.dispatcher.procs afterwards.dispatcher.procs called.kernel.dispatcher.procs
           (beside_call kernel.dispatcher.procs r q call (function_given message (call_of kernel.dispatcher.procs r)))
           (beside_same q afterwards.dispatcher.procs called.kernel.dispatcher.procs e);

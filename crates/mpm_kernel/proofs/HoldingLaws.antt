@@ -4,6 +4,7 @@ use Rattle.std.specs.List.{range_with_len}
 use Rattle.std.specs.Option.{option_map_or}
 use Rattle.std.proofs.lemmas.Bool.{false≢true, cases_eq, cases_lt, false_from_ne_true}
 use Rattle.std.proofs.lemmas.Bool.Decides.{nat_tests}
+use Rattle.std.proofs.lemmas.Option.{same_Some}
 use Rattle.mpm_base.proofs.Choices.{either}
 use Rattle.mpm_procs.specs.Table.{Lives, process_in}
 use Rattle.mpm_queues.specs.Queue.{is_full, is_exclusive}
@@ -16,7 +17,6 @@ use Rattle.mpm_kernel.specs.Kernel.{Kernel, IsOfTwo, IsSound}
 use Rattle.mpm_kernel.specs.Queueing.{given_to}
 use Rattle.mpm_kernel.specs.Procedures.{outside, given_back_to, given_back}
 use Rattle.mpm_kernel.specs.Ending.{dropped_out, returned, all_returned, relieved, discharged, Leaves}
-use Rattle.mpm_kernel.proofs.Soundness.{some_same}
 use Rattle.mpm_kernel.proofs.QueueingLaws.{two_width}
 use Rattle.mpm_kernel.proofs.QueueCalls.{queues_with_other}
 use Rattle.mpm_kernel.proofs.EndingLaws.{sound_dropped, lives_dropped, leaves_given_back, leaves_returned, leaves_messages, leaves_relieved}
@@ -115,7 +115,7 @@ held_apart t holder q other s held two = λ same.
     omega (arith, none, ap (λ n. (queue_in t n).width) same, two_width t other two)
 
 one_holder : (o : Option ℕ) (p holder : ℕ) → is_holder o p ≡ true → is_holder o holder ≡ true → holder ≡ p
-one_holder o p holder own held = some_same holder p (sym (holder_is o holder held) ∙ holder_is o p own)
+one_holder o p holder own held = same_Some holder p (sym (holder_is o holder held) ∙ holder_is o p own)
 
 -- who holds a message still does where another one drops out, and gives its own back
 holds_dropped : (p holder q : ℕ) (kernel : Kernel) → holds (dropped_out p kernel).queues holder q ≡ holds kernel.queues holder q

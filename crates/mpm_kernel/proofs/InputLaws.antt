@@ -1,7 +1,7 @@
 -- What the calls that read from a console and write to it need.
 use Rattle.std.proofs.Common.{◌≡◌, ◌∙◌, ℕ, ◌<◌, Bool, true, false, not, ◌||◌, ◌==◌, if◌then◌else◌, List, length, Option, Some, None, refl, sym, ap, arith}
 use Rattle.std.specs.Bool.{OnTrue}
-use Rattle.std.proofs.lemmas.Bool.{false≢true}
+use Rattle.std.proofs.lemmas.Bool.{false≢true, OnTrue_from}
 use Rattle.std.proofs.lemmas.List.{length-set}
 use Rattle.mpm_base.proofs.Choices.{either}
 use Rattle.mpm_base.specs.Calls.{Taken}
@@ -51,10 +51,6 @@ unfolding may_attach unit_attached
 owns_attached kernel p unit wait has may =
     owns_from (owner_of kernel.units unit) kernel.units p (process_in kernel.dispatcher.procs p).priority unit wait has refl may
 
-on_true : (b : Bool) (P : Type 0) → (b ≡ true → P) → OnTrue b P
-on_true true P h = h refl
-on_true false P h = tt
-
 -- and after it was made raw, or not
 has_raw_if : (b raw : Bool) (t : Consoles) (n k : ℕ) → k < length t.consoles → k < length (if b then raw_set t n raw else t).consoles
 unfolding raw_set
@@ -94,7 +90,7 @@ has_then_attached kernel new p n unit wait is has =
 pub owns_then_attached : (kernel new : Kernel) (p : ℕ) (unit : Unit) (wait b : Bool) → new ≡ attaching p unit wait kernel → HasUnit kernel.units unit
     → b ≡ may_attach kernel.units p unit → OnTrue b (owns new.units p unit ≡ true)
 owns_then_attached kernel new p unit wait b same has is =
-    on_true b _ (λ may. ap (λ (k : Kernel). owns k.units p unit) same ∙ owns_attached kernel p unit wait has (sym is ∙ may))
+    OnTrue_from b _ (λ may. ap (λ (k : Kernel). owns k.units p unit) same ∙ owns_attached kernel p unit wait has (sym is ∙ may))
 
 -- what the kernel writes by itself changes no process
 pub procs_echoed : (console : ℕ) (bytes : List ℕ) (kernel : Kernel) → (echoed console bytes kernel).dispatcher.procs ≡ kernel.dispatcher.procs

@@ -1,8 +1,8 @@
 -- A key that comes to a console.
-use Rattle.std.proofs.Common.{◌≡◌, ◌∙◌, ℕ, ◌+◌, ◌<◌, Bool, true, false, ◌&&◌, if◌then◌else◌, inl, length, Option, Some, None, refl, sym, ap, subst, arith}
+use Rattle.std.proofs.Common.{◌≡◌, ◌∙◌, ℕ, ◌+◌, ◌<◌, Bool, true, false, if◌then◌else◌, inl, length, Option, Some, None, refl, sym, ap, subst, arith}
 use Rattle.std.specs.Prelude.{is_some, nat_lt}
 use Rattle.std.proofs.lemmas.Bool.Decides.{nat_tests}
-use Rattle.std.proofs.lemmas.Bool.{false≢true}
+use Rattle.std.proofs.lemmas.Bool.{false≢true, and_from}
 use Rattle.mpm_base.proofs.CountLaws.{one_if, one_if_true}
 use Rattle.std.proofs.lemmas.List.{length-set}
 use Rattle.mpm_base.proofs.Choices.{either}
@@ -59,12 +59,8 @@ some_awaits : (a : Option Awaited) (what : Awaited) → is_for a what ≡ true �
 some_awaits None what is = absurd (false≢true is)
 some_awaits (Some x) what is = refl
 
-both : (b c : Bool) → b ≡ true → c ≡ true → (b && c) ≡ true
-both true c x y = y
-both false c x y = absurd (false≢true x)
-
 at_its_gate : (h : ℕ) (what : Awaited) (console : Console) → console.owner ≡ Some h → is_for console.awaits what ≡ true → is_at_gate h console ≡ true
-at_its_gate h what console owner is = both _ _ (is_own console.owner h owner) (some_awaits console.awaits what is)
+at_its_gate h what console owner is = and_from _ _ (is_own console.owner h owner) (some_awaits console.awaits what is)
 
 -- a key that wakes the owner of a console, or stores, or is lost
 woken_if : (b : Bool) (t : Consoles) (n : ℕ) (what : Awaited) (console : Console) → AreUnitsSound t → HasConsole t n → console.owner ≡ (console_at t n).owner
@@ -153,7 +149,7 @@ sound_abort (Some p) n waited kernel s = sound_noted (spoke kernel n abort_text)
 
 -- ^D
 owner_at_gate : (t : Consoles) (n p : ℕ) → (console_at t n).owner ≡ Some p → is_some (console_at t n).awaits ≡ true → is_at_gate p (console_at t n) ≡ true
-owner_at_gate t n p owner waits = both _ _ (is_own (console_at t n).owner p owner) waits
+owner_at_gate t n p owner waits = and_from _ _ (is_own (console_at t n).owner p owner) waits
 
 gates_passed_to : (o : Option ℕ) (t : Consoles) (n q : ℕ) → HasConsole t n
     → gate_waits (pass_to o t (ConsoleUnit n)) q + one_if (is_at_gate q (console_at t n)) ≡ gate_waits t q

@@ -2,6 +2,7 @@
 use Rattle.std.proofs.Common.{◌≡◌, ◌≢◌, ◌∙◌, ℕ, ◌+◌, ◌<◌, ◌≤◌, Bool, true, false, ◌⊎◌, inl, inr, if◌then◌else◌, length, Option, Some, None, refl, sym, ap, subst, arith}
 use Rattle.std.proofs.lemmas.Bool.{false≢true, cases_Bool, cases_eq}
 use Rattle.mpm_ready.specs.Tables.{list_of}
+use Rattle.mpm_ready.proofs.OrderLaws.{first_is_in}
 use Rattle.mpm_procs.specs.Table.{Lives, process_in}
 use Rattle.mpm_procs.proofs.MapLaws.{lives_below}
 use Rattle.mpm_consoles.specs.Console.{is_owner}
@@ -18,7 +19,6 @@ use Rattle.mpm_kernel.proofs.PlaceLaws.{list_moved, list_moved_other}
 use Rattle.mpm_consoles.proofs.PlaceLaws.{owner_is, gate_waits_unlisted}
 use Rattle.mpm_kernel.proofs.UnitWaits.{waits_one, waits_unlisted, waits_unlisted_other, waits_given, gates_given, owner_given, owner_from_given, owner_unlisted, consoles_given, printers_given}
 use Rattle.mpm_kernel.proofs.UnitCounts.{many_heir}
-use Rattle.mpm_dispatcher.proofs.ReadyLaws.{first_is_in}
 use Rattle.mpm_kernel.proofs.Soundness.{AreUnits, sound_units, sound_ready}
 
 -- units after one of them came to an heir, or to nobody, and before

@@ -2,6 +2,7 @@
 use Rattle.std.proofs.Common.{◌≡◌, ◌∙◌, ℕ, Bool, true, false, not, ◌&&◌, [], ◌∷◌, ◌++◌, Option, Some, None, refl, ap, subst, arith}
 use Rattle.std.specs.Prelude.{is_some, is_none, nat_le}
 use Rattle.std.proofs.lemmas.Bool.Decides.{nat_tests}
+use Rattle.std.proofs.lemmas.Option.{same_Some}
 use Rattle.mpm_base.specs.Calls.{Taken, word_at, name_at}
 use Rattle.mpm_procs.specs.Table.{Lives, process_in}
 use Rattle.mpm_procs.specs.Finding.{is_entered}
@@ -16,7 +17,7 @@ use Rattle.mpm_kernel.specs.Kernel.{Kernel, IsOfTwo, IsSound, CompletedLive, wit
 use Rattle.mpm_kernel.specs.Called.{valued, done, failure_code}
 use Rattle.mpm_kernel.specs.Queueing.{with_queue, queue_made, opened, queue_opened, may_delete, deleted, queue_deleted, pointed, queued, blocked_or_refused, taken_from, was_read, read_at, queue_read, given_to, was_written, write_at, queue_written}
 use Rattle.mpm_kernel.specs.Procedures.{no_procedure, is_two, of_two_bytes, procedure_queue, inside, procedure_read, procedure_at, procedure_called}
-use Rattle.mpm_kernel.proofs.Soundness.{MayBeReady, none_and_some, some_same, listed_once, sound_changed, sound_ready, sound_unlisted, sound_with_completed}
+use Rattle.mpm_kernel.proofs.Soundness.{MayBeReady, none_and_some, listed_once, sound_changed, sound_ready, sound_unlisted, sound_with_completed}
 use Rattle.mpm_kernel.proofs.Staying.{StaysSound, Calls, nobody, all_and_one, live_kept, called_if, same}
 use Rattle.mpm_kernel.proofs.QueueingLaws.{ready_waits_nowhere, found_made, pointed_if, pointed_made, two_made, sound_with_queue, sound_with_deleted, width_read, sound_taken, may_by_read, sound_given, may_by_write, lives_written, may_wait_read, may_wait_write, queues_enlisted}
 
@@ -164,7 +165,7 @@ stays_inside p q message value kernel two s =
     let process = record (process_in kernel.dispatcher.procs p) { procedure = Some q; kept = message } in
     record {
       sound = sound_changed kernel p process s.sound s.lives (record { console = fit.console; printer = fit.printer; some = fit.some; few = fit.few })
-          (λ k is. subst (IsOfTwo kernel.queues) (some_same q k is) two);
+          (λ k is. subst (IsOfTwo kernel.queues) (same_Some q k is) two);
       lives = lives_changed kernel.dispatcher.procs p p process ∙ s.lives;
       completed = live_kept kernel (with_changed kernel p process) refl (λ k living. lives_changed kernel.dispatcher.procs p k process ∙ living) s.completed;
     }

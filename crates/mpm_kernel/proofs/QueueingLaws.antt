@@ -1,11 +1,13 @@
 -- Laws of queues in the kernel: who waits at one lives, those of the system stay, and what a change of the queues leaves
 -- sound.
-use Rattle.std.proofs.Common.{◌≡◌, ◌≢◌, ◌∙◌, ℕ, ◌*◌, ◌<◌, ◌≤◌, Bool, true, false, not, cond, ◌||◌, ◌&&◌, ◌==◌, List, Option, Some, None, if◌then◌else◌, ◌⊎◌, inl, inr, refl, sym, ap, subst, arith, get_or-set_other}
+use Rattle.std.proofs.Common.{◌≡◌, ◌≢◌, ◌∙◌, ℕ, ◌*◌, ◌<◌, ◌≤◌, Bool, true, false, cond, ◌||◌, ◌&&◌, ◌==◌, List, Option, Some, None, if◌then◌else◌, ◌⊎◌, inl, inr, refl, sym, ap, subst, arith, get_or-set_other}
 use Rattle.std.specs.Prelude.{IfSome, nat_lt, is_some, is_none, slice_index_or}
 use Rattle.std.specs.Option.{option_map_or}
-use Rattle.std.proofs.lemmas.Bool.{false≢true, cases_eq, cases_lt}
+use Rattle.std.proofs.lemmas.Bool.{false≢true, cases_eq, cases_lt, not-true, not-false, or_parts}
 use Rattle.std.proofs.lemmas.Bool.Decides.{nat_tests}
+use Rattle.std.proofs.lemmas.Option.{same_Some}
 use Rattle.mpm_base.proofs.Choices.{either}
+use Rattle.mpm_base.proofs.Options.{none_there}
 use Rattle.mpm_base.specs.declared.number.Name8.{Name8}
 use Rattle.mpm_ready.specs.Order.{Member}
 use Rattle.mpm_ready.specs.Tables.{list_of}
@@ -27,7 +29,7 @@ use Rattle.mpm_queues.proofs.WaitLaws.{waits_one, nowhere_waits, named_made, kep
 use Rattle.mpm_dispatcher.specs.Dispatch.{ready, IsReady, with_procs}
 use Rattle.mpm_kernel.specs.Kernel.{Kernel, IsOfTwo, IsSound, dispatched}
 use Rattle.mpm_kernel.specs.Queueing.{OnlySystems, IfNotNow, made_at, pointed, taken_from, given_to}
-use Rattle.mpm_kernel.proofs.Soundness.{AreQueues, own_queues, MayBeReady, none_and_some, some_same, listed_once, sound_fewer, sound_call}
+use Rattle.mpm_kernel.proofs.Soundness.{AreQueues, own_queues, MayBeReady, none_and_some, listed_once, sound_fewer, sound_call}
 
 -- who waits at a queue lives
 pub waiters_live : (kernel : Kernel) (q p : ℕ) → IsSound kernel → waits_at kernel.queues q p ≡ true → Lives kernel.dispatcher.procs p
@@ -39,19 +41,11 @@ ready_waits_nowhere kernel p s is_ready =
     nowhere_waits kernel.queues p (omega (arith, listed_once kernel p ready s is_ready))
 
 -- where only the system's queues are there, the lowest free number is theirs
-not_true : (b : Bool) → not b ≡ true → b ≡ false
-not_true true h = absurd (cc)
-not_true false h = refl
-
-not_false : (b : Bool) → not b ≡ false → b ≡ true
-not_false true h = refl
-not_false false h = absurd (cc)
-
 pub number_below : (t : Queues) (q : ℕ) → lowest_free t ≡ Some q → q < 32
 number_below t q free = (lowest_passes (is_free t) q free).1
 
 number_free : (t : Queues) (q : ℕ) → lowest_free t ≡ Some q → is_made t q ≡ false
-number_free t q free = not_true (is_made t q) (lowest_passes (is_free t) q free).0
+number_free t q free = not-true (is_made t q) (lowest_passes (is_free t) q free).0
 
 pub system_is_lowest : (kernel : Kernel) (q : ℕ) → IsSound kernel → OnlySystems kernel → lowest_free kernel.queues ≡ Some q → q ≡ kernel.system_queues
 system_is_lowest kernel q s only free =
@@ -60,7 +54,7 @@ system_is_lowest kernel q s only free =
       | inl below ↦ absurd (false≢true (sym (number_free kernel.queues q free) ∙ s.system q below))
       | inr above ↦ elim (cases_lt kernel.system_queues q) [
         | inl more ↦ absurd (
-            let below = only.all kernel.system_queues (not_false (is_made kernel.queues kernel.system_queues) (passes.2 kernel.system_queues more)) in
+            let below = only.all kernel.system_queues (not-false (is_made kernel.queues kernel.system_queues) (passes.2 kernel.system_queues more)) in
             omega (arith, below))
         | inr less ↦ omega (arith, above, less)
       ]
@@ -77,7 +71,7 @@ both true false c h = absurd (cc)
 both false b c h = absurd (cc)
 
 pub pointed_if : (b : Bool) (n q : ℕ) → (if b then Some n else None) ≡ Some q → (b ≡ true) × (n ≡ q)
-pointed_if true n q is = (refl, some_same n q is)
+pointed_if true n q is = (refl, same_Some n q is)
 pointed_if false n q is = absurd (none_and_some None q refl is)
 
 pub pointed_made : (t : Queues) (pointer q : ℕ) → pointed t pointer ≡ Some q → IsMade t q
@@ -123,20 +117,12 @@ unless : (b : Bool) (why : MakeRefused) (rest : Option MakeRefused) → is_none 
 unless true why rest h = absurd (cc)
 unless false why rest h = (refl, h)
 
-neither : (a b : Bool) → (a || b) ≡ false → (a ≡ false) × (b ≡ false)
-neither true b h = absurd (cc)
-neither false b h = (refl, h)
-
-none_there : (o : Option ℕ) → is_some o ≡ false → o ≡ None
-none_there None h = refl
-none_there (Some n) h = absurd (cc)
-
 pub accepts : (t : Queues) (name : Name8) (width count : ℕ) → is_none (make_error t name width count) ≡ true → Accepts t name width count
 unfolding make_error
 accepts t name width count none =
     let counted = unless (count == 0) BadCount _ none in
     let named = unless (is_some (found t name)) Exists _ counted.1 in
-    let room = neither _ _ (unless (is_none (lowest_free t) || nat_lt 2048 (width * count)) NoQueueRoom None named.1).0 in
+    let room = or_parts _ _ (unless (is_none (lowest_free t) || nat_lt 2048 (width * count)) NoQueueRoom None named.1).0 in
     record {
       some = grind (arith, nat_tests, counted.0);
       new = none_there (found t name) named.0;
@@ -194,7 +180,7 @@ width_left false t q k other = refl
 -- and in whose resident procedure nobody is
 is_this : (k q : ℕ) (o : Option ℕ) → o ≡ Some k → k ≡ q → is_queue q o ≡ true
 is_this k q None is same = absurd (none_and_some None k refl is)
-is_this k q (Some other) is same = (let equal = some_same other k is in grind (arith, nat_tests, equal, same))
+is_this k q (Some other) is same = (let equal = same_Some other k is in grind (arith, nat_tests, equal, same))
 
 inside_apart : (kernel : Kernel) (q p k : ℕ) → IsSound kernel → is_entered kernel.dispatcher.procs q ≡ false → Lives kernel.dispatcher.procs p
     → (process_in kernel.dispatcher.procs p).procedure ≡ Some k → k ≢ q
@@ -222,7 +208,7 @@ woken_or_not : (o : Option ℕ) (p : ℕ) → (o ≡ Some p) ⊎ (o ≢ Some p)
 woken_or_not None p = inr (λ is. none_and_some None p refl is)
 woken_or_not (Some other) p = elim (cases_eq other p) [
   | inl same ↦ inl (ap (λ (n : ℕ). Some n) same)
-  | inr apart ↦ inr (λ is. apart (some_same other p is))
+  | inr apart ↦ inr (λ is. apart (same_Some other p is))
 ]
 
 read_waits : (t : Queues) (p q : ℕ) (procs : Table) (k : ℕ) → AreSound t → waits (message_read t p q procs) k ≤ waits t k

@@ -1,16 +1,19 @@
 -- What a sound kernel stays through: changes of its parts, one by one.
-use Rattle.std.proofs.Common.{◌≡◌, ◌≢◌, ◌∙◌, ℕ, zero, suc, ◌+◌, ◌<◌, ◌≤◌, Bool, true, false, ◌&&◌, List, [], ◌∷◌, length, get_or, replicate, Option, Some, None, if◌then◌else◌, inl, inr, refl, sym, ap, subst, arith}
+use Rattle.std.proofs.Common.{◌≡◌, ◌≢◌, ◌∙◌, ℕ, zero, suc, ◌+◌, ◌<◌, ◌≤◌, Bool, true, false, ◌&&◌, List, [], ◌∷◌, length, replicate, Option, Some, None, if◌then◌else◌, inl, inr, refl, sym, ap, subst, arith}
 use Rattle.std.specs.List.{AllByRecursion}
 use Rattle.std.proofs.lemmas.Bool.{cases_eq, cases_lt, false≢true}
 use Rattle.std.proofs.lemmas.Bool.Decides.{nat_tests}
 use Rattle.std.specs.Prelude.{count_by}
-use Rattle.std.proofs.lemmas.List.{length-set, length-replicate, set_past, get_or-replicate, get_or_past}
+use Rattle.std.proofs.lemmas.List.{length-set, set_past}
+use Rattle.std.proofs.lemmas.Option.{same_Some}
 use Rattle.mpm_base.proofs.CountLaws.{count_cons}
+use Rattle.mpm_base.proofs.Lists.{all_at}
 use Rattle.mpm_base.specs.Calls.{Taken}
 use Rattle.mpm_base.specs.declared.devices.Devices.{Devices}
 use Rattle.mpm_ready.specs.Order.{Member, first_of}
 use Rattle.mpm_ready.specs.Tables.{no_lists, list_at, list_of, inserted, removed, reinserted}
 use Rattle.mpm_ready.proofs.TableLaws.{table_inserted, table_removed, list_of_inserted, list_of_inserted_other, list_of_removed, list_of_removed_other, list_of_known, list_of_none, table_none}
+use Rattle.mpm_ready.proofs.OrderLaws.{first_is_in}
 use Rattle.mpm_flags.specs.declared.flags.Flag.{Flag}
 use Rattle.mpm_flags.specs.States.{no_flags}
 use Rattle.mpm_clock.specs.declared.moment.Moment.{Moment}
@@ -38,7 +41,7 @@ use Rattle.mpm_kernel.proofs.UnitWaits.{is_at_gate, gates_kept, waits_console, o
 use Rattle.mpm_dispatcher.specs.Dispatch.{ready, new_dispatcher, IsReady, with_completed, stays, admitted, in_slot, at_rest, runs_still, runner, picked, is_ready, behind_equals, rotated_in, lists_behind, moved, all_ready, ready_in, runner_behind, with_procs, descheduled}
 use Rattle.mpm_kernel.specs.Kernel.{Kernel, in_lists, flags_of, waits_in, waits_at_units, waits_of, places, IsOfTwo, IsFit, HasConsole, IsSound, with_changed, call_begun, afresh, new_kernel, dispatched}
 use Rattle.mpm_kernel.specs.Columns.{spoke}
-pub use Rattle.mpm_dispatcher.proofs.ReadyLaws.{some_same, first_is_in, is_ready_true}
+pub use Rattle.mpm_dispatcher.proofs.ReadyLaws.{is_ready_true}
 use Rattle.mpm_kernel.proofs.PlaceLaws.{in_some, in_none, in_at_most, not_equal, moved_lists, table_moved, list_moved, list_moved_other, flags_none}
 
 pub dead_and_alive : (b : Bool) → b ≡ false → b ≡ true → ⊥
@@ -58,16 +61,10 @@ nowhere : (p : ℕ) → in_lists (list_of no_lists p) + (flags_of no_flags p + d
 nowhere p = omega (arith, in_none _ (list_of_none p), flags_none p, delays_none p, no_waits p)
 
 -- the units at first: nobody owns one, or waits for one
-all_new : {X : Type 0} (n k : ℕ) (x : X) → get_or (replicate n x) k x ≡ x
-all_new n k x = elim (cases_lt k n) [
-  | inl h ↦ get_or-replicate n k x x h
-  | inr h ↦ get_or_past (replicate n x) k x (omega (arith, length-replicate n x, h))
-]
-
 owner_new : (consoles printers : ℕ) (unit : Unit) → owner_of (no_owners consoles printers) unit ≡ None
 unfolding no_owners new_console
-owner_new consoles printers (ConsoleUnit n) = ap (λ (c : Console). c.owner) (all_new consoles n new_console)
-owner_new consoles printers (PrinterUnit n) = all_new printers n None
+owner_new consoles printers (ConsoleUnit n) = ap (λ (c : Console). c.owner) (all_at consoles n new_console)
+owner_new consoles printers (PrinterUnit n) = all_at printers n None
 
 owners_new : (consoles printers : ℕ) (procs : Table) (unit : Unit) (p : ℕ) → owns (no_owners consoles printers) p unit ≡ true → Lives procs p
 owners_new consoles printers procs unit p is = absurd (false≢true (sym (ap (λ o. is_owner o p) (owner_new consoles printers unit)) ∙ is))
@@ -283,7 +280,7 @@ runs_other p q (Some other) e = elim (cases_eq other p) [
   | inr distinct ↦
       let stays : runs_still p (Some other) ≡ Some other = grind (arith, nat_tests) in
       let is : Some other ≡ Some q = sym stays ∙ e in
-      ((λ same. distinct (some_same other q is ∙ same)), is)
+      ((λ same. distinct (same_Some other q is ∙ same)), is)
 ]
 
 fit_opening : (units : Consoles) (new : NewProcess) → new.console < length units.consoles → IsFit units (opening new)

@@ -18,11 +18,11 @@ use Rattle.mpm_consoles.specs.declared.keys.KeyDone.TheVariants.{Stored, Dropped
 use Rattle.mpm_consoles.specs.declared.unit.Unit.{Unit}
 use Rattle.mpm_consoles.specs.declared.unit.Unit.TheVariants.{Console as ConsoleUnit}
 use Rattle.mpm_dispatcher.specs.Dispatch.{ready, IsReady}
-use Rattle.mpm_dispatcher.proofs.ReadyLaws.{first_is_in}
 use Rattle.mpm_kernel.specs.Kernel.{Kernel, IsSound, HasConsole}
 use Rattle.mpm_kernel.specs.Consoling.{IfLives, KeyNames}
 use Rattle.mpm_kernel.proofs.PlaceLaws.{in_some}
 use Rattle.mpm_kernel.proofs.UnitWaits.{nowhere_waits, waits_one, is_own}
+use Rattle.mpm_ready.proofs.OrderLaws.{first_is_in}
 
 -- the units that there are
 pub has_first_console : (kernel : Kernel) → IsSound kernel → 0 < length kernel.units.consoles

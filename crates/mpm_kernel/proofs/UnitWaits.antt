@@ -1,7 +1,6 @@
 -- Who waits at consoles and printers, and who owns them, after each change of them; and what is so of them stays so.
 use Rattle.std.proofs.Common.{◌≡◌, ◌≢◌, ◌∙◌, ℕ, ◌+◌, ◌≤◌, Bool, true, false, ◌&&◌, ◌⊎◌, List, length, set, get_or, Option, Some, None, inl, inr, refl, sym, ap, arith}
 use Rattle.std.specs.Prelude.{is_some}
-use Rattle.std.specs.Option.{option_map_or}
 use Rattle.std.proofs.lemmas.Bool.{cases_eq, eq-eqb, ne_eqb, and_right}
 use Rattle.std.proofs.lemmas.List.{length-set, length-map, get_or-set_same, get_or-set_other}
 use Rattle.mpm_base.proofs.CountLaws.{one_if, one_if_false}
@@ -17,12 +16,9 @@ use Rattle.mpm_consoles.proofs.ConsoleLaws.{columns_within, owner_without_wait}
 use Rattle.mpm_consoles.proofs.PlaceLaws.{owner_is, gate_waits_console, waiters_without, waits_dequeued, waits_dequeued_other, gate_waits_without, gate_waits_without_other}
 use Rattle.mpm_consoles.proofs.SoundLaws.{without_wait_at}
 use Rattle.mpm_kernel.specs.Kernel.{waits_at_units}
-use Rattle.mpm_queues.proofs.WaitLaws.{none_of}
+use Rattle.mpm_queues.proofs.WaitLaws.{none_of, one_at}
 
 -- a process waits for one unit, or for none
-abbrev one_at : Option ℕ → ℕ
-one_at o = option_map_or (λ _. 1) o 0
-
 pub nowhere_waits : (t : Consoles) (p : ℕ) → waits t p ≡ 0 → WaitsNowhere t p
 unfolding waits
 nowhere_waits t p is = none_of (list_of t.waiters p) is
@@ -168,10 +164,6 @@ proper_spoken console bytes proper = record {
 }
 
 -- a process leaves all units
-without_wait_new : (p : ℕ) → without_wait_of p new_console ≡ new_console
-unfolding without_wait_of new_console
-without_wait_new p = refl
-
 pub owner_units_without : (t : Consoles) (p : ℕ) (unit : Unit) → owner_of (units_without_waiter t p) unit ≡ owner_of t unit
 unfolding units_without_waiter unlisted
 owner_units_without t p (ConsoleUnit n) = ap (λ (c : Console). c.owner) (without_wait_at t.consoles p n) ∙ owner_without_wait p (console_at t n)

@@ -62,7 +62,6 @@ impl Kernel {
             | functions::PRINT_STRING
             | functions::READ_CONSOLE_BUFFER
             | functions::GET_CONSOLE_STATUS => return self.console_call(p, reply),
-            _ if is_for_unit(function) => return self.unit_call(p, reply),
             functions::RETURN_VERSION_NUMBER | functions::RETURN_MPM_VERSION_NUMBER => reply.answer(
                 VERSION,
             ),
@@ -98,6 +97,7 @@ impl Kernel {
             functions::SET_PRIORITY => self.dispatcher.set_priority(p, byte),
             functions::CALL_RESIDENT_SYSTEM_PROCEDURE => return self.call_procedure(p, reply),
             functions::GET_DATE_TIME_AND_SECOND => tell_time(self.clock.now(), word, reply),
+            _ if is_for_unit(function) => return self.unit_call(p, reply),
             _ => reply.answer(NO_FUNCTION),
         }
         Outcome::Done

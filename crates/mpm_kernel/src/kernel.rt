@@ -1,4 +1,4 @@
-ghost use Rattle.std.specs.Prelude.{◌≡◌, ◌↔◌, length, ℕ, ◌<◌, ◌≤◌, [], Some, None, true, false, IfOk, OnErr, MatchOption};
+ghost use Rattle.std.specs.Prelude.{◌≡◌, ◌↔◌, length, ◌<◌, ◌≤◌, [], Some, None, false, IfOk, OnErr, MatchOption};
 ghost use Rattle.std.specs.Borrow.{sem};
 ghost use Rattle.mpm_clock.specs.Times.{IsTime};
 

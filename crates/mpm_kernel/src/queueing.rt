@@ -1,6 +1,4 @@
-ghost use Rattle.std.specs.Prelude.{◌≡◌, ◌<◌, ◌≤◌, ◌&&◌, ℕ, Some, None, true, false, length, IfSome, drop};
-ghost use Rattle.mpm_base.specs.declared.call.Outcome.TheVariants.{Held as IsHeld};
-ghost use Rattle.mpm_queues.specs.Queue.{block_size};
+ghost use Rattle.std.specs.Prelude.{◌≡◌, ◌<◌, ◌&&◌, Some, None, true, false, length, IfSome};
 
 use crate::Kernel;
 use mpm_base::{Call, FAILURE_CODE, Name8, Outcome, Pid, Reply};

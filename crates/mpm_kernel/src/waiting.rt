@@ -1,7 +1,4 @@
-ghost use Rattle.std.specs.Prelude.{◌≡◌, ℕ, ◌<◌, ◌∷◌, []};
-ghost use Rattle.std.specs.List.{AllByRecursion};
-ghost use Rattle.mpm_base.specs.Calls.{answering};
-ghost use Rattle.mpm_base.specs.declared.call.Outcome.TheVariants.{Done, Held as IsHeld};
+ghost use Rattle.std.specs.Prelude.{◌≡◌, ◌<◌};
 
 use crate::Kernel;
 use mpm_base::{FAILURE_CODE, Outcome, Pid, Reply};

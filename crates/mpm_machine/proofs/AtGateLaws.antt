@@ -1,8 +1,8 @@
 -- A file call that a process has made is done at once, or waits for the disk: what becomes of the system, of files, and of what is
 -- written; and where it stopped.
-use Rattle.std.proofs.Common.{◌≡◌, ◌∙◌, ℕ, ◌+◌, ◌*◌, ◌<◌, ◌≤◌, ◌==◌, ◌&&◌, ◌||◌, Bool, true, false, if◌then◌else◌, List, Option, Some, None, IfSome, Result, Ok, Err, OnOk, IfErr, refl, sym, ap, subst, arith}
+use Rattle.std.proofs.Common.{◌≡◌, ◌∙◌, ℕ, ◌+◌, ◌*◌, ◌<◌, ◌≤◌, ◌==◌, ◌&&◌, Bool, true, false, if◌then◌else◌, List, Option, Some, None, IfSome, Result, Ok, Err, OnOk, IfErr, refl, sym, ap, subst, arith}
 use Rattle.std.specs.Prelude.{is_some, is_none, option_map}
-use Rattle.std.proofs.lemmas.Bool.{false≢true}
+use Rattle.std.proofs.lemmas.Bool.{false≢true, or_parts}
 use Rattle.std.proofs.lemmas.Bool.Decides.{nat_tests}
 use Rattle.mpm_base.specs.Calls.{Answer}
 use Rattle.mpm_port.specs.Disks.{Disks}
@@ -17,11 +17,11 @@ use Rattle.mpm_render.specs.Outputs.{Output}
 use Rattle.mpm_output.specs.Outside.{Faults, Outside}
 use Rattle.mpm_output.specs.Writing.{Wrote, Stopped}
 use Rattle.mpm_output.proofs.WritingLaws.{wrote_nothing}
-use Rattle.mpm_bdos.specs.declared.functions.FileFunction.{FileFunction}
-use Rattle.mpm_bdos.specs.declared.refusals.Extended.{Extended}
+use Rattle.mpm_functions.specs.declared.functions.FileFunction.{FileFunction}
+use Rattle.mpm_functions.specs.declared.refusals.Extended.{Extended}
 use Rattle.mpm_bdos.specs.Direct.{Directly}
-use Rattle.mpm_bdos.specs.Filing.{Filing, Situation}
-use Rattle.mpm_bdos.specs.Functions.{function_of}
+use Rattle.mpm_requests.specs.Filing.{Filing, Situation}
+use Rattle.mpm_functions.specs.Functions.{function_of}
 use Rattle.mpm_bdos.specs.Serving.{Kept, InService, Serves, directory_at}
 use Rattle.mpm_bdos.specs.Turns.{FitsDrives, has_work, labelled, told_images}
 use Rattle.mpm_machine.specs.declared.system.System.{System}
@@ -63,17 +63,13 @@ files_wait p system files waits = ap (λ b. if b then done_at_once p system file
 
 -- it waits only where turns have steps
 
-neither : (a b : Bool) → (a || b) ≡ false → b ≡ false
-neither true b none = absurd (false≢true (sym none))
-neither false b none = none
-
 some_steps : (n : ℕ) → (n == 0) ≡ false → 0 < n
 some_steps n some = grind (arith, nat_tests, some)
 
 pub waits_steps : (p : ℕ) (system : System) → is_done_at_once p system ≡ false → 0 < system.kernel.disk.turn_steps
 waits_steps p system waits =
     some_steps system.kernel.disk.turn_steps
-    (neither (is_none (function_of (call_of system.kernel.dispatcher.procs p).function)) (system.kernel.disk.turn_steps == 0) waits)
+    ((or_parts (is_none (function_of (call_of system.kernel.dispatcher.procs p).function)) (system.kernel.disk.turn_steps == 0) waits).1)
 
 -- where it waits, nothing is said, and files stay
 

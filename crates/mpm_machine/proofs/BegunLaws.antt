@@ -1,7 +1,7 @@
 -- What holds of drives, of what is kept of file calls and of those at the disk holds behind what a step begins with, and the disk serves
 -- the same call, in turns of as many steps.
 use Rattle.std.proofs.Common.{◌≡◌, ◌∙◌, ℕ, ◌+◌, ◌<◌, Bool, true, false, if◌then◌else◌, Option, Some, None, IfSome, is_some, refl, sym, ap, subst, arith, eqb-true}
-use Rattle.std.proofs.lemmas.Bool.{false≢true}
+use Rattle.std.proofs.lemmas.Bool.{false≢true, false_from_ne_true}
 use Rattle.mpm_base.specs.declared.functions.TheConstants.{CHAIN_TO_PROGRAM}
 use Rattle.mpm_base.proofs.Choices.{either}
 use Rattle.mpm_port.specs.Disks.{Disks}
@@ -16,7 +16,7 @@ use Rattle.mpm_kernel.specs.Disk.{waiting_for_disk}
 use Rattle.mpm_residents.specs.declared.native.Native.{Native}
 use Rattle.mpm_residents.specs.Natives.{native_in}
 use Rattle.mpm_bdos.specs.Direct.{Directly}
-use Rattle.mpm_bdos.specs.Functions.{function_of}
+use Rattle.mpm_functions.specs.Functions.{function_of}
 use Rattle.mpm_bdos.specs.Serving.{Kept}
 use Rattle.mpm_machine.specs.declared.system.System.{System}
 use Rattle.mpm_machine.specs.State.{Change, IsWhole}
@@ -73,13 +73,9 @@ not_chained : (number : ℕ) → number ≡ CHAIN_TO_PROGRAM → is_some (functi
 unfolding function_of
 not_chained number is some = false≢true (sym (ap (λ n. is_some (function_of n)) is) ∙ some)
 
-unserved_by : (b : Bool) → (b ≡ true → ⊥) → b ≡ false
-unserved_by true never = absurd (never refl)
-unserved_by false never = refl
-
 chained_unserved : (p : ℕ) (kernel : Kernel) → AreFiled kernel → chains p kernel ≡ true → is_call_of p kernel.disk.served ≡ false
 chained_unserved p kernel filed is =
-    unserved_by (is_call_of p kernel.disk.served)
+    false_from_ne_true (is_call_of p kernel.disk.served)
     (λ served.
     not_chained (call_of kernel.dispatcher.procs p).function (eqb-true (call_of kernel.dispatcher.procs p).function CHAIN_TO_PROGRAM is)
     (filed p (at_service kernel.disk p served)))

@@ -15,14 +15,14 @@ use Rattle.mpm_service.specs.declared.service.Turn.{Turn}
 use Rattle.mpm_service.specs.declared.service.Turn.TheVariants.{Idle, Passing, Work, Starts}
 use Rattle.mpm_files.specs.declared.jobs.Job.{Job}
 use Rattle.mpm_files.proofs.TurnLaws.{no_turn}
-use Rattle.mpm_bdos.specs.declared.functions.FileFunction.{FileFunction}
+use Rattle.mpm_functions.specs.declared.functions.FileFunction.{FileFunction}
 use Rattle.mpm_bdos.specs.Direct.{Directly}
-use Rattle.mpm_bdos.specs.Filing.{Filing, Situation}
-use Rattle.mpm_bdos.specs.Functions.{function_of}
+use Rattle.mpm_requests.specs.Filing.{Filing, Situation}
+use Rattle.mpm_functions.specs.Functions.{function_of}
 use Rattle.mpm_bdos.specs.Jobs.{call_turns, job_of}
 use Rattle.mpm_bdos.specs.Outcomes.{file_call, drives_after}
 use Rattle.mpm_bdos.specs.Serving.{Kept, StandEach}
-use Rattle.mpm_bdos.specs.Subjects.{drive_number, blank_drive, drive_at}
+use Rattle.mpm_requests.specs.Subjects.{drive_number, blank_drive, drive_at}
 use Rattle.mpm_bdos.specs.Turns.{told_images}
 use Rattle.mpm_bdos.proofs.NextTurns.{job_drives, idle_drives}
 use Rattle.mpm_bdos.proofs.ServedLaws.{job_mounted}

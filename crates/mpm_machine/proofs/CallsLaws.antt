@@ -1,11 +1,11 @@
 -- Who waits for the disk, or is served, keeps his call and his multi-sector count through each part of a step: it isn't his, and no
 -- message comes to him.
-use Rattle.std.proofs.Common.{◌≡◌, ◌≢◌, ◌∙◌, ℕ, ◌<◌, ◌==◌, Bool, true, false, if◌then◌else◌, List, [], ◌∷◌, Option, Some, None, refl, sym, ap, subst, arith, get_or-set_other}
+use Rattle.std.proofs.Common.{◌≡◌, ◌≢◌, ◌∙◌, ℕ, ◌<◌, ◌==◌, Bool, true, false, if◌then◌else◌, List, [], ◌∷◌, Option, Some, None, refl, sym, ap, subst, arith}
 use Rattle.std.specs.List.{range_with_len}
-use Rattle.mpm_base.specs.Calls.{Taken, Answer, no_call}
+use Rattle.mpm_base.specs.Calls.{Taken, Answer}
 use Rattle.mpm_base.specs.declared.functions.TheConstants.{SET_MULTI_SECTOR_COUNT}
 use Rattle.mpm_base.proofs.Choices.{either}
-use Rattle.mpm_procs.specs.Table.{Table, Lives, process_in, call_of, with_call}
+use Rattle.mpm_procs.specs.Table.{Table, Lives, process_in, call_of}
 use Rattle.mpm_procs.specs.declared.process.Process.{Process}
 use Rattle.mpm_procs.proofs.MapLaws.{call_after}
 use Rattle.mpm_dispatcher.specs.Dispatch.{IsReady}
@@ -34,7 +34,7 @@ use Rattle.mpm_kernel.specs.Waiting.{completion_reply}
 use Rattle.mpm_kernel.specs.Columns.{spoke}
 use Rattle.mpm_xdos.specs.Procedures.{entered, entering}
 use Rattle.mpm_output.specs.Texts.{error_text}
-use Rattle.mpm_bdos.specs.declared.refusals.Extended.{Extended}
+use Rattle.mpm_functions.specs.declared.refusals.Extended.{Extended}
 use Rattle.mpm_bdos.specs.Direct.{Directly}
 use Rattle.mpm_bdos.specs.Outcomes.{CallerChange, Stays, Selects, Resets}
 use Rattle.mpm_machine.specs.FileCalls.{with_caller, reply_by, file_replied, error_told, told_then, error_met, answered_by, concluded}
@@ -94,10 +94,6 @@ pub calls_changed : (kernel : Kernel) (p : ℕ) (process : Process) → process.
 calls_changed kernel p process same =
     calls_stay kernel (with_changed kernel p process) refl (λ q at. call_after kernel.dispatcher.procs p q process)
     (λ q at _. field_kept (λ (x : Process). x.multi) kernel.dispatcher.procs p q process same)
-
-pub call_else : (procs : Table) (r q : ℕ) (call : Taken) → q ≢ r → call_of (with_call procs r call) q ≡ call_of procs q
-unfolding with_call
-call_else procs r q call other = get_or-set_other procs.calls r q call no_call other
 
 -- a ready process's call
 pub calls_of_called : (p : ℕ) (kernel : Kernel) → IsSound kernel → Lives kernel.dispatcher.procs p → KeepsCalls kernel (called p kernel).kernel

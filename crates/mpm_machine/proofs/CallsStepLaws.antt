@@ -22,6 +22,7 @@ use Rattle.mpm_kernel.proofs.AbortLaws.{sound_abort_taken}
 use Rattle.mpm_xdos.specs.Procedures.{entered}
 use Rattle.mpm_kernel.proofs.SoundLaws.{sound_call, procs_happened}
 use Rattle.mpm_kernel.proofs.DiskStays.{disk_happened}
+use Rattle.mpm_kernel.proofs.Beside.{call_beside}
 use Rattle.mpm_xdos.specs.Aborting.{waits_to_end, with_abort_due, target, abort_done}
 use Rattle.mpm_xdos.specs.Creating.{created, home_base}
 use Rattle.mpm_xdos.proofs.TargetLaws.{target_lives}
@@ -38,7 +39,7 @@ use Rattle.mpm_machine.proofs.ActedLaws.{whole_served}
 use Rattle.mpm_machine.proofs.WholeStepLaws.{whole_happened, whole_due, aborted_lives}
 use Rattle.mpm_machine.proofs.SendingLaws.{procs_after}
 use Rattle.mpm_machine.proofs.KeepingLaws.{passed_after_disk, created_disk}
-use Rattle.mpm_machine.proofs.CallsLaws.{KeepsCalls, SystemKeepsCalls, calls_stay, calls_same, calls_then, calls_nothing, calls_changed, call_else, not_ready, at_disk_lives, calls_of_called, calls_discharged, calls_ended, calls_entered, calls_spoke}
+use Rattle.mpm_machine.proofs.CallsLaws.{KeepsCalls, SystemKeepsCalls, calls_stay, calls_same, calls_then, calls_nothing, calls_changed, not_ready, at_disk_lives, calls_of_called, calls_discharged, calls_ended, calls_entered, calls_spoke}
 
 -- a process isn't at the disk
 abbrev pub IsApart : ℕ → Kernel → Type 0
@@ -53,7 +54,7 @@ apart_still p old new keeps apart = λ q at. apart q (keeps.was q at)
 -- it keeps another call
 pub calls_kept : (p : ℕ) (call : Taken) (kernel : Kernel) → IsApart p kernel → KeepsCalls kernel (with_kept p call kernel)
 calls_kept p call kernel apart =
-    calls_stay kernel (with_kept p call kernel) refl (λ q at. call_else kernel.dispatcher.procs p q call (apart q at))
+    calls_stay kernel (with_kept p call kernel) refl (λ q at. call_beside kernel.dispatcher.procs p q call (apart q at))
     (λ q at _. ap (λ (x : Process). x.multi) (process_after kernel.dispatcher.procs p q call))
 
 -- a command is sent

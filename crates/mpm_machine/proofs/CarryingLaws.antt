@@ -1,5 +1,6 @@
 -- The call in service as it is carried to its end: the turns that are left to it, its answer, the ends that are then due, and the records.
 use Rattle.std.proofs.Common.{◌≡◌, ◌∙◌, ℕ, ◌+◌, Bool, List, [], ◌++◌, Option, Some, None, refl, sym, ap, subst, arith}
+use Rattle.std.proofs.lemmas.Option.{same_Some}
 use Rattle.std.specs.Prelude.{Result, Ok, Err, IsOk, IfSome, option_map}
 use Rattle.mpm_port.specs.Causes.{HasCause}
 use Rattle.mpm_port.specs.Disks.{Disks}
@@ -18,7 +19,7 @@ use Rattle.mpm_output.specs.Outside.{Outside, TheSink}
 use Rattle.mpm_output.specs.Writing.{Wrote, Stopped}
 use Rattle.mpm_output.proofs.WritingLaws.{wrote_after, fails_within, fails_before, stopped_cause}
 use Rattle.mpm_bdos.specs.Direct.{Directly}
-use Rattle.mpm_bdos.specs.Filing.{Situation}
+use Rattle.mpm_requests.specs.Filing.{Situation}
 use Rattle.mpm_bdos.specs.Jobs.{call_turns}
 use Rattle.mpm_bdos.specs.Outcomes.{file_call}
 use Rattle.mpm_bdos.specs.Serving.{Kept as Filed, InService, StandEach, Serves, filing_of}
@@ -54,9 +55,6 @@ pub record InCall (files : Files) (served : Option Served) (p : ℕ) (kept : Fil
   pub serves : Serves (told_images disks) kept call turns
   pub left_is : left_of files served ≡ Some (record { call = call; ended = turns; most = left_to served })
 
-same_process : (one other : ℕ) → Some one ≡ Some other → one ≡ other
-same_process one other e = cc
-
 in_call_of : (files : Files) (served : Option Served) (p : ℕ) (kept : Filed) (disks : Option Disks) → option_map (λ (call : Served). call.p) served ≡ Some p
     → StandsServed served kept disks files → InCall files served p kept disks
 in_call_of files None p kept disks some stands = absurd (cc)
@@ -68,7 +66,7 @@ in_call_of (Within s) (Some call) p kept disks some stands =
       is = refl;
       turns = stands.turns;
       left = stands.left;
-      whose = sym stands.whose ∙ same_process call.p p some;
+      whose = sym stands.whose ∙ same_Some call.p p some;
       serves = stands.serves;
       left_is = ap working (omega (arith, stands.left));
     }
@@ -86,7 +84,7 @@ all_left_turns disk = refl
 its_own : (served : Option Served) (p : ℕ) (procs : Table) (service : Option InService) → option_map (λ (call : Served). call.p) served ≡ Some p
     → IfSome served (λ call. IsOwn procs call.p service) → IsOwn procs p service
 its_own None p procs service some own = absurd (cc)
-its_own (Some call) p procs service some own = subst (λ (q : ℕ). IsOwn procs q service) (same_process call.p p some) own
+its_own (Some call) p procs service some own = subst (λ (q : ℕ). IsOwn procs q service) (same_Some call.p p some) own
 
 pub own_behind : (disk : DiskService) (p : ℕ) (procs : Table) (service new : Option InService) → served_process disk ≡ Some p
     → IfSome disk.served (λ call. IsOwn procs call.p service) → option_map without_work new ≡ option_map without_work service → IsOwn procs p new

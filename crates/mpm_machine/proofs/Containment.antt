@@ -1,8 +1,8 @@
 -- What a step leaves of memory: each byte of a segment that is written neither by the instruction of a process that lives there
 -- nor by the reply to a call of one, and each byte of common memory that no instruction and no reply writes.
-use Rattle.std.proofs.Common.{◌≡◌, ◌≢◌, ◌∙◌, ℕ, ◌<◌, ◌≤◌, Bool, true, false, not, ◌&&◌, List, [], ◌∷◌, length, Option, Some, None, ◌==◌, inl, inr, refl, sym, ap, subst, ◌||◌}
+use Rattle.std.proofs.Common.{◌≡◌, ◌≢◌, ◌∙◌, ℕ, ◌<◌, ◌≤◌, true, false, not, ◌&&◌, List, [], ◌∷◌, length, Option, Some, None, ◌==◌, inl, inr, refl, sym, ap, subst, ◌||◌}
 use Rattle.std.specs.List.{range_with_len}
-use Rattle.std.proofs.lemmas.Bool.{cases_eq}
+use Rattle.std.proofs.lemmas.Bool.{cases_eq, false_from_ne_true}
 use Rattle.z80_regs.specs.Outcome.{Outcome}
 use Rattle.z80_ext.specs.Instruction.{actions_of}
 use Rattle.mpm_base.specs.Calls.{Taken, Answer}
@@ -239,10 +239,6 @@ elsewhere_at None p seg system other at apart below =
 
 -- the bytes that it doesn't write
 
-not_any : (b : Bool) → (b ≡ true → ⊥) → b ≡ false
-not_any true none = absurd (none refl)
-not_any false none = refl
-
 placed_at : (outcome : CallOutcome) (reply : Answer) (call : Taken) (p seg : ℕ) (system : System) (at : ℕ) → outcome ≡ Done
     → IsPlacedAt (placed_reply reply call p seg system) call.word at → PlacesAt outcome reply call p seg system at
 placed_at outcome reply call p seg system at is placed = subst (λ (o : CallOutcome). PlacesAt o reply call p seg system at) (sym is) placed
@@ -255,7 +251,7 @@ unwritten_at (Some Call) p seg system at none =
     call_leaves p seg system seg at (λ done. others_keep _ _ seg _ at (λ placed. none (placed_at _ _ _ p seg _ at done placed)))
 unwritten_at (Some Return) p seg system at none = refl
 unwritten_at None p seg system at none =
-    instruction_leaves (instruction_at p seg system) p seg system seg at (memory_after_unwritten _ seg at system.memory (not_any _ none))
+    instruction_leaves (instruction_at p seg system) p seg system seg at (memory_after_unwritten _ seg at system.memory (false_from_ne_true _ none))
 
 -- what the process that runs leaves
 

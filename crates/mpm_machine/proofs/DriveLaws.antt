@@ -1,14 +1,13 @@
 -- The drives with which a machine begins, and what steps leave of them, one after another.
-use Rattle.std.proofs.Common.{◌≡◌, ◌≢◌, ◌∙◌, ℕ, Bool, true, false, ◌||◌, ◌==◌, List, [], ◌∷◌, Option, Some, None, IfSome, refl, sym, ap, subst, arith, eq-eqb, get_or-set_same, get_or-set_other}
-use Rattle.std.specs.Prelude.{bytes_eq, is_some, option_map, slice_set}
+use Rattle.std.proofs.Common.{◌≡◌, ◌≢◌, ◌∙◌, ℕ, List, [], ◌∷◌, Option, Some, None, IfSome, sym, ap, subst, arith, get_or-set_same, get_or-set_other}
+use Rattle.std.specs.Prelude.{is_some, option_map, slice_set}
 use Rattle.std.specs.List.{AllByRecursion}
-use Rattle.std.proofs.lemmas.Bool.{false≢true}
 use Rattle.std.proofs.lemmas.List.Elements.{recursion_from_All}
 use Rattle.mpm_port.specs.Disks.{Disks, Told}
 use Rattle.mpm_machine_file.specs.declared.lists.DriveSpec.{DriveSpec}
 use Rattle.mpm_machine_file.specs.declared.machine_file.MachineFile.{MachineFile}
 use Rattle.mpm_machine_file.specs.MachineFiles.{IsDrive, IsMachine}
-use Rattle.mpm_machine_file.proofs.OrderLaws.{IsApart, AreApart, apart_from_differ}
+use Rattle.mpm_machine_file.proofs.OrderLaws.{IsApart, AreApart, apart_from_differ, letters_differ}
 use Rattle.mpm_mount.specs.Directories.{Directory}
 use Rattle.mpm_drives.specs.Images.{Images}
 use Rattle.mpm_drives.specs.Mounted.{number_of, IsNamed, AreMounted}
@@ -60,19 +59,11 @@ still_has_drives x y one other specs keeps has = record {
 
 -- the numbers of a machine file's drives differ
 
-letters_apart : (one other : DriveSpec) → IsApart one other → one.letter ≢ other.letter
-letters_apart one other apart same =
-    false≢true (sym apart ∙ clash (one.letter == other.letter) (bytes_eq one.image other.image) (eq-eqb one.letter other.letter same))
-  where
-    clash : (a b : Bool) → a ≡ true → (a || b) ≡ true
-    clash true b e = refl
-    clash false b e = absurd (false≢true e)
-
 numbers_apart : (spec : DriveSpec) (specs : List DriveSpec) → IsDrive spec → AllByRecursion IsDrive specs → AllByRecursion (IsApart spec) specs
     → AllByRecursion (λ other. number_of other ≢ number_of spec) specs
 numbers_apart spec [] is each apart = tt
 numbers_apart spec (other ∷ specs) is each apart = (
-  λ same. letters_apart spec other apart.0 (omega (arith, same, is.first, each.0.first)),
+  λ same. letters_differ spec other apart.0 (omega (arith, same, is.first, each.0.first)),
   numbers_apart spec specs is each.1 apart.1,
 )
 

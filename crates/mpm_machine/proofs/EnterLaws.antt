@@ -7,6 +7,7 @@ use Rattle.mpm_base.proofs.CountLaws.{one_if_true}
 use Rattle.mpm_port.specs.Disks.{Disks}
 use Rattle.mpm_procs.specs.Table.{Lives, process_in, call_of}
 use Rattle.mpm_ready.specs.Order.{in_list, first_of}
+use Rattle.mpm_ready.proofs.OrderLaws.{first_is_in}
 use Rattle.mpm_service.specs.Disk.{DiskService, is_last_step, step_answer, answer_by, served_after, turned, turn_answer, begun, served_process, HasBegun}
 use Rattle.mpm_service.specs.Places.{at_disk}
 use Rattle.mpm_service.specs.declared.service.Served.{Served}
@@ -15,15 +16,14 @@ use Rattle.mpm_service.specs.declared.service.Turn.TheVariants.{Idle, Passing, W
 use Rattle.mpm_mount.specs.Drives.{Drive}
 use Rattle.mpm_kernel.specs.Kernel.{Kernel, IsSound}
 use Rattle.mpm_kernel.specs.Disk.{with_disk}
-use Rattle.mpm_dispatcher.proofs.ReadyLaws.{first_is_in}
 use Rattle.mpm_output.specs.Outside.{Outside}
 use Rattle.mpm_output.specs.Writing.{Wrote}
 use Rattle.mpm_output.proofs.WritingLaws.{wrote_nothing}
 use Rattle.mpm_bdos.specs.Direct.{Directly}
-use Rattle.mpm_bdos.specs.declared.functions.FileFunction.{FileFunction}
+use Rattle.mpm_functions.specs.declared.functions.FileFunction.{FileFunction}
 use Rattle.mpm_bdos.specs.Answering.{HasEntered}
-use Rattle.mpm_bdos.specs.Filing.{Filing}
-use Rattle.mpm_bdos.specs.Functions.{function_of}
+use Rattle.mpm_requests.specs.Filing.{Filing}
+use Rattle.mpm_functions.specs.Functions.{function_of}
 use Rattle.mpm_bdos.specs.Jobs.{call_turns}
 use Rattle.mpm_bdos.specs.Serving.{Kept, InService, Serves, filing_of}
 use Rattle.mpm_bdos.specs.Starting.{caller_of}

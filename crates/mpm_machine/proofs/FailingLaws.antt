@@ -1,7 +1,8 @@
 -- What the images stand for where a step stopped.
-use Rattle.std.proofs.Common.{◌≡◌, ◌≢◌, ◌<◌, ◌≤◌, ◌+◌, ◌*◌, ◌∙◌, ℕ, zero, suc, true, List, [], ◌∷◌, Option, Some, None, Result, Ok, Err, inl, inr, refl, sym, ap, subst, arith, get_or-set_other}
+use Rattle.std.proofs.Common.{◌≡◌, ◌≢◌, ◌<◌, ◌≤◌, ◌+◌, ◌*◌, ◌∙◌, ℕ, zero, suc, true, List, [], ◌∷◌, Option, Some, None, Result, inl, inr, refl, sym, ap, subst, arith, get_or-set_other}
 use Rattle.std.specs.Prelude.{◌⊎◌, OnErr, is_some, option_map, unwrap_or, slice_index_or, slice_set}
 use Rattle.std.proofs.lemmas.Bool.{false≢true, cases_eq}
+use Rattle.std.proofs.lemmas.Result.{on_err_weaker}
 use Rattle.mpm_base.specs.Calls.{Taken}
 use Rattle.mpm_port.specs.Disks.{Disks}
 use Rattle.mpm_blocks.specs.Sectors.{told_image}
@@ -17,22 +18,23 @@ use Rattle.mpm_files.specs.Units.{stages}
 use Rattle.mpm_files.specs.Plans.{unit_at}
 use Rattle.mpm_files.specs.Serving.{units_done}
 use Rattle.mpm_files.specs.Containment.{IsContained}
-use Rattle.mpm_files.proofs.Tied.{kind_of}
 use Rattle.mpm_files.proofs.Contained.{turn_contained}
 use Rattle.mpm_files.proofs.StandingLaws.{among_all}
-use Rattle.mpm_bdos.specs.declared.functions.FileFunction.{FileFunction}
-use Rattle.mpm_bdos.specs.Functions.{function_of}
-use Rattle.mpm_bdos.specs.Filing.{Filing, Situation}
-use Rattle.mpm_bdos.specs.Subjects.{drive_number, blank_drive, drive_at}
+use Rattle.mpm_functions.specs.declared.functions.FileFunction.{FileFunction}
+use Rattle.mpm_functions.specs.Functions.{function_of}
+use Rattle.mpm_requests.specs.Filing.{Filing, Situation}
+use Rattle.mpm_requests.specs.Subjects.{drive_number, blank_drive, drive_at}
 use Rattle.mpm_bdos.specs.Jobs.{call_turns, job_of}
 use Rattle.mpm_bdos.specs.Outcomes.{drives_after}
-use Rattle.mpm_bdos.specs.Serving.{Kept, Serves, StandsWhere, StandEach, directory_at}
+use Rattle.mpm_bdos.specs.Serving.{Kept, Serves, StandEach, directory_at}
+use Rattle.mpm_requests.specs.Asking.{StandsWhere}
 use Rattle.mpm_bdos.specs.Starting.{caller_of, entering as entering_here}
 use Rattle.mpm_bdos.specs.Turns.{KeepsImages, StopsWithin, drive_served, labelled, told_images, has_directory}
 use Rattle.mpm_bdos.specs.AtOnce.{FailsSince, FailsIn, ChangesAlone}
 use Rattle.mpm_bdos.proofs.ServedLaws.{job_mounted, kinds_within, set_within}
 use Rattle.mpm_bdos.proofs.Fitting.{there_label}
 use Rattle.mpm_render.specs.Shown.{Kept as Lines}
+use Rattle.mpm_mount.proofs.LookedUp.{kind_of}
 use Rattle.mpm_machine.specs.declared.system.System.{System}
 use Rattle.mpm_machine.specs.declared.machine.Machine.{Machine}
 use Rattle.mpm_machine.specs.declared.machine.StepFault.{StepFault}
@@ -221,10 +223,6 @@ found_is : (filing : Filing) (function : FileFunction) (p : ℕ) (system : Syste
     → working_if true filing p system ≡ Some (working_at_once (situation_of filing function p system))
 found_is filing function p system is = ap (option_map (λ f. working_at_once (situation_of filing f p system))) is
 
-err_by : {A E P Q : Type 0} (r : Result A E) → (P → Q) → OnErr r P → OnErr r Q
-err_by (Ok a) so p = tt
-err_by (Err e) so p = so p
-
 pub disk_fails : {A E : Type 0} (disks now : Option Disks) (filing : Filing) (p : ℕ) (system : System) (kept new : Kept) (caller process : Process) (call : Taken) (moment : Moment) (result : Result A E)
     → caller ≡ looked_at process → process ≡ process_in system.kernel.dispatcher.procs p → call ≡ call_of system.kernel.dispatcher.procs p → moment ≡ moment_of system.kernel.clock
     → is_some (function_of (call_of system.kernel.dispatcher.procs p).function) ≡ true → StandsBetween kept disks filing
@@ -241,7 +239,7 @@ disk_fails disks now filing p system kept new caller process call moment result 
     let its : function_of call.function ≡ Some function = ap (λ (c : Taken). function_of c.function) calls ∙ named.1 in
     let is : s ≡ situation_of filing function p system = situation_is filing p system kept function caller process call moment stands.filing_is looks lives calls at in
     let found : working_if true filing p system ≡ Some (working_at_once s) = found_is filing function p system named.1 ∙ ap (λ c. Some (working_at_once c)) (sym is) in
-    err_by result (λ (failed : FailsIn now s). subst (λ c. HaveImagesOf (FailsWithin c) now new.mounted) (sym found)
+    on_err_weaker result (λ (failed : FailsIn now s). subst (λ c. HaveImagesOf (FailsWithin c) now new.mounted) (sym found)
     (at_once_fails disks now kept.mounted new.mounted s failed (alone filing.drives function its) labels stands.stand))
     (fails filing.drives function its stands.stand)
 

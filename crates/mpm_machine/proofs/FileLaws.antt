@@ -18,7 +18,7 @@ use Rattle.mpm_residents.specs.Natives.{native_call, native_in}
 use Rattle.mpm_output.specs.Outside.{Outside, Device}
 use Rattle.mpm_output.specs.Writing.{Wrote, Fails}
 use Rattle.mpm_output.specs.Texts.{error_text}
-use Rattle.mpm_bdos.specs.declared.refusals.Extended.{Extended}
+use Rattle.mpm_functions.specs.declared.refusals.Extended.{Extended}
 use Rattle.mpm_bdos.specs.Outcomes.{CallerChange, Stays, Selects, Resets}
 use Rattle.mpm_bdos.specs.Direct.{Directly}
 use Rattle.mpm_machine.specs.declared.system.System.{System}

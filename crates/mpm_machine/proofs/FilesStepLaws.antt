@@ -11,11 +11,11 @@ use Rattle.mpm_render.specs.Outputs.{Output}
 use Rattle.mpm_output.specs.Outside.{Outside, TheSink}
 use Rattle.mpm_output.specs.Writing.{Wrote, Stopped}
 use Rattle.mpm_output.proofs.WritingLaws.{wrote_after, fails_before, fails_within, fails_same}
-use Rattle.mpm_bdos.specs.declared.functions.FileFunction.{FileFunction}
-use Rattle.mpm_bdos.specs.declared.functions.DirectFunction.{DirectFunction}
-use Rattle.mpm_bdos.specs.declared.refusals.Extended.{Extended}
-use Rattle.mpm_bdos.specs.Direct.{Directly, ComesDirectly, direct_of, is_protected}
-use Rattle.mpm_bdos.specs.Functions.{function_of}
+use Rattle.mpm_functions.specs.declared.functions.FileFunction.{FileFunction}
+use Rattle.mpm_functions.specs.declared.functions.DirectFunction.{DirectFunction}
+use Rattle.mpm_functions.specs.declared.refusals.Extended.{Extended}
+use Rattle.mpm_bdos.specs.Direct.{Directly, ComesDirectly, is_protected}
+use Rattle.mpm_functions.specs.Functions.{direct_of, function_of}
 use Rattle.mpm_bdos.specs.Serving.{Kept, directory_at, kind_at}
 use Rattle.mpm_bdos.specs.Turns.{TurnKeeps, labelled}
 use Rattle.mpm_machine.specs.declared.system.System.{System}

@@ -11,19 +11,19 @@ use Rattle.mpm_clock.specs.Times.{moment_of}
 use Rattle.mpm_clock.specs.PackedDecimal.{stamp}
 use Rattle.mpm_kernel.specs.Called.{low_parameter}
 use Rattle.mpm_mount.specs.Drives.{Drive}
-use Rattle.mpm_bdos.specs.declared.functions.FileFunction.{FileFunction}
-use Rattle.mpm_bdos.specs.declared.functions.FileFunction.TheVariants.{ResetDisks}
-use Rattle.mpm_bdos.specs.declared.functions.DirectFunction.{DirectFunction}
-use Rattle.mpm_bdos.specs.declared.functions.DirectFunction.TheVariants.{SelectDisk, LoginVector, ReadOnlyVector, DiskParameters, SetRandomRecord}
-use Rattle.mpm_bdos.specs.declared.refusals.Refusal.{Refusal}
-use Rattle.mpm_bdos.specs.declared.refusals.Extended.{Extended}
-use Rattle.mpm_bdos.specs.Functions.{numbers, function_of}
-use Rattle.mpm_bdos.specs.Filing.{Filing, Situation}
+use Rattle.mpm_functions.specs.declared.functions.FileFunction.{FileFunction}
+use Rattle.mpm_functions.specs.declared.functions.FileFunction.TheVariants.{ResetDisks}
+use Rattle.mpm_functions.specs.declared.functions.DirectFunction.{DirectFunction}
+use Rattle.mpm_functions.specs.declared.functions.DirectFunction.TheVariants.{SelectDisk, LoginVector, ReadOnlyVector, DiskParameters, SetRandomRecord}
+use Rattle.mpm_functions.specs.declared.refusals.Refusal.{Refusal}
+use Rattle.mpm_functions.specs.declared.refusals.Extended.{Extended}
+use Rattle.mpm_functions.specs.Functions.{numbers, function_of, direct_numbers, direct_of}
+use Rattle.mpm_requests.specs.Filing.{Filing, Situation}
 use Rattle.mpm_bdos.specs.Finishing.{ComesTo}
 use Rattle.mpm_bdos.specs.Jobs.{turned, call_turns}
 use Rattle.mpm_bdos.specs.Outcomes.{CallerChange, Stays, Selects, Resets, caller_by, file_call, outcome_by as served_by}
-use Rattle.mpm_bdos.specs.Refusals.{refusal_of}
-use Rattle.mpm_bdos.specs.Direct.{Directly, parameters_told, direct_numbers, direct_of, direct, direct_by, kind_of, is_protected, where_mounted, selected}
+use Rattle.mpm_requests.specs.Refusals.{refusal_of}
+use Rattle.mpm_bdos.specs.Direct.{Directly, parameters_told, direct, direct_by, kind_of, is_protected, where_mounted, selected}
 use Rattle.mpm_bdos.specs.Serving.{Kept, InService, StandEach, Serves, directory_at, filing_of}
 use Rattle.mpm_bdos.specs.Answering.{HasEntered}
 use Rattle.mpm_bdos.specs.Starting.{caller_of, entering as entering_here}

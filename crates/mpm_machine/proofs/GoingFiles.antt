@@ -8,7 +8,7 @@ use Rattle.mpm_base.proofs.CountLaws.{one_if_true}
 use Rattle.mpm_base.specs.Calls.{Answer}
 use Rattle.mpm_bdos.specs.Direct.{Directly}
 use Rattle.mpm_bdos.specs.Outcomes.{CallerChange, Resets, Selects, Stays}
-use Rattle.mpm_bdos.specs.declared.refusals.Extended.{Extended}
+use Rattle.mpm_functions.specs.declared.refusals.Extended.{Extended}
 use Rattle.mpm_cli.specs.Interpreters.{Interpreter, call_at, next_call}
 use Rattle.mpm_cli.specs.declared.table.Row.{Row}
 use Rattle.mpm_cli.specs.declared.table.Row.TheVariants.{ReadCommand, OpenQueue, WriteQueue, SetUser, OpenRelocatable, OpenAbsolute, ReadHeader, ComputeSize, SetUserZero, Reserve, Place, Patch, ReadOn, Free, CloseAfter, Close, Tell, Give, PlaceBasePage, Begin}
@@ -47,7 +47,7 @@ use Rattle.mpm_kernel.specs.Columns.{spoke}
 -- a row that makes a call on files neither reserves nor reads a command
 
 no_files_there : (row : Row) (cli : Interpreter) → is_of_files (call_at row cli).function ≡ true → (is_reserving row ≡ false) × (is_reading row ≡ false)
-unfolding is_of_files Rattle.mpm_bdos.specs.Functions.function_of Rattle.mpm_bdos.specs.Direct.direct_of
+unfolding is_of_files Rattle.mpm_functions.specs.Functions.function_of Rattle.mpm_functions.specs.Functions.direct_of
 no_files_there ReadCommand cli is = absurd (cc)
 no_files_there (Reserve true pages) cli is = absurd (cc)
 no_files_there (Reserve false pages) cli is = absurd (cc)

@@ -10,8 +10,8 @@ use Rattle.mpm_service.specs.Places.{at_disk}
 use Rattle.mpm_service.proofs.PlaceLaws.{at_entered_other, served_not}
 use Rattle.mpm_kernel.specs.Kernel.{Kernel}
 use Rattle.mpm_kernel.specs.Disk.{waiting_for_disk}
-use Rattle.mpm_bdos.specs.declared.functions.FileFunction.{FileFunction}
-use Rattle.mpm_bdos.specs.Functions.{function_of}
+use Rattle.mpm_functions.specs.declared.functions.FileFunction.{FileFunction}
+use Rattle.mpm_functions.specs.Functions.{function_of}
 use Rattle.mpm_bdos.specs.Answering.{HasEntered}
 use Rattle.mpm_bdos.specs.Serving.{InService}
 use Rattle.mpm_machine.specs.declared.system.System.{System}

@@ -130,7 +130,7 @@ pub freed_place : (owner : ℕ) (segment : Segment) → ((freed owner segment).b
 freed_place owner segment =
     either (λ (s : Segment). (s.base ≡ segment.base) × (s.pages ≡ segment.pages)) (is_owners owner segment.allocation) _ _ (λ _. (refl, refl)) (λ _. (refl, refl))
 
-freed_lived : (owner : ℕ) (segment : Segment) → segment.allocation ≡ Occupied → (freed owner segment).allocation ≡ Occupied
+pub freed_lived : (owner : ℕ) (segment : Segment) → segment.allocation ≡ Occupied → (freed owner segment).allocation ≡ Occupied
 freed_lived owner segment h =
     either (λ (s : Segment). s.allocation ≡ Occupied) (is_owners owner segment.allocation) _ _ (λ owned. absurd (owned_or_lived owner segment.allocation owned h)) (λ _. h)
 

@@ -3,7 +3,7 @@
 use Rattle.std.proofs.Common.{◌≡◌, ◌≢◌, ◌∙◌, ℕ, ◌+◌, ◌-◌, ◌*◌, ◌%◌, ◌<◌, ◌≤◌, ◌&&◌, Bool, true, if◌then◌else◌, List, length, min, Option, Some, None, is_some, refl, sym, ap, subst, arith, false}
 use Rattle.std.proofs.Math.Nat.{mod-eq_of_lt}
 use Rattle.std.specs.Prelude.{nat_lt, nat_le}
-use Rattle.std.proofs.lemmas.Bool.{and_parts, false≢true}
+use Rattle.std.proofs.lemmas.Bool.{and_parts, false≢true, and_from}
 use Rattle.std.proofs.lemmas.Bool.Decides.{nat_tests}
 use Rattle.z80_regs.specs.Words.{onward}
 use Rattle.mpm_base.specs.Calls.{Taken}
@@ -43,9 +43,6 @@ use Rattle.mpm_machine.specs.Residing.{text_told}
 use Rattle.mpm_machine.specs.Contained.{IsIn, HandsAt, IsHanded}
 use Rattle.mpm_machine.specs.Interpreting.{HasReserved, IsActing, Interprets, IsOwn}
 
-both : (b c : Bool) → b ≡ true → c ≡ true → (b && c) ≡ true
-both b c one other = ap (λ k. k && c) one ∙ other
-
 -- commands can be sent
 pub interpreter_acts : (system : System) → IsActing system → has_interpreter system ≡ true
 interpreter_acts system a = ap interprets_if_there a.acts
@@ -77,7 +74,7 @@ pub passes_always : (p : ℕ) (system : System) → IsActing system → console_
     → passed p system.kernel ≡ given (console_sent p system.kernel) (Some p) (Some 0) system.kernel
 passes_always p system a there =
     ap (λ (b : Bool). if b then given (console_sent p system.kernel) (Some p) (Some 0) system.kernel else system.kernel)
-    (both (nat_lt (console_sent p system.kernel) (length system.kernel.units.consoles)) (lives system.kernel.dispatcher.procs 0) (grind (arith, nat_tests, there)) a.lives)
+    (and_from (nat_lt (console_sent p system.kernel) (length system.kernel.units.consoles)) (lives system.kernel.dispatcher.procs 0) (grind (arith, nat_tests, there)) a.lives)
 
 -- a process begins exactly where a slot is free
 
@@ -86,9 +83,9 @@ its_segment system i row is loading = i.has (ap is_loading is ∙ loading)
 
 home_may_live : (memory : Memory) (seg : ℕ) → IsHome memory seg → may_live memory seg ≡ true
 home_may_live memory seg home =
-    both (nat_lt seg (length memory.segments)) (nat_le 4 (segment_of memory seg).pages && nat_le ((segment_of memory seg).base + (segment_of memory seg).pages) 192)
+    and_from (nat_lt seg (length memory.segments)) (nat_le 4 (segment_of memory seg).pages && nat_le ((segment_of memory seg).base + (segment_of memory seg).pages) 192)
     (grind (arith, nat_tests, home.exists))
-    (both (nat_le 4 (segment_of memory seg).pages) (nat_le ((segment_of memory seg).base + (segment_of memory seg).pages) 192) (grind (arith, nat_tests, home.pages)) (grind (arith, nat_tests, home.end)))
+    (and_from (nat_le 4 (segment_of memory seg).pages) (nat_le ((segment_of memory seg).base + (segment_of memory seg).pages) 192) (grind (arith, nat_tests, home.pages)) (grind (arith, nat_tests, home.end)))
 
 pub begins_with_slot : (system : System) (i : Interprets system) → i.acting.cli.row ≡ Begin
     → begins i.acting.cli.seg (process_of i.acting.cli) system ≡ is_slot (lowest_free system.kernel.dispatcher.procs)
@@ -109,7 +106,7 @@ reserves_always memory base pages seg call cli few homes found =
     let home = homes seg fits.0 in
     let enough = (and_parts (nat_le pages segment.pages) _ (and_parts (is_free segment.allocation) _ fits.1).1).0 in
     let passes : (nat_lt seg 16 && (nat_le pages segment.pages && nat_le (segment.base + segment.pages) 192)) ≡ true =
-    both (nat_lt seg 16) _ (grind (arith, nat_tests, few, fits.0)) (both (nat_le pages segment.pages) _ enough (grind (arith, nat_tests, home.end))) in
+    and_from (nat_lt seg 16) _ (grind (arith, nat_tests, few, fits.0)) (and_from (nat_le pages segment.pages) _ enough (grind (arith, nat_tests, home.end))) in
     ap (λ (b : Bool). if b then record cli { row = row_for_piece cli.load; seg = seg; spec = spec_of memory seg } else record cli { row = CloseAfter NoMemory }) passes
 
 -- code is moved wholly
@@ -119,7 +116,7 @@ range_by : (memory : Memory) (space : Space) (address count : ℕ) → first_of 
 range_by memory space address count first end =
     let some : Option Range = Some (record { space = space; from = address - first_of memory space; to = address + count - first_of memory space }) in
     ap (λ (b : Bool). is_some (if b then some else None))
-    (both (nat_le (first_of memory space) address) (nat_le (address + count) (end_of memory space)) (grind (arith, nat_tests, first)) (grind (arith, nat_tests, end)))
+    (and_from (nat_le (first_of memory space) address) (nat_le (address + count) (end_of memory space)) (grind (arith, nat_tests, first)) (grind (arith, nat_tests, end)))
 
 pub range_is_there : (memory : Memory) (seg address count : ℕ) → IsMemory memory → HasSegment memory seg → AreInPages (spec_of memory seg) address count → 0 < count
     → is_some (range_of memory seg address count) ≡ true
@@ -135,7 +132,7 @@ pub moves_always : (cli : Interpreter) → StandsIn Patch cli → may_move (mark
 moves_always cli s =
     let some : 0 < marked_length cli.load = some_marked cli.load s.file.marks s.of_row in
     let few : marked_length cli.load ≤ 8 * length (marks_in cli.load) = omega arith in
-    both (nat_lt 0 (marked_length cli.load)) (nat_le (marked_length cli.load) (8 * length (marks_in cli.load))) (grind (arith, nat_tests, some)) (grind (arith, nat_tests, few))
+    and_from (nat_lt 0 (marked_length cli.load)) (nat_le (marked_length cli.load) (8 * length (marks_in cli.load))) (grind (arith, nat_tests, some)) (grind (arith, nat_tests, few))
 
 -- what it hands over comes into its segment
 

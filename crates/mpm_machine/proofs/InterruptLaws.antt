@@ -11,9 +11,6 @@ use Rattle.mpm_kernel.proofs.SoundLaws.{may_come}
 
 -- an event that there may be may come
 
-pub may_be : (event : Event) → IsEvent event → MayCome event
-may_be event is = may_come event is
-
 some_may : (event : Option Event) → IfSome event IsEvent → IfSome event MayCome
 some_may None is = tt
 some_may (Some event) is = may_come event is

@@ -1,7 +1,7 @@
 -- The disk's service along a step: whatever else is done in it, the disk serves the same call, in turns of as many steps. Who may end
 -- isn't the one that is served: he runs, or is to be answered, or his end isn't put off.
 use Rattle.std.proofs.Common.{◌≡◌, ◌∙◌, ℕ, ◌+◌, ◌==◌, ◌&&◌, ◌||◌, not, Bool, true, false, if◌then◌else◌, List, [], ◌∷◌, Option, Some, None, refl, ap, arith}
-use Rattle.std.proofs.lemmas.Bool.{false≢true}
+use Rattle.std.proofs.lemmas.Bool.{false≢true, or_parts}
 use Rattle.std.specs.List.{range_with_len}
 use Rattle.z80_regs.specs.Outcome.{Outcome as Instructed}
 use Rattle.mpm_base.specs.Lists.{in_width}
@@ -37,7 +37,7 @@ use Rattle.mpm_cli.specs.declared.act.Act.{Act}
 use Rattle.mpm_cli.specs.declared.act.Act.TheVariants.{Ask, Place, Patch, Begin, Give}
 use Rattle.mpm_interrupts.specs.Interrupts.{due_taken}
 use Rattle.mpm_output.specs.Texts.{illegal_text}
-use Rattle.mpm_bdos.specs.declared.refusals.Extended.{Extended}
+use Rattle.mpm_functions.specs.declared.refusals.Extended.{Extended}
 use Rattle.mpm_bdos.specs.Direct.{Directly}
 use Rattle.mpm_bdos.specs.Outcomes.{CallerChange, Stays, Selects, Resets}
 use Rattle.mpm_machine.specs.declared.system.System.{System}
@@ -101,10 +101,6 @@ unfolding ended
 end_serves p system none = discharged_same system.kernel p none
 
 -- an abort: of one that is served it is put off
-not_first : (a b : Bool) → (a || b) ≡ false → a ≡ false
-not_first true b none = none
-not_first false b none = refl
-
 abort_same : (p : ℕ) (kernel : Kernel) (stays waits : Bool) → (waits ≡ false → is_call_of p kernel.disk.served ≡ false) → (b : Kernel) → KernelSame kernel b
     → KernelSame kernel (if stays then kernel else (if waits then b else (discharged kernel p)))
 abort_same p kernel true waits apart b same = same_service kernel.disk kernel.disk refl
@@ -114,7 +110,7 @@ abort_same p kernel false false apart b same = discharged_same kernel p (apart r
 pub abort_serves : (p : ℕ) (system : System) → ServesSame system (aborted p system)
 unfolding aborted abort_done
 abort_serves p system =
-    abort_same p system.kernel (is_resident system.kernel.dispatcher.procs p) (waits_to_end system.kernel p) (λ none. not_first _ _ none) _
+    abort_same p system.kernel (is_resident system.kernel.dispatcher.procs p) (waits_to_end system.kernel p) (λ none. (or_parts _ _ none).0) _
     (same_service system.kernel.disk _ refl)
 
 -- parts of the kernel that leave the disk

@@ -8,7 +8,7 @@ use Rattle.mpm_base.specs.Calls.{Answer}
 use Rattle.mpm_banks.specs.Memory.{Memory, byte_at}
 use Rattle.mpm_bdos.specs.Direct.{Directly}
 use Rattle.mpm_bdos.specs.Outcomes.{CallerChange, Resets, Selects, Stays}
-use Rattle.mpm_bdos.specs.declared.refusals.Extended.{Extended}
+use Rattle.mpm_functions.specs.declared.refusals.Extended.{Extended}
 use Rattle.mpm_cli.specs.Interpreters.{Interpreter, call_at, next_call}
 use Rattle.mpm_cli.specs.Standing.{is_loading}
 use Rattle.mpm_cli.specs.declared.table.Row.{Row}
@@ -66,7 +66,7 @@ use Rattle.mpm_machine.specs.declared.system.System.{System}
 -- in a row that makes a call on files, or reads a command, nothing is handed over
 
 files_ask : (row : Row) (cli : Interpreter) → is_of_files (call_at row cli).function ≡ true → hands row ≡ false
-unfolding is_of_files Rattle.mpm_bdos.specs.Functions.function_of Rattle.mpm_bdos.specs.Direct.direct_of
+unfolding is_of_files Rattle.mpm_functions.specs.Functions.function_of Rattle.mpm_functions.specs.Functions.direct_of
 files_ask ReadCommand cli is = refl
 files_ask OpenQueue cli is = refl
 files_ask WriteQueue cli is = refl

@@ -9,12 +9,11 @@ use Rattle.mpm_service.specs.declared.service.Turn.TheVariants.{Idle, Passing, W
 use Rattle.mpm_opens.specs.Opens.{AreOpen, none_open}
 use Rattle.mpm_opens.proofs.OpenLaws.{none_are_open}
 use Rattle.mpm_procs.specs.Table.{call_of}
-use Rattle.mpm_bdos.specs.declared.functions.FileFunction.{FileFunction}
-use Rattle.mpm_bdos.specs.declared.functions.DirectFunction.{DirectFunction}
-use Rattle.mpm_bdos.specs.Functions.{function_of}
-use Rattle.mpm_bdos.specs.Filing.{Filing}
+use Rattle.mpm_functions.specs.declared.functions.FileFunction.{FileFunction}
+use Rattle.mpm_functions.specs.declared.functions.DirectFunction.{DirectFunction}
+use Rattle.mpm_functions.specs.Functions.{function_of, direct_of}
+use Rattle.mpm_requests.specs.Filing.{Filing}
 use Rattle.mpm_bdos.specs.Outcomes.{left_by, without_search}
-use Rattle.mpm_bdos.specs.Direct.{direct_of}
 use Rattle.mpm_bdos.proofs.SoundLaws.{call_keeps_sound, end_keeps_sound}
 use Rattle.mpm_machine.specs.declared.system.System.{System}
 use Rattle.mpm_machine.specs.State.{State}

@@ -1,14 +1,16 @@
 -- What is kept of files as a machine begins holds its drives.
-use Rattle.std.proofs.Common.{◌≡◌, ◌≢◌, ◌∙◌, ℕ, zero, suc, ◌<◌, Bool, true, false, ◌||◌, List, [], ◌∷◌, Option, Some, None, IfSome, inl, inr, ◌==◌, length, refl, sym, ap, subst, arith}
+use Rattle.std.proofs.Common.{◌≡◌, ◌≢◌, ◌∙◌, ℕ, zero, suc, ◌<◌, true, false, List, [], ◌∷◌, Option, Some, None, IfSome, inl, inr, ◌==◌, length, refl, sym, ap, subst, arith}
 use Rattle.std.specs.Prelude.{◌⊎◌, replicate, is_some, bytes_eq, slice_index_or, slice_set}
 use Rattle.std.specs.List.{AllByRecursion}
-use Rattle.std.proofs.lemmas.Bool.{false≢true}
+use Rattle.std.proofs.lemmas.Bool.{false≢true, or_right}
 use Rattle.std.proofs.lemmas.List.{length-set}
 use Rattle.std.proofs.lemmas.Slice.Eq.{bytes_eq-Decides}
+use Rattle.std.proofs.lemmas.Option.{same_Some}
 use Rattle.mpm_port.specs.Disks.{Disks}
 use Rattle.mpm_blocks.specs.Geometries.{geometry_of}
-use Rattle.mpm_cache.specs.Cached.{cached_at}
-use Rattle.mpm_cache.specs.Coherent.{IsCoherent, HaveOwnImages, HasNoAlias}
+use Rattle.mpm_cache.specs.Coherent.{HaveOwnImages}
+use Rattle.mpm_cache.proofs.CoherentLaws.{coherent_none}
+use Rattle.mpm_cache.proofs.AliasLaws.{no_alias_none}
 use Rattle.mpm_machine_file.specs.declared.lists.DriveSpec.{DriveSpec}
 use Rattle.mpm_machine_file.specs.Drives.{all_differ}
 use Rattle.mpm_machine_file.proofs.OrderLaws.{IsApart, AreApart as SpecsApart, apart_from_differ}
@@ -82,21 +84,14 @@ listed_all a x images (spec ∷ specs) (d ∷ ds) mounted =
 images_apart : (one other : DriveSpec) → IsApart one other → one.image ≢ other.image
 images_apart one other apart same =
     let both : bytes_eq one.image other.image ≡ true = (bytes_eq-Decides one.image other.image).1 same in
-    false≢true (sym apart ∙ clash (one.letter == other.letter) (bytes_eq one.image other.image) both)
-  where
-    clash : (a b : Bool) → b ≡ true → (a || b) ≡ true
-    clash true b e = refl
-    clash false b e = e
+    false≢true (sym apart ∙ or_right (one.letter == other.letter) (bytes_eq one.image other.image) both)
 
 named_apart : (told : Disks) (spec : DriveSpec) (rest : List DriveSpec) (other : ℕ) → AllByRecursion (IsApart spec) rest → IsListed (Some told) rest other
     → Some spec.image ≢ told.name_of other
 unfolding IsListed IsNamed
 named_apart told spec [] other apart listed same = listed
 named_apart told spec (next ∷ rest) other apart (inl here) same =
-    images_apart spec next apart.0 (one_image spec.image next.image (same ∙ here.1))
-  where
-    one_image : (a b : List ℕ) → Some a ≡ Some b → a ≡ b
-    one_image a b e = cc
+    images_apart spec next apart.0 (same_Some spec.image next.image (same ∙ here.1))
 named_apart told spec (next ∷ rest) other apart (inr later) same = named_apart told spec rest other apart.1 later same
 
 own_images : (told : Disks) (specs : List DriveSpec) (one other : ℕ) → SpecsApart specs → IsListed (Some told) specs one → IsListed (Some told) specs other → one ≢ other
@@ -114,15 +109,6 @@ own_told None specs one other apart p q = tt
 own_told (Some told) specs one other apart p q = λ differ. own_images told specs one other apart p q differ
 
 -- nothing is cached
-
-none_coherent : (x : Option Disks) → IsCoherent [] x
-unfolding IsCoherent cached_at
-none_coherent None = tt
-none_coherent (Some told) = λ drive sector. tt
-
-alone : (x : Option Disks) (drive : ℕ) → HasNoAlias [] x drive
-unfolding HasNoAlias cached_at
-alone x drive = λ other sector some. absurd (cc)
 
 -- so the drives are held
 
@@ -163,10 +149,10 @@ holds_mounted attached disks images specs kernel turn_steps kept drives differ i
     λ number some. there (λ d. IsListed x specs number) (IsListed x specs number) (directory_at mounted number) (listed number) (λ d so. so) some in
     let fits : FitsDrives attached disks mounted [] drives = record {
       sizes = sizes;
-      coherent = none_coherent x;
+      coherent = coherent_none x;
       apart = record {
         own = λ one other p q. own_told x specs one other apart (is_listed one p) (is_listed other q);
-        alone = λ drive some. alone x drive;
+        alone = λ drive some. no_alias_none x drive;
       };
     } in
     let here : HoldsDrives attached disks kernel (nothing_kept mounted) drives = holds_idle attached disks kernel turn_steps (nothing_kept mounted) drives idle fits (λ none. refl) in

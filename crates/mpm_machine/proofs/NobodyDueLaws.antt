@@ -1,7 +1,7 @@
 -- After each step nobody's end by an abort is due: the ends that are due come by rising slot, and none makes that of a lower
 -- slot due, since it takes nobody's message of a mutual exclusion queue.
 use Rattle.std.proofs.Common.{◌≡◌, ◌≢◌, ◌∙◌, ℕ, zero, suc, ◌+◌, ◌<◌, Bool, true, false, not, ◌&&◌, ◌||◌, List, [], ◌∷◌, Option, Some, None, inl, inr, refl, sym, ap, arith}
-use Rattle.std.proofs.lemmas.Bool.{false≢true, cases_eq, cases_lt}
+use Rattle.std.proofs.lemmas.Bool.{false≢true, cases_eq, cases_lt, false_from_ne_true}
 use Rattle.std.specs.List.{range_with_len}
 use Rattle.std.specs.Prelude.{is_some}
 use Rattle.mpm_base.specs.Calls.{Taken, Answer}
@@ -170,15 +170,11 @@ nobody_below (suc n) slot system w none = λ p below.
 
 -- there are no more slots
 
-unless_true : (b : Bool) → (b ≡ true → ⊥) → b ≡ false
-unless_true true never = absurd (never refl)
-unless_true false never = refl
-
 nobody_at_all : (kernel : Kernel) → IsSound kernel → NobodyBelow 32 kernel → NobodyDue kernel
 unfolding NobodyDue
 nobody_at_all kernel s none = λ p. elim (cases_lt p 32) [
   | inl below ↦ none p below
-  | inr past ↦ unless_true (is_due kernel p) (λ due. omega (arith, past, lives_below kernel.dispatcher.procs p s.slots (due_lives kernel p due)))
+  | inr past ↦ false_from_ne_true (is_due kernel p) (λ due. omega (arith, past, lives_below kernel.dispatcher.procs p s.slots (due_lives kernel p due)))
 ]
 
 pub due_with_ends : (system : System) → IsWhole system → NobodyDue (with_ends system).kernel

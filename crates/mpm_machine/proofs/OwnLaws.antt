@@ -35,7 +35,7 @@ use Rattle.mpm_processor.specs.Gates.{IsHome}
 use Rattle.mpm_service.specs.Places.{at_disk}
 use Rattle.mpm_kernel.specs.Awaiting.{AwaitsIn}
 use Rattle.mpm_machine.specs.Interpreting.{HasReserved, awaited, Interprets}
-use Rattle.mpm_machine.proofs.HomeLaws.{freed_place, found_is_free}
+use Rattle.mpm_machine.proofs.HomeLaws.{freed_place, found_is_free, freed_lived}
 use Rattle.mpm_kernel.proofs.Beside.{StaysBeside, beside_same}
 use Rattle.mpm_machine.proofs.GoingOn.{acts_with, acts_took, acts_another_took}
 use Rattle.mpm_machine.proofs.InterpretingLaws.{reserves_always}
@@ -136,18 +136,13 @@ occupied_or_own allocation lived own = apart (sym own ∙ lived) where
   apart : Reserved 0 ≡ Occupied → ⊥
   apart e = absurd (cc)
 
-freed_occupied : (owner : ℕ) (segment : Segment) → segment.allocation ≡ Occupied → (freed owner segment).allocation ≡ Occupied
-freed_occupied owner segment lived =
-    either (λ (s : Segment). s.allocation ≡ Occupied) (is_owners owner segment.allocation) _ _
-    (λ owned. absurd (false≢true (sym (ap (is_owners owner) lived) ∙ owned))) (λ _. lived)
-
 pub own_without : (p : ℕ) (system : System) → IsWhole system → Lives system.kernel.dispatcher.procs p → p ≢ 0 → KeepsOwn system.memory (memory_without system.memory system.kernel p)
 unfolding memory_without
 own_without p system w living apart =
     own_both system.memory (all_released system.memory p) _ (own_all_released system.memory p apart)
     (own_vacated (all_released system.memory p) (discharged system.kernel p).dispatcher.procs (process_in system.kernel.dispatcher.procs p).seg
     (λ home is. occupied_or_own (segment_of (all_released system.memory p) home).allocation
-    (ap (λ (s : Segment). s.allocation) (segment_freed system.memory p home) ∙ freed_occupied p (segment_of system.memory home) (w.lived p home living is))))
+    (ap (λ (s : Segment). s.allocation) (segment_freed system.memory p home) ∙ freed_lived p (segment_of system.memory home) (w.lived p home living is))))
 
 -- so the interpreter still has its segment
 

@@ -19,7 +19,7 @@ use Rattle.mpm_machine.proofs.PassingLaws.{passes_nothing}
 use Rattle.mpm_kernel.proofs.SoundLaws.{sound_devices, sound_process}
 use Rattle.mpm_kernel.proofs.Beside.{field_kept}
 use Rattle.mpm_bdos.specs.Answering.{HasEntered}
-use Rattle.mpm_bdos.specs.Functions.{function_of}
+use Rattle.mpm_functions.specs.Functions.{function_of}
 use Rattle.mpm_bdos.specs.Serving.{Kept, InService}
 use Rattle.mpm_machine.specs.declared.system.System.{System}
 use Rattle.mpm_machine.specs.Serving.{with_regs}

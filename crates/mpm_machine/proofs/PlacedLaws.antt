@@ -1,5 +1,5 @@
 -- Programs that are placed into a machine in which no step was done.
-use Rattle.std.proofs.Common.{◌≡◌, ◌≢◌, ◌∙◌, ℕ, suc, cond, count_by, ◌+◌, ◌-◌, ◌*◌, ◌<◌, ◌≤◌, Bool, false, ◌&&◌, List, [], ◌∷◌, Option, Some, None, All, IsSome, length, codes, get_or, map, inl, inr, refl, sym, ap, subst, arith}
+use Rattle.std.proofs.Common.{◌≡◌, ◌≢◌, ◌∙◌, ℕ, suc, count_by, ◌+◌, ◌-◌, ◌*◌, ◌<◌, ◌≤◌, Bool, false, ◌&&◌, List, [], ◌∷◌, Option, Some, None, All, IsSome, length, codes, get_or, map, inl, inr, refl, sym, ap, subst, arith}
 use Rattle.std.proofs.lemmas.Bool.{cases_eq, false≢true}
 use Rattle.std.proofs.lemmas.Option.{same_Some}
 use Rattle.std.proofs.lemmas.List.{length-map, get_or-map}
@@ -7,6 +7,7 @@ use Rattle.std.proofs.lemmas.List.Elements.{All-cons, All-nil}
 use Rattle.std.proofs.lemmas.List.Sums.{sum_by-cons, sum_by-set, count_by-le-length}
 use Rattle.mpm_base.specs.declared.number.Name8.{Name8}
 use Rattle.mpm_base.specs.declared.segment.SegmentSpec.{SegmentSpec}
+use Rattle.mpm_base.proofs.CountLaws.{one_if}
 use Rattle.mpm_banks.specs.Memory.{Memory, IsMemory, no_segment, HasSegment, SameSegments, segment_of, with_bytes}
 use Rattle.mpm_banks.specs.MemoryLaws.{same_segments_both}
 use Rattle.mpm_banks.proofs.WrittenBytes.{same_segments_with_bytes}
@@ -156,14 +157,11 @@ some_free (Some p) taken = refl
 
 -- there is a slot, since there are fewer segments than slots
 
-one_if : Bool → ℕ
-one_if b = cond b 1 0
-
 bit : Segment → ℕ
 bit segment = one_if (is_occupied segment)
 
 occupied_more : (segment : Segment) (segments : List Segment) → count_by is_occupied (segment ∷ segments) ≡ bit segment + count_by is_occupied segments
-unfolding bit one_if
+unfolding bit
 occupied_more segment segments = sum_by-cons bit segment segments
 
 count_same : (one other : List Segment) → length one ≡ length other
@@ -180,14 +178,14 @@ count_same (s ∷ one) (t ∷ other) length each =
     ∙ sym (occupied_more t other)
 
 nobody_counts : (segments : List SegmentSpec) → count_by is_occupied (map new_segment segments) ≡ 0
-unfolding bit one_if
+unfolding bit
 nobody_counts [] = refl
 nobody_counts (spec ∷ segments) = occupied_more (new_segment spec) (map new_segment segments) ∙ omega (arith, nobody_counts segments)
 
 -- a segment more is lived in
 occupied_count : (memory : Memory) (seg : ℕ) → HasSegment memory seg → is_occupied (segment_of memory seg) ≡ false
     → count_by is_occupied (occupied memory seg).segments ≡ count_by is_occupied memory.segments + 1
-unfolding allocated bit one_if
+unfolding allocated bit
 occupied_count memory seg there empty =
     let set = sum_by-set bit memory.segments seg (record (segment_of memory seg) { allocation = Occupied }) no_segment there in
     omega (arith, set, ap one_if empty)

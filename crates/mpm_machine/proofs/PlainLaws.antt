@@ -6,7 +6,7 @@ use Rattle.mpm_service.specs.Disk.{served_process, turn_answer}
 use Rattle.mpm_service.specs.declared.service.Served.{Served}
 use Rattle.mpm_service.specs.declared.service.Turn.{Turn}
 use Rattle.mpm_service.specs.declared.service.Turn.TheVariants.{Idle, Passing, Work, Starts}
-use Rattle.mpm_bdos.specs.Filing.{Filing}
+use Rattle.mpm_requests.specs.Filing.{Filing}
 use Rattle.mpm_bdos.specs.Outcomes.{left_by, without_search}
 use Rattle.mpm_machine.specs.declared.system.System.{System}
 use Rattle.mpm_machine.specs.Owing.{nobody_owes}

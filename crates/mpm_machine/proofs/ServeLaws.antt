@@ -2,6 +2,7 @@
 use Rattle.std.proofs.Common.{◌≡◌, ◌∙◌, ℕ, Bool, true, false, List, [], Option, Some, None, Result, Ok, Err, IfErr, IfSome, option_map, is_some, if◌then◌else◌, ◌==◌, inl, inr, length, arith, ◌+◌, ◌-◌, refl, sym, ap, subst}
 use Rattle.std.specs.Prelude.{◌⊎◌, OnOk, OnErr, option_and_then}
 use Rattle.std.proofs.lemmas.Bool.{false≢true}
+use Rattle.std.proofs.lemmas.Result.{on_err_weaker, on_ok_weaker}
 use Rattle.mpm_base.specs.Calls.{Taken, Answer}
 use Rattle.mpm_port.specs.Disks.{Disks}
 use Rattle.mpm_port.specs.declared.Failed.{Failed}
@@ -20,14 +21,14 @@ use Rattle.mpm_output.specs.Writing.{Wrote, Stopped, Fails, Emits}
 use Rattle.mpm_output.proofs.WritingLaws.{wrote_nothing, wrote_cause, stopped_cause}
 use Rattle.mpm_port.specs.Causes.{HasCause}
 use Rattle.mpm_render.specs.Outputs.{Output}
-use Rattle.mpm_bdos.specs.declared.caller.Caller.{Caller}
-use Rattle.mpm_bdos.specs.declared.functions.FileFunction.{FileFunction}
-use Rattle.mpm_bdos.specs.declared.refusals.Extended.{Extended}
+use Rattle.mpm_requests.specs.declared.caller.Caller.{Caller}
+use Rattle.mpm_functions.specs.declared.functions.FileFunction.{FileFunction}
+use Rattle.mpm_functions.specs.declared.refusals.Extended.{Extended}
 use Rattle.mpm_bdos.specs.Answering.{HasEntered, MayAnswer}
-use Rattle.mpm_bdos.specs.declared.functions.DirectFunction.{DirectFunction}
-use Rattle.mpm_bdos.specs.Functions.{function_of}
-use Rattle.mpm_bdos.specs.Direct.{Directly, direct_of}
-use Rattle.mpm_bdos.specs.Filing.{Filing, Situation}
+use Rattle.mpm_functions.specs.declared.functions.DirectFunction.{DirectFunction}
+use Rattle.mpm_functions.specs.Functions.{function_of, direct_of}
+use Rattle.mpm_bdos.specs.Direct.{Directly}
+use Rattle.mpm_requests.specs.Filing.{Filing, Situation}
 use Rattle.mpm_bdos.specs.Finishing.{ComesTo}
 use Rattle.mpm_bdos.specs.Jobs.{call_turns}
 use Rattle.mpm_bdos.specs.Outcomes.{file_call}
@@ -94,14 +95,6 @@ answered_told (Ok a) p old new o n kept answer extended own may system wrote = r
 }
 answered_told (Err e) p old new o n kept answer extended own may system wrote = tt
 
-on_ok : {A E P Q : Type 0} (r : Result A E) → (P → Q) → OnOk r P → OnOk r Q
-on_ok (Ok a) so p = so p
-on_ok (Err e) so p = tt
-
-on_err : {A E P Q : Type 0} (r : Result A E) → (P → Q) → OnErr r P → OnErr r Q
-on_err (Ok a) so p = tt
-on_err (Err e) so p = so p
-
 pub answered_stops : {A : Type 0} (r : Result A Failed) (p : ℕ) (old : System) (o n : Outside) (kept : Kept) (answer : Answer) (extended : Option Extended)
     → IsOwn old.kernel.dispatcher.procs p kept.service
     → ((caller : Caller) (function : FileFunction) (call : Taken) → HasEntered caller function call kept.service → MayAnswer caller.multi function call answer extended)
@@ -117,7 +110,7 @@ answered_stops (Err e) p old o n kept answer extended own may failed = record {
 
 pub answered_whole : {A E : Type 0} (r : Result A E) (told : Directly) (p : ℕ) (old new : System) → IsWhole old → IsOver p old.kernel
     → OnOk r (new ≡ (call_over told p old).system) → OnOk r (IsWhole new)
-answered_whole r told p old new w over = on_ok r (λ (is : new ≡ (call_over told p old).system). subst IsWhole (sym is) (whole_call_over told p old w over))
+answered_whole r told p old new w over = on_ok_weaker r (λ (is : new ≡ (call_over told p old).system). subst IsWhole (sym is) (whole_call_over told p old w over))
 
 nobody_over : (told : Directly) (p : ℕ) (system : System) → (call_over told p system).system.kernel.dispatcher.completed ≡ []
 unfolding call_over
@@ -126,7 +119,7 @@ nobody_over told p system = no_completions_finished _ (concluded told p (ready_a
 pub answered_nobody : {A E : Type 0} (r : Result A E) (told : Directly) (p : ℕ) (old new : System) → OnOk r (new ≡ (call_over told p old).system)
     → OnOk r (new.kernel.dispatcher.completed ≡ [])
 answered_nobody r told p old new =
-    on_ok r (λ (is : new ≡ (call_over told p old).system). ap (λ (s : System). s.kernel.dispatcher.completed) is ∙ nobody_over told p old)
+    on_ok_weaker r (λ (is : new ≡ (call_over told p old).system). ap (λ (s : System). s.kernel.dispatcher.completed) is ∙ nobody_over told p old)
 
 -- nobody is served behind it
 pub over_serves : (told : Directly) (p : ℕ) (system : System) → system.kernel.disk.served ≡ None → ServesSame system (call_over told p system).system
@@ -226,7 +219,7 @@ unfolding turn_answer
 pass_over r (Between filing) p o n old new before kept disks works none stands over =
     let disk = old.kernel.disk in absurd (works_within disk.turn_steps disk.served (first_of disk.waiting) p true before disks filing works stands.stands)
 pass_over r (Within s) p o n old new before kept disks works none stands over =
-    on_ok r (over_stands s p o n old new kept disks works none)
+    on_ok_weaker r (over_stands s p o n old new kept disks works none)
     (over s (last_turn_serves old.kernel.disk before disks s p works stands) (whose_turn old.kernel.disk before disks s p true works stands))
 
 -- or the sink failed in it
@@ -259,7 +252,7 @@ told_passed p system answer extended tells =
 pub has_passed_over : {A E : Type 0} (r : Result A E) (p : ℕ) (o n : Outside) (old new : System) → turn_answer old.kernel.disk ≡ Work p true
     → OnOk r (HasAnswered p o n (step_passed old) new) → OnOk r (HasPassed o n old new)
 has_passed_over r p o n old new works =
-    on_ok r (λ (answered : HasAnswered p o n (step_passed old) new). record {
+    on_ok_weaker r (λ (answered : HasAnswered p o n (step_passed old) new). record {
       told = answered.told;
       of_call = subst (λ (over : Option ℕ). IsOfCall over answered.told old) (sym (over_process old p works)) answered.of_call;
       tells = subst (λ (over : Option ℕ). IsToldIn over answered.told old) (sym (over_process old p works))
@@ -271,7 +264,7 @@ has_passed_over r p o n old new works =
 pub has_stopped_over : {A E : Type 0} (r : Result A E) (p : ℕ) (o n : Outside) (old : System) → turn_answer old.kernel.disk ≡ Work p true
     → OnErr r (HasStoppedAnswering p o n (step_passed old)) → OnErr r (HasStoppedServing o n old)
 has_stopped_over r p o n old works =
-    on_err r (λ (stopped : HasStoppedAnswering p o n (step_passed old)). record {
+    on_err_weaker r (λ (stopped : HasStoppedAnswering p o n (step_passed old)). record {
       told = stopped.told;
       of_call = subst (λ (over : Option ℕ). IsOfCall over stopped.told old) (sym (over_process old p works)) stopped.of_call;
       tells = subst (λ (over : Option ℕ). IsToldIn over stopped.told old) (sym (over_process old p works))
@@ -440,12 +433,12 @@ none_behind disk p works = none_by disk.turn_steps disk.served (first_of disk.wa
 pub nobody_behind : {A E : Type 0} (r : Result A E) (p : ℕ) (o n : Outside) (old new : System) → turn_answer old.kernel.disk ≡ Work p true
     → OnOk r (HasAnswered p o n (step_passed old) new) → OnOk r (new.kernel.disk.served ≡ None)
 nobody_behind r p o n old new works =
-    on_ok r (λ (answered : HasAnswered p o n (step_passed old) new).
+    on_ok_weaker r (λ (answered : HasAnswered p o n (step_passed old) new).
     let none = none_behind old.kernel.disk p works in
     ap (λ (system : System). system.kernel.disk.served) answered.system ∙ (over_serves answered.told p (step_passed old) none).served ∙ none)
 
 pub none_holds : {A E : Type 0} (r : Result A E) (P : Served → Type 0) (disk : DiskService) → OnOk r (disk.served ≡ None) → OnOk r (IfSome disk.served P)
-none_holds r P disk = on_ok r (λ (none : disk.served ≡ None). subst (λ (served : Option Served). IfSome served P) (sym none) tt)
+none_holds r P disk = on_ok_weaker r (λ (none : disk.served ≡ None). subst (λ (served : Option Served). IfSome served P) (sym none) tt)
 
 -- whose call it is stays so, and his own, as it goes on
 own_after : (b c : Bool) (call : Served) (P : ℕ → Type 0) → P call.p

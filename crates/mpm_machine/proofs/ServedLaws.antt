@@ -198,12 +198,9 @@ hands_after : (memory : Memory) (owner seg : ℕ) → (segment_of (all_released 
 hands_after memory owner seg =
     ap (λ (s : Segment). s.allocation) (segment_freed memory owner seg) ∙ freed_hands (is_owners owner (segment_of memory seg).allocation) (segment_of memory seg)
 
-count_freed : (memory : Memory) (owner : ℕ) → length (all_released memory owner).segments ≡ length memory.segments
-count_freed memory owner = count_all_released memory owner
-
 all_released_alike : (one other : Memory) (owner : ℕ) → SameSegments one other → SameSegments (all_released one owner) (all_released other owner)
 all_released_alike one other owner same = record {
-  count = count_freed other owner ∙ same.count ∙ sym (count_freed one owner);
+  count = count_all_released other owner ∙ same.count ∙ sym (count_all_released one owner);
   base = λ k. base_freed other owner k ∙ same.base k ∙ sym (base_freed one owner k);
   pages = λ k. pages_freed other owner k ∙ same.pages k ∙ sym (pages_freed one owner k);
   allocation = λ k. hands_after other owner k ∙ ap (hands_freed owner) (same.allocation k) ∙ sym (hands_after one owner k);

@@ -5,8 +5,8 @@ use Rattle.std.specs.Prelude.{OnOk, IfErr, is_some, option_map, unwrap_or}
 use Rattle.mpm_base.proofs.CountLaws.{count_cons}
 use Rattle.mpm_port.specs.Disks.{Disks, SameDisks, Told}
 use Rattle.mpm_port.specs.Texts.{Begins, appended}
+use Rattle.mpm_port.proofs.Images.{same_told}
 use Rattle.mpm_blocks.proofs.ToldImages.{told_image_same}
-use Rattle.mpm_cache.proofs.CoherentLaws.{same_told}
 use Rattle.mpm_mount.specs.Directories.{Directory}
 use Rattle.mpm_mount.specs.Mounting.{SameDrives}
 use Rattle.mpm_render.specs.Outputs.{Output, rendered, closed}
@@ -17,7 +17,7 @@ use Rattle.mpm_output.specs.Writing.{Wrote}
 use Rattle.mpm_output.proofs.WritingLaws.{rendered_onward, wrote_nothing}
 use Rattle.mpm_service.specs.Disk.{DiskService, no_service, served_process}
 use Rattle.mpm_service.specs.declared.service.Served.{Served}
-use Rattle.mpm_bdos.specs.Filing.{Filing, Situation}
+use Rattle.mpm_requests.specs.Filing.{Filing, Situation}
 use Rattle.mpm_bdos.specs.Serving.{Kept as Filed, StandEach, Serves, directory_at}
 use Rattle.mpm_bdos.specs.Syncing.{mounted_count}
 use Rattle.mpm_bdos.specs.Turns.{StaysBeside, labelled, told_images}

@@ -2,9 +2,10 @@
 use Rattle.std.proofs.Common.{◌≡◌, ◌≢◌, ◌∙◌, ℕ, zero, suc, ◌+◌, ◌<◌, ◌≤◌, Bool, true, false, not, List, [], ◌∷◌, ◌++◌, length, Option, Some, None, if◌then◌else◌, inl, inr, codes, refl, sym, ap, subst, arith, add-one, get_or-set_same}
 use Rattle.std.specs.Prelude.{slice_get, nat_lt}
 use Rattle.std.proofs.lemmas.Bool.{cases_lt, false≢true}
-use Rattle.std.proofs.lemmas.List.{length-map}
+use Rattle.std.proofs.lemmas.List.{length-map, length_push}
 use Rattle.std.proofs.lemmas.Bool.Decides.{nat_tests}
 use Rattle.std.proofs.lemmas.List.Sums.{position_or_len_is}
+use Rattle.std.proofs.lemmas.Option.{slice_get_past}
 use Rattle.mpm_ready.specs.Tables.{no_lists}
 use Rattle.mpm_ready.proofs.TableLaws.{table_none, list_of_none, list_of_inserted, list_of_inserted_other}
 use Rattle.mpm_base.specs.Calls.{Taken, no_call}
@@ -65,10 +66,6 @@ front (y ∷ xs) ys (suc i) x e = front xs ys i x e
 last : (xs : List Native) (x : Native) → slice_get (xs ++ x ∷ []) (length xs) ≡ Some x
 last [] x = refl
 last (y ∷ xs) x = last xs x
-
-one_more : (xs : List Native) (x : Native) → length (xs ++ x ∷ []) ≡ length xs + 1
-one_more [] x = refl
-one_more (y ∷ xs) x = omega (arith, one_more xs x)
 
 -- a process that begins and is changed, in a table
 abbrev begun_in : Table → ℕ → NewProcess → Process → Table
@@ -176,7 +173,7 @@ lodges_at consoles n system w few free has =
         | inr past ↦ newest consoles n k system w few has (omega (arith, less, past))
       ];
       free = λ q more. lives_as_before table p q new process (λ e. absurd (omega (arith, e, more))) ∙ has.free q (omega (arith, more));
-      residents = one_more system.residents (Tmp (opening n)) ∙ ap (λ m. m + 1) has.residents;
+      residents = length_push system.residents (Tmp (opening n)) ∙ ap (λ m. m + 1) has.residents;
     }
 
 lodges_more : (consoles n : ℕ) (system : System) → IsWhole system → n < 8 → Lodges consoles n system
@@ -316,13 +313,8 @@ in_slot_zero consoles system has (suc k) acts = elim (cases_lt k consoles) [
   | inl less ↦
       let tmp : native_in system.residents (suc k) ≡ Some (Tmp (opening k)) = ap (native_in system.residents) (sym (add-one k)) ∙ (has.terminals k less).resident in
       absurd (false≢true (sym (ap interprets_if_there tmp) ∙ acts))
-  | inr past ↦ absurd (false≢true (sym (ap interprets_if_there (behind system.residents (suc k) (omega (arith, past, has.only)))) ∙ acts))
+  | inr past ↦ absurd (false≢true (sym (ap interprets_if_there (slice_get_past system.residents (suc k) (omega (arith, past, has.only)))) ∙ acts))
 ]
-  where
-    behind : (xs : List Native) (i : ℕ) → length xs ≤ i → slice_get xs i ≡ None
-    behind [] i less = refl
-    behind (x ∷ xs) zero less = absurd (omega (arith, less))
-    behind (x ∷ xs) (suc i) less = behind xs i (omega (arith, less))
 
 few_segments : (segments : List SegmentSpec) → length segments ≤ 16 → length (new_memory segments).segments ≤ 16
 unfolding new_memory

@@ -2,8 +2,9 @@
 -- drives the images stand where one stopped.
 use Rattle.std.proofs.Common.{◌≡◌, ◌∙◌, ℕ, ◌+◌, ◌*◌, ◌<◌, ◌≤◌, ◌==◌, ◌&&◌, ◌||◌, Bool, true, false, List, Option, Some, None, Result, Ok, Err, refl, sym, ap, subst, arith}
 use Rattle.std.specs.Prelude.{is_some, is_none}
-use Rattle.std.proofs.lemmas.Bool.{and_parts, false≢true}
+use Rattle.std.proofs.lemmas.Bool.{and_parts, false≢true, or_parts, or_left, or_right, true_from_ne_false}
 use Rattle.std.proofs.lemmas.Bool.Decides.{nat_tests}
+use Rattle.std.proofs.lemmas.Option.{none-some}
 use Rattle.mpm_port.specs.Disks.{Disks}
 use Rattle.mpm_port.specs.Causes.{Rose, HasCause}
 use Rattle.mpm_procs.specs.Table.{call_of}
@@ -11,8 +12,8 @@ use Rattle.mpm_service.specs.Disk.{turn_answer, HasBegun}
 use Rattle.mpm_service.specs.declared.service.Served.{Served}
 use Rattle.mpm_mount.specs.Directories.{Directory}
 use Rattle.mpm_kernel.specs.Kernel.{Kernel}
-use Rattle.mpm_bdos.specs.declared.functions.FileFunction.{FileFunction}
-use Rattle.mpm_bdos.specs.Functions.{function_of}
+use Rattle.mpm_functions.specs.declared.functions.FileFunction.{FileFunction}
+use Rattle.mpm_functions.specs.Functions.{function_of}
 use Rattle.mpm_bdos.specs.Serving.{Kept, directory_at}
 use Rattle.mpm_bdos.specs.Turns.{FitsDrives, has_work}
 use Rattle.mpm_machine.specs.declared.system.System.{System}
@@ -25,7 +26,7 @@ use Rattle.mpm_machine.specs.FileCalls.{file_caller, call_made}
 use Rattle.mpm_machine.specs.Stepping.{is_instruction, nothing_told, told_first, before_disk, files_begun, telling_then, files_rest, rest_of}
 use Rattle.mpm_machine.specs.Holding.{AreFiled, OwnsService, HoldsDrives}
 use Rattle.mpm_machine.specs.Mounting.{HasNoDrive}
-use Rattle.mpm_machine.specs.Failing.{Working, HaveImages, HaveImagesOf, FailsWithin, StopsOn, is_work, turns_done, working_turn, working_in, working_turn_of, works_at_once, works_in_turn, does_work}
+use Rattle.mpm_machine.specs.Failing.{HaveImages, HaveImagesOf, FailsWithin, StopsOn, is_work, turns_done, working_turn, working_in, working_turn_of, works_at_once, works_in_turn, does_work}
 use Rattle.mpm_machine.specs.After.{EndKeeps}
 use Rattle.mpm_machine.proofs.TurnLaws.{worked_on}
 use Rattle.mpm_machine.proofs.WorkLaws.{its_working}
@@ -35,31 +36,15 @@ use Rattle.mpm_machine.proofs.FilesStepLaws.{stepped_drives}
 
 -- a step that works on no drive does in no part of it
 
-neither : (a b : Bool) → (a || b) ≡ false → (a ≡ false) × (b ≡ false)
-neither true b none = absurd (false≢true (sym none))
-neither false b none = (refl, none)
-
 pub does_nothing : (system : System) → does_work system ≡ false → (works_at_once (file_caller system) system ≡ false) × (works_in_turn system ≡ false)
 unfolding does_work
-does_nothing system none = neither (works_at_once (file_caller system) system) (works_in_turn system) none
+does_nothing system none = or_parts (works_at_once (file_caller system) system) (works_in_turn system) none
 
 -- and one that fails does
 
-first_of_two : (a b : Bool) → a ≡ true → (a || b) ≡ true
-first_of_two true b is = refl
-first_of_two false b is = absurd (false≢true is)
-
-second_of_two : (a b : Bool) → b ≡ true → (a || b) ≡ true
-second_of_two true b is = refl
-second_of_two false b is = is
-
-unless : (b : Bool) → (b ≡ false → ⊥) → b ≡ true
-unless true never = refl
-unless false never = absurd (never refl)
-
 pub turn_worked : (system : System) → (works_in_turn system ≡ false → ⊥) → does_work system ≡ true
 unfolding does_work
-turn_worked system never = second_of_two (works_at_once (file_caller system) system) (works_in_turn system) (unless (works_in_turn system) never)
+turn_worked system never = or_right (works_at_once (file_caller system) system) (works_in_turn system) (true_from_ne_false (works_in_turn system) never)
 
 no_sink : DiskFault ≡ WriteFault → ⊥
 no_sink is = absurd (cc)
@@ -68,7 +53,7 @@ pub begun_worked : (fault : StepFault) (system : System) → (works_at_once (fil
 unfolding does_work
 begun_worked WriteFault system idle = tt
 begun_worked DiskFault system idle =
-    first_of_two (works_at_once (file_caller system) system) (works_in_turn system) (unless (works_at_once (file_caller system) system) (λ none. no_sink (idle none)))
+    or_left (works_at_once (file_caller system) system) (works_in_turn system) (true_from_ne_false (works_at_once (file_caller system) system) (λ none. no_sink (idle none)))
 
 -- where turns have steps no call is done on a drive as it is made
 
@@ -126,15 +111,13 @@ step_calls system kept disks files before middle behind stands few same apart bo
 pub turn_calls : (system : System) (kept : Kept) (disks : Option Disks) (files : Files) (before behind : ℕ) → StandsForFiles system.kernel.disk kept disks files
     → (works_in_turn system ≡ false → ⊥) → behind ≤ before + 20 → behind ≤ before + 20 * turns_done (working_in system files)
 turn_calls system kept disks files before behind stands never few =
-    let one = turn_done system kept disks files stands (unless (works_in_turn system) never) in omega (arith, one, few)
+    let one = turn_done system kept disks files stands (true_from_ne_false (works_in_turn system) never) in omega (arith, one, few)
 
 pub turn_fails_so : (system : System) (disks : Option Disks) (files : Files) (mounted : List (Option Directory))
     → HaveImagesOf (FailsWithin (working_turn_of system files)) disks mounted → HaveImagesOf (FailsWithin (working_in system files)) disks mounted
 unfolding working_in
 turn_fails_so system disks (Within s) mounted have = have
-turn_fails_so system disks (Between filing) mounted have = absurd (no_working have.are.found have.are.is) where
-  no_working : (found : Working) → None ≡ Some found → ⊥
-  no_working found is = absurd (cc)
+turn_fails_so system disks (Between filing) mounted have = absurd (none-some have.are.found have.are.is)
 
 -- for which drives the images stand where the sink failed: in what the step begins with, or behind it
 

@@ -5,12 +5,12 @@ use Rattle.std.proofs.lemmas.Bool.{false≢true}
 use Rattle.mpm_base.specs.Calls.{Taken, Answer, answering}
 use Rattle.mpm_procs.specs.Table.{process_in, call_of}
 use Rattle.mpm_procs.specs.declared.process.Process.{Process}
-use Rattle.mpm_bdos.specs.declared.functions.FileFunction.{FileFunction}
-use Rattle.mpm_bdos.specs.declared.functions.DirectFunction.{DirectFunction}
-use Rattle.mpm_bdos.specs.declared.refusals.Extended.{Extended}
-use Rattle.mpm_bdos.specs.Functions.{function_of}
-use Rattle.mpm_bdos.specs.Direct.{Directly, IsToldDirectly, ComesDirectly, direct_of, direct_by, is_protected}
-use Rattle.mpm_bdos.specs.declared.caller.Caller.{Caller}
+use Rattle.mpm_functions.specs.declared.functions.FileFunction.{FileFunction}
+use Rattle.mpm_functions.specs.declared.functions.DirectFunction.{DirectFunction}
+use Rattle.mpm_functions.specs.declared.refusals.Extended.{Extended}
+use Rattle.mpm_functions.specs.Functions.{function_of, direct_of}
+use Rattle.mpm_bdos.specs.Direct.{Directly, IsToldDirectly, ComesDirectly, direct_by, is_protected}
+use Rattle.mpm_requests.specs.declared.caller.Caller.{Caller}
 use Rattle.mpm_bdos.specs.Serving.{InService, Kept, kind_at}
 use Rattle.mpm_bdos.specs.Answering.{MayAnswer, HasEntered}
 use Rattle.mpm_bdos.proofs.Answerable.{something_granted}

@@ -1,7 +1,7 @@
 -- A whole system stays whole through what a process does: its instruction, its call, its end.
+use Rattle.mpm_mount.proofs.Ranges.{or_none}
 use Rattle.std.proofs.Common.{◌≡◌, ◌≢◌, ◌∙◌, ◌<◌, ℕ, ◌&&◌, ◌||◌, Bool, true, false, not, List, [], Option, Some, None, ◌==◌, if◌then◌else◌, refl, sym, ap, subst, IsNone, length, arith}
-use Rattle.std.proofs.lemmas.Bool.{false≢true, or_right, eq-eqb}
-use Rattle.std.proofs.lemmas.Bool.Decides.{nat_tests}
+use Rattle.std.proofs.lemmas.Bool.{false≢true, or_right, eq-eqb, or_parts}
 use Rattle.std.proofs.lemmas.List.{set-get_or}
 use Rattle.mpm_base.proofs.Choices.{either}
 use Rattle.z80_regs.specs.Outcome.{Outcome}
@@ -179,11 +179,8 @@ whole_after_text system kernel console bytes w is =
 
 -- a process ends
 
-same_number : (n : ℕ) → (n == n) ≡ true
-same_number n = grind (arith, nat_tests)
-
 lives_there : (procs : Table) (seg q : ℕ) → Lives procs q → (process_in procs q).seg ≡ Some seg → lives_in procs seg q ≡ true
-lives_there procs seg q living there = ap (λ b. b && is_segment seg (process_in procs q).seg) living ∙ ap (is_segment seg) there ∙ same_number seg
+lives_there procs seg q living there = ap (λ b. b && is_segment seg (process_in procs q).seg) living ∙ ap (is_segment seg) there ∙ eq-eqb seg seg refl
 
 pub whole_ended : (p : ℕ) (system : System) → IsWhole system → Lives system.kernel.dispatcher.procs p → IsWhole (ended p system)
 unfolding ended
@@ -341,13 +338,6 @@ whole_creating p system w h =
 
 -- a process is aborted, by itself or by another
 
-or_on : (b : Bool) → (b || true) ≡ true
-or_on b = or_right b true refl
-
-or_off : (b : Bool) → (b || false) ≡ b
-or_off true = refl
-or_off false = refl
-
 -- a resident stays, the end of another process is put off, or it ends
 abbrev pub aborted_by : Bool → Bool → ℕ → System → System
 aborted_by stays waits p system = record system {
@@ -365,14 +355,10 @@ aborted_is stays waits p system resident e =
 
 pub ends_at_once : (p : ℕ) (system : System) → aborted_by false false p system ≡ ended p system
 unfolding ended
-ends_at_once p system = ap (λ b. record (ended p system) { abort_deferred = b }) (or_off system.abort_deferred)
+ends_at_once p system = ap (λ b. record (ended p system) { abort_deferred = b }) (or_none system.abort_deferred)
 
 pub abort_deferred_is : (p : ℕ) (system : System) → aborted_by false true p system ≡ record system { kernel = with_abort_due system.kernel p; abort_deferred = true }
-abort_deferred_is p system = ap (λ b. record system { kernel = with_abort_due system.kernel p; abort_deferred = b }) (or_on system.abort_deferred)
-
-or_neither : (b c : Bool) → (b || c) ≡ false → b ≡ false
-or_neither true c e = e
-or_neither false c e = refl
+abort_deferred_is p system = ap (λ b. record system { kernel = with_abort_due system.kernel p; abort_deferred = b }) (or_right system.abort_deferred true refl)
 
 pub whole_resident : (waits : Bool) (p : ℕ) (system : System) → IsWhole system → IsWhole (aborted_by true waits p system)
 whole_resident waits p system w = record {
@@ -382,7 +368,7 @@ whole_resident waits p system w = record {
   lived = w.lived;
   memory = w.memory;
   script = w.script;
-  settled = λ off. w.settled (or_neither system.abort_deferred waits off);
+  settled = λ off. w.settled ((or_parts system.abort_deferred waits off).0);
 }
 
 pub whole_abort_deferred : (p : ℕ) (system : System) → IsWhole system → Lives system.kernel.dispatcher.procs p

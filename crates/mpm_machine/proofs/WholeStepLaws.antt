@@ -1,10 +1,11 @@
 -- A whole system stays whole through each part of a step: the event, the answers, the ends that are due, and the step.
-use Rattle.std.proofs.Common.{◌≡◌, ◌∙◌, ℕ, ◌+◌, ◌&&◌, Bool, true, false, List, [], ◌∷◌, Option, Some, None, inl, inr, refl, sym, ap, subst, IfSome, All, arith}
-use Rattle.std.proofs.lemmas.Bool.{and_parts, false≢true}
+use Rattle.std.proofs.Common.{◌≡◌, ◌∙◌, ℕ, ◌+◌, Bool, true, false, List, [], ◌∷◌, Option, Some, None, inl, inr, refl, sym, ap, subst, IfSome, All, arith}
+use Rattle.std.proofs.lemmas.Bool.{and_parts, and_cases}
 use Rattle.std.proofs.lemmas.Bool.Decides.{nat_tests}
 use Rattle.std.specs.List.{range_with_len}
-use Rattle.std.specs.Prelude.{is_some, nat_lt, ◌⊎◌}
+use Rattle.std.specs.Prelude.{nat_lt}
 use Rattle.mpm_base.proofs.Choices.{either}
+use Rattle.mpm_base.proofs.Options.{none_there}
 use Rattle.mpm_procs.specs.Table.{lives, Lives, process_in}
 use Rattle.mpm_procs.proofs.MapLaws.{lives_below}
 use Rattle.mpm_queues.specs.Queues.{lowest}
@@ -214,27 +215,19 @@ whole_due_end system afterwards p w due is = subst IsWhole (sym is) (whole_ended
 
 -- nobody is aborted where none of the slots has one who is
 
-none_found : (found : Option ℕ) → is_some found ≡ false → found ≡ None
-none_found None e = refl
-none_found (Some p) e = absurd (false≢true (sym e))
-
 no_slot : (b below : Bool) → (b ≡ true → below ≡ true) → (below ≡ true → b ≡ false) → b ≡ false
 no_slot true below there none = none (there refl)
 no_slot false below there none = refl
 
 none_aborted : (system : System) → IsWhole system → is_any_aborted system.kernel.dispatcher.procs ≡ false → NobodyAborted system.kernel
 none_aborted system w none = λ p.
-    let each = lowest_none (is_aborted system.kernel.dispatcher.procs) (none_found (lowest (is_aborted system.kernel.dispatcher.procs)) none) in
+    let each = lowest_none (is_aborted system.kernel.dispatcher.procs) (none_there (lowest (is_aborted system.kernel.dispatcher.procs)) none) in
     no_slot (is_aborted system.kernel.dispatcher.procs p) (nat_lt p 32)
     (λ due. below p system w (and_parts (lives system.kernel.dispatcher.procs p) _ due).0)
     (λ less. each p (grind (arith, nat_tests, less)))
   where
     below : (p : ℕ) (system : System) → IsWhole system → Lives system.kernel.dispatcher.procs p → nat_lt p 32 ≡ true
     below p system w living = grind (arith, nat_tests, lives_below system.kernel.dispatcher.procs p w.sound.slots living)
-
-either_off : (a b : Bool) → (a && b) ≡ false → (a ≡ false) ⊎ (b ≡ false)
-either_off true b e = inr e
-either_off false b e = inl refl
 
 whole_noted : (system : System) → IsWhole system → IsWhole (noted system)
 whole_noted system w = record {
@@ -244,7 +237,7 @@ whole_noted system w = record {
   lived = w.lived;
   memory = w.memory;
   script = w.script;
-  settled = λ off. elim (either_off system.abort_deferred _ off) [
+  settled = λ off. elim (and_cases system.abort_deferred _ off) [
     | inl was ↦ w.settled was
     | inr none ↦ none_aborted system w none
   ];

@@ -12,8 +12,8 @@ use Rattle.mpm_residents.specs.Natives.{native_in}
 use Rattle.mpm_output.specs.Outside.{Outside}
 use Rattle.mpm_output.specs.Writing.{Wrote}
 use Rattle.mpm_bdos.specs.Direct.{Directly}
-use Rattle.mpm_bdos.specs.Filing.{Filing, Situation}
-use Rattle.mpm_bdos.specs.Functions.{function_of}
+use Rattle.mpm_requests.specs.Filing.{Filing, Situation}
+use Rattle.mpm_functions.specs.Functions.{function_of}
 use Rattle.mpm_bdos.specs.Serving.{Kept}
 use Rattle.mpm_machine.specs.declared.system.System.{System}
 use Rattle.mpm_machine.specs.declared.machine.StepFault.{StepFault}

@@ -15,8 +15,8 @@ use Rattle.mpm_machine.specs.declared.machine.StepFault.TheVariants.{DiskFault, 
 use Rattle.mpm_machine.specs.Files.{Files, Between, StandsWorked, StandsForFiles}
 use Rattle.mpm_machine.specs.State.{State, Change, silent}
 use Rattle.mpm_machine.specs.Faults.{EndsBy, OnDiskFault}
-use Rattle.mpm_bdos.specs.declared.functions.FileFunction.{FileFunction}
-use Rattle.mpm_bdos.specs.Filing.{Filing, Situation}
+use Rattle.mpm_functions.specs.declared.functions.FileFunction.{FileFunction}
+use Rattle.mpm_requests.specs.Filing.{Filing, Situation}
 use Rattle.mpm_machine.specs.FileCalls.{file_caller, call_made, situation_of, outcome_in, IsToldOf, IsToldAsKept, change_of}
 use Rattle.mpm_machine.specs.DiskStep.{process_over, file_called, call_over, call_entered, disk_served, files_entered, told_of_call, turns_within}
 use Rattle.mpm_machine.specs.Stepping.{Telling, begun_as, is_instruction, rest_of, step_with, nothing_told, before_disk, files_begun, told_within, paid_after, entered_after, files_then, telling_then, files_rest, Stepped, stepped}

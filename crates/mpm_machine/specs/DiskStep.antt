@@ -9,10 +9,10 @@ use Rattle.mpm_service.specs.declared.service.Turn.TheVariants.{Idle, Passing, W
 use Rattle.mpm_procs.specs.Table.{call_of}
 use Rattle.mpm_kernel.specs.Kernel.{Kernel}
 use Rattle.mpm_kernel.specs.Disk.{with_disk, waiting_for_disk, ready_again as made_ready_again}
-use Rattle.mpm_bdos.specs.declared.functions.FileFunction.{FileFunction}
+use Rattle.mpm_functions.specs.declared.functions.FileFunction.{FileFunction}
 use Rattle.mpm_bdos.specs.Direct.{Directly}
-use Rattle.mpm_bdos.specs.Filing.{Filing, Situation}
-use Rattle.mpm_bdos.specs.Functions.{function_of}
+use Rattle.mpm_requests.specs.Filing.{Filing, Situation}
+use Rattle.mpm_functions.specs.Functions.{function_of}
 use Rattle.mpm_bdos.specs.Jobs.{call_turns}
 use Rattle.mpm_bdos.specs.Outcomes.{file_call}
 use Rattle.mpm_machine.specs.declared.system.System.{System}

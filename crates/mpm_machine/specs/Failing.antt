@@ -10,9 +10,9 @@ use Rattle.mpm_files.specs.Units.{stages}
 use Rattle.mpm_files.specs.Plans.{unit_at}
 use Rattle.mpm_files.specs.Serving.{units_done}
 use Rattle.mpm_files.specs.Standing.{IsAmong}
-use Rattle.mpm_bdos.specs.Functions.{function_of}
-use Rattle.mpm_bdos.specs.Filing.{Filing, Situation}
-use Rattle.mpm_bdos.specs.Subjects.{drive_number, drive_at}
+use Rattle.mpm_functions.specs.Functions.{function_of}
+use Rattle.mpm_requests.specs.Filing.{Filing, Situation}
+use Rattle.mpm_requests.specs.Subjects.{drive_number, drive_at}
 use Rattle.mpm_bdos.specs.Jobs.{call_turns, job_of}
 use Rattle.mpm_bdos.specs.Serving.{StandEach, directory_at}
 use Rattle.mpm_bdos.specs.Turns.{labelled, told_images}

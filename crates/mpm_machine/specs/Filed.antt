@@ -2,8 +2,8 @@
 use Rattle.std.specs.Prelude.{◌≡◌, ℕ, Bool, Option, if◌then◌else◌}
 use Rattle.mpm_port.specs.Disks.{Disks}
 use Rattle.mpm_base.specs.Calls.{Answer}
-use Rattle.mpm_bdos.specs.declared.refusals.Extended.{Extended}
-use Rattle.mpm_bdos.specs.Filing.{Filing}
+use Rattle.mpm_functions.specs.declared.refusals.Extended.{Extended}
+use Rattle.mpm_requests.specs.Filing.{Filing}
 use Rattle.mpm_bdos.specs.Outcomes.{Outcome, left_by, without_search}
 use Rattle.mpm_bdos.specs.Serving.{Kept}
 use Rattle.mpm_machine.specs.Files.{StandsBetween}

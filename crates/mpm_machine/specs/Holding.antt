@@ -5,9 +5,9 @@ use Rattle.mpm_procs.specs.Table.{Table, process_in, call_of}
 use Rattle.mpm_service.specs.Disk.{HasBegun}
 use Rattle.mpm_service.specs.Places.{at_disk}
 use Rattle.mpm_kernel.specs.Kernel.{Kernel}
-use Rattle.mpm_bdos.specs.declared.caller.Caller.{Caller}
-use Rattle.mpm_bdos.specs.declared.functions.FileFunction.{FileFunction}
-use Rattle.mpm_bdos.specs.Functions.{function_of}
+use Rattle.mpm_requests.specs.declared.caller.Caller.{Caller}
+use Rattle.mpm_functions.specs.declared.functions.FileFunction.{FileFunction}
+use Rattle.mpm_functions.specs.Functions.{function_of}
 use Rattle.mpm_bdos.specs.Answering.{HasEntered}
 use Rattle.mpm_bdos.specs.Serving.{Kept, InService, directory_at}
 use Rattle.mpm_bdos.specs.Turns.{FitsDrives, has_work}

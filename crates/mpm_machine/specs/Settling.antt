@@ -11,7 +11,7 @@ use Rattle.mpm_service.specs.Disk.{served_process}
 use Rattle.mpm_service.specs.declared.service.Served.{Served}
 use Rattle.mpm_kernel.specs.Disk.{with_disk}
 use Rattle.mpm_bdos.specs.Direct.{Directly}
-use Rattle.mpm_bdos.specs.Filing.{Situation}
+use Rattle.mpm_requests.specs.Filing.{Situation}
 use Rattle.mpm_bdos.specs.Outcomes.{file_call}
 use Rattle.mpm_bdos.specs.Serving.{Kept as Filed}
 use Rattle.mpm_output.specs.Outside.{Outside}

@@ -275,8 +275,30 @@ impl System {
         self.record(p);
     }
 
-    /// What the call of a process of a segment writes comes out; the string of function 9 stands in memory.
+    /// What the call of a process of a segment writes comes out; the string of function 9 stands in memory. Mostly it writes none.
+    #[inline(always)]
     fn speak<S: Sink>(
+        &mut self,
+        p: Pid,
+        seg: Seg,
+        render: &mut Render,
+        sink: &mut S,
+    ) -> Result<(), Failed>
+        requires whole { IsWhole self.old }
+        requires lives { Lives self.old.kernel.dispatcher.procs p }
+        ensures system { OnOk result (self.new ≡ (said_by (call_of self.old.kernel.dispatcher.procs p) (string_of (call_of self.old.kernel.dispatcher.procs p) seg self.old.memory) p self.old).system) }
+        ensures wrote { Writes S.written S.faults render.old sink.old render.new sink.new (said_by (call_of self.old.kernel.dispatcher.procs p) (string_of (call_of self.old.kernel.dispatcher.procs p) seg self.old.memory) p self.old).emitted result }
+    {
+        let call = self.kernel.kept_call(p);
+        if functions::READ_CONSOLE_BUFFER < call.function {
+            return Ok(());
+        }
+        self.speak_some(p, seg, render, sink)
+    }
+
+    /// The same of a call whose number may be that of a function that writes.
+    #[inline(never)]
+    fn speak_some<S: Sink>(
         &mut self,
         p: Pid,
         seg: Seg,
@@ -377,8 +399,28 @@ impl System {
     }
 
     /// What the kernel itself wrote to the console of a process in its call comes out: the key that it took, where its function
-    /// echoes it.
+    /// echoes it. Mostly it doesn't.
+    #[inline(always)]
     pub fn put_echo<S: Sink>(&self, p: Pid, render: &mut Render, sink: &mut S) -> Result<(), Failed>
+        requires whole { IsWhole self.now }
+        requires lives { Lives self.now.kernel.dispatcher.procs p }
+        ensures wrote { Writes S.written S.faults render.old sink.old render.new sink.new (spoken (process_in self.now.kernel.dispatcher.procs p).console (echo_of (call_of self.now.kernel.dispatcher.procs p) self.now.kernel)) result }
+    {
+        let call = self.kernel.kept_call(p);
+        if functions::READ_CONSOLE_BUFFER < call.function {
+            return Ok(());
+        }
+        self.put_some_echo(p, render, sink)
+    }
+
+    /// The same of a call whose number may be that of a function that echoes.
+    #[inline(never)]
+    fn put_some_echo<S: Sink>(
+        &self,
+        p: Pid,
+        render: &mut Render,
+        sink: &mut S,
+    ) -> Result<(), Failed>
         requires whole { IsWhole self.now }
         requires lives { Lives self.now.kernel.dispatcher.procs p }
         ensures wrote { Writes S.written S.faults render.old sink.old render.new sink.new (spoken (process_in self.now.kernel.dispatcher.procs p).console (echo_of (call_of self.now.kernel.dispatcher.procs p) self.now.kernel)) result }

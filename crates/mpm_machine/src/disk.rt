@@ -11,7 +11,7 @@ use mpm_render::Render;
 impl System {
     ghost use Rattle.mpm_kernel.specs.Disk.{IsOver};
     ghost use Rattle.mpm_machine.specs.State.{IsWhole, HasRoomForAll};
-    ghost use Rattle.mpm_bdos.specs.Functions.{function_of};
+    ghost use Rattle.mpm_functions.specs.Functions.{function_of};
     ghost use Rattle.mpm_machine.specs.FileCalls.{told_of};
     ghost use Rattle.mpm_machine.specs.DiskStep.{is_done_at_once, call_over};
 

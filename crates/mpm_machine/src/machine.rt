@@ -3,21 +3,15 @@ ghost use Rattle.mpm_script.specs.declared.line.TheConstants.{GREATEST_STEP};
 ghost use Rattle.mpm_port.specs.Texts.{appended};
 
 use crate::filing::work;
-use crate::opening::{bdos_of, moment_of, program_file};
-use crate::owed::Owed;
-use crate::records::Records;
+use crate::opening::{bdos_of, program_file};
 use crate::system::System;
-use mpm_banks::Banks;
 use mpm_base::{Name8, Pid, Reply, Seg, Steps};
 use mpm_bdos::Bdos;
 use mpm_drives::{BootError, MountedDrives};
-use mpm_interrupts::Schedule;
-use mpm_kernel::Kernel;
 use mpm_machine_file::MachineFile;
 use mpm_mount::Mounted;
 use mpm_port::{Drives, Failed, Sink};
 use mpm_render::Render;
-use mpm_residents::Residents;
 use mpm_script::Script;
 use std::alloc::{AllocError, Global};
 use std::sync::ledger::Ledger;
@@ -185,7 +179,6 @@ impl Machine {
     ///
     /// # Errors
     /// Where no memory is found.
-    #[tactic(auto, unfolding(crate::specs::Opening::booted))]
     fn bare(
         alloc: Global,
         file: &MachineFile,
@@ -198,21 +191,10 @@ impl Machine {
         ensures disk { IfOk result (λ machine. machine.system.kernel.disk ≡ no_service file.now.disk_turn) }
         ensures bdos { IfOk result (λ machine. machine.bdos ≡ nothing_kept (in_places mounted.items)) }
     {
-        let mut kernel = Kernel::new(alloc, file.consoles, file.printers, moment_of(file))?;
-        kernel.set_disk_turn(file.disk_turn);
-        let memory = Banks::new(alloc, file.segments.as_slice())?;
         let bdos = bdos_of(alloc, mounted)?;
+        let system = System::bare(alloc, file, script)?;
         Ok(Machine {
-            system: System {
-                steps: 0,
-                interrupts: Schedule::new(file.tick_every, script),
-                kernel,
-                memory,
-                abort_deferred: false,
-                residents: Residents::none(),
-                records: Records::new(),
-                owed: Owed::new(),
-            },
+            system,
             bdos,
             reply: Reply::new(),
         })

@@ -8,8 +8,12 @@ ghost use Rattle.mpm_kernel.specs.Queueing.{OnlySystems};
 ghost use Rattle.mpm_queues.specs.Queues.{make_error};
 ghost use Rattle.mpm_bdos.specs.Serving.{nothing_kept, in_places as in_their_places};
 ghost use Rattle.mpm_machine.specs.State.{IsWhole, NoCompletions};
-ghost use Rattle.mpm_machine.specs.Opening.{IsBare, MayPlace, with_placed, laid_out, placed_process as process_placed, moment_of as moment_said, program_file as program_said, command_queue, terminal_name as name_of_terminal, resident_process as process_of_resident, begun_by_interpreter, with_interpreting, with_terminal, with_terminals, with_residents};
+ghost use Rattle.mpm_service.specs.Disk.{no_service};
+ghost use Rattle.mpm_machine_file.specs.MachineFiles.{IsMachine};
+ghost use Rattle.mpm_machine.specs.Opening.{booted, IsBare, MayPlace, with_placed, laid_out, placed_process as process_placed, moment_of as moment_said, program_file as program_said, command_queue, terminal_name as name_of_terminal, resident_process as process_of_resident, begun_by_interpreter, with_interpreting, with_terminal, with_terminals, with_residents};
 
+use crate::owed::Owed;
+use crate::records::Records;
 use crate::system::System;
 use mpm_banks::{Banks, last_page};
 use mpm_base::{Name8, Pid, Seg, SegmentSpec};
@@ -17,13 +21,42 @@ use mpm_bdos::{Bdos, in_places};
 use mpm_clock::Moment;
 use mpm_command::base_page;
 use mpm_gate::put_bytes;
+use mpm_interrupts::Schedule;
 use mpm_kernel::Kernel;
 use mpm_machine_file::{DriveSpecs, MachineFile, Segments};
 use mpm_mount::Mounted;
 use mpm_procs::{NewProcess, NoSlot};
+use mpm_residents::Residents;
+use mpm_script::Script;
 use std::alloc::{AllocError, Global};
 
 impl System {
+    /// What the machine of a machine file, and of its script's events, keeps from step to step, without processes.
+    ///
+    /// # Errors
+    /// Where no memory is found.
+    #[tactic(auto, unfolding(crate::specs::Opening::booted))]
+    pub fn bare(alloc: Global, file: &MachineFile, script: Script) -> Result<System, AllocError>
+        requires { IsMachine file.now }
+        ensures booted { IfOk result (λ system. system ≡ booted file.now script) }
+        ensures bare { IfOk result (λ system. IsBare system) }
+        ensures disk { IfOk result (λ system. system.kernel.disk ≡ no_service file.now.disk_turn) }
+    {
+        let memory = Banks::new(alloc, file.segments.as_slice())?;
+        let mut kernel = Kernel::new(alloc, file.consoles, file.printers, moment_of(file))?;
+        kernel.set_disk_turn(file.disk_turn);
+        Ok(System {
+            steps: 0,
+            interrupts: Schedule::new(file.tick_every, script),
+            kernel,
+            memory,
+            abort_deferred: false,
+            residents: Residents::none(),
+            records: Records::new(),
+            owed: Owed::new(),
+        })
+    }
+
     /// Puts a program into a segment and adds its process.
     #[tactic(auto, using(crate::proofs::PlacedLaws::laid_out_is_there), unfolding(crate::specs::Opening::with_placed))]
     pub fn place(&mut self, seg: Seg, name: Name8, priority: u8, console: u8, program: &[u8]) -> Pid
@@ -161,7 +194,7 @@ fn resident_process(name: Name8, priority: u8, console: u8) -> NewProcess
 }
 
 /// The moment at which the machine of a machine file begins.
-pub(crate) fn moment_of(file: &MachineFile) -> Moment
+fn moment_of(file: &MachineFile) -> Moment
     ensures { result ≡ moment_said file.now }
 {
     Moment {

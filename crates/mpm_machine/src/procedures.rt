@@ -20,6 +20,20 @@ impl System {
         ensures system { self.new ≡ with_entry reply.old (call_of self.old.kernel.dispatcher.procs p) p self.old }
         ensures reply { reply.new ≡ reply_at_entry reply.old (call_of self.old.kernel.dispatcher.procs p) p self.old }
     {
+        if self.kernel.kept_call(p).function == functions::CALL_RESIDENT_SYSTEM_PROCEDURE {
+            self.enter_if_answered(p, reply);
+        }
+    }
+
+    /// The same of a process that keeps a call 151.
+    #[inline(never)]
+    #[tactic(auto, unfolding(crate::specs::Serving::with_entry, crate::specs::Serving::reply_at_entry))]
+    fn enter_if_answered(&mut self, p: Pid, reply: &mut Reply)
+        requires whole { IsWhole self.old }
+        requires lives { Lives self.old.kernel.dispatcher.procs p }
+        ensures system { self.new ≡ with_entry reply.old (call_of self.old.kernel.dispatcher.procs p) p self.old }
+        ensures reply { reply.new ≡ reply_at_entry reply.old (call_of self.old.kernel.dispatcher.procs p) p self.old }
+    {
         if is_entry(self.kernel.kept_call(p), reply) {
             self.enter_procedure(p, reply);
         }

@@ -19,7 +19,7 @@ impl Machine {
     ghost use Rattle.mpm_service.specs.Disk.{served_process};
     ghost use Rattle.mpm_service.specs.Ahead.{turns_left};
     ghost use Rattle.mpm_kernel.specs.Disk.{IsOver};
-    ghost use Rattle.mpm_bdos.specs.Filing.{Situation};
+    ghost use Rattle.mpm_requests.specs.Filing.{Situation};
     ghost use Rattle.mpm_bdos.specs.Jobs.{call_turns};
     ghost use Rattle.mpm_bdos.specs.Serving.{Serves};
     ghost use Rattle.mpm_bdos.specs.Syncing.{AreSynced, mounted_count};

@@ -27,8 +27,8 @@ impl Machine {
     ghost use Rattle.mpm_mount.specs.Drives.{Drive};
     ghost use Rattle.mpm_port.specs.Disks.{Disks};
     ghost use Rattle.mpm_port.specs.Causes.{HasCause};
-    ghost use Rattle.mpm_bdos.specs.Filing.{Filing, Situation};
-    ghost use Rattle.mpm_bdos.specs.Functions.{function_of};
+    ghost use Rattle.mpm_requests.specs.Filing.{Filing, Situation};
+    ghost use Rattle.mpm_functions.specs.Functions.{function_of};
     ghost use Rattle.mpm_bdos.specs.Jobs.{call_turns};
     ghost use Rattle.mpm_bdos.specs.Outcomes.{file_call};
     ghost use Rattle.mpm_bdos.specs.Turns.{FitsDrives, has_work, told_images};

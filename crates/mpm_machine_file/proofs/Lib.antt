@@ -1,5 +1,4 @@
 pub mod KeyLaws
-pub mod ArrayLaws
 pub mod OrderLaws
 pub mod LimitLaws
 pub mod MachineLaws

@@ -10,9 +10,10 @@ use Rattle.mpm_dirent.specs.declared.kinds.Entry.TheVariants.{Free, File, Xfcb, 
 use Rattle.mpm_dirent.specs.declared.kinds.FileEntry.{FileEntry}
 use Rattle.mpm_dirent.specs.declared.kinds.XfcbEntry.{XfcbEntry}
 use Rattle.mpm_dirent.specs.declared.kinds.LabelEntry.{LabelEntry}
+use Rattle.mpm_dirent.specs.Names.{plain}
 use Rattle.mpm_mount.specs.declared.slots.EntryName.{EntryName}
 use Rattle.mpm_mount.specs.Drives.{entry_number}
-use Rattle.mpm_mount.specs.Faults.{plain, extent_of, name_of, is_named, is_label, is_xfcb, cause_of, first_fault}
+use Rattle.mpm_mount.specs.Faults.{extent_of, name_of, is_named, is_label, is_xfcb, cause_of, first_fault}
 use Rattle.mpm_mount.specs.Directories.{others}
 use Rattle.mpm_mount.proofs.FirstFault.{faultless_at}
 use Rattle.mpm_mount.proofs.Others.{others_none}

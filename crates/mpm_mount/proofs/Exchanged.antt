@@ -13,9 +13,10 @@ use Rattle.mpm_base.proofs.CountLaws.{one_if}
 use Rattle.mpm_blocks.specs.Sectors.{Sectors}
 use Rattle.mpm_dirent.specs.declared.kinds.Entry.{Entry}
 use Rattle.mpm_dirent.specs.declared.kinds.Entry.TheVariants.{Free, File, Xfcb, Label, Kept}
+use Rattle.mpm_dirent.specs.Names.{plain}
 use Rattle.mpm_mount.specs.declared.slots.EntryName.{EntryName}
 use Rattle.mpm_mount.specs.Drives.{FileName, entry_cmp, file_cmp, PhysicalExtent, Protection, DirectoryLabel, Drive}
-use Rattle.mpm_mount.specs.Faults.{plain, name_of, is_named, is_label, is_xfcb, first_some, first_fault}
+use Rattle.mpm_mount.specs.Faults.{name_of, is_named, is_label, is_xfcb, first_some, first_fault}
 use Rattle.mpm_mount.specs.Images.{extent_from, xfcb_from, label_from, is_kept, collected, drive_of}
 use Rattle.mpm_mount.specs.Directories.{others}
 use Rattle.mpm_mount.specs.Changes.{with_pair, without_pair, label_after, exchanged}

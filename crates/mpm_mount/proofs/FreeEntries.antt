@@ -45,7 +45,7 @@ xfcbs_alone kind entries faultless i h =
     subst (λ (o : Option (FileName × Protection)). StandsAlone file_cmp o (others (map xfcb_from entries) i)) (sym (get_or-map xfcb_from entries i Free None inside))
     (xfcb_stands_alone kind entries i (get_or entries i Free) faultless inside refl)
 
-xfcbs_apart : (kind : Kind) (entries : List Entry) → first_fault kind entries ≡ None → EachWithRest (StandsAlone file_cmp) (map xfcb_from entries)
+pub xfcbs_apart : (kind : Kind) (entries : List Entry) → first_fault kind entries ≡ None → EachWithRest (StandsAlone file_cmp) (map xfcb_from entries)
 xfcbs_apart kind entries faultless = by_others (StandsAlone file_cmp) None (alone_less file_cmp) (map xfcb_from entries) (xfcbs_alone kind entries faultless)
 
 only_less : {X : Type 0} (x y : Option X) (ys : List (Option X)) → IsOnly x (y ∷ ys) → IsOnly x ys

@@ -154,7 +154,7 @@ there_unless : {X : Type 0} (b : Bool) (x : X) → is_some (if b then None else 
 there_unless true x = refl
 there_unless false x = refl
 
-held_where : (sectors : Sectors) (kind : Kind) (block : ℕ) → is_some (contents_of sectors kind block) ≡ not (block == 0)
+pub held_where : (sectors : Sectors) (kind : Kind) (block : ℕ) → is_some (contents_of sectors kind block) ≡ not (block == 0)
 unfolding contents_of
 held_where sectors kind block =
     there_unless (block == 0) (map (λ r. sectors (block * block_records kind + r)) (range_with_len 0 (block_records kind)))

@@ -49,7 +49,7 @@ weight g (Some item) = g item.1
 weighed_none : {K X : Type 0} (g : X → ℕ) (items : List (Option (K × X))) → sum_by (weight g) (None ∷ items) ≡ sum_by (weight g) items
 weighed_none {K = K} {X = X} g items = omega (arith, sum_by-cons {X = Option (K × X)} (weight g) None items)
 
-regroup : (a s v t w : ℕ) → s ≡ v + t → w ≡ a + t → a + s ≡ v + w
+pub regroup : (a s v t w : ℕ) → s ≡ v + t → w ≡ a + t → a + s ≡ v + w
 regroup a s v t w one two = omega arith
 
 sum_placed : {K X : Type 0} (R : K → K → Ordering) (g : X → ℕ) (k : K) (v : X) (e : K × X) (es : List (K × X)) (r : Ordering) → cond (is_eq r) (Some e.1) (find R k es) ≡ None

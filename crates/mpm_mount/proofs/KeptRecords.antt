@@ -47,7 +47,7 @@ record_in_written kind n entry records bytes h held less =
     ap (option_map (λ rs. slice_index_or rs r [])) (get_or-set_same entry.blocks place put None h ∙ ap (option_map (λ rs. slice_set rs r bytes)) held)
     ∙ ap (λ (b : List ℕ). Some b) (get_or-set_same records r bytes [] less)
 
-other_record : (o : Option (List (List ℕ))) (r q : ℕ) (bytes : List ℕ) → q ≢ r
+pub other_record : (o : Option (List (List ℕ))) (r q : ℕ) (bytes : List ℕ) → q ≢ r
     → option_map (λ rs. slice_index_or rs q []) (option_map (λ rs. slice_set rs r bytes) o) ≡ option_map (λ rs. slice_index_or rs q []) o
 other_record None r q bytes apart = refl
 other_record (Some records) r q bytes apart = ap (λ (b : List ℕ). Some b) (get_or-set_other records r q bytes [] apart)

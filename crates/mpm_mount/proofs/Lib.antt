@@ -26,6 +26,9 @@ pub mod Counts
 pub mod InAll
 pub mod FreeEntries
 pub mod FreeRecords
+pub mod ImageWith
+pub mod FaultRange
+pub mod SomeFaults
 pub mod NextFound
 pub mod Taking
 pub mod Puts
@@ -33,3 +36,6 @@ pub mod KeptRecords
 pub mod OneDrive
 pub mod InSlots
 pub mod OneFile
+pub mod Names
+pub mod SearchSteps
+pub mod Lowest

@@ -31,6 +31,11 @@ use Rattle.mpm_mount.proofs.Distinct.{named_by, named_alone, xfcb_by, xfcb_alone
 use Rattle.mpm_mount.proofs.Exchanged.{others_map, none_of, gives_name, gives_xfcb, none_first, first_alone, gives_label, label_only}
 use Rattle.mpm_mount.proofs.Sorts.{file_of, protection_of, label_of}
 
+-- both are of one kind
+pub kind_of : (image : List ℕ) (d : Directory) (files : Drive) → Stands image d files → files.kind ≡ d.kind
+unfolding drive_of
+kind_of image d files stands = ap (λ (drive : Drive). drive.kind) stands.drive
+
 -- what an entry of a file gives to its drive, in a directory without a fault
 pub extent_there : (sectors : Sectors) (kind : Kind) (entries : List Entry) (slot : ℕ) (name : EntryName) (f : FileEntry) → first_fault kind entries ≡ None → slot < length entries
     → get_or entries slot Free ≡ File f → is_named kind name (get_or entries slot Free) ≡ true → name_of kind f ≡ name

@@ -1,6 +1,6 @@
 -- A search in the directory against the drive: it finds the first that is sought of the drive's entries, in their order.
 use Rattle.std.proofs.Common.{◌≡◌, ℕ, Bool, true, false, cond, List, [], ◌∷◌, Option, Some, None, refl, sym, ap, ◌∙◌}
-use Rattle.std.specs.Prelude.{T, is_some}
+use Rattle.std.specs.Prelude.{is_some}
 use Rattle.std.specs.List.{list_any}
 use Rattle.std.specs.List as lists
 use Rattle.std.specs.declared.cmp.Ordering.{Ordering}
@@ -28,12 +28,9 @@ use Rattle.mpm_mount.proofs.Orders.{entry_total, entry_same}
 use Rattle.mpm_mount.proofs.Distinct.{name_is, own_name}
 use Rattle.mpm_mount.proofs.Sought.{less_of, fewer}
 use Rattle.mpm_mount.proofs.LookedUp.{extent_there, extent_nowhere}
+use Rattle.mpm_mount.proofs.SearchSteps.{is_true}
 
 -- lists of pairs in the order of their keys
-holds_true : (b : Bool) → T b → b ≡ true
-holds_true true h = refl
-holds_true false h = absurd h
-
 none_below : {K X : Type 0} (R : K → K → Ordering) → IsTotalOrder R → (n k : K) (es : List (K × X)) → R n k ≡ Less → below_all R k es ≡ true → find R n es ≡ None
 none_below R o n k [] less below = refl
 none_below R o n k (e ∷ es) less below =
@@ -124,7 +121,7 @@ found_first sectors kind directory search found faultless least =
     let name : EntryName = name_of kind least.file in
     let there : get m name ≡ Some (extent_in sectors kind least.file) =
     extent_there sectors kind directory found.slot name least.file faultless least.within least.entry (ap (is_named kind name) least.entry ∙ own_name kind least.file) refl in
-    least_first entry_cmp entry_total entry_same (is_sought search) (entries m) name (extent_in sectors kind least.file) (holds_true (is_sorted entry_cmp (entries m)) (entries_sorted m))
+    least_first entry_cmp entry_total entry_same (is_sought search) (entries m) name (extent_in sectors kind least.file) (is_true (is_sorted entry_cmp (entries m)) (entries_sorted m))
     (sym (get-entries m name) ∙ there) least.sought (λ other has sought.
     false_from_ne_true (is_lt (entry_cmp other name)) (λ less.
     let gone : find entry_cmp other (entries m) ≡ None = sym (get-entries m other)

@@ -16,10 +16,11 @@ use Rattle.mpm_names.proofs.Fitting.{misfit, fits_everywhere}
 use Rattle.mpm_blocks.specs.Sectors.{sectors_of}
 use Rattle.mpm_dirent.specs.declared.kinds.Entry.{Entry}
 use Rattle.mpm_dirent.specs.Proper.{HasSizes}
+use Rattle.mpm_dirent.specs.Names.{plain}
 use Rattle.mpm_mount.specs.declared.searching.Found.{Found}
 use Rattle.mpm_mount.specs.declared.slots.EntryName.{EntryName}
 use Rattle.mpm_mount.specs.Drives.{FileName, entry_cmp, PhysicalExtent, Drive, extents_of}
-use Rattle.mpm_mount.specs.Faults.{plain, name_of}
+use Rattle.mpm_mount.specs.Faults.{name_of}
 use Rattle.mpm_mount.specs.Images.{extent_in}
 use Rattle.mpm_mount.specs.Directories.{Directory, Stands}
 use Rattle.mpm_mount.specs.Searching.{search_of, is_sought, IsLeast, IsNext, IsUnambiguous}

@@ -1,5 +1,5 @@
 -- Slots of a directory.
-use Rattle.std.proofs.Common.{◌≡◌, ℕ, ◌/◌, ◌≤◌, Bool, List, [], ◌∷◌, Option, Some, None, length, refl, sym, subst, arith}
+use Rattle.std.proofs.Common.{◌≡◌, ℕ, ◌+◌, ◌/◌, ◌≤◌, Bool, List, [], ◌∷◌, Option, Some, None, length, refl, sym, subst, arith}
 use Rattle.std.specs.Prelude.{position, count_by, IfSome}
 use Rattle.std.proofs.lemmas.List.Quantifiers.{position-Some}
 use Rattle.std.proofs.lemmas.List.Sums.{count_by-le-length}
@@ -7,7 +7,10 @@ use Rattle.mpm_base.specs.declared.kind.Kind.{Kind}
 use Rattle.mpm_base.specs.declared.kind.Kind.TheVariants.{Ibm3740, Hd4, Hd8}
 use Rattle.mpm_blocks.specs.Geometries.{geometry_of}
 use Rattle.mpm_dirent.specs.declared.kinds.Entry.{Entry}
-use Rattle.mpm_mount.specs.Directories.{is_free}
+use Rattle.mpm_dirent.specs.declared.kinds.Entry.TheVariants.{Free}
+use Rattle.mpm_mount.specs.Drives.{FileName, entry_name}
+use Rattle.mpm_mount.specs.Faults.{is_named}
+use Rattle.mpm_mount.specs.Directories.{Directory, extent_slot, is_free}
 
 some_small : (o : Option ℕ) (bound : ℕ) → ((i : ℕ) → o ≡ Some i → i ≤ bound) → IfSome o (λ p. p ≤ bound)
 some_small None bound each = tt
@@ -32,3 +35,10 @@ pub block_small : (kind : Kind) → (geometry_of kind).block / 128 ≤ 32
 block_small Ibm3740 = omega arith
 block_small Hd4 = omega arith
 block_small Hd8 = omega arith
+
+-- a slot that is found is one of the directory
+pub slot_within : (d : Directory) (file : FileName) (extent slot : ℕ) → length d.entries ≡ (geometry_of d.kind).drm + 1 → extent_slot d file extent ≡ Some slot
+    → slot ≤ (geometry_of d.kind).drm
+slot_within d file extent slot full found =
+    let at = position-Some (is_named d.kind (entry_name d.kind file extent)) d.entries slot Free found in
+    omega (arith, at.0, full)

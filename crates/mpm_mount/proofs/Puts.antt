@@ -12,9 +12,10 @@ use Rattle.mpm_dirent.specs.declared.kinds.Entry.TheVariants.{Free, File, Xfcb, 
 use Rattle.mpm_dirent.specs.declared.kinds.FileEntry.{FileEntry}
 use Rattle.mpm_dirent.specs.declared.kinds.XfcbEntry.{XfcbEntry}
 use Rattle.mpm_dirent.specs.declared.kinds.LabelEntry.{LabelEntry}
+use Rattle.mpm_dirent.specs.Names.{plain}
 use Rattle.mpm_mount.specs.declared.slots.EntryName.{EntryName}
 use Rattle.mpm_mount.specs.Drives.{places}
-use Rattle.mpm_mount.specs.Faults.{plain, extent_of, name_of, block_at, has_at, holds, is_outside, is_taken, some_place, is_named, is_label, is_xfcb, cause_of, first_fault}
+use Rattle.mpm_mount.specs.Faults.{extent_of, name_of, block_at, has_at, holds, is_outside, is_taken, some_place, is_named, is_label, is_xfcb, cause_of, first_fault}
 use Rattle.mpm_mount.specs.Images.{contents_of, extent_in}
 use Rattle.mpm_mount.specs.Directories.{others, Directory, entry_in}
 use Rattle.mpm_mount.specs.Changes.{HasRanges, SameBlocks, HasNoBlock}

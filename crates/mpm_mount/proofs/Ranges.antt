@@ -1,9 +1,7 @@
 -- Tests over the numbers below a bound, and lists that have a value for each of them.
-use Rattle.std.proofs.Common.{◌≡◌, ℕ, zero, suc, ◌+◌, ◌%◌, ◌<◌, Bool, true, false, ◌||◌, List, [], ◌∷◌, length, get_or, map, refl, sym, ap, ◌∙◌, arith}
+use Rattle.std.proofs.Common.{◌≡◌, ℕ, zero, suc, ◌+◌, ◌<◌, Bool, true, false, ◌||◌, List, [], ◌∷◌, length, get_or, map, refl, sym, ap, ◌∙◌, arith}
 use Rattle.std.specs.List.{range_with_len, list_any}
 use Rattle.std.proofs.lemmas.Bool.{both_ways, false_from_ne_true}
-use Rattle.std.proofs.lemmas.List.{get_or-map, length-map}
-use Rattle.mpm_mount.specs.Faults.{plain}
 use Rattle.std.proofs.lemmas.List.FromFn.{length-range_with_len, get_or-range_with_len, length-map-range_with_len, get_or-map-range_with_len, fill_by_all}
 use Rattle.std.proofs.lemmas.List.Folds.{list_any_at, Any-from_list_any}
 
@@ -83,9 +81,3 @@ none_in p xs k d nowhere h =
 pub any_alike : {X : Type 0} (p q : X → Bool) (xs : List X) → ((x : X) → p x ≡ q x) → list_any p xs ≡ list_any q xs
 any_alike p q [] same = refl
 any_alike p q (x ∷ xs) same = ap (λ b. b || list_any p xs) (same x) ∙ ap (λ b. q x || b) (any_alike p q xs same)
-
--- a name, byte by byte
-pub plain_all : (name made : List ℕ) → length name ≡ 11 → length made ≡ 11 → ((k : ℕ) → k < 11 → get_or made k 0 ≡ get_or name k 0 % 128) → made ≡ plain name
-plain_all name made size size_made each =
-    fill_by_all (λ k. get_or name k 0 % 128) made 11 0 size_made each
-    ∙ sym (fill_by_all (λ k. get_or name k 0 % 128) (plain name) 11 0 (length-map name (λ (c : ℕ). c % 128) ∙ size) (λ k h. get_or-map (λ c. c % 128) name k 0 0 (omega arith)))

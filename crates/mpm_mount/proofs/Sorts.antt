@@ -9,9 +9,10 @@ use Rattle.mpm_dirent.specs.declared.kinds.Entry.TheVariants.{Free, File, Xfcb, 
 use Rattle.mpm_dirent.specs.declared.kinds.FileEntry.{FileEntry}
 use Rattle.mpm_dirent.specs.declared.kinds.XfcbEntry.{XfcbEntry}
 use Rattle.mpm_dirent.specs.declared.kinds.LabelEntry.{LabelEntry}
+use Rattle.mpm_dirent.specs.Names.{plain}
 use Rattle.mpm_mount.specs.declared.slots.EntryName.{EntryName}
 use Rattle.mpm_mount.specs.Drives.{FileName, entry_cmp, file_cmp, PhysicalExtent, Protection, DirectoryLabel, Drive, with_extent, without_extent, with_xfcb, without_xfcb}
-use Rattle.mpm_mount.specs.Faults.{plain, name_of}
+use Rattle.mpm_mount.specs.Faults.{name_of}
 use Rattle.mpm_mount.specs.Images.{extent_in}
 use Rattle.mpm_mount.specs.Changes.{exchanged}
 use Rattle.mpm_mount.proofs.Orders.{entry_total, entry_same, file_total, file_same}
@@ -19,7 +20,7 @@ use Rattle.mpm_mount.proofs.Orders.{entry_total, entry_same, file_total, file_sa
 as_many : (n : ℕ) → n + 0 - 0 ≡ n
 as_many n = omega arith
 
-shadowed : {X : Type 0} (b : Bool) (x y z : X) → cond b x (cond b y z) ≡ cond b x z
+pub shadowed : {X : Type 0} (b : Bool) (x y z : X) → cond b x (cond b y z) ≡ cond b x z
 shadowed true x y z = refl
 shadowed false x y z = refl
 

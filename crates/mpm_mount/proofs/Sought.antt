@@ -16,11 +16,12 @@ use Rattle.mpm_names.specs.Matching.{does_match}
 use Rattle.mpm_dirent.specs.declared.kinds.Entry.{Entry}
 use Rattle.mpm_dirent.specs.declared.kinds.Entry.TheVariants.{Free, File, Xfcb, Label, Kept}
 use Rattle.mpm_dirent.specs.declared.kinds.FileEntry.{FileEntry}
+use Rattle.mpm_dirent.specs.Names.{plain}
 use Rattle.mpm_mount.specs.declared.searching.Found.{Found}
 use Rattle.mpm_mount.specs.declared.searching.Search.{Search}
 use Rattle.mpm_mount.specs.declared.slots.EntryName.{EntryName}
 use Rattle.mpm_mount.specs.Drives.{entry_cmp, entry_number}
-use Rattle.mpm_mount.specs.Faults.{plain, extent_of, name_of}
+use Rattle.mpm_mount.specs.Faults.{extent_of, name_of}
 use Rattle.mpm_mount.specs.Searching.{found_name, is_above, is_sought, is_target, is_target_below, IsLeast, IsNext, is_lesser, lesser}
 use Rattle.mpm_mount.proofs.Ranges.{plus_one}
 use Rattle.mpm_mount.proofs.Orders.{entry_total, same_entry}

@@ -10,8 +10,9 @@ use Rattle.mpm_base.specs.declared.kind.Kind.{Kind}
 use Rattle.mpm_dirent.specs.declared.kinds.Entry.{Entry}
 use Rattle.mpm_dirent.specs.declared.kinds.Entry.TheVariants.{Free, File, Xfcb, Label, Kept}
 use Rattle.mpm_dirent.specs.declared.kinds.FileEntry.{FileEntry}
+use Rattle.mpm_dirent.specs.Names.{plain}
 use Rattle.mpm_mount.specs.Drives.{places}
-use Rattle.mpm_mount.specs.Faults.{plain, name_of, block_at, has_at, holds, is_taken, is_named, is_label, is_xfcb, cause_of, cause_at, first_fault}
+use Rattle.mpm_mount.specs.Faults.{name_of, block_at, has_at, holds, is_taken, is_named, is_label, is_xfcb, cause_of, cause_at, first_fault}
 use Rattle.mpm_mount.specs.Directories.{others}
 use Rattle.mpm_mount.proofs.Ranges.{any_at, none_in}
 use Rattle.mpm_mount.proofs.UsedBlocks.{nowhere_at, some_none}

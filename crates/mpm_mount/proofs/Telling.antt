@@ -6,11 +6,8 @@ use Rattle.mpm_base.specs.declared.kind.Kind.{Kind}
 use Rattle.mpm_base.specs.declared.kind.Kind.TheVariants.{Ibm3740, Hd4, Hd8}
 use Rattle.mpm_blocks.specs.Geometries.{geometry_of, logical_sectors}
 use Rattle.mpm_port.specs.Disks.{Disks, SameDisks, Told}
+use Rattle.mpm_port.proofs.Images.{same_told}
 use Rattle.mpm_mount.specs.Mounting.{SameDrives}
-
-pub same_told : (told : Option Disks) → Told SameDisks told told
-same_told None = refl
-same_told (Some disks) = record { images = λ name. refl; names = λ drive. refl }
 
 over : (a b c : Disks) → SameDisks a b → SameDisks b c → SameDisks a c
 over a b c one two = record { images = λ name. two.images name ∙ one.images name; names = λ drive. two.names drive ∙ one.names drive }

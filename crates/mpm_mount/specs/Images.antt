@@ -10,10 +10,11 @@ use Rattle.mpm_dirent.specs.declared.kinds.Entry.{Entry}
 use Rattle.mpm_dirent.specs.declared.kinds.Entry.TheVariants.{Free, File, Xfcb, Label, Kept}
 use Rattle.mpm_dirent.specs.declared.kinds.FileEntry.{FileEntry}
 use Rattle.mpm_dirent.specs.Entries.{part, entry_of}
+use Rattle.mpm_dirent.specs.Names.{plain}
 use Rattle.mpm_mount.specs.declared.errors.ImageFault.{ImageFault}
 use Rattle.mpm_mount.specs.declared.slots.EntryName.{EntryName}
 use Rattle.mpm_mount.specs.Drives.{FileName, entry_cmp, file_cmp, PhysicalExtent, Protection, DirectoryLabel, Drive, places}
-use Rattle.mpm_mount.specs.Faults.{plain, extent_of, name_of, block_at, first_some, first_fault}
+use Rattle.mpm_mount.specs.Faults.{extent_of, name_of, block_at, first_some, first_fault}
 
 -- the directory's entries, four in each of the first sectors
 abbrev pub slot_bytes : Sectors → ℕ → List ℕ

@@ -6,3 +6,5 @@ pub mod Using
 pub mod Changes
 pub mod Mounting
 pub mod Searching
+pub mod Attributes
+pub mod Files

@@ -1,11 +1,12 @@
 -- What mounting leaves of the device, and what each of its answers says.
-use Rattle.std.specs.Prelude.{◌≡◌, ℕ, ◌+◌, ◌*◌, ◌<◌, List, Option, Some, Result, Ok, Err, ⊤}
+use Rattle.std.specs.Prelude.{◌≡◌, ◌⊎◌, ℕ, ◌+◌, ◌*◌, ◌<◌, ◌≤◌, List, Option, Some, Result, Ok, Err, length, ⊤}
 use Rattle.mpm_base.specs.declared.kind.Kind.{Kind}
 use Rattle.mpm_blocks.specs.Geometries.{geometry_of}
 use Rattle.mpm_blocks.specs.Sectors.{Sectors, sectors_of}
 use Rattle.mpm_dirent.specs.declared.kinds.Entry.{Entry}
 use Rattle.mpm_port.specs.Causes.{Rose}
 use Rattle.mpm_port.specs.Disks.{Disks, SameDisks, Told}
+use Rattle.mpm_mount.specs.declared.errors.ImageFault.{ImageFault}
 use Rattle.mpm_mount.specs.declared.errors.MountError.{MountError}
 use Rattle.mpm_mount.specs.declared.errors.MountError.TheVariants.{Image, DiskFault, OutOfMemory}
 use Rattle.mpm_mount.specs.Drives.{Drive}
@@ -37,6 +38,22 @@ abbrev pub IsImageFault : List ℕ → Kind → MountError → Type 0
 IsImageFault image kind (Image cause place) = files_of image kind ≡ Err (record { cause = cause; place = place })
 IsImageFault image kind DiskFault = ⊤
 IsImageFault image kind OutOfMemory = ⊤
+
+-- cause 1 is that of a size, at place 0; each other one is of a slot of the directory
+abbrev pub IsInRange : Kind → ImageFault → Type 0
+IsInRange kind fault = ((fault.cause ≡ 1) × (fault.place ≡ 0)) ⊎ ((2 ≤ fault.cause) × (fault.cause ≤ 8) × (fault.place ≤ (geometry_of kind).drm))
+
+-- some image of a drive's size has this fault
+pub record IsFaultOfSome (size : Option ℕ) (kind : Kind) (fault : ImageFault) : Type 0 where
+  pub image : List ℕ
+  pub sized : size ≡ Some (length image)
+  pub has : files_of image kind ≡ Err fault
+  pub range : IsInRange kind fault
+
+abbrev pub IsErrorOfSome : Option ℕ → Kind → MountError → Type 0
+IsErrorOfSome size kind (Image cause place) = IsFaultOfSome size kind (record { cause = cause; place = place })
+IsErrorOfSome size kind DiskFault = ⊤
+IsErrorOfSome size kind OutOfMemory = ⊤
 
 -- an image is of another size than its kind's
 abbrev pub IsOfOtherSize : MountError → Type 0

@@ -8,11 +8,12 @@ use Rattle.mpm_names.specs.Matching.{does_match}
 use Rattle.mpm_dirent.specs.declared.kinds.Entry.{Entry}
 use Rattle.mpm_dirent.specs.declared.kinds.Entry.TheVariants.{Free, File, Xfcb, Label, Kept}
 use Rattle.mpm_dirent.specs.declared.kinds.FileEntry.{FileEntry}
+use Rattle.mpm_dirent.specs.Names.{plain}
 use Rattle.mpm_mount.specs.declared.searching.Found.{Found}
 use Rattle.mpm_mount.specs.declared.searching.Search.{Search}
 use Rattle.mpm_mount.specs.declared.slots.EntryName.{EntryName}
 use Rattle.mpm_mount.specs.Drives.{entry_cmp, entry_number}
-use Rattle.mpm_mount.specs.Faults.{plain, extent_of, name_of}
+use Rattle.mpm_mount.specs.Faults.{extent_of, name_of}
 
 -- which entry was found: by its number, which stays where the last extent rises
 abbrev pub found_name : Kind → ℕ → Found → EntryName

@@ -1,7 +1,8 @@
 ghost use Rattle.std.specs.Prelude.{◌≡◌, ℕ, ◌+◌, ◌<◌, ◌≤◌, Some, None, length, slice_set};
 ghost use Rattle.mpm_blocks.specs.Geometries.{geometry_of, last_block};
 ghost use Rattle.mpm_dirent.specs.Proper.{IsProper};
-ghost use Rattle.mpm_mount.specs.Faults.{plain, cause_of, first_fault};
+ghost use Rattle.mpm_dirent.specs.Names.{plain};
+ghost use Rattle.mpm_mount.specs.Faults.{cause_of, first_fault};
 ghost use Rattle.mpm_mount.specs.Directories.{IsDirectory, IsKept, IsWhole, others, entry_in, with_entry, extent_slot, xfcb_slot, label_slot, free_slot, free_block, free_records_in, free_entries_in};
 ghost use Rattle.mpm_mount.specs.Searching.{IsNext, search_of};
 ghost use Rattle.mpm_mount.specs.Using.{IsInside, Claims, Frees};
@@ -12,7 +13,7 @@ use crate::slots::EntryName;
 use crate::{searching, slots};
 use mpm_base::Kind;
 use mpm_blocks::{BlockMap, geometry};
-use mpm_dirent::Entry;
+use mpm_dirent::{Entry, plain_name};
 use std::marker::Model;
 
 /// A mounted drive: its directory's entries in memory, and which of its blocks are used.
@@ -117,7 +118,7 @@ impl Mounted {
     {
         let name = EntryName {
             user,
-            name: slots::plain(name),
+            name: plain_name(name),
             number: slots::entry_number(self.kind, extent),
         };
         slots::named_slot(self.kind, &name, self.entries.as_slice())
@@ -128,7 +129,7 @@ impl Mounted {
     pub fn xfcb(&self, user: u8, name: &[u8; 11]) -> Option<u16>
         ensures { result ≡ xfcb_slot self.now (record { user = user; name = plain name.now }) }
     {
-        slots::xfcb_slot(user, &slots::plain(name), self.entries.as_slice())
+        slots::xfcb_slot(user, &plain_name(name), self.entries.as_slice())
     }
 
     /// The slot of the directory label.

@@ -1,15 +1,16 @@
 ghost use Rattle.std.specs.Prelude.{◌≡◌, ◌≤◌, [], ◌∷◌, ◌++◌, Some, None, length, if◌then◌else◌};
 ghost use Rattle.std.specs.List.{list_any};
 ghost use Rattle.mpm_dirent.specs.declared.kinds.Entry.TheVariants.{File};
+ghost use Rattle.mpm_dirent.specs.Names as names;
 ghost use Rattle.mpm_mount.specs.Faults as spec;
 ghost use Rattle.mpm_mount.specs.Using.{IsUsedBy};
 
 use crate::blocks::{claim_all, has_outside};
 use crate::errors::ImageFault;
-use crate::slots::{has_label, has_named, has_xfcb, name_of, plain};
+use crate::slots::{has_label, has_named, has_xfcb, name_of};
 use mpm_base::Kind;
 use mpm_blocks::BlockMap;
-use mpm_dirent::{Entry, FileEntry, XfcbEntry};
+use mpm_dirent::{Entry, FileEntry, XfcbEntry, plain_name};
 
 /// The first fault of a directory, whose entries' blocks become used in the map.
 #[tactic(auto, using(crate::proofs::FirstFault::fault_found, crate::proofs::FirstFault::faultless_if))]
@@ -58,9 +59,9 @@ fn label_cause(earlier: &[Entry]) -> Option<u8>
 
 /// The cause by which an XFCB is at fault behind others.
 fn xfcb_cause(earlier: &[Entry], xfcb: &XfcbEntry) -> Option<u8>
-    ensures { result ≡ (if list_any (spec.is_xfcb xfcb.now.user (spec.plain xfcb.now.name)) earlier.now then Some 8 else None) }
+    ensures { result ≡ (if list_any (spec.is_xfcb xfcb.now.user (names.plain xfcb.now.name)) earlier.now then Some 8 else None) }
 {
-    if has_xfcb(xfcb.user, &plain(&xfcb.name), earlier) {
+    if has_xfcb(xfcb.user, &plain_name(&xfcb.name), earlier) {
         Some(8)
     } else {
         None

@@ -6,6 +6,7 @@ mod blocks;
 mod directory;
 mod errors;
 mod faults;
+mod lookups;
 mod mounting;
 mod reading;
 mod searching;
@@ -13,8 +14,10 @@ mod slots;
 
 pub use directory::Mounted;
 pub use errors::{ImageFault, MountError};
+pub use lookups::lowest_entry;
 pub use mounting::mount;
 pub use searching::Found;
+pub use slots::last_extent;
 
 /// No memory was found: the allocator's own error.
 pub use std::alloc::AllocError as OutOfMemory;

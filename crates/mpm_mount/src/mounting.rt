@@ -1,11 +1,11 @@
-ghost use Rattle.std.specs.Prelude.{◌≡◌, ◌+◌, None, Some, IsSome, IfOk, IfErr, IfSome, OnOk, length};
+ghost use Rattle.std.specs.Prelude.{◌≡◌, ℕ, ◌+◌, None, Some, IsSome, IfOk, IfErr, IfSome, OnOk, length};
 ghost use Rattle.std.specs.List.{All};
 ghost use Rattle.mpm_blocks.specs.Geometries.{geometry_of};
 ghost use Rattle.mpm_blocks.specs.Sectors.{told_image};
 ghost use Rattle.mpm_dirent.specs.Proper.{IsProper};
 ghost use Rattle.mpm_mount.specs.Directories.{IsDirectory, IsWhole};
 ghost use Rattle.mpm_mount.specs.Faults as faults;
-ghost use Rattle.mpm_mount.specs.Mounting.{SameDrives, Counts, IsFault, IsImageFault, IsOfOtherSize, IsMounted};
+ghost use Rattle.mpm_mount.specs.Mounting.{SameDrives, Counts, IsFault, IsImageFault, IsErrorOfSome, IsOfOtherSize, IsMounted};
 
 use crate::directory::Mounted;
 use crate::errors::MountError;
@@ -35,8 +35,10 @@ pub fn mount<D: Drives>(
     ensures size { OnOk result (D.attached drives.old drive ≡ Some (geometry_of kind).bytes) }
     ensures other_size { (D.attached drives.old drive ≡ Some (geometry_of kind).bytes → ⊥) → IfErr result IsOfOtherSize }
     ensures err { IfErr result (λ error. IfSome (told_image (D.disks drives.old) drive) (λ image. IsImageFault image kind error)) }
+    ensures some { IfErr result (IsErrorOfSome (D.attached drives.old drive) kind) }
     ensures count { Counts (D.faults drives.old) (D.faults drives.new) result }
     ensures same { SameDrives D.attached D.disks D.failed_names drives.old drives.new }
+    ensures unsynced { (other : ℕ) → D.unsynced drives.new other ≡ D.unsynced drives.old other }
 {
     match check_size(drives, drive, kind) {
         Ok(()) => {}
@@ -54,8 +56,10 @@ fn check_size<D: Drives>(drives: &mut D, drive: u8, kind: Kind) -> Result<(), Mo
     ensures size { OnOk result (D.attached drives.old drive ≡ Some (geometry_of kind).bytes) }
     ensures other_size { IfErr result IsOfOtherSize }
     ensures err { IfErr result (λ error. IfSome (told_image (D.disks drives.old) drive) (λ image. IsImageFault image kind error)) }
+    ensures some { IfErr result (IsErrorOfSome (D.attached drives.old drive) kind) }
     ensures count { Counts (D.faults drives.old) (D.faults drives.new) result }
     ensures same { SameDrives D.attached D.disks D.failed_names drives.old drives.new }
+    ensures unsynced { (other : ℕ) → D.unsynced drives.new other ≡ D.unsynced drives.old other }
 {
     match drives.size(drive) {
         Err(_) => Err(MountError::DiskFault),

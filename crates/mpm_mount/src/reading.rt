@@ -31,6 +31,7 @@ pub(crate) fn read_directory<D: Drives>(
     ensures device { IfErr result IsDevice }
     ensures count { Counts (D.faults drives.old) (D.faults drives.new) result }
     ensures same { SameDrives D.attached D.disks D.failed_names drives.old drives.new }
+    ensures unsynced { (other : ℕ) → D.unsynced drives.new other ≡ D.unsynced drives.old other }
 {
     let mut entries = Vec::new(alloc);
     for sector in 0..(u32::from(geometry(kind).drm) + 1) / 4 {
@@ -59,6 +60,7 @@ fn read_sector<D: Drives>(
     ensures device { IfErr result IsDevice }
     ensures count { Counts (D.faults drives.old) (D.faults drives.new) result }
     ensures same { SameDrives D.attached D.disks D.failed_names drives.old drives.new }
+    ensures unsynced { (other : ℕ) → D.unsynced drives.new other ≡ D.unsynced drives.old other }
 {
     let mut bytes = [0; 128];
     match drives.read(drive, place(kind, sector), &mut bytes) {

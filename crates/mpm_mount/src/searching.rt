@@ -3,9 +3,9 @@ ghost use Rattle.std.specs.Ordering.{is_lt};
 ghost use Rattle.mpm_mount.specs.Drives as drives;
 ghost use Rattle.mpm_mount.specs.Searching as spec;
 
-use crate::slots::{EntryName, entry_number, last_extent, name_of, plain};
+use crate::slots::{EntryName, entry_number, last_extent, name_of};
 use mpm_base::Kind;
-use mpm_dirent::Entry;
+use mpm_dirent::{Entry, plain_name};
 use mpm_names::matches;
 
 /// An entry of a file, as a search found it.
@@ -49,7 +49,7 @@ fn found_name(kind: Kind, user: u8, found: &Found) -> EntryName
 {
     EntryName {
         user,
-        name: plain(&found.name),
+        name: plain_name(&found.name),
         number: entry_number(kind, found.extent),
     }
 }

@@ -6,7 +6,7 @@ ghost use Rattle.mpm_mount.specs.Directories as directory;
 
 use mpm_base::Kind;
 use mpm_blocks::geometry;
-use mpm_dirent::{Entry, FileEntry};
+use mpm_dirent::{Entry, FileEntry, plain_name};
 
 /// An entry of a file: its user, its name without bit 7 and its entry number.
 #[derive(Clone, Copy, Debug, PartialEq, Eq, PartialOrd, Ord)]
@@ -14,18 +14,6 @@ pub(crate) struct EntryName {
     pub(crate) user: u8,
     pub(crate) name: [u8; 11],
     pub(crate) number: u16,
-}
-
-/// A name without bit 7.
-#[tactic(auto, using(crate::proofs::Ranges::plain_all))]
-pub(crate) fn plain(name: &[u8; 11]) -> [u8; 11]
-    ensures { result ≡ spec.plain name.now }
-{
-    let mut plain = *name;
-    for place in 0..11 {
-        plain[place] = name[place] % 128;
-    }
-    plain
 }
 
 /// A place of a directory, which has at most 65,535, as the number of its slot.
@@ -54,8 +42,8 @@ pub(crate) fn entry_number(kind: Kind, extent: u16) -> u16
     extent / (u16::from(geometry(kind).mask) + 1)
 }
 
-/// The last extent of an entry.
-pub(crate) fn last_extent(file: &FileEntry) -> u16
+/// The last extent of an entry. (MP/M II Programmer's Guide, "File Control Block Definition": EX, S2.)
+pub fn last_extent(file: &FileEntry) -> u16
     ensures { result ≡ spec.extent_of file.now }
 {
     32 * u16::from(file.s2) + u16::from(file.ex)
@@ -67,7 +55,7 @@ pub(crate) fn name_of(kind: Kind, file: &FileEntry) -> EntryName
 {
     EntryName {
         user: file.user,
-        name: plain(&file.name),
+        name: plain_name(&file.name),
         number: entry_number(kind, last_extent(file)),
     }
 }
@@ -79,7 +67,7 @@ pub(crate) fn is_named(kind: Kind, name: &EntryName, entry: &Entry) -> bool
     match entry {
         Entry::File { file } => {
             file.user == name.user
-                && plain(&file.name) == name.name
+                && plain_name(&file.name) == name.name
                 && entry_number(kind, last_extent(file)) == name.number
         }
         _ => false,
@@ -98,7 +86,7 @@ pub(crate) fn is_xfcb(user: u8, name: &[u8; 11], entry: &Entry) -> bool
     ensures { result ≡ spec.is_xfcb user name.now entry.now }
 {
     match entry {
-        Entry::Xfcb { xfcb } => xfcb.user == user && plain(&xfcb.name) == *name,
+        Entry::Xfcb { xfcb } => xfcb.user == user && plain_name(&xfcb.name) == *name,
         _ => false,
     }
 }

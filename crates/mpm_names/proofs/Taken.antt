@@ -6,7 +6,7 @@ use Rattle.std.proofs.lemmas.Bool.{eq-eqb, eqb-true, ne_eqb}
 use Rattle.std.proofs.lemmas.Bool.Decides.{nat_tests}
 use Rattle.std.proofs.lemmas.List.{drop_at, take-append-drop}
 use Rattle.std.proofs.lemmas.List.Folds.{length-prefix_len}
-use Rattle.std.proofs.lemmas.Option.{none-some}
+use Rattle.std.proofs.lemmas.Option.{none-some, same_Some}
 use Rattle.mpm_names.specs.Characters.{is_blank, is_character, upper}
 use Rattle.mpm_names.specs.Spellings.{Spelling, field_of, behind_blanks, drive_of, behind_drive, marked, behind_type, behind_password, spelling, is_form, is_end, meaning, parsed}
 use Rattle.mpm_names.specs.Forms.{drive_text, type_text, password_text, HasForm, Spells, IsFormless}
@@ -146,13 +146,10 @@ form_taken text h =
       end = all.end;
     }
 
-same_name : (name other : Parsed) → Some name ≡ Some other → name ≡ other
-same_name name other same = cc
-
 -- a text that is a file name has the form, of parts that mean that name
 found_by : (is : Bool) (text : List ℕ) (name : Parsed) → is_form (spelling text) ≡ is → (if is then Some (meaning (length text) (spelling text)) else None) ≡ Some name → Spells text name
 unfolding Spells
-found_by true text name is found = (spelling text, form_taken text is, sym (same_name (meaning (length text) (spelling text)) name found))
+found_by true text name is found = (spelling text, form_taken text is, sym (same_Some (meaning (length text) (spelling text)) name found))
 found_by false text name is found = absurd (none-some name found)
 
 pub form_found : (text : List ℕ) (name : Parsed) → parsed text ≡ Some name → Spells text name

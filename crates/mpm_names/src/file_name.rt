@@ -1,4 +1,4 @@
-ghost use Rattle.std.specs.Prelude.{◌≡◌, ◌≤◌, ℕ, Some, None, IfOk, OnErr, length};
+ghost use Rattle.std.specs.Prelude.{◌≡◌, ◌≤◌, Some, None, IfOk, OnErr, length};
 ghost use Rattle.mpm_names.specs.Forms.{Spells, IsFormless};
 ghost use Rattle.mpm_names.specs.Spellings.{parsed, next_of};
 

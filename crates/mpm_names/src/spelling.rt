@@ -1,4 +1,4 @@
-ghost use Rattle.std.specs.Prelude.{◌≡◌, ◌≤◌, ◌<◌, ◌-◌, ℕ, length, slice_index, drop};
+ghost use Rattle.std.specs.Prelude.{◌≡◌, ◌≤◌, ◌<◌, ◌-◌, length, slice_index};
 ghost use Rattle.std.specs.List.{prefix_len};
 ghost use Rattle.mpm_names.specs.Characters.{is_blank, is_character};
 ghost use Rattle.mpm_names.specs.Spellings.{field_of, behind_blanks, behind_drive, behind_type, behind_password, drive_of, marked, spelling, is_form};

@@ -2,9 +2,10 @@
 use Rattle.std.proofs.Common.{◌≡◌, ◌∙◌, ℕ, ◌<◌, ◌==◌, Bool, true, false, not, ◌&&◌, if◌then◌else◌, List, Option, Some, None, Result, Ok, Err, IfOk, OnErr, length, cond, get_or, sym, refl, ap, subst, arith, ltb, length-set}
 use Rattle.std.specs.Prelude.{IsSome, bytes_eq, count_by, position, slice_set, unwrap_or}
 use Rattle.std.specs.List.{list_any, position_or_len}
-use Rattle.std.proofs.lemmas.Bool.{lt-ltb, false≢true}
+use Rattle.std.proofs.lemmas.Bool.{lt-ltb, false≢true, and_parts, eqb-true}
 use Rattle.std.proofs.lemmas.List.Quantifiers.{position-Some}
 use Rattle.std.proofs.lemmas.List.Sums.{position_or_len_is}
+use Rattle.std.proofs.lemmas.Option.{same_Some}
 use Rattle.mpm_opens.specs.declared.kinds.FileKey.{FileKey}
 use Rattle.mpm_opens.specs.declared.kinds.Mode.{Mode}
 use Rattle.mpm_opens.specs.declared.kinds.Item.{Item}
@@ -13,8 +14,8 @@ use Rattle.mpm_opens.specs.declared.kinds.OpenRefused.{OpenRefused}
 use Rattle.mpm_opens.specs.Opens.{OpenFiles, IsLive, item_of, process_of, file_of, IsItemOf, IsOpened, with_its_item, closed_at, closed, written_at, written, AreItems, AreOpen}
 use Rattle.mpm_opens.specs.Kinds.{is_same_file, is_same_mode, do_modes_go_together}
 use Rattle.mpm_opens.specs.Items.{has_item, excludes, is_excluded, place_at, blank_item, item_at, has_item_of, number_of, is_named, file_where, file_named, opened_again, new_item, first_free, refusal_of, opened_at, opened, opened_number, where_granted, granted, items_added, add_answer}
-use Rattle.mpm_opens.proofs.Keys.{equal_numbers, is_itself, same_file, file_is_itself, same_mode}
-use Rattle.mpm_opens.proofs.Listing.{both, some_same, counts_where_any, fails_at}
+use Rattle.mpm_opens.proofs.Keys.{is_itself, same_file, file_is_itself, same_mode}
+use Rattle.mpm_opens.proofs.Listing.{counts_where_any, fails_at}
 use Rattle.mpm_opens.proofs.ItemLaws.{stands_within, at_same, at_other}
 use Rattle.mpm_opens.proofs.LeavingLaws.{alone}
 use Rattle.mpm_opens.proofs.OpeningLaws.{live_stands, item_stands, may_open, free_place, no_item, number_is_live}
@@ -120,7 +121,7 @@ unfolding is_excluded
 mode_again items p file mode i allowed e =
     let item = item_at items i in
     let stands = item_stands items p file i e in
-    let own = both (item.process == p) (is_same_file item.file file) (stands.1) in
+    let own = and_parts (item.process == p) (is_same_file item.file file) (stands.1) in
     let beside : excludes p file mode item ≡ false =
     ap (has_item (excludes p file mode)) (sym (stands.0)) ∙ fails_at (has_item (excludes p file mode)) items i None refl allowed in
     same_mode item.mode mode (means (is_same_mode item.mode mode) (do_modes_go_together item.mode mode) (is_same_file item.file file) (item.process == p) (own.1) (own.0) beside)
@@ -213,10 +214,10 @@ written_is opens number sound live = sym (its_item_is written_at opens number so
 pub is_its_item : (opens : OpenFiles) (p : ℕ) (file : FileKey) (number : ℕ) → number_of opens.items p file ≡ Some number → IsItemOf opens p file number
 is_its_item opens p file number e =
     let stands = item_stands opens.items p file number e in
-    let same = both ((item_of opens number).process == p) (is_same_file (item_of opens number).file file) (stands.1) in
+    let same = and_parts ((item_of opens number).process == p) (is_same_file (item_of opens number).file file) (stands.1) in
     record {
       live = number_is_live opens.items p file number e;
-      its_process = equal_numbers (item_of opens number).process p (same.0);
+      its_process = eqb-true (item_of opens number).process p (same.0);
       its_file = same_file (item_of opens number).file file (same.1);
     }
 
@@ -231,8 +232,8 @@ is_named_item opens p number drive name file e = by_place (place_at opens.items 
     by_test item true is e at = record {
       live = subst IsSome (sym at) refl;
       its_process = ap (λ (o : Option Item). (unwrap_or o blank_item).process) at
-          ∙ equal_numbers item.process p ((both (item.process == p) ((item.file.drive == drive) && bytes_eq item.file.name name) is).0);
-      its_file = ap (λ (o : Option Item). (unwrap_or o blank_item).file) at ∙ some_same item.file file e;
+          ∙ eqb-true item.process p ((and_parts (item.process == p) ((item.file.drive == drive) && bytes_eq item.file.name name) is).0);
+      its_file = ap (λ (o : Option Item). (unwrap_or o blank_item).file) at ∙ same_Some item.file file e;
     }
 
     by_place : (place : Option Item) → place_at opens.items number ≡ place → file_where (is_named p drive name) place ≡ Some file → IsItemOf opens p file number

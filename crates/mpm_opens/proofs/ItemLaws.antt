@@ -1,7 +1,7 @@
 -- What stays so of items as a file is opened or closed, and as items are given back.
 use Rattle.std.proofs.Common.{◌≡◌, ◌≢◌, ◌∙◌, ◌⊎◌, ℕ, zero, suc, ◌+◌, ◌<◌, ◌≤◌, Bool, true, false, not, ◌==◌, ◌&&◌, if◌then◌else◌, List, [], ◌∷◌, Option, Some, None, length, map, sym, refl, ap, subst, arith, inl, inr, length-set}
 use Rattle.std.specs.Prelude.{count_by, slice_set, replicate}
-use Rattle.std.proofs.lemmas.Bool.{false≢true}
+use Rattle.std.proofs.lemmas.Bool.{false≢true, and_parts, eqb-true}
 use Rattle.std.proofs.lemmas.List.{get_or-set_same, get_or-set_other, length-map}
 use Rattle.mpm_base.proofs.CountLaws.{one_if, count_cons, one_if_true, one_if_false}
 use Rattle.mpm_opens.specs.declared.kinds.FileKey.{FileKey}
@@ -11,8 +11,8 @@ use Rattle.mpm_opens.specs.declared.limits.TheConstants.{ITEMS, ITEMS_OF_PROCESS
 use Rattle.mpm_opens.specs.Kinds.{is_same_file, is_same_mode, do_modes_go_together}
 use Rattle.mpm_opens.specs.Items.{has_item, place_at, has_item_of, excludes, is_excluded, is_of, items_of, new_item, is_given_back, left_in, items_without}
 use Rattle.mpm_opens.specs.Opens.{is_excluding, exclude_each_other, AreItems}
-use Rattle.mpm_opens.proofs.Keys.{equal_numbers, is_itself, same_file, file_is_itself, same_file_back, same_number_back, same_mode_back, go_together_back, mode_is_itself}
-use Rattle.mpm_opens.proofs.Listing.{both, count_set, fails_at}
+use Rattle.mpm_opens.proofs.Keys.{is_itself, same_file, file_is_itself, same_file_back, same_number_back, same_mode_back, go_together_back, mode_is_itself}
+use Rattle.mpm_opens.proofs.Listing.{count_set, fails_at}
 
 -- which item excludes another goes both ways
 clash : Bool → Bool → Bool → Bool → Bool
@@ -57,7 +57,7 @@ is_or_not : (i j : ℕ) → (j ≡ i) ⊎ (j ≢ i)
 is_or_not i j = by_test (j == i) refl
   where
     by_test : (b : Bool) → (j == i) ≡ b → (j ≡ i) ⊎ (j ≢ i)
-    by_test true e = inl (equal_numbers j i e)
+    by_test true e = inl (eqb-true j i e)
     by_test false e = inr (λ same. false≢true (sym e ∙ ap (λ n. n == i) same ∙ is_itself i))
 
 -- how many pass a test, where an item is changed in nothing that the test looks at
@@ -167,8 +167,8 @@ with_new_once items i p file mode within is none sound q g = by_test (has_item_o
 
     its_own : (p == q) && is_same_file file g ≡ true → count_by (has_item_of q g) items ≡ 0
     its_own e =
-        let same = both (p == q) (is_same_file file g) e in
-        ap (λ x. count_by (has_item_of x g) items) (sym (equal_numbers p q (same.0)))
+        let same = and_parts (p == q) (is_same_file file g) e in
+        ap (λ x. count_by (has_item_of x g) items) (sym (eqb-true p q (same.0)))
         ∙ ap (λ f. count_by (has_item_of p f) items) (sym (same_file file g (same.1))) ∙ none
 
     by_test : (b : Bool) → has_item_of q g (Some (new_item p file mode)) ≡ b → count_by (has_item_of q g) (slice_set items i (Some (new_item p file mode))) ≤ 1
@@ -187,7 +187,7 @@ with_new_few items i p file mode within is few sound q = by_test (p == q) refl
 
     by_test : (b : Bool) → (p == q) ≡ b → count_by (has_item (is_of q)) (slice_set items i (Some (new_item p file mode))) ≤ ITEMS_OF_PROCESS
     by_test true e =
-        let its = ap (λ x. count_by (has_item (is_of x)) items) (equal_numbers p q e) in
+        let its = ap (λ x. count_by (has_item (is_of x)) items) (eqb-true p q e) in
         omega (arith, counted, one_if_true (p == q) e, its, few)
     by_test false e = omega (arith, counted, one_if_false (p == q) e, sound.few q)
 
@@ -274,8 +274,8 @@ kept_at p among q file (Some item) e = by_tests (is_given_back p among item) (ha
   where
     its : is_given_back p among item ≡ true → has_item_of q file (Some item) ≡ true → ⊥
     its given is =
-        let same = both (item.process == q) (is_same_file item.file file) is in
-        let key = ap (λ x. (x == p) && among item.file) (equal_numbers item.process q (same.0))
+        let same = and_parts (item.process == q) (is_same_file item.file file) is in
+        let key = ap (λ x. (x == p) && among item.file) (eqb-true item.process q (same.0))
         ∙ ap (λ f. (q == p) && among f) (same_file item.file file (same.1)) in
         false≢true (sym e ∙ sym key ∙ given)
 

@@ -3,15 +3,12 @@ use Rattle.std.proofs.Common.{◌≡◌, ◌∙◌, ℕ, true, ◌==◌, ◌&&�
 use Rattle.std.specs.Prelude.{bytes_eq}
 use Rattle.std.proofs.lemmas.Bool.Decides.{nat_tests}
 use Rattle.std.proofs.lemmas.Slice.Eq.{bytes_eq-Decides}
+use Rattle.std.proofs.lemmas.Bool.{and_parts, eqb-true}
 use Rattle.std.specs.Cmp.{both_ways}
 use Rattle.mpm_opens.specs.declared.kinds.FileKey.{FileKey}
 use Rattle.mpm_opens.specs.declared.kinds.Mode.{Mode}
 use Rattle.mpm_opens.specs.declared.kinds.Mode.TheVariants.{Locked, Unlocked, ReadOnly}
 use Rattle.mpm_opens.specs.Kinds.{is_same_file, is_same_mode, do_modes_go_together}
-use Rattle.mpm_opens.proofs.Listing.{both}
-
-pub equal_numbers : (a b : ℕ) → (a == b) ≡ true → a ≡ b
-equal_numbers a b e = grind (arith, nat_tests)
 
 pub is_itself : (a : ℕ) → (a == a) ≡ true
 is_itself a = grind (arith, nat_tests)
@@ -25,9 +22,9 @@ same_parts a b d u n =
 
 pub same_file : (a b : FileKey) → is_same_file a b ≡ true → a ≡ b
 same_file a b e =
-    let first = both (a.drive == b.drive) ((a.user == b.user) && bytes_eq a.name b.name) e in
-    let rest = both (a.user == b.user) (bytes_eq a.name b.name) (first.1) in
-    same_parts a b (equal_numbers a.drive b.drive (first.0)) (equal_numbers a.user b.user (rest.0)) ((bytes_eq-Decides a.name b.name).0 (rest.1))
+    let first = and_parts (a.drive == b.drive) ((a.user == b.user) && bytes_eq a.name b.name) e in
+    let rest = and_parts (a.user == b.user) (bytes_eq a.name b.name) (first.1) in
+    same_parts a b (eqb-true a.drive b.drive (first.0)) (eqb-true a.user b.user (rest.0)) ((bytes_eq-Decides a.name b.name).0 (rest.1))
 
 pub file_is_itself : (a : FileKey) → is_same_file a a ≡ true
 file_is_itself a =

@@ -2,10 +2,11 @@
 use Rattle.std.proofs.Common.{◌≡◌, ◌≢◌, ◌∙◌, ℕ, zero, suc, ◌<◌, ◌≤◌, Bool, true, false, not, ◌==◌, ◌&&◌, if◌then◌else◌, List, [], ◌∷◌, Option, Some, None, length, filter, get_or, set, sym, refl, ap, arith}
 use Rattle.std.specs.Prelude.{IsSome, count_by, nat_lt}
 use Rattle.std.specs.List.{find}
-use Rattle.std.proofs.lemmas.Bool.{false≢true}
+use Rattle.std.proofs.lemmas.Bool.{false≢true, and_parts, eqb-true}
 use Rattle.std.proofs.lemmas.Bool.Decides.{nat_tests}
 use Rattle.std.proofs.lemmas.List.{get_or-set_other}
 use Rattle.std.proofs.lemmas.List.Folds.{list_any_at}
+use Rattle.std.proofs.lemmas.Option.{same_Some}
 use Rattle.mpm_base.proofs.CountLaws.{count_cons, one_if_true, one_if_false}
 use Rattle.mpm_opens.specs.declared.kinds.FileKey.{FileKey}
 use Rattle.mpm_opens.specs.declared.kinds.Item.{Item}
@@ -14,8 +15,8 @@ use Rattle.mpm_opens.specs.Kinds.{is_same_file, is_file}
 use Rattle.mpm_opens.specs.Items.{place_at, item_at, has_item_of, items_without, with_changed, closed_once}
 use Rattle.mpm_opens.specs.Locks.{is_lock_on, owner_of, is_lock_given_back, locks_without, is_lock_among}
 use Rattle.mpm_opens.specs.Opens.{OpenFiles, AreItems, AreLocks, AreOpen, IsLive, item_of, process_of, file_of, given_back, closed_at, unlocked, owner_left, HasLeft, IsClosed, is_record, HasUnlocked}
-use Rattle.mpm_opens.proofs.Keys.{equal_numbers, is_itself, same_file, file_is_itself}
-use Rattle.mpm_opens.proofs.Listing.{both, some_same, count_set, count_filter, counts_where_any, find_kept, found_counts, not_found_where_none, none_where_not_found}
+use Rattle.mpm_opens.proofs.Keys.{is_itself, same_file, file_is_itself}
+use Rattle.mpm_opens.proofs.Listing.{count_set, count_filter, counts_where_any, find_kept, found_counts, not_found_where_none, none_where_not_found}
 use Rattle.mpm_opens.proofs.ItemLaws.{at_same, at_other, stands_within, place_left}
 use Rattle.mpm_opens.proofs.OpeningLaws.{live_stands}
 use Rattle.mpm_opens.proofs.LockLaws.{whose}
@@ -24,7 +25,7 @@ use Rattle.mpm_opens.proofs.LockLaws.{whose}
 dropped_step : {X : Type 0} (test keep : X → Bool) (x y : X) (ys : List X) (a b : Bool) → test y ≡ a → keep y ≡ b → keep x ≡ false
     → (find test ys ≡ Some x → count_by test (filter keep ys) < count_by test ys)
     → (if a then Some y else find test ys) ≡ Some x → count_by test (if b then y ∷ filter keep ys else filter keep ys) < count_by test (y ∷ ys)
-dropped_step test keep x y ys true true passes left gone rest e = absurd (false≢true (sym gone ∙ ap keep (sym (some_same y x e)) ∙ left))
+dropped_step test keep x y ys true true passes left gone rest e = absurd (false≢true (sym gone ∙ ap keep (sym (same_Some y x e)) ∙ left))
 dropped_step test keep x y ys true false passes left gone rest e =
     omega (arith, count_cons test y ys, one_if_true (test y) passes, count_filter test keep ys)
 dropped_step test keep x y ys false true fails left gone rest e =
@@ -50,7 +51,7 @@ kept_owner p owner true e = sym (by_test (owner == p) (own (owner == p) e))
 
 gone_owner : (p owner : ℕ) (leaves : Bool) → ((owner == p) && leaves) ≡ true → None ≡ owner_left leaves p (Some owner)
 gone_owner p owner leaves e =
-    let parts = both (owner == p) leaves e in
+    let parts = and_parts (owner == p) leaves e in
     sym (ap (λ b. owner_left b p (Some owner)) (parts.1) ∙ ap (λ b. if b then None else (Some owner)) (parts.0))
 
 no_owner : (p : ℕ) (leaves : Bool) → None ≡ owner_left leaves p None
@@ -93,7 +94,7 @@ owners_left : (locks : List RecordLock) (p : ℕ) (among : FileKey → Bool) →
     → owner_of (locks_without locks p (is_lock_among among)) file number ≡ owner_left (among file) p (owner_of locks file number)
 owners_left locks p among sound file number =
     owners_without locks p (is_lock_among among) sound file number (among file)
-    (λ lock is. ap among (same_file lock.file file ((both (lock.number == number) (is_same_file lock.file file) is).1)))
+    (λ lock is. ap among (same_file lock.file file ((and_parts (lock.number == number) (is_same_file lock.file file) is).1)))
 
 -- a process frees a record
 pub unlocks : (opens : OpenFiles) (p : ℕ) (file : FileKey) (number : ℕ) → AreOpen opens → HasUnlocked p file number opens (unlocked opens p file number)
@@ -102,8 +103,8 @@ unlocks opens p file number are_open = record {
   items = refl;
   owners = λ other n. owners_without opens.locks p (is_lock_on file number) are_open.locks other n (is_record file number other n)
       (λ lock is.
-      let same = both (lock.number == n) (is_same_file lock.file other) is in
-      ap (λ m. (m == number) && is_same_file lock.file file) (equal_numbers lock.number n (same.0))
+      let same = and_parts (lock.number == n) (is_same_file lock.file other) is in
+      ap (λ m. (m == number) && is_same_file lock.file file) (eqb-true lock.number n (same.0))
       ∙ ap (λ f. (n == number) && is_same_file f file) (same_file lock.file other (same.1)));
 }
 

@@ -2,9 +2,10 @@
 use Rattle.std.proofs.Common.{◌≡◌, ◌∙◌, ℕ, zero, suc, ◌+◌, ◌<◌, ◌≤◌, Bool, true, false, not, ◌&&◌, ◌||◌, if◌then◌else◌, List, [], ◌∷◌, ◌++◌, Option, Some, None, length, filter, get_or, set, cond, sym, refl, ap, arith}
 use Rattle.std.specs.Prelude.{count_by, nat_lt, position}
 use Rattle.std.specs.List.{list_any, list_all, position_or_len, find}
-use Rattle.std.proofs.lemmas.Bool.{false≢true}
+use Rattle.std.proofs.lemmas.Bool.{false≢true, and_parts, or_parts}
 use Rattle.std.proofs.lemmas.Bool.Decides.{nat_tests}
 use Rattle.std.proofs.lemmas.List.Sums.{sum_by-set}
+use Rattle.std.proofs.lemmas.Option.{same_Some}
 use Rattle.mpm_base.proofs.CountLaws.{one_if, count_cons, one_if_true, one_if_false}
 
 -- two lists, one behind the other
@@ -16,14 +17,6 @@ count_append test (x ∷ xs) ys = omega (arith, count_append test xs ys, count_c
 pub count_set : {X : Type 0} (test : X → Bool) (xs : List X) (i : ℕ) (y d : X) → i < length xs
     → count_by test (set xs i y) + one_if (test (get_or xs i d)) ≡ count_by test xs + one_if (test y)
 count_set test xs i y d h = sum_by-set (λ x. if test x then 1 else 0) xs i y d h
-
--- both sides of `&&`
-pub both : (a b : Bool) → (a && b) ≡ true → (a ≡ true) × (b ≡ true)
-both true b e = (refl, e)
-both false b e = absurd (cc)
-
-pub some_same : {X : Type 0} (x y : X) → Some x ≡ Some y → x ≡ y
-some_same x y e = cc
 
 -- some pass where their number isn't 0
 any_counts_step : {X : Type 0} (test : X → Bool) (x : X) (xs : List X) (b : Bool) → test x ≡ b → (list_any test xs ≡ true → 0 < count_by test xs)
@@ -67,16 +60,8 @@ none_where_no_position test xs e = none_where_no_place test xs (no_place (nat_lt
 -- where none passes, what stands at a place doesn't
 pub fails_at : {X : Type 0} (test : X → Bool) (xs : List X) (i : ℕ) (d : X) → test d ≡ false → list_any test xs ≡ false → test (get_or xs i d) ≡ false
 fails_at test [] i d blank e = blank
-fails_at test (x ∷ xs) zero d blank e = left_fails (test x) (list_any test xs) e
-  where
-    left_fails : (a b : Bool) → (a || b) ≡ false → a ≡ false
-    left_fails true b e = absurd (cc)
-    left_fails false b e = refl
-fails_at test (x ∷ xs) (suc i) d blank e = fails_at test xs i d blank (right_fails (test x) (list_any test xs) e)
-  where
-    right_fails : (a b : Bool) → (a || b) ≡ false → b ≡ false
-    right_fails true b e = absurd (cc)
-    right_fails false b e = e
+fails_at test (x ∷ xs) zero d blank e = (or_parts (test x) (list_any test xs) e).0
+fails_at test (x ∷ xs) (suc i) d blank e = fails_at test xs i d blank ((or_parts (test x) (list_any test xs) e).1)
 
 -- what is left of a list
 count_filter_step : {X : Type 0} (test keep : X → Bool) (x : X) (xs : List X) (b : Bool) → count_by test (filter keep xs) ≤ count_by test xs
@@ -99,13 +84,13 @@ pub all_left : {X : Type 0} (test other keep : X → Bool) (xs : List X) → ((x
     → list_all test xs ≡ true → list_all other (filter keep xs) ≡ true
 all_left test other keep [] each e = refl
 all_left test other keep (x ∷ xs) each e =
-    let parts = both (test x) (list_all test xs) e in
+    let parts = and_parts (test x) (list_all test xs) e in
     all_left_step test other keep x xs (keep x) refl (each x) (parts.0) (all_left test other keep xs each (parts.1))
 
 pub all_still : {X : Type 0} (test other : X → Bool) (xs : List X) → ((x : X) → test x ≡ true → other x ≡ true) → list_all test xs ≡ true → list_all other xs ≡ true
 all_still test other [] each e = refl
 all_still test other (x ∷ xs) each e =
-    let parts = both (test x) (list_all test xs) e in
+    let parts = and_parts (test x) (list_all test xs) e in
     ap (λ b. b && list_all other xs) (each x (parts.0)) ∙ all_still test other xs each (parts.1)
 
 -- the first that passes stays the first that passes, if it is left
@@ -113,7 +98,7 @@ find_kept_step : {X : Type 0} (test keep : X → Bool) (x y : X) (ys : List X) (
     → (find test ys ≡ Some x → find test (filter keep ys) ≡ Some x)
     → (if a then Some y else find test ys) ≡ Some x → find test (if b then y ∷ filter keep ys else filter keep ys) ≡ Some x
 find_kept_step test keep x y ys true true passes left kept rest e = ap (λ c. if c then Some y else find test (filter keep ys)) passes ∙ e
-find_kept_step test keep x y ys true false passes gone kept rest e = absurd (false≢true (sym gone ∙ ap keep (some_same y x e) ∙ kept))
+find_kept_step test keep x y ys true false passes gone kept rest e = absurd (false≢true (sym gone ∙ ap keep (same_Some y x e) ∙ kept))
 find_kept_step test keep x y ys false true fails left kept rest e = ap (λ c. if c then Some y else find test (filter keep ys)) fails ∙ rest e
 find_kept_step test keep x y ys false false fails gone kept rest e = rest e
 
@@ -136,7 +121,7 @@ none_where_not_found test (x ∷ xs) e = not_found_step test x xs (test x) refl 
 found_step : {X : Type 0} (test : X → Bool) (x y : X) (ys : List X) (b : Bool) → test y ≡ b → (find test ys ≡ Some x → (test x ≡ true) × (0 < count_by test ys))
     → (if b then Some y else find test ys) ≡ Some x → (test x ≡ true) × (0 < count_by test (y ∷ ys))
 found_step test x y ys true is rest e =
-    (ap test (sym (some_same y x e)) ∙ is, omega (arith, count_cons test y ys, one_if_true (test y) is))
+    (ap test (sym (same_Some y x e)) ∙ is, omega (arith, count_cons test y ys, one_if_true (test y) is))
 found_step test x y ys false is rest e = ((rest e).0, omega (arith, count_cons test y ys, (rest e).1))
 
 pub found_counts : {X : Type 0} (test : X → Bool) (xs : List X) (x : X) → find test xs ≡ Some x → (test x ≡ true) × (0 < count_by test xs)

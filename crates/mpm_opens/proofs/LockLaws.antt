@@ -6,6 +6,7 @@ use Rattle.std.specs.List.{find}
 use Rattle.std.proofs.lemmas.Bool.Decides.{nat_tests}
 use Rattle.std.proofs.lemmas.List.Folds.{find-append}
 use Rattle.std.proofs.lemmas.List.Sums.{length-filter, count_by-le-length}
+use Rattle.std.proofs.lemmas.Bool.{and_parts, eqb-true}
 use Rattle.mpm_base.proofs.CountLaws.{one_if, count_cons, one_if_true, one_if_false}
 use Rattle.mpm_opens.specs.declared.kinds.FileKey.{FileKey}
 use Rattle.mpm_opens.specs.declared.kinds.RecordLock.{RecordLock}
@@ -15,8 +16,8 @@ use Rattle.mpm_opens.specs.declared.limits.TheConstants.{LOCKS, LOCKS_OF_PROCESS
 use Rattle.mpm_opens.specs.Kinds.{is_same_file}
 use Rattle.mpm_opens.specs.Locks.{is_lock_on, owner_of, is_owned_by, locks_of, with_lock, where_owned, lock_answer, has_limit, locked_by, locks_locked}
 use Rattle.mpm_opens.specs.Opens.{OpenFiles, locked, AreLocks, is_record, HasLocked, IfLocked, UnlessLocked}
-use Rattle.mpm_opens.proofs.Keys.{equal_numbers, same_file, same_file_back, same_number_back}
-use Rattle.mpm_opens.proofs.Listing.{both, count_append, count_filter, none_where_not_found, not_found_where_none}
+use Rattle.mpm_opens.proofs.Keys.{same_file, same_file_back, same_number_back}
+use Rattle.mpm_opens.proofs.Listing.{count_append, count_filter, none_where_not_found, not_found_where_none}
 
 pub no_locks : AreLocks []
 unfolding locks_of
@@ -54,8 +55,8 @@ more_once locks p file number free sound g m = by_test ((number == m) && is_same
 
     its : (number == m) && is_same_file file g ≡ true → count_by (is_lock_on g m) locks ≡ 0
     its e =
-        let same = both (number == m) (is_same_file file g) e in
-        ap (λ n. count_by (is_lock_on g n) locks) (sym (equal_numbers number m (same.0)))
+        let same = and_parts (number == m) (is_same_file file g) e in
+        ap (λ n. count_by (is_lock_on g n) locks) (sym (eqb-true number m (same.0)))
         ∙ ap (λ f. count_by (is_lock_on f number) locks) (sym (same_file file g (same.1))) ∙ nobodys locks file number free
 
     by_test : (b : Bool) → ((number == m) && is_same_file file g) ≡ b
@@ -72,7 +73,7 @@ more_few locks p file number few sound q = by_test (p == q) refl
   where
     by_test : (b : Bool) → (p == q) ≡ b → count_by (is_owned_by q) (locks ++ record { owner = p; file = file; number = number } ∷ []) ≤ LOCKS_OF_PROCESS
     by_test true e =
-        let its = ap (λ x. count_by (is_owned_by x) locks) (equal_numbers p q e) in
+        let its = ap (λ x. count_by (is_owned_by x) locks) (eqb-true p q e) in
         omega (arith, one_more (is_owned_by q) locks (record { owner = p; file = file; number = number }), one_if_true (p == q) e, its, few)
     by_test false e =
         omega (arith, one_more (is_owned_by q) locks (record { owner = p; file = file; number = number }), one_if_false (p == q) e, sound.few q)
@@ -117,8 +118,8 @@ locks_are_locked locks p file number sound = by_owner (owner_of locks file numbe
 -- who has each record after one was locked
 one_record : (file other : FileKey) (number n : ℕ) → is_record file number other n ≡ true → (other ≡ file) × (n ≡ number)
 one_record file other number n e =
-    let same = both (n == number) (is_same_file other file) e in
-    (same_file other file (same.1), equal_numbers n number (same.0))
+    let same = and_parts (n == number) (is_same_file other file) e in
+    (same_file other file (same.1), eqb-true n number (same.0))
 
 owners_had : (locks : List RecordLock) (p : ℕ) (file : FileKey) (number : ℕ) (other : FileKey) (n : ℕ) → owner_of locks file number ≡ Some p
     → owner_of locks other n ≡ (if is_record file number other n then Some p else owner_of locks other n)
@@ -168,7 +169,7 @@ unfolding lock_answer locks_locked
 owners_locked locks p file number granted other n = by_owner (owner_of locks file number) refl granted
   where
     its_own : (owner : ℕ) (b : Bool) → (owner == p) ≡ b → (if b then Locked else (Other owner)) ≡ Locked → owner ≡ p
-    its_own owner true is e = equal_numbers owner p is
+    its_own owner true is e = eqb-true owner p is
     its_own owner false is e = absurd (cc)
 
     no_limit : (a b : Bool) → (if a then ProcessLimit else (if b then NoRoom else Locked)) ≡ Locked → (a || b) ≡ false

@@ -4,6 +4,7 @@ use Rattle.std.specs.Prelude.{IsSome, count_by, slice_set}
 use Rattle.std.specs.List.{list_any, list_all}
 use Rattle.std.proofs.lemmas.Bool.Decides.{nat_tests}
 use Rattle.std.proofs.lemmas.List.Folds.{list_all-append, list_any_at}
+use Rattle.std.proofs.lemmas.Bool.{not-true}
 use Rattle.mpm_opens.specs.declared.kinds.FileKey.{FileKey}
 use Rattle.mpm_opens.specs.declared.kinds.Mode.{Mode}
 use Rattle.mpm_opens.specs.declared.kinds.Item.{Item}
@@ -118,14 +119,10 @@ open_given_back items locks p among open_files =
       owned = all_left (has_owners_item items) (has_owners_item (items_without items p among)) keep locks still open_files.owned;
     }
   where
-    isnt : (b : Bool) → not b ≡ true → b ≡ false
-    isnt true e = absurd (cc)
-    isnt false e = refl
-
     still : (lock : RecordLock) → not (is_lock_given_back p (is_lock_among among) lock) ≡ true → has_owners_item items lock ≡ true → has_owners_item (items_without items p among) lock ≡ true
     still lock kept has =
         any_where_counts (has_item_of lock.owner lock.file) (items_without items p among)
-        (omega (arith, count_kept items p among lock.owner lock.file (isnt (is_lock_given_back p (is_lock_among among) lock) kept), counts_where_any (has_item_of lock.owner lock.file) items has))
+        (omega (arith, count_kept items p among lock.owner lock.file (not-true (is_lock_given_back p (is_lock_among among) lock) kept), counts_where_any (has_item_of lock.owner lock.file) items has))
 
 -- a record is locked by a process that has an item of its file
 its_item : (items : List (Option Item)) (number : ℕ) → IsSome (place_at items number)

@@ -1,4 +1,4 @@
-ghost use Rattle.std.specs.Prelude.{◌≡◌, ◌≢◌, ◌⊎◌, ◌↔◌, ◌≤◌, ℕ, true, false, List, Some, IsSome, IfSome, IfOk, OnOk, OnErr, Err, is_ok, IsErr, IsTrue, IsOk, if◌then◌else◌};
+ghost use Rattle.std.specs.Prelude.{◌≡◌, ◌≢◌, ◌⊎◌, ◌↔◌, ◌≤◌, ℕ, true, false, List, Some, IsSome, IfSome, IfOk, OnOk, OnErr, Err, is_ok, IsErr, IsTrue, if◌then◌else◌};
 ghost use Rattle.mpm_port.specs.Calls.{next_is_listed};
 ghost use Rattle.mpm_port.specs.Causes.{HasCause, Rose, names_after};
 ghost use Rattle.mpm_port.specs.Disks.{IsInside, SameDisks, Attaches, Writes, Told, image_of, sector_of};

@@ -1,4 +1,4 @@
-ghost use Rattle.std.specs.Prelude.{◌≡◌, ◌+◌, ◌≤◌, ◌↔◌, ℕ, List, Option, Some, false, OnOk, OnErr, IfOk, IsErr, IsTrue, is_ok, if◌then◌else◌, vec_capacity, length};
+ghost use Rattle.std.specs.Prelude.{◌≡◌, ◌≤◌, ◌↔◌, Some, false, OnOk, OnErr, IfOk, IsErr, IsTrue, is_ok, if◌then◌else◌, vec_capacity};
 ghost use Rattle.mpm_port.specs.Causes.{HasCause};
 ghost use Rattle.mpm_port.specs.Texts.{appended, AppendsPart};
 ghost use Rattle.mpm_port.specs.MemoryText.{empty_text, put_fails, after_put, listing_put};

@@ -1,6 +1,6 @@
-ghost use Rattle.std.specs.Prelude.{◌≡◌, ◌<◌, ◌≤◌, ℕ, List, [], ◌∷◌, ◌++◌, MatchOption, Some, None, IfOk, is_ok, if◌then◌else◌, length, ◌+◌, ◌*◌, IfSome, IsSomeAnd};
+ghost use Rattle.std.specs.Prelude.{◌≡◌, ◌<◌, ◌≤◌, ℕ, List, [], MatchOption, Some, None, IfOk, is_ok, if◌then◌else◌, length, ◌+◌, ◌*◌, IfSome, IsSomeAnd};
 ghost use Rattle.mpm_port.specs.Disks.{with_sector};
-ghost use Rattle.std.specs.List.{position, find};
+ghost use Rattle.std.specs.List.{position};
 
 use crate::{FetchError, OutOfMemory};
 use std::alloc::Global;

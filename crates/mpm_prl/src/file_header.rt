@@ -1,4 +1,4 @@
-ghost use Rattle.std.specs.Prelude.{◌≡◌, ◌≢◌, ℕ, OnOk, OnErr, IfOk};
+ghost use Rattle.std.specs.Prelude.{◌≡◌, ◌≢◌, OnOk, OnErr, IfOk};
 ghost use Rattle.mpm_prl.specs.Relocation.{word_at};
 
 /// The header of a page relocatable program, the first 128 bytes of its file, as far as it is used.

@@ -1,4 +1,4 @@
-ghost use Rattle.std.specs.Prelude.{◌≡◌, ℕ, ◌+◌, ◌*◌, ◌%◌, ◌≤◌, ◌<◌, length, if◌then◌else◌};
+ghost use Rattle.std.specs.Prelude.{◌≡◌, ◌+◌, ◌*◌, ◌%◌, ◌≤◌, ◌<◌, length, if◌then◌else◌};
 ghost use Rattle.mpm_prl.specs.Relocation.{is_marked, relocated};
 
 /// Moves code to a page: adds the page, modulo 256, to each byte of code whose bit is 1. The bits stand eight to a byte,

@@ -1,6 +1,6 @@
 -- Plain instructions in a row, whose beginnings are put off.
 use Rattle.std.proofs.Common.{◌≡◌, ◌∙◌, ℕ, ◌+◌, ◌<◌, Bool, true, false, Option, Some, None, is_some, is_none, refl, ap, sym, subst, rules, arith}
-use Rattle.std.specs.Prelude.{◌↔◌, IsNone, IfSome}
+use Rattle.std.specs.Prelude.{◌↔◌, IsNone, IfSome, option_map}
 use Rattle.z80_regs.specs.Outcome.{Outcome}
 use Rattle.z80_regs.specs.declared.regs.Regs.{Regs}
 use Rattle.z80_ext.specs.Instruction.{begun_times, is_plain_at, unbegun, registers_after, actions_of, IsRareAt}
@@ -62,11 +62,11 @@ gate_stands : (gate : Option Gate) → is_some gate ≡ true → gate ≡ None �
 gate_stands None some none = absurd (cc some)
 gate_stands (Some gate) some none = absurd (cc none)
 
-pub paused_halted : (inside : Bool) (most : ℕ) (opcode : Option ℕ) (old new : View) → 0 < most → new ≡ old → old.regs.halted ≡ true
-    → IfSome opcode (λ byte. byte ≡ byte_at old.memory 0 old.regs.pc)
-    → is_none opcode ≡ is_some (gate_of inside old.memory 0 old.regs.pc)
-    → IsPaused inside most old new (record { done = 0; opcode = opcode })
-paused_halted inside most None old new some is halted byte gate =
+pub paused_halted : {Fetched : Type 0} (opcode_of : Fetched → ℕ) (inside : Bool) (most : ℕ) (here : Option Fetched) (old new : View) → 0 < most → new ≡ old → old.regs.halted ≡ true
+    → IfSome here (λ fetched. opcode_of fetched ≡ byte_at old.memory 0 old.regs.pc)
+    → is_none here ≡ is_some (gate_of inside old.memory 0 old.regs.pc)
+    → IsPaused inside most old new (record { done = 0; opcode = option_map opcode_of here })
+paused_halted opcode_of inside most None old new some is halted byte gate =
     let P : View → Type 0 = λ view. IsPaused inside most old view (record { done = 0; opcode = None }) in
     subst P (sym is) (record {
       count = omega arith;
@@ -76,13 +76,13 @@ paused_halted inside most None old new some is halted byte gate =
       gate = λ one. absurd (cc one);
       rare = search rules;
     })
-paused_halted inside most (Some opcode) old new some is halted byte gate =
-    let P : View → Type 0 = λ view. IsPaused inside most old view (record { done = 0; opcode = Some opcode }) in
+paused_halted opcode_of inside most (Some fetched) old new some is halted byte gate =
+    let P : View → Type 0 = λ view. IsPaused inside most old view (record { done = 0; opcode = Some (opcode_of fetched) }) in
     subst P (sym is) (record {
       count = omega arith;
       moved = moves_none inside 0 old;
       stopped = λ none. absurd (cc none);
       below = λ one. some;
       gate = λ one. no_gate_at (gate_of inside old.memory 0 old.regs.pc) (sym gate);
-      rare = rare_halted opcode old.regs (byte_at old.memory 0) halted byte;
+      rare = rare_halted (opcode_of fetched) old.regs (byte_at old.memory 0) halted byte;
     })

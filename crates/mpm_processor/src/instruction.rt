@@ -1,6 +1,7 @@
-ghost use Rattle.std.specs.Prelude.{◌≡◌, ◌↔◌, ◌<◌, ◌≤◌, ◌+◌, ◌-◌, ◌*◌, ℕ, List, true, false, length, None, IsNone, IsSome, IfSome, MatchOption, is_none, is_some};
+ghost use Rattle.std.specs.Prelude.{◌≡◌, ◌↔◌, ◌<◌, ◌≤◌, ◌+◌, ◌-◌, ◌*◌, ◌||◌, ℕ, List, true, false, length, None, IsNone, IsSome, IfSome, MatchOption, is_none, is_some, option_map};
+ghost use Rattle.z80_regs.specs.Words.{onward};
 ghost use Rattle.z80_regs.specs.declared.regs.Regs.{Regs};
-ghost use Rattle.z80_ext.specs.Instruction.{IsRareAt, IsIndexedAt, IsOtherAt, IsLoadUpAt, is_plain_at, unbegun, instruction, registers_after, actions_of};
+ghost use Rattle.z80_ext.specs.Instruction.{IsRareAt, IsIndexedAt, IsOtherAt, IsLoadUpAt, is_plain_at, is_behind_prefix, unbegun, instruction, registers_after, actions_of};
 ghost use Rattle.mpm_banks.specs.Allocations.{FitsBelowCommon};
 ghost use Rattle.mpm_banks.specs.Memory.{byte_at};
 ghost use Rattle.mpm_banks.specs.Sides.{alone};
@@ -13,8 +14,8 @@ use crate::gate::is_gate;
 use mpm_banks::{Banks, Burst, SliceBus, last_page};
 use mpm_base::{Devices, Seg, SegmentSpec};
 use z80_ext::{
-    Stepped, begin_all, is_behind_prefix, is_indexed, step_indexed, step_load_up, step_other,
-    step_unbegun,
+    Fetched, Stepped, begin_all, is_behind_prefix, is_indexed, step_indexed, step_load_up,
+    step_other, step_unbegun,
 };
 use z80_regs::{Bus, Regs};
 
@@ -36,7 +37,31 @@ fn opcode_below_gates(spec: SegmentSpec, address: u16, segment: &[u8]) -> Option
     None
 }
 
-/// The opcode at an address, None where a gate is for a process in a resident procedure (`inside`) or in none.
+/// The opcode at an address and the two bytes behind it, of a segment below its last page.
+#[inline(always)]
+#[tactic(auto, unfolding(mpm_banks::specs::Memory::place_of, mpm_banks::specs::Memory::byte_at))]
+fn fetch_below_gates(spec: SegmentSpec, address: u16, segment: &[u8]) -> Option<Fetched>
+    requires { FitsBelowCommon spec }
+    ensures opcode { (common : List ℕ) → IfSome result (λ fetched. fetched.opcode ≡ byte_at (alone spec segment.now common) 0 address) }
+    ensures first { (common : List ℕ) → IfSome result (λ fetched. fetched.first ≡ byte_at (alone spec segment.now common) 0 (onward address 1)) }
+    ensures second { (common : List ℕ) → IfSome result (λ fetched. fetched.second ≡ byte_at (alone spec segment.now common) 0 (onward address 2)) }
+    ensures below { IsSome result → address < 256 * (spec.base + spec.pages - 1) }
+{
+    let first = 256 * usize::from(spec.base);
+    let size = (256 * usize::from(spec.pages - 1)).min(segment.len().saturating_sub(2));
+    let index = usize::from(address).wrapping_sub(first);
+    if index < size {
+        return Some(Fetched {
+            opcode: segment[index],
+            first: segment[index + 1],
+            second: segment[index + 2],
+        });
+    }
+    None
+}
+
+/// The opcode at an address and the two bytes behind it, None where a gate is for a process in a resident procedure (`inside`) or
+/// in none.
 #[inline(always)]
 #[tactic(auto, using(crate::proofs::GateLaws::none_below, crate::proofs::MovingLaws::no_gate_at))]
 fn fetch(
@@ -46,16 +71,18 @@ fn fetch(
     segment: &mut [u8],
     common: &mut [u8],
     devices: &mut Devices,
-) -> Option<u8>
+) -> Option<Fetched>
     requires { FitsBelowCommon spec }
-    ensures byte { IfSome result (λ opcode. opcode ≡ byte_at (alone spec segment.old common.old) 0 address) }
+    ensures opcode { IfSome result (λ fetched. fetched.opcode ≡ byte_at (alone spec segment.old common.old) 0 address) }
+    ensures first { IfSome result (λ fetched. fetched.first ≡ byte_at (alone spec segment.old common.old) 0 (onward address 1)) }
+    ensures second { IfSome result (λ fetched. fetched.second ≡ byte_at (alone spec segment.old common.old) 0 (onward address 2)) }
     ensures gate { is_none result ≡ is_some (gate_in inside (spec.base + spec.pages - 1) address) }
     ensures segment { segment.new ≡ segment.old }
     ensures common { common.new ≡ common.old }
     ensures devices { devices.new ≡ devices.old }
 {
-    if let Some(opcode) = opcode_below_gates(spec, address, segment) {
-        return Some(opcode);
+    if let Some(fetched) = fetch_below_gates(spec, address, segment) {
+        return Some(fetched);
     }
     if is_gate(inside, last_page(spec), address) {
         return None;
@@ -66,21 +93,27 @@ fn fetch(
         common,
         devices,
     };
-    Some(bus.read(address))
+    Some(Fetched {
+        opcode: bus.read(address),
+        first: bus.read(address.wrapping_add(1)),
+        second: bus.read(address.wrapping_add(2)),
+    })
 }
 
-/// Acts as the instruction at PC does, whose opcode is read, but for how it begins. A prefix, HALT and EI are answered, and
-/// nothing has changed.
+/// Acts as the instruction at PC does, whose opcode and the two bytes behind it are fetched, but for how it begins. A prefix,
+/// HALT and EI are answered, and nothing has changed.
 #[inline(always)]
 fn execute_unbegun(
-    opcode: u8,
+    fetched: Fetched,
     spec: SegmentSpec,
     regs: &mut Regs,
     segment: &mut [u8],
     common: &mut [u8],
     devices: &mut Devices,
 ) -> Option<u8>
-    requires { opcode ≡ byte_at (alone spec segment.old common.old) 0 regs.old.pc }
+    requires opcode { fetched.opcode ≡ byte_at (alone spec segment.old common.old) 0 regs.old.pc }
+    requires first { fetched.first ≡ byte_at (alone spec segment.old common.old) 0 (onward regs.old.pc 1) }
+    requires second { fetched.second ≡ byte_at (alone spec segment.old common.old) 0 (onward regs.old.pc 2) }
     ensures plain { is_none result ≡ is_plain_at regs.old (byte_at (alone spec segment.old common.old) 0) }
     ensures rare { IfSome result (λ rare. IsRareAt rare regs.old (byte_at (alone spec segment.old common.old) 0)) }
     ensures registers { MatchOption result (regs.new ≡ (unbegun regs.old (byte_at (alone spec segment.old common.old) 0) (port_byte devices.old)).registers) (λ rare. regs.new ≡ regs.old) }
@@ -93,7 +126,7 @@ fn execute_unbegun(
         common,
         devices,
     };
-    step_unbegun(opcode, regs, &mut bus)
+    step_unbegun(fetched, regs, &mut bus)
 }
 
 /// One instruction of a process that stands at CBh, DDh or FDh: over a bus that stays in registers.
@@ -289,7 +322,8 @@ fn execute_rare(
 #[inline(always)]
 #[tactic(auto, using(crate::proofs::PlainLaws::rare_halted))]
 fn is_rare(opcode: u8, regs: &Regs) -> bool
-    ensures { (memory : ℕ → ℕ) → opcode ≡ memory regs.now.pc → result ≡ true → IsRareAt opcode regs.now memory }
+    ensures rarely { result ≡ (regs.now.halted || is_behind_prefix opcode) }
+    ensures rare { (memory : ℕ → ℕ) → opcode ≡ memory regs.now.pc → result ≡ true → IsRareAt opcode regs.now memory }
 {
     if regs.halted {
         return true;
@@ -311,9 +345,9 @@ fn rare_below_gates(spec: SegmentSpec, regs: &Regs, segment: &[u8]) -> Option<u8
 }
 
 /// Instructions in a row that aren't plain, the first of which stands at this opcode: at most so many, as long as a prefix is
-/// at PC, or the processor stands in a HALT. None is done exactly where the first isn't listed. It is code of its own, so that
-/// the loop over plain ones keeps its registers.
-#[inline(never)]
+/// at PC, or the processor stands in a HALT. None is done exactly where the first isn't listed. It is in line,
+/// since what goes in and out of it is paid once a row.
+#[inline(always)]
 fn execute_prefixed(
     first: u8,
     inside: bool,
@@ -360,6 +394,17 @@ struct Paused {
     opcode: Option<u8>,
 }
 
+/// The opcode of what was fetched, if anything was.
+#[inline(always)]
+fn opcode_of(fetched: Option<Fetched>) -> Option<u8>
+    ensures { result ≡ option_map (λ fetched. fetched.opcode) fetched }
+{
+    match fetched {
+        None => None,
+        Some(fetched) => Some(fetched.opcode),
+    }
+}
+
 /// Plain instructions in a row, at most so many: R and the shadow of an EI are changed once for all of them.
 #[inline(always)]
 fn execute_plain(
@@ -379,18 +424,21 @@ fn execute_plain(
     ensures common { length common.new ≡ length common.old }
 {
     if regs.halted {
-        let opcode = fetch(inside, spec, regs.pc, segment, common, devices);
-        return Paused { done: 0, opcode };
+        let here = fetch(inside, spec, regs.pc, segment, common, devices);
+        return Paused {
+            done: 0,
+            opcode: opcode_of(here),
+        };
     }
     for done in 0..most {
-        let opcode = match fetch(inside, spec, regs.pc, segment, common, devices) {
+        let fetched = match fetch(inside, spec, regs.pc, segment, common, devices) {
             None => {
                 begin_all(done, regs);
                 return Paused { done, opcode: None };
             }
-            Some(opcode) => opcode,
+            Some(fetched) => fetched,
         };
-        match execute_unbegun(opcode, spec, regs, segment, common, devices) {
+        match execute_unbegun(fetched, spec, regs, segment, common, devices) {
             None => {}
             Some(rare) => {
                 begin_all(done, regs);

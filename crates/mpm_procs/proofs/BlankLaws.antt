@@ -1,20 +1,13 @@
 -- A slot in which nobody lives is blank, so that the table says no more than who lives, as what, and with which call.
-use Rattle.std.proofs.Common.{◌≡◌, ◌∙◌, ℕ, ◌<◌, ◌≤◌, Bool, true, false, List, inl, inr, length, get_or, replicate, refl, sym, ap, subst, arith}
-use Rattle.std.proofs.lemmas.Bool.{cases_lt}
-use Rattle.std.proofs.lemmas.List.{get_or_past, get_or-replicate, length-replicate, ext_get_or}
+use Rattle.std.proofs.Common.{◌≡◌, ◌∙◌, ℕ, ◌<◌, Bool, true, false, List, length, get_or, replicate, refl, sym, ap, arith}
+use Rattle.std.proofs.lemmas.List.{length-replicate, ext_get_or}
 use Rattle.mpm_base.specs.Calls.{Taken, no_call}
+use Rattle.mpm_base.proofs.Lists.{all_at}
 use Rattle.mpm_procs.specs.declared.process.Process.{Process}
 use Rattle.mpm_procs.specs.Opening.{blank}
 use Rattle.mpm_procs.specs.Table.{Table, IsMap, lives, Lives, process_in, call_of}
 
 -- nobody lives
-all_at : {X : Type 0} (n slot : ℕ) (x : X) → get_or (replicate n x) slot x ≡ x
-all_at n slot x =
-    elim (cases_lt slot n) [
-      | inl h ↦ get_or-replicate n slot x x h
-      | inr h ↦ get_or_past (replicate n x) slot x (subst (λ (k : ℕ). k ≤ slot) (sym (length-replicate n x)) h)
-    ]
-
 pub map_blank : (alive : List Bool) (processes : List Process) (calls : List Taken) → alive ≡ replicate 32 false → processes ≡ replicate 32 blank → calls ≡ replicate 32 no_call → IsMap (record { alive = alive; processes = processes; calls = calls })
 map_blank alive processes calls a b c = record {
   slots = record { alive = ap length a ∙ length-replicate 32 false; processes = ap length b ∙ length-replicate 32 blank; calls = ap length c ∙ length-replicate 32 no_call };

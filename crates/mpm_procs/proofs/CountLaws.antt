@@ -1,4 +1,5 @@
 -- How many processes live, and in how many slots nobody does.
+use Rattle.mpm_base.proofs.CountLaws.{one_if}
 use Rattle.std.proofs.Common.{◌≡◌, ◌≢◌, ◌∙◌, ℕ, ◌+◌, ◌<◌, ◌≤◌, Bool, true, false, not, cond, List, [], ◌∷◌, Option, Some, None, inl, inr, length, refl, sym, ap, arith}
 use Rattle.std.specs.Prelude.{◌↔◌, IfSome, IsNone, count_by}
 use Rattle.std.specs.List.{position_or_len}
@@ -8,9 +9,6 @@ use Rattle.mpm_procs.specs.declared.process.NewProcess.{NewProcess}
 use Rattle.mpm_procs.specs.Table.{Table, HasSlots, lives, lowest_free, free_slots, living, added}
 use Rattle.mpm_procs.proofs.MapLaws.{free_below}
 
-abbrev bit : Bool → ℕ
-bit b = cond b 1 0
-
 abbrev free_bit : Bool → ℕ
 free_bit b = cond (not b) 1 0
 
@@ -19,17 +17,17 @@ free_bit b = cond (not b) 1 0
 pub living_added : (table : Table) (p : ℕ) (new : NewProcess) → p < length table.alive → lives table p ≡ false → living (added table p new) ≡ living table + 1
 unfolding living added
 living_added table p new within free =
-    omega (arith, sum_by-set bit table.alive p true false within, ap bit free)
+    omega (arith, sum_by-set one_if table.alive p true false within, ap one_if free)
 
 -- the slots are those where a process lives and the free ones
 abbrev live_count : List Bool → ℕ
 live_count bs = count_by (λ b. b) bs
 
 live_more : (bs : List Bool) → live_count (true ∷ bs) ≡ 1 + live_count bs
-live_more bs = sum_by-cons bit true bs
+live_more bs = sum_by-cons one_if true bs
 
 live_same : (bs : List Bool) → live_count (false ∷ bs) ≡ 0 + live_count bs
-live_same bs = sum_by-cons bit false bs
+live_same bs = sum_by-cons one_if false bs
 
 free_same : (bs : List Bool) → count_by not (true ∷ bs) ≡ 0 + count_by not bs
 free_same bs = sum_by-cons free_bit true bs

@@ -6,7 +6,7 @@ use Rattle.std.proofs.lemmas.Nat.{mul-le}
 use Rattle.std.proofs.lemmas.Bool.{cases_lt}
 use Rattle.std.proofs.lemmas.Bool.Decides.{nat_tests}
 use Rattle.std.specs.List.{AllByRecursion}
-use Rattle.std.proofs.lemmas.List.{take-append-le, drop-append-le, length-drop, length-take, length-append, length-replicate, take-replicate, take-take, append-nil, append_assoc, take_all, drop_all}
+use Rattle.std.proofs.lemmas.List.{take-append-le, drop-append-le, length-drop, length-take, length-append, take-replicate, take-take, append-nil, append_assoc, take_all, drop_all}
 use Rattle.circular_buffer.specs.Buffer.{Buffer, buffer}
 use Rattle.mpm_base.specs.Lists.{in_width}
 use Rattle.mpm_base.specs.declared.number.Name8.{Name8}

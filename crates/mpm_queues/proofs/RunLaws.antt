@@ -1,4 +1,5 @@
 -- No message is lost or doubled, and all keep their order.
+use Rattle.mpm_ready.specs.Tables.{dequeued}
 use Rattle.std.proofs.Common.{◌≡◌, ◌∙◌, ℕ, inl, inr, Bool, true, false, cond, List, [], ◌∷◌, ◌++◌, Option, Some, None, ◌==◌, length, drop, get_or, refl, sym, ap, subst, arith}
 use Rattle.std.proofs.lemmas.Bool.{cases_Bool}
 use Rattle.std.proofs.lemmas.Bool.Decides.{nat_tests}
@@ -6,7 +7,7 @@ use Rattle.std.proofs.lemmas.List.{append-nil, append_assoc}
 use Rattle.mpm_procs.specs.Table.{Table}
 use Rattle.mpm_queues.specs.Queue.{Queue, is_drained, is_full, first_message, held_by, shortened, read_by, with_message}
 use Rattle.mpm_queues.specs.Queues.{Queues, IsMade, queue_in, IsSound}
-use Rattle.mpm_queues.specs.Handling.{first_reader, first_writer, written_by, dequeued, let_in, delivered, message_read, message_written, enlisted, queues_without_waiter}
+use Rattle.mpm_queues.specs.Handling.{first_reader, first_writer, written_by, let_in, delivered, message_read, message_written, enlisted, queues_without_waiter}
 use Rattle.mpm_queues.specs.Runs.{out_by_read, in_by_read, waiting_message, out_by_write, in_by_write, delivered_message, Conserves, Operation, Reads, Writes, Waits, Leaves, operation_made, out_by, in_by, MayBe, operations_made, all_out, all_in, AllMayBe}
 use Rattle.mpm_queues.proofs.QueueLaws.{drained_empty}
 use Rattle.mpm_queues.proofs.SoundLaws.{changed, queue_there, reader_drained, sound_read, sound_write, sound_enlisted, sound_queues_without}

@@ -1,19 +1,20 @@
 -- What is so of the queues stays so after each call.
-use Rattle.std.proofs.Common.{◌≡◌, ◌≢◌, ◌∙◌, ℕ, ◌+◌, ◌*◌, ◌<◌, ◌≤◌, ◌⊎◌, inl, inr, Bool, true, false, not, cond, List, [], ◌∷◌, Option, Some, None, ◌&&◌, ◌||◌, ◌==◌, length, get_or, replicate, refl, sym, ap, subst, arith}
+use Rattle.std.proofs.Common.{◌≡◌, ◌≢◌, ◌∙◌, ℕ, ◌+◌, ◌*◌, ◌<◌, ◌≤◌, ◌⊎◌, inl, inr, Bool, true, false, cond, List, [], ◌∷◌, Option, Some, None, ◌&&◌, ◌||◌, ◌==◌, length, get_or, replicate, refl, sym, ap, subst, arith}
 use Rattle.std.specs.Prelude.{bytes_eq, slice_set, is_none}
-use Rattle.std.proofs.lemmas.Bool.{false≢true, cases_Bool, cases_eq, cases_lt, eq-eqb, eqb-true}
-use Rattle.std.specs.List.{list_any}
-use Rattle.std.proofs.lemmas.List.{get_or-set_same, get_or-set_other, get_or_default, get_or_past, get_or-replicate, length-replicate, length-set}
+use Rattle.std.proofs.lemmas.Bool.{false≢true, cases_Bool, cases_eq, cases_lt, eqb-true, and_parts, not-true}
+use Rattle.std.proofs.lemmas.List.{get_or-set_same, get_or-set_other, get_or_default, get_or_past, length-replicate, length-set}
 use Rattle.std.proofs.lemmas.Slice.Eq.{bytes_eq-Decides}
 use Rattle.mpm_queues.proofs.Finding.{lowest_passes, lowest_none}
 use Rattle.mpm_base.specs.declared.number.Name8.{Name8}
+use Rattle.mpm_base.proofs.Lists.{all_at}
 use Rattle.mpm_ready.specs.Order.{Member, first_of, in_list}
-use Rattle.mpm_ready.specs.Tables.{list_at, list_of, no_lists, inserted, removed, IsTable}
-use Rattle.mpm_ready.proofs.TableLaws.{in_list_removed, in_list_inserted, table_removed, table_inserted, table_none, list_at_none, none_in_none}
+use Rattle.mpm_ready.specs.Tables.{list_at, list_of, no_lists, inserted, removed, IsTable, dequeued}
+use Rattle.mpm_ready.proofs.TableLaws.{still_listed, in_list_inserted, table_removed, table_inserted, table_none, list_at_none, none_in_none}
+use Rattle.mpm_ready.proofs.OrderLaws.{first_is_in}
 use Rattle.mpm_procs.specs.Table.{Table, call_of}
 use Rattle.mpm_queues.specs.Queue.{Queue, new_queue, no_queue, is_drained, is_full, first_message, held_by, read_by, with_message, message_of, IsProper}
 use Rattle.mpm_queues.specs.Queues.{Queues, waits_at, IsMade, is_made, is_free, is_named, found, lowest_free, queue_in, readers_of, writers_of, no_queues, made, may_end, without, without_queue, IsSound}
-use Rattle.mpm_queues.specs.Handling.{dequeued, let_in, delivered, first_reader, first_writer, message_read, message_written, written_by, read_by_waiter, delivered_to, procs_after_write, queues_without_waiter, enlisted, may_wait}
+use Rattle.mpm_queues.specs.Handling.{let_in, delivered, first_reader, first_writer, message_read, message_written, written_by, read_by_waiter, delivered_to, procs_after_write, queues_without_waiter, enlisted, may_wait}
 use Rattle.mpm_queues.proofs.QueueLaws.{length_message, proper_none, proper_new, new_count, new_name, proper_read, proper_held, proper_written, room_after, full_again, read_at_once, first_written}
 
 -- a number that names a queue is below 32
@@ -24,13 +25,9 @@ made_below t q sound is = elim (cases_lt q 32) [
 ]
 
 -- the waiters without one
-and_right : (a b : Bool) → (a && b) ≡ true → b ≡ true
-and_right true b h = h
-and_right false b h = absurd (cc)
-
 pub in_dequeued : (o : Option ℕ) (lists : List (List Member)) (p k : ℕ) → in_list p (list_at (dequeued o lists) k) ≡ true → in_list p (list_at lists k) ≡ true
 in_dequeued None lists p k there = there
-in_dequeued (Some w) lists p k there = and_right _ _ (sym (in_list_removed lists w p k) ∙ there)
+in_dequeued (Some w) lists p k there = still_listed lists w p k there
 
 pub table_dequeued : (o : Option ℕ) (lists : List (List Member)) → IsTable lists → IsTable (dequeued o lists)
 table_dequeued None lists table = table
@@ -137,16 +134,9 @@ unfolding with_message held_by
 delivered_keeps None message queue = (refl, refl)
 delivered_keeps (Some r) message queue = (refl, refl)
 
-first_there : (ms : List Member) (p : ℕ) → first_of ms ≡ Some p → in_list p ms ≡ true
-unfolding first_of in_list
-first_there [] p is = absurd (cc)
-first_there (m ∷ ms) p is =
-    let same : m.slot ≡ p = cc in
-    ap (λ (b : Bool). b || list_any (λ k. k.slot == p) ms) (eq-eqb m.slot p same)
-
 pub reader_drained : (t : Queues) (q r : ℕ) → IsSound t → IsMade t q → first_reader t q ≡ Some r → is_drained (queue_in t q) ≡ true
 reader_drained t q r sound is first =
-    (sound.readers q r (made_below t q sound is) (first_there (readers_of t q) r first)).1
+    (sound.readers q r (made_below t q sound is) (first_is_in (readers_of t q) r first)).1
 
 readers_drained : (t : Queues) (q : ℕ) (message : List ℕ) (o : Option ℕ) → IsSound t → IsMade t q → first_reader t q ≡ o → (r : ℕ) → in_list r (list_at (dequeued o t.waiters) q) ≡ true → is_drained (delivered o message (queue_in t q)) ≡ true
 unfolding held_by
@@ -186,14 +176,14 @@ sound_write t p q procs sound is = elim (cases_Bool (is_full (queue_in t q))) [
 -- the first of those who wait waits
 pub writer_waits : (t : Queues) (q w : ℕ) → first_writer t q ≡ Some w → waits_at t q w ≡ true
 writer_waits t q w first =
-    ap (λ (b : Bool). in_list w (readers_of t q) || b) (first_there (writers_of t q) w first) ∙ or_true (in_list w (readers_of t q))
+    ap (λ (b : Bool). in_list w (readers_of t q) || b) (first_is_in (writers_of t q) w first) ∙ or_true (in_list w (readers_of t q))
   where
     or_true : (b : Bool) → (b || true) ≡ true
     or_true true = refl
     or_true false = refl
 
 pub reader_waits : (t : Queues) (q r : ℕ) → first_reader t q ≡ Some r → waits_at t q r ≡ true
-reader_waits t q r first = ap (λ (b : Bool). b || in_list r (writers_of t q)) (first_there (readers_of t q) r first)
+reader_waits t q r first = ap (λ (b : Bool). b || in_list r (writers_of t q)) (first_is_in (readers_of t q) r first)
 
 -- the queue that was picked by its number
 pub picked : (t : Queues) (q k : ℕ) (queue : Queue) → IsSound t → IsMade t q → k ≡ q → queue ≡ get_or t.queues k queue → queue ≡ queue_in t q
@@ -274,12 +264,6 @@ write_parts t p q k procs new queue afterwards store other left sound is parts =
     )
 
 -- no queues
-all_at : {X : Type 0} (n q : ℕ) (x : X) → get_or (replicate n x) q x ≡ x
-all_at n q x = elim (cases_lt q n) [
-  | inl h ↦ get_or-replicate n q x x h
-  | inr h ↦ get_or_past (replicate n x) q x (subst (λ (k : ℕ). k ≤ q) (sym (length-replicate n x)) h)
-]
-
 none_waits : (p k : ℕ) → in_list p (list_at no_lists k) ≡ false
 none_waits p k = ap (in_list p) (list_at_none k) ∙ none_in_none p
 
@@ -417,13 +401,9 @@ sound_set t q flag queue sound below setting = record {
         a live same
 
 -- a queue is made
-not_true : (b : Bool) → not b ≡ true → b ≡ false
-not_true false h = refl
-not_true true h = absurd (cc)
-
 free_number : (t : Queues) (q : ℕ) → lowest_free t ≡ Some q → (is_made t q ≡ false) × (q < 32)
 free_number t q is =
-    let lowest = lowest_passes (is_free t) q is in (not_true (is_made t q) lowest.0, lowest.1)
+    let lowest = lowest_passes (is_free t) q is in (not-true (is_made t q) lowest.0, lowest.1)
 
 nobody_at : (t : Queues) (q : ℕ) → IsSound t → is_made t q ≡ false → q < 32 → ((p : ℕ) → in_list p (readers_of t q) ≡ true → ⊥) × ((p : ℕ) → in_list p (writers_of t q) ≡ true → ⊥)
 nobody_at t q sound free below = (
@@ -462,18 +442,15 @@ no_first ms none p there = false≢true (sym (nobody_there ms p (none_is (first_
 pub sound_without : (t : Queues) (q : ℕ) → IsSound t → IsMade t q → may_end t q ≡ true → IsSound (without t q)
 unfolding without may_end
 sound_without t q sound is may =
+    let parts = and_parts (is_none (first_of (readers_of t q))) _ may in
     sound_set t q false no_queue sound (made_below t q sound is) (record {
       blank = λ dead. refl;
       proper = proper_none;
       some = λ live. absurd (false≢true live);
       names = λ k live apart there same. false≢true live;
-      readers = no_first (readers_of t q) (and_left _ _ may);
-      writers = no_first (writers_of t q) (and_left _ _ (and_right _ _ may));
+      readers = no_first (readers_of t q) parts.0;
+      writers = no_first (writers_of t q) (and_parts _ _ parts.1).0;
     })
-  where
-    and_left : (a b : Bool) → (a && b) ≡ true → a ≡ true
-    and_left true b h = refl
-    and_left false b h = absurd (cc)
 
 pub sound_delete : (t : Queues) (q : ℕ) → IsSound t → IsMade t q → IsSound (without_queue t q)
 unfolding without_queue

@@ -5,18 +5,18 @@ use Rattle.std.specs.Option.{option_map_or}
 use Rattle.std.proofs.lemmas.Bool.{false≢true, cases_Bool, cases_eq, ne_eqb, or_cases}
 use Rattle.mpm_base.specs.declared.number.Name8.{Name8}
 use Rattle.mpm_ready.specs.Order.{Member, in_list}
-use Rattle.mpm_ready.specs.Tables.{list_of, removed, IsTable}
+use Rattle.mpm_ready.specs.Tables.{list_of, removed, IsTable, dequeued}
 use Rattle.mpm_ready.proofs.TableLaws.{list_of_known, list_of_removed, list_of_removed_other, list_of_inserted, list_of_inserted_other}
 use Rattle.mpm_ready.proofs.Circles.{slot_has}
 use Rattle.mpm_procs.specs.Table.{Table}
 use Rattle.mpm_queues.specs.Queue.{Queue, no_queue, is_drained, is_full, is_exclusive, held_by, shortened, read_by, with_message}
 use Rattle.mpm_queues.specs.Queues.{Queues, IsMade, is_made, is_named, is_holder, holds, queue_in, readers_of, writers_of, waits_at, waits, WaitsNowhere, made, may_end, without, without_queue, IsSound}
-use Rattle.mpm_queues.specs.Handling.{first_reader, first_writer, written_by, dequeued, let_in, delivered, message_read, read_outcome, message_written, write_outcome, woken_by, enlisted, queues_without_waiter, place_for}
+use Rattle.mpm_queues.specs.Handling.{first_reader, first_writer, written_by, let_in, delivered, message_read, read_outcome, message_written, write_outcome, woken_by, enlisted, queues_without_waiter, place_for}
 use Rattle.mpm_queues.specs.declared.queues.QueueOutcome.TheVariants.{Done, NotNow}
 use Rattle.mpm_queues.proofs.SoundLaws.{made_below, changed, queue_there, queue_else, reader_waits, writer_waits}
 
 -- a process waits at one queue, or at none
-abbrev one_at : Option ℕ → ℕ
+abbrev pub one_at : Option ℕ → ℕ
 one_at o = option_map_or (λ _. 1) o 0
 
 pub waits_nowhere : (t : Queues) (p : ℕ) → WaitsNowhere t p → waits t p ≡ 0

@@ -3,8 +3,8 @@
 -- Write Queue", "Function 140: Conditional Write Queue", "Mutual Exclusion Queues".)
 use Rattle.std.specs.Prelude.{ℕ, ◌+◌, Bool, List, Option, Some, None, slice_set, if◌then◌else◌}
 use Rattle.mpm_base.specs.Calls.{Answer}
-use Rattle.mpm_ready.specs.Order.{Member, first_of}
-use Rattle.mpm_ready.specs.Tables.{inserted, removed}
+use Rattle.mpm_ready.specs.Order.{first_of}
+use Rattle.mpm_ready.specs.Tables.{inserted, removed, dequeued}
 use Rattle.mpm_procs.specs.Table.{Table, call_of, with_call}
 use Rattle.mpm_queues.specs.Queue.{Queue, is_drained, is_full, first_message, held_by, read_by, with_message, message_of, with_given}
 use Rattle.mpm_queues.specs.Queues.{Queues, queue_in, readers_of, writers_of}
@@ -21,11 +21,6 @@ first_writer t q = first_of (writers_of t q)
 -- the message that a process writes to a queue
 abbrev pub written_by : Queues → ℕ → Table → ℕ → List ℕ
 written_by t q procs p = message_of (queue_in t q).width (call_of procs p)
-
--- the waiters without the one whose wait is over, if any
-abbrev pub dequeued : Option ℕ → List (List Member) → List (List Member)
-dequeued None waiters = waiters
-dequeued (Some p) waiters = removed waiters p
 
 -- the message of a writer that waited, if any, goes in last
 abbrev pub let_in : Table → Option ℕ → Queue → Queue

@@ -1,10 +1,10 @@
 ghost use Rattle.std.specs.Prelude.{◌≡◌, ◌↔◌, ℕ, ◌+◌, ◌<◌, Some, None, true, false, IfOk, IfErr, IfSome, IsSome, replicate};
 ghost use Rattle.std.specs.Option.{ForSome};
 ghost use Rattle.mpm_ready.specs.Order.{first_of};
-ghost use Rattle.mpm_ready.specs.Tables.{list_at};
+ghost use Rattle.mpm_ready.specs.Tables.{list_at, dequeued};
 ghost use Rattle.mpm_procs.specs.Table.{Lives as LivesProcess};
 ghost use Rattle.mpm_queues.specs.Queue.{no_queue, is_drained, is_full, first_message};
-ghost use Rattle.mpm_queues.specs.Handling.{place_for, let_in as message_let_in, read_by_waiter, delivered_to, dequeued};
+ghost use Rattle.mpm_queues.specs.Handling.{place_for, let_in as message_let_in, read_by_waiter, delivered_to};
 
 use crate::OutOfMemory;
 use crate::store::{ROOM, Store};

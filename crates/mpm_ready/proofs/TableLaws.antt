@@ -1,7 +1,7 @@
 -- Laws of the ninety-six lists.
 use Rattle.std.proofs.Common.{◌≡◌, ◌≢◌, ℕ, zero, suc, ◌<◌, ◌≤◌, ◌||◌, ◌&&◌, ◌⊎◌, inl, inr, Bool, true, false, not, cond, eqb, ltb, List, [], ◌∷◌, Option, Some, None, length, get_or, position, replicate, refl, sym, ap, subst, ◌∙◌, arith, get_or-set_same, get_or-set_other, length-set}
 use Rattle.std.specs.List.{AllByRecursion, position_or_len}
-use Rattle.std.proofs.lemmas.Bool.{false≢true, eqb-true, eq-eqb, ne_eqb, cases_eq, cases_lt, cases_Bool, lt-ltb, le-ltb}
+use Rattle.std.proofs.lemmas.Bool.{false≢true, eqb-true, eq-eqb, ne_eqb, cases_eq, cases_lt, cases_Bool, lt-ltb, le-ltb, and_parts}
 use Rattle.std.proofs.lemmas.List.{length-map, get_or_past, get_or-replicate, length-replicate, ext_get_or}
 use Rattle.std.proofs.lemmas.List.Quantifiers.{position-Some}
 use Rattle.std.proofs.lemmas.List.Sums.{position_or_len_is, fails_before_first}
@@ -145,9 +145,9 @@ table_inserted lists list member table below small none =
       one_list = λ slot a b x y. one_list_at lists list member slot a b (eqb member.slot slot) table none refl (sym (in_list_inserted lists list member slot a within) ∙ x) (sym (in_list_inserted lists list member slot b within) ∙ y);
     }
 
-stays_out : (b x : Bool) → (b && x) ≡ true → x ≡ true
-stays_out true x h = h
-stays_out false x h = absurd (false≢true h)
+-- who is in a list without a process was in it
+pub still_listed : (lists : List (List Member)) (slot other list : ℕ) → in_list other (list_at (removed lists slot) list) ≡ true → in_list other (list_at lists list) ≡ true
+still_listed lists slot other list there = (and_parts (not (eqb slot other)) _ (sym (in_list_removed lists slot other list) ∙ there)).1
 
 pub table_removed : (lists : List (List Member)) (slot : ℕ) → IsTable lists → IsTable (removed lists slot)
 table_removed lists slot table =
@@ -156,7 +156,7 @@ table_removed lists slot table =
       in_order = each_removed IsInOrder lists slot (λ list. in_order_without_slot (list_at lists list) slot (table.in_order list));
       once = each_removed IsOnce lists slot (λ list. once_without_slot (list_at lists list) slot (table.once list));
       slots = each_removed (AllByRecursion (λ m. m.slot < 32)) lists slot (λ list. all_without_slot (λ m. m.slot < 32) (list_at lists list) slot (table.slots list));
-      one_list = λ other a b x y. table.one_list other a b (stays_out _ _ (sym (in_list_removed lists slot other a) ∙ x)) (stays_out _ _ (sym (in_list_removed lists slot other b) ∙ y));
+      one_list = λ other a b x y. table.one_list other a b (still_listed lists slot other a x) (still_listed lists slot other b y);
     }
 
 -- where each process is afterwards

@@ -23,6 +23,11 @@ inserted lists list member = slice_set lists list (put_in (list_at lists list) m
 unfoldable pub removed : List (List Member) → ℕ → List (List Member)
 removed lists slot = map (without_slot slot) lists
 
+-- the lists without a process, if any
+abbrev pub dequeued : Option ℕ → List (List Member) → List (List Member)
+dequeued None lists = lists
+dequeued (Some slot) lists = removed lists slot
+
 -- the lists with a process taken out of its list and put back in with a priority
 unfoldable pub reinserted : List (List Member) → ℕ → ℕ → Option ℕ → List (List Member)
 reinserted lists slot priority None = lists

@@ -1,4 +1,4 @@
-ghost use Rattle.std.specs.Prelude.{◌≡◌, ◌≢◌, ℕ, ◌+◌, ◌<◌, IfSome, IfNone, None};
+ghost use Rattle.std.specs.Prelude.{◌≡◌, ◌≢◌, ◌<◌, IfSome, IfNone, None};
 ghost use Rattle.mpm_ready.specs.Order.{first_of};
 ghost use Rattle.mpm_ready.specs.Tables.{list_at, list_of, no_lists, inserted, removed, rotated, IsTable};
 

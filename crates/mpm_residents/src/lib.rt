@@ -10,6 +10,3 @@ mod tmp;
 pub use native::Native;
 pub use residents::Residents;
 pub use tmp::Tmp;
-
-#[cfg(test)]
-mod tests;

@@ -1,7 +1,6 @@
-ghost use Rattle.std.specs.Prelude.{◌≡◌, ◌≤◌, ◌<◌, ⊤, ℕ, length, MatchOption, Some, None, true, false};
+ghost use Rattle.std.specs.Prelude.{◌≡◌, ◌≤◌, ◌<◌, ⊤, length, MatchOption, Some, None};
 ghost use Rattle.std.specs.List.{prefix_len, suffix_len};
-ghost use Rattle.mpm_residents.specs.Lines.{is_space, without_front as without_leading, without_end as without_trailing, stripped, is_drive, drive_of, user_number as number_of_user, begins_user, user_of, form_of as meaning_of, IsForm, is_text, command_text as text_of_command};
-ghost use Rattle.mpm_residents.specs.Terminals.{row_after as row_of};
+ghost use Rattle.mpm_residents.specs.Lines.{is_space, without_front as without_leading, without_end as without_trailing, stripped, user_number as number_of_user, user_of, form_of as meaning_of, IsForm, is_text, command_text as text_of_command};
 
 use itoa::Buffer;
 use mpm_base::ends_text;

@@ -1,9 +1,8 @@
 -- The events that are read may be, and stand in order.
 use Rattle.std.proofs.Common.{◌≡◌, ℕ, zero, suc, ◌+◌, ◌-◌, ◌<◌, ◌≤◌, true, List, [], ◌∷◌, ◌++◌, length, map, get_or, Option, Some, None, Result, Ok, refl, subst, arith}
-use Rattle.std.specs.Prelude.{nat_le, fold, slice_get, bytes_eq, codes}
+use Rattle.std.specs.Prelude.{nat_le, fold, bytes_eq, codes}
 use Rattle.std.specs.List.{AllByRecursion}
 use Rattle.std.specs.List.Sorted.{IsNonDecreasing}
-use Rattle.std.specs.Option.{option_map_or}
 use Rattle.std.specs.Str.Lines.{lines}
 use Rattle.std.proofs.lemmas.Bool.Decides.{nat_tests}
 use Rattle.std.proofs.lemmas.Option.{same_Some, none-some, cond_some}

@@ -1,4 +1,4 @@
-ghost use Rattle.std.specs.Prelude.{◌≡◌, ◌==◌, option_map, IfSome};
+ghost use Rattle.std.specs.Prelude.{◌≡◌, ◌==◌, option_map};
 ghost use Rattle.mpm_script.specs.Reading.{Adds};
 ghost use Rattle.mpm_script.specs.Keys.{keys_of};
 ghost use Rattle.mpm_script.specs.Events as spec;

@@ -1,4 +1,4 @@
-ghost use Rattle.std.specs.Prelude.{◌≡◌, ◌≤◌, ◌<◌, IfOk, IfErr, Ok, Err, length, MatchResult};
+ghost use Rattle.std.specs.Prelude.{◌≡◌, ◌<◌, IfOk, IfErr, Ok, Err, length, MatchResult};
 ghost use Rattle.mpm_script.specs.Reading.{Faults};
 ghost use Rattle.mpm_script.specs.Scripts as spec;
 

@@ -5,7 +5,7 @@ use Rattle.std.proofs.lemmas.List.FromFn.{map-range_with_len_more}
 use Rattle.mpm_base.specs.declared.kind.Kind.{Kind}
 use Rattle.mpm_blocks.specs.Geometries.{block_records, place_of}
 use Rattle.mpm_port.specs.Disks.{Disks, SameDisks, Writes, Told, image_of, sector_of, with_sector}
-use Rattle.mpm_cache.proofs.CoherentLaws.{same_told}
+use Rattle.mpm_port.proofs.Images.{same_told}
 use Rattle.mpm_blocks.specs.Sectors.{told_image, sectors_of}
 use Rattle.mpm_sectors.specs.Writes.{Write, written, AreWritten, FirstAreWritten, Puts, Elsewhere, cleared, zeros_from, block_sector, block_writes}
 use Rattle.mpm_blocks.proofs.ToldImages.{told_image_same, told_written}

@@ -1,4 +1,4 @@
-ghost use Rattle.std.specs.Prelude.{◌≡◌, ℕ, ◌+◌, ◌/◌, ◌<◌, ◌≤◌, [], ◌∷◌, List, Some, IsSome, IsOk, OnOk, is_some, length, if◌then◌else◌};
+ghost use Rattle.std.specs.Prelude.{◌≡◌, ℕ, ◌+◌, ◌/◌, ◌<◌, ◌≤◌, [], ◌∷◌, true, List, Some, IsSome, IsOk, OnOk, OnErr, is_some, length, if◌then◌else◌};
 ghost use Rattle.mpm_port.specs.Causes.{HasCause};
 ghost use Rattle.mpm_port.specs.Disks.{SameDisks, Told};
 ghost use Rattle.mpm_blocks.specs.Geometries.{geometry_of, last_block, block_records, logical_sectors, place_of};
@@ -52,8 +52,9 @@ impl Disk {
         ensures calls { steps.new ≡ (if is_some (cached_at cache.old self.now.drive (place_of self.now.kind sector)) then steps.old else steps.old + 1) }
         ensures succeeds { IsSome (cached_at cache.old self.now.drive (place_of self.now.kind sector)) → IsOk result }
         ensures uncalled { IsSome (cached_at cache.old self.now.drive (place_of self.now.kind sector)) → drives.new ≡ drives.old }
-        ensures leaves { Leaves D.attached D.disks D.failed_names self.now.drive cache.old cache.new drives.old drives.new }
+        ensures leaves { Leaves D.attached D.disks D.failed_names D.unsynced self.now.drive cache.old cache.new drives.old drives.new }
         ensures disks { Told SameDisks (D.disks drives.old) (D.disks drives.new) }
+        ensures unsynced { (other : ℕ) → D.unsynced drives.new other ≡ D.unsynced drives.old other }
         ensures cause { HasCause (D.faults drives.old) (D.faults drives.new) result }
     {
         cache.read(drives, self.drive, place(self.kind, sector), out, steps)
@@ -75,7 +76,8 @@ impl Disk {
         requires apart { HasNoAlias cache.old (D.disks drives.old) self.now.drive }
         ensures puts { Puts self.now.drive self.now.kind (record { sector = sector; bytes = bytes.now } ∷ []) (D.disks drives.old) (D.disks drives.new) result }
         ensures calls { steps.new ≡ steps.old + 1 }
-        ensures leaves { Leaves D.attached D.disks D.failed_names self.now.drive cache.old cache.new drives.old drives.new }
+        ensures leaves { Leaves D.attached D.disks D.failed_names D.unsynced self.now.drive cache.old cache.new drives.old drives.new }
+        ensures unsynced { D.unsynced drives.new self.now.drive ≡ true }
         ensures cause { HasCause (D.faults drives.old) (D.faults drives.new) result }
     {
         cache.write(drives, self.drive, place(self.kind, sector), bytes, steps)
@@ -97,7 +99,8 @@ impl Disk {
         ensures puts { Puts self.now.drive self.now.kind (zeros_from first count) (D.disks drives.old) (D.disks drives.new) result }
         ensures calls { OnOk result (steps.new ≡ steps.old + count) }
         ensures most { steps.new ≤ steps.old + count }
-        ensures leaves { Leaves D.attached D.disks D.failed_names self.now.drive cache.old cache.new drives.old drives.new }
+        ensures leaves { Leaves D.attached D.disks D.failed_names D.unsynced self.now.drive cache.old cache.new drives.old drives.new }
+        ensures unsynced { OnErr result (D.unsynced drives.new self.now.drive ≡ true) }
         ensures cause { HasCause (D.faults drives.old) (D.faults drives.new) result }
     {
         for number in 0..count {
@@ -130,7 +133,8 @@ impl Disk {
         ensures puts { Puts self.now.drive self.now.kind (block_writes self.now.kind block clear index bytes.now) (D.disks drives.old) (D.disks drives.new) result }
         ensures calls { OnOk result (steps.new ≡ steps.old + block_calls self.now.kind clear index) }
         ensures most { steps.new ≤ steps.old + block_calls self.now.kind clear index }
-        ensures leaves { Leaves D.attached D.disks D.failed_names self.now.drive cache.old cache.new drives.old drives.new }
+        ensures leaves { Leaves D.attached D.disks D.failed_names D.unsynced self.now.drive cache.old cache.new drives.old drives.new }
+        ensures unsynced { D.unsynced drives.new self.now.drive ≡ true }
         ensures cause { HasCause (D.faults drives.old) (D.faults drives.new) result }
     {
         let records = u32::from(geometry(self.kind).block) / 128;
@@ -177,7 +181,8 @@ impl Disk {
         ensures long { (old : List ℕ) → length old ≡ 32 → length (bytes_over (geometry_of self.now.kind).wide old entry.now) ≡ 32 }
         ensures calls { OnOk result (steps.new ≡ (if is_some (cached_at cache.old self.now.drive (place_of self.now.kind (slot / 4))) then steps.old else steps.old + 1) + 1) }
         ensures most { steps.new ≤ steps.old + 2 }
-        ensures leaves { Leaves D.attached D.disks D.failed_names self.now.drive cache.old cache.new drives.old drives.new }
+        ensures leaves { Leaves D.attached D.disks D.failed_names D.unsynced self.now.drive cache.old cache.new drives.old drives.new }
+        ensures unsynced { OnOk result (D.unsynced drives.new self.now.drive ≡ true) }
         ensures cause { HasCause (D.faults drives.old) (D.faults drives.new) result }
     {
         let wide = geometry(self.kind).wide;
@@ -219,7 +224,8 @@ impl Disk {
         ensures other_long { (old : List ℕ) → length old ≡ 32 → length (bytes_over (geometry_of self.now.kind).wide old other.now) ≡ 32 }
         ensures calls { OnOk result (steps.new ≡ (if is_some (cached_at cache.old self.now.drive (place_of self.now.kind (slot / 4))) then steps.old else steps.old + 1) + 1) }
         ensures most { steps.new ≤ steps.old + 2 }
-        ensures leaves { Leaves D.attached D.disks D.failed_names self.now.drive cache.old cache.new drives.old drives.new }
+        ensures leaves { Leaves D.attached D.disks D.failed_names D.unsynced self.now.drive cache.old cache.new drives.old drives.new }
+        ensures unsynced { OnOk result (D.unsynced drives.new self.now.drive ≡ true) }
         ensures cause { HasCause (D.faults drives.old) (D.faults drives.new) result }
     {
         let wide = geometry(self.kind).wide;

@@ -1,7 +1,7 @@
 -- Disk service stays sound.
 use Rattle.std.proofs.Common.{◌≡◌, ◌≢◌, ℕ, ◌+◌, ◌-◌, ◌<◌, ◌==◌, ◌||◌, ◌&&◌, Bool, true, false, not, cond, eqb, List, [], ◌∷◌, Option, Some, None, IfSome, refl, sym, ap, subst, ◌∙◌, arith}
 use Rattle.std.specs.List.{AllByRecursion}
-use Rattle.std.proofs.lemmas.Bool.{eq-eqb, ne_eqb}
+use Rattle.std.proofs.lemmas.Bool.{eq-eqb, ne_eqb, and_right}
 use Rattle.std.proofs.lemmas.Bool.Decides.{nat_tests}
 use Rattle.mpm_ready.specs.Order.{Member, put_in, without_slot, in_list, first_of}
 use Rattle.mpm_ready.proofs.OrderLaws.{in_list_put_in, all_put_in, in_list_without_slot, all_without_slot, without_slot_absent}
@@ -31,11 +31,7 @@ sound_entered service p priority waiting sound some other is =
 absent_without : (served : Option Served) (waiting : List Member) (p : ℕ) → IfSome served (λ call. in_list call.p waiting ≡ false)
     → IfSome served (λ call. in_list call.p (without_slot p waiting) ≡ false)
 absent_without None waiting p absent = tt
-absent_without (Some call) waiting p absent = in_list_without_slot waiting p call.p ∙ both (not (eqb p call.p)) _ absent
-  where
-    both : (a b : Bool) → b ≡ false → (a && b) ≡ false
-    both true b h = h
-    both false b h = refl
+absent_without (Some call) waiting p absent = in_list_without_slot waiting p call.p ∙ and_right (not (eqb p call.p)) _ absent
 
 pub sound_left : (service : DiskService) (p : ℕ) (waiting : List Member) → IsSound service → waiting ≡ without_slot p service.waiting
     → IsSound (record { turn_steps = service.turn_steps; waiting = waiting; served = service.served })

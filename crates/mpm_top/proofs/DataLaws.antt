@@ -24,7 +24,8 @@ use Rattle.mpm_mount.proofs.LookedUp.{extent_found, extent_missing}
 use Rattle.mpm_mount.proofs.Ranges.{map_at, zero_plus}
 use Rattle.mpm_mount.proofs.Sound.{block_within}
 use Rattle.mpm_mount.proofs.Still.{has_own}
-use Rattle.mpm_bdos.specs.Serving.{StandsWhere, StandEach, directory_at}
+use Rattle.mpm_requests.specs.Asking.{StandsWhere}
+use Rattle.mpm_bdos.specs.Serving.{StandEach, directory_at}
 use Rattle.mpm_bdos.specs.Turns.{labelled, told_images}
 use Rattle.mpm_top.specs.Data.{data_file, data_of, data_on, sector_in, HasDriveA}
 use Rattle.mpm_top.proofs.Naming.{none_some, told_there, kind_labelled}

@@ -15,7 +15,8 @@ use Rattle.mpm_mount.specs.Images.{files_of}
 use Rattle.mpm_mount.proofs.Mounts.{mounts}
 use Rattle.mpm_drives.specs.Images.{Bytes, Images, found, image_named, HasFiles}
 use Rattle.mpm_drives.specs.Mounted.{NumberedDrive, IsNamed, IsDriveOf, AreDrivesOf, number_of}
-use Rattle.mpm_bdos.specs.Serving.{StandsWhere, directory_at}
+use Rattle.mpm_requests.specs.Asking.{StandsWhere}
+use Rattle.mpm_bdos.specs.Serving.{directory_at}
 use Rattle.mpm_bdos.specs.Turns.{has_directory, labelled, told_images}
 use Rattle.mpm_machine.specs.Mounting.{IsInPlace, HasDrives, KeepsMounted}
 use Rattle.mpm_machine.specs.Failing.{HaveImages}

@@ -4,7 +4,7 @@ ghost use Rattle.mpm_banks.specs.Memory.{HasSegment};
 ghost use Rattle.mpm_base.specs.Calls.{answering};
 ghost use Rattle.mpm_procs.specs.Table.{Lives, process_in, call_of};
 ghost use Rattle.mpm_kernel.specs.Kernel.{IsSound};
-ghost use Rattle.mpm_xdos.specs.Creating.{child_of as child_asked_for, child_at as child_asked_at, children_of, descriptor_count, home_base, created, create_answer, may_create as may_be_created, all_admitted, has_console};
+ghost use Rattle.mpm_xdos.specs.Creating.{child_of as child_asked_for, child_at as child_asked_at, children_of, home_base, created, create_answer, may_create as may_be_created, all_admitted, has_console};
 
 use arrayvec::ArrayVec;
 use mpm_banks::Banks;

@@ -12,6 +12,3 @@ pub use copies::{tell_descriptor, tell_system};
 pub use creating::create;
 pub use ending::end;
 pub use procedures::{enter_procedure, leave_procedure};
-
-#[cfg(test)]
-mod tests;

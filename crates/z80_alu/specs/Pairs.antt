@@ -2,6 +2,7 @@
 use Rattle.std.specs.Prelude.{ℕ, ◌+◌, ◌-◌, ◌%◌, Bool, true, false, ◌==◌, ◌||◌, nat_lt, nat_le}
 use Rattle.z80_alu.specs.declared.flags.Flags.{Flags}
 use Rattle.z80_alu.specs.Flags.{bit, flags_of, byte_of}
+use Rattle.z80_alu.specs.Bytes.{difference_borrows}
 
 -- a word's signed value and 32,768, so that none is below 0
 abbrev pub raised_word : ℕ → ℕ
@@ -50,9 +51,6 @@ word_sum_flags a b carry f = byte_of (record (with_word (word_sum_of a b carry) 
 abbrev pub word_difference_of : ℕ → ℕ → Bool → ℕ
 word_difference_of a b carry = (a + 65536 - (b + bit carry)) % 65536
 
-abbrev pub word_difference_borrows : ℕ → ℕ → Bool → Bool
-word_difference_borrows a b carry = nat_lt a (b + bit carry)
-
 -- the borrow at bit 11
 abbrev pub word_difference_half_borrows : ℕ → ℕ → Bool → Bool
 word_difference_half_borrows a b carry = nat_lt (a % 4096) (b % 4096 + bit carry)
@@ -66,5 +64,5 @@ word_difference_flags a b carry f = byte_of (record (with_word (word_difference_
   half_carry = word_difference_half_borrows a b carry;
   parity_overflow = word_difference_overflows a b carry;
   subtract = true;
-  carry = word_difference_borrows a b carry;
+  carry = difference_borrows a b carry;
 })

@@ -1,5 +1,5 @@
-ghost use Rattle.std.specs.Prelude.{◌≡◌, ℕ, ◌<◌};
-ghost use Rattle.z80_alu.specs.Flags.{bit, has, flags_of, byte_of, is_negative, has_even_parity, with_sign_zero, with_byte};
+ghost use Rattle.std.specs.Prelude.{◌≡◌, ◌<◌};
+ghost use Rattle.z80_alu.specs.Flags.{bit, flags_of, byte_of, with_sign_zero, with_byte};
 
 /// The flags (UM0080, "Z80 Status Indicator Flags"); their byte F holds them from bit 7 down.
 #[derive(Clone, Copy, Debug, PartialEq, Eq)]

@@ -1,23 +1,10 @@
 ghost use Rattle.std.specs.Prelude.{◌≡◌, ◌<◌, ◌+◌, ◌∷◌, [], ℕ};
 ghost use Rattle.std.specs.Option.{is_some};
 ghost use Rattle.z80_regs.specs.Words.{onward};
-ghost use Rattle.z80_decode.specs.Decoding.{
-  tail_of,
-  extended_tail_of,
-  index_tail_of,
-  instr_with,
-  bit_instr_of,
-  extended_instr_by,
-  index_instr_by,
-  index_bit_instr_by,
-  index_instr_of,
-  prefixed_instr_of,
-  main_instr_by,
-  instr_of,
-};
+ghost use Rattle.z80_decode.specs.Decoding.{tail_of, extended_tail_of, index_tail_of, instr_with, bit_instr_of, extended_instr_by, index_bit_instr_by, index_instr_of, prefixed_instr_of, main_instr_by, instr_of};
 ghost use Rattle.z80_decode.specs.Opcodes.{form_of};
 ghost use Rattle.z80_decode.specs.Listed.{is_listed};
-ghost use Rattle.z80_decode.specs.PageOpcodes.{indexed_bit_form_of, extended_form_of, index_form_of};
+ghost use Rattle.z80_decode.specs.PageOpcodes.{indexed_bit_form_of, extended_form_of};
 
 use crate::forms::{Form, Operand, Tail};
 use crate::instr::{Instr, Page};

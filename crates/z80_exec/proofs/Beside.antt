@@ -16,12 +16,12 @@ use Rattle.z80_decode.specs.declared.forms.Math.{Math}
 use Rattle.z80_decode.specs.declared.forms.Math.TheVariants as math
 use Rattle.z80_decode.specs.Decoding.{tail_of, instr_with}
 use Rattle.z80_regs.specs.Words.{onward, back}
-use Rattle.z80_alu.specs.Bytes.{increment_flags, decrement_flags, sum_of, difference_of}
+use Rattle.z80_alu.specs.Bytes.{increment_flags, decrement_flags}
 use Rattle.z80_exec.specs.Operands.{quiet, stored, pair_word, with_pair, operand_byte, with_operand}
 use Rattle.z80_exec.specs.Loads.{pair_pushed, pair_popped}
 use Rattle.z80_exec.specs.Calculations.{calculated, incremented, decremented, pair_added}
 use Rattle.z80_exec.specs.Conditions.{holds}
-use Rattle.z80_exec.specs.Flow.{relative, jumped_if, counted_down, decrement_jumped, called_if, returned_if}
+use Rattle.z80_exec.specs.Flow.{relative, jumped_if, counted_down, called_if, returned_if}
 use Rattle.z80_exec.specs.Performing.{behind, number, performed, next_by, is_plain}
 
 -- registers with another R, shadow and HALT, and an outcome with them

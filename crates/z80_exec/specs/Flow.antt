@@ -1,9 +1,9 @@
 -- Jumps, calls and returns; PC is behind the instruction. (UM0080, "Jump Group", "Call and Return Group".)
 use Rattle.std.specs.Prelude.{ℕ, ◌+◌, ◌-◌, ◌%◌, ◌==◌, Bool, true, false, not, nat_lt, if◌then◌else◌}
-use Rattle.z80_regs.specs.Words.{onward, back}
+use Rattle.z80_regs.specs.Words.{onward, back, word_from}
 use Rattle.z80_regs.specs.Outcome.{Outcome}
 use Rattle.z80_regs.specs.declared.regs.Regs.{Regs}
-use Rattle.z80_exec.specs.Operands.{quiet, word_from}
+use Rattle.z80_exec.specs.Operands.{quiet}
 use Rattle.z80_exec.specs.StackPairs.{pushed}
 
 -- where a relative jump goes: a displacement of 80h or more is negative, 256 less

@@ -1,12 +1,12 @@
 -- Loads of HL, exchanges, the stack, and input. (UM0080, "16-Bit Load Group", "Exchange, Block Transfer, and Search
 -- Group", "Input and Output Group".)
 use Rattle.std.specs.Prelude.{ℕ, List, [], ◌∷◌}
-use Rattle.z80_regs.specs.Words.{onward, back, low, high}
+use Rattle.z80_regs.specs.Words.{onward, back, low, high, word_from}
 use Rattle.z80_regs.specs.Outcome.{Action, Write, Input, Outcome}
 use Rattle.z80_regs.specs.declared.regs.Regs.{Regs}
 use Rattle.z80_decode.specs.declared.forms.Pair.TheVariants.{HL}
 use Rattle.z80_decode.specs.declared.forms.StackPair.{StackPair}
-use Rattle.z80_exec.specs.Operands.{word_from, hl_of, with_pair}
+use Rattle.z80_exec.specs.Operands.{hl_of, with_pair}
 use Rattle.z80_exec.specs.StackPairs.{stack_pair_word, with_stack_pair, pushed}
 
 -- a word goes to memory, low byte first: LD (nn),HL and its kin

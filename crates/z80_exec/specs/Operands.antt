@@ -1,6 +1,6 @@
 -- The operands of the instructions. (UM0080, "Z80 Instruction Description".)
 use Rattle.std.specs.Prelude.{ℕ, [], ◌∷◌}
-use Rattle.z80_regs.specs.Words.{onward, word_of, low, high}
+use Rattle.z80_regs.specs.Words.{word_of, low, high}
 use Rattle.z80_regs.specs.Outcome.{Write, Outcome}
 use Rattle.z80_regs.specs.declared.regs.Regs.{Regs}
 use Rattle.z80_decode.specs.declared.forms.Pair.{Pair}
@@ -15,10 +15,6 @@ quiet regs = record { registers = regs; actions = [] }
 -- the registers stay, and a byte is written to memory
 abbrev pub stored : ℕ → ℕ → Regs → Outcome
 stored address byte regs = record { registers = regs; actions = Write address byte ∷ [] }
-
--- the word at an address, low byte first
-abbrev pub word_from : (ℕ → ℕ) → ℕ → ℕ
-word_from memory address = word_of (memory address) (memory (onward address 1))
 
 -- HL
 abbrev pub hl_of : Regs → ℕ

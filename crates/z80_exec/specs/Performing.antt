@@ -1,7 +1,7 @@
 -- What the instructions without prefix do, PC being behind them: every byte is read from memory and ports as they stand
 -- before. (UM0080, "Z80 Instruction Description".)
 use Rattle.std.specs.Prelude.{ℕ, Bool, Option, None, Some, true, false}
-use Rattle.z80_regs.specs.Words.{onward, back, low}
+use Rattle.z80_regs.specs.Words.{onward, back, low, word_from}
 use Rattle.z80_regs.specs.Outcome.{Outcome}
 use Rattle.z80_regs.specs.declared.regs.Regs.{Regs}
 use Rattle.z80_alu.specs.Single.{carry_set_flags, carry_complemented_flags}
@@ -12,7 +12,7 @@ use Rattle.z80_decode.specs.declared.forms.Form.TheVariants.{Nop, ExchangeAf, De
 use Rattle.z80_decode.specs.declared.instr.Page.TheVariants.{Main}
 use Rattle.z80_decode.specs.Opcodes.{form_of}
 use Rattle.z80_decode.specs.Decoding.{tail_of, instr_with}
-use Rattle.z80_exec.specs.Operands.{quiet, stored, word_from, hl_of, pair_word, with_pair, operand_byte, with_operand}
+use Rattle.z80_exec.specs.Operands.{quiet, stored, hl_of, pair_word, with_pair, operand_byte, with_operand}
 use Rattle.z80_exec.specs.Conditions.{holds}
 use Rattle.z80_exec.specs.Loads.{word_stored, af_exchanged, set_exchanged, de_exchanged, stack_exchanged, pair_pushed, pair_popped, a_input}
 use Rattle.z80_exec.specs.Calculations.{calculated, incremented, decremented, pair_added, a_rotated, decimal_adjusted, complemented}
@@ -93,12 +93,17 @@ outcome_by (Some form) instr regs memory ports = performed form instr (behind in
 unfoldable pub main_outcome : Instr → Regs → (ℕ → ℕ) → (ℕ → ℕ) → Outcome
 main_outcome instr regs memory ports = outcome_by (form_of instr.opcode) instr regs memory ports
 
--- the same by the form of the opcode at PC, and by what stands behind it in memory
-abbrev pub next_by : Option Form → ℕ → Regs → (ℕ → ℕ) → (ℕ → ℕ) → Outcome
-next_by None opcode regs memory ports = quiet regs
-next_by (Some form) opcode regs memory ports =
-    let instr = instr_with (tail_of form) Main 1 opcode (memory (onward regs.pc 1)) (memory (onward regs.pc 2)) in
+-- the same by the form of the opcode at PC, and by the two bytes behind it
+abbrev pub next_with : Option Form → ℕ → ℕ → ℕ → Regs → (ℕ → ℕ) → (ℕ → ℕ) → Outcome
+next_with None opcode first second regs memory ports = quiet regs
+next_with (Some form) opcode first second regs memory ports =
+    let instr = instr_with (tail_of form) Main 1 opcode first second in
     performed form instr (behind instr.length regs) memory ports
+
+-- the same by what stands there in memory
+abbrev pub next_by : Option Form → ℕ → Regs → (ℕ → ℕ) → (ℕ → ℕ) → Outcome
+next_by form opcode regs memory ports =
+    next_with form opcode (memory (onward regs.pc 1)) (memory (onward regs.pc 2)) regs memory ports
 
 -- a listed instruction without prefix that neither halts the processor nor casts a shadow
 abbrev pub is_plain : Option Form → Bool

@@ -1,4 +1,4 @@
-ghost use Rattle.std.specs.Prelude.{◌≡◌, ℕ};
+ghost use Rattle.std.specs.Prelude.{◌≡◌};
 ghost use Rattle.z80_regs.specs.Outcome.{Leaves};
 ghost use Rattle.z80_exec.specs.Flow.{relative, jumped_if, decrement_jumped, called, returned, returned_if};
 

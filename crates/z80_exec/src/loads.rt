@@ -1,7 +1,7 @@
-ghost use Rattle.std.specs.Prelude.{◌≡◌, ℕ};
-ghost use Rattle.z80_regs.specs.Words.{back};
+ghost use Rattle.std.specs.Prelude.{◌≡◌};
+ghost use Rattle.z80_regs.specs.Words.{back, word_from};
 ghost use Rattle.z80_regs.specs.Outcome.{Leaves};
-ghost use Rattle.z80_exec.specs.Operands.{word_from, operand_byte, with_operand};
+ghost use Rattle.z80_exec.specs.Operands.{operand_byte, with_operand};
 ghost use Rattle.z80_exec.specs.StackPairs.{pushed};
 ghost use Rattle.z80_exec.specs.Loads.{
   word_written,

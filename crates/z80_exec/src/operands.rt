@@ -1,6 +1,7 @@
-ghost use Rattle.std.specs.Prelude.{◌≡◌, ℕ};
+ghost use Rattle.std.specs.Prelude.{◌≡◌};
 ghost use Rattle.z80_regs.specs.Outcome.{Leaves};
-ghost use Rattle.z80_exec.specs.Operands.{word_from, hl_of, pair_word, with_pair, operand_byte, with_operand};
+ghost use Rattle.z80_regs.specs.Words.{word_from};
+ghost use Rattle.z80_exec.specs.Operands.{hl_of, pair_word, with_pair, operand_byte, with_operand};
 ghost use Rattle.z80_exec.specs.StackPairs.{stack_pair_word, with_stack_pair};
 ghost use Rattle.z80_exec.specs.Conditions.{holds};
 

@@ -1,8 +1,8 @@
-ghost use Rattle.std.specs.Prelude.{◌≡◌, ℕ, true, false, Some};
+ghost use Rattle.std.specs.Prelude.{◌≡◌, true, false, Some};
 ghost use Rattle.std.specs.Bool.{OnTrue, OnFalse};
 ghost use Rattle.z80_regs.specs.Outcome.{Leaves};
 ghost use Rattle.z80_decode.specs.Opcodes.{form_of};
-ghost use Rattle.z80_exec.specs.Performing.{number, performed, main_outcome, next_by, is_plain};
+ghost use Rattle.z80_exec.specs.Performing.{number, performed, main_outcome, next_with, is_plain};
 
 use crate::calculations::{
     add_pair, calculate, calculate_operand, complement, decimal_adjust, decrement, increment,
@@ -14,7 +14,7 @@ use crate::loads::{
     store_word,
 };
 use crate::operands::{hl, is_met, operand, pair_at, set_operand, set_pair, word_at};
-use crate::source::{Source, Unread};
+use crate::source::{Fetched, Source};
 use z80_decode::{Form, Instr, Page, Pair, main_form, main_length};
 use z80_regs::{Bus, Regs};
 
@@ -30,8 +30,8 @@ pub fn number_at(instr: &Instr) -> u8
 #[inline(always)]
 #[tactic(auto, unfolding(crate::specs::Performing::performed, z80_regs::specs::Outcome::Leaves))]
 fn perform<S: Source, B: Bus>(form: Form, source: &S, regs: &mut Regs, bus: &mut B)
-    ensures registers { regs.new ≡ (performed form (S.instr source.now form (B.byte bus.old)) regs.old (B.byte bus.old) (B.port_byte bus.old)).registers }
-    ensures bus { Leaves B.wrote B.took (performed form (S.instr source.now form (B.byte bus.old)) regs.old (B.byte bus.old) (B.port_byte bus.old)).actions
+    ensures registers { regs.new ≡ (performed form (S.instr source.now form) regs.old (B.byte bus.old) (B.port_byte bus.old)).registers }
+    ensures bus { Leaves B.wrote B.took (performed form (S.instr source.now form) regs.old (B.byte bus.old) (B.port_byte bus.old)).actions
         bus.old bus.new }
 {
     match form {
@@ -40,14 +40,14 @@ fn perform<S: Source, B: Bus>(form: Form, source: &S, regs: &mut Regs, bus: &mut
         Form::DisableInterrupts => (regs.iff1, regs.iff2) = (false, false),
         Form::EnableInterrupts => (regs.iff1, regs.iff2, regs.shadow) = (true, true, true),
         Form::Load(to, from) => load(to, from, regs, bus),
-        Form::LoadNumber(to) => set_operand(to, source.byte(form, bus), regs, bus),
-        Form::LoadPair(pair) => set_pair(regs, pair, source.word(form, bus)),
+        Form::LoadNumber(to) => set_operand(to, source.byte(form), regs, bus),
+        Form::LoadPair(pair) => set_pair(regs, pair, source.word(form)),
         Form::StoreAAt(pair) => bus.write(pair_at(regs, pair), regs.a),
         Form::LoadAFrom(pair) => regs.a = bus.read(pair_at(regs, pair)),
-        Form::StoreA => bus.write(source.word(form, bus), regs.a),
-        Form::LoadA => regs.a = bus.read(source.word(form, bus)),
-        Form::StoreHl => store_word(source.word(form, bus), hl(regs), bus),
-        Form::LoadHl => set_pair(regs, Pair::HL, word_at(bus, source.word(form, bus))),
+        Form::StoreA => bus.write(source.word(form), regs.a),
+        Form::LoadA => regs.a = bus.read(source.word(form)),
+        Form::StoreHl => store_word(source.word(form), hl(regs), bus),
+        Form::LoadHl => set_pair(regs, Pair::HL, word_at(bus, source.word(form))),
         Form::LoadSpHl => regs.sp = hl(regs),
         Form::ExchangeAf => exchange_af(regs),
         Form::Exchange => exchange_set(regs),
@@ -56,7 +56,7 @@ fn perform<S: Source, B: Bus>(form: Form, source: &S, regs: &mut Regs, bus: &mut
         Form::Push(pair) => push_pair(pair, regs, bus),
         Form::Pop(pair) => pop_pair(pair, regs, bus),
         Form::Calculate(math, from) => calculate_operand(math, from, regs, bus),
-        Form::CalculateNumber(math) => calculate(math, source.byte(form, bus), regs),
+        Form::CalculateNumber(math) => calculate(math, source.byte(form), regs),
         Form::Increment(at) => increment(at, operand(at, regs, bus), regs, bus),
         Form::Decrement(at) => decrement(at, operand(at, regs, bus), regs, bus),
         Form::IncrementPair(pair) => set_pair(regs, pair, pair_at(regs, pair).wrapping_add(1)),
@@ -67,28 +67,24 @@ fn perform<S: Source, B: Bus>(form: Form, source: &S, regs: &mut Regs, bus: &mut
         Form::Complement => complement(regs),
         Form::SetCarry => regs.f = z80_alu::set_carry_flags(regs.f),
         Form::ComplementCarry => regs.f = z80_alu::complement_carry_flags(regs.f),
-        Form::Jump => regs.pc = source.word(form, bus),
+        Form::Jump => regs.pc = source.word(form),
         Form::JumpHl => regs.pc = hl(regs),
-        Form::JumpIf(condition) if is_met(condition, regs.f) => regs.pc = source.word(form, bus),
+        Form::JumpIf(condition) if is_met(condition, regs.f) => regs.pc = source.word(form),
         Form::JumpIf(_) => {}
-        Form::JumpRelative => regs.pc = relative_to(regs.pc, source.displacement(form, bus)),
+        Form::JumpRelative => regs.pc = relative_to(regs.pc, source.displacement(form)),
         Form::JumpRelativeIf(condition) if is_met(condition, regs.f) => {
-            regs.pc = relative_to(regs.pc, source.displacement(form, bus));
+            regs.pc = relative_to(regs.pc, source.displacement(form));
         }
         Form::JumpRelativeIf(_) => {}
-        Form::DecrementJump => decrement_jump(source.displacement(form, bus), regs),
-        Form::Call => call(source.word(form, bus), regs, bus),
-        Form::CallIf(condition) if is_met(condition, regs.f) => call(
-            source.word(form, bus),
-            regs,
-            bus,
-        ),
+        Form::DecrementJump => decrement_jump(source.displacement(form), regs),
+        Form::Call => call(source.word(form), regs, bus),
+        Form::CallIf(condition) if is_met(condition, regs.f) => call(source.word(form), regs, bus),
         Form::CallIf(_) => {}
         Form::Restart(address) => call(u16::from(address), regs, bus),
         Form::Return => return_to_caller(regs, bus),
         Form::ReturnIf(condition) => return_if(is_met(condition, regs.f), regs, bus),
-        Form::Input => input_a(source.byte(form, bus), regs, bus),
-        Form::Output => bus.output(source.byte(form, bus), regs.a),
+        Form::Input => input_a(source.byte(form), regs, bus),
+        Form::Output => bus.output(source.byte(form), regs.a),
     }
 }
 
@@ -122,27 +118,23 @@ fn is_plain_form(form: Form) -> bool
     }
 }
 
-/// Acts as the plain instruction at PC, whose opcode is read; what stands behind it is read where it is needed. Where the
-/// opcode is a prefix, HALT or EI the answer is false, and nothing changes. (UM0080, "Z80 Instruction Description".)
+/// Acts as the plain instruction whose opcode and the two bytes behind it were fetched at PC. Where the opcode is a prefix, HALT
+/// or EI the answer is false, and nothing changes. (UM0080, "Z80 Instruction Description".)
 #[inline(always)]
 #[tactic(auto, unfolding(z80_regs::specs::Outcome::Leaves))]
-pub fn main_next<B: Bus>(opcode: u8, regs: &mut Regs, bus: &mut B) -> bool
-    ensures plain { result ≡ is_plain (form_of opcode) }
-    ensures registers { OnTrue result (regs.new ≡ (next_by (form_of opcode) opcode regs.old (B.byte bus.old) (B.port_byte bus.old)).registers) }
+pub fn main_next<B: Bus>(fetched: Fetched, regs: &mut Regs, bus: &mut B) -> bool
+    ensures plain { result ≡ is_plain (form_of fetched.opcode) }
+    ensures registers { OnTrue result (regs.new ≡ (next_with (form_of fetched.opcode) fetched.opcode fetched.first fetched.second regs.old (B.byte bus.old) (B.port_byte bus.old)).registers) }
     ensures bus { OnTrue result (Leaves B.wrote B.took
-        (next_by (form_of opcode) opcode regs.old (B.byte bus.old) (B.port_byte bus.old)).actions bus.old bus.new) }
+        (next_with (form_of fetched.opcode) fetched.opcode fetched.first fetched.second regs.old (B.byte bus.old) (B.port_byte bus.old)).actions bus.old bus.new) }
     ensures registers_stay { OnFalse result (regs.new ≡ regs.old) }
     ensures bus_stays { OnFalse result (bus.new ≡ bus.old) }
 {
-    match main_form(opcode) {
+    match main_form(fetched.opcode) {
         None => false,
         Some(form) if is_plain_form(form) => {
-            let unread = Unread {
-                opcode,
-                address: regs.pc,
-            };
             regs.pc = regs.pc.wrapping_add(u16::from(main_length(form)));
-            perform(form, &unread, regs, bus);
+            perform(form, &fetched, regs, bus);
             true
         }
         Some(_) => false,

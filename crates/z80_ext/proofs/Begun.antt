@@ -1,7 +1,7 @@
 -- Instructions that begin one after another, and plain ones whose beginnings are put off to the last of them.
 use Rattle.std.proofs.Common.{◌≡◌, ◌∙◌, ℕ, ◌+◌, ◌*◌, ◌/◌, ◌%◌, ◌==◌, ◌&&◌, Bool, true, false, Option, Some, None, if◌then◌else◌, refl, sym, ap, arith}
-use Rattle.std.specs.Prelude.{IsNone}
-use Rattle.std.proofs.lemmas.Bool.{eqb-true, false_from_ne_true}
+use Rattle.std.specs.Prelude.{◌↔◌, IsNone, is_none}
+use Rattle.std.proofs.lemmas.Bool.{eqb-true, false_from_ne_true, false≢true, true≢false}
 use Rattle.z80_regs.specs.Words.{refreshed}
 use Rattle.z80_regs.specs.Outcome.{Outcome}
 use Rattle.z80_regs.specs.declared.regs.Regs.{Regs}
@@ -11,7 +11,7 @@ use Rattle.z80_decode.specs.Decoding.{instr_of}
 use Rattle.z80_exec.specs.Operands.{quiet}
 use Rattle.z80_exec.specs.Performing.{next_by, is_plain}
 use Rattle.z80_exec.proofs.Beside.{outcome_beside, next_beside}
-use Rattle.z80_ext.specs.Instruction.{refreshed_times, risen, begun, begun_times, is_plain_at, IsRareAt, four_from, outcome_of, instruction, unbegun}
+use Rattle.z80_ext.specs.Instruction.{refreshed_times, risen, begun, begun_times, is_plain_at, is_behind_prefix, IsRareAt, four_from, outcome_of, instruction, unbegun}
 use Rattle.z80_ext.proofs.Next.{listed}
 
 no_zero : (n : ℕ) → (n ≡ 0 → ⊥) → (n == 0) ≡ false
@@ -89,3 +89,12 @@ by_form (Some form) none = absurd (cc)
 
 pub prefix_is_rare : (opcode : ℕ) (regs : Regs) (memory : ℕ → ℕ) → IsNone (form_of opcode) → opcode ≡ memory regs.pc → IsRareAt opcode regs memory
 prefix_is_rare opcode regs memory none here = record { here = here; rare = λ runs. by_form (form_of opcode) none }
+
+none_told : (form : Option Form) (told : Bool) → ((told ≡ true) ↔ IsNone form) → told ≡ is_none form
+none_told None true same = refl
+none_told None false same = absurd (false≢true (same.1 refl))
+none_told (Some form) true same = absurd (true≢false (same.0 refl))
+none_told (Some form) false same = refl
+
+pub prefix_told : (opcode : ℕ) (told : Bool) → ((told ≡ true) ↔ IsNone (form_of opcode)) → told ≡ is_behind_prefix opcode
+prefix_told opcode told same = none_told (form_of opcode) told same

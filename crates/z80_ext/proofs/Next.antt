@@ -14,7 +14,7 @@ use Rattle.z80_ext.specs.Bits.{memory_bits}
 use Rattle.z80_decode.specs.declared.forms.Tail.{Tail}
 use Rattle.z80_decode.specs.declared.forms.Tail.TheVariants.{Nothing, Byte, Word, Displacement, DisplacementByte}
 use Rattle.z80_decode.specs.Opcodes.{form_of}
-use Rattle.z80_decode.specs.Decoding.{tail_of, instr_with, prefixed_instr_of, main_instr_by, main_instr_of, main_or_prefixed, instr_of}
+use Rattle.z80_decode.specs.Decoding.{tail_of, instr_with, main_instr_by, main_instr_of, main_or_prefixed, instr_of}
 use Rattle.z80_exec.specs.Performing.{behind, performed, next_by, main_outcome}
 use Rattle.z80_exec.specs.Operands.{quiet}
 use Rattle.z80_ext.specs.declared.index.IndexRegister.{IndexRegister}

@@ -14,7 +14,8 @@ use Rattle.z80_decode.specs.declared.forms.Operand.{Operand}
 use Rattle.z80_decode.specs.declared.page_forms.ExtendedForm.{ExtendedForm}
 use Rattle.z80_decode.specs.declared.page_forms.ExtendedForm.TheVariants as extended
 use Rattle.z80_decode.specs.PageOpcodes.{extended_form_of}
-use Rattle.z80_exec.specs.Operands.{quiet, stored, word_from, hl_of, pair_word, with_pair, with_operand}
+use Rattle.z80_regs.specs.Words.{word_from}
+use Rattle.z80_exec.specs.Operands.{quiet, stored, hl_of, pair_word, with_pair, with_operand}
 use Rattle.z80_exec.specs.Loads.{word_stored}
 use Rattle.z80_exec.specs.Flow.{returned}
 use Rattle.z80_exec.specs.Performing.{behind}

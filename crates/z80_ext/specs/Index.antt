@@ -1,7 +1,7 @@
 -- What the instructions behind DDh and FDh do: IX or IY stands for HL, its halves for H and L, and (IX+d) or (IY+d) for
 -- (HL). (UM0080, "Z80 Instruction Description", "Indexed Addressing"; for the halves "The Undocumented Z80 Documented".)
 use Rattle.std.specs.Prelude.{ℕ, false, Option, None, Some}
-use Rattle.z80_regs.specs.Words.{onward, back, word_of, low, high}
+use Rattle.z80_regs.specs.Words.{onward, back, word_of, low, high, word_from}
 use Rattle.z80_regs.specs.Outcome.{Outcome}
 use Rattle.z80_regs.specs.declared.regs.Regs.{Regs}
 use Rattle.z80_alu.specs.Bytes.{sum_of, difference_of, increment_flags, decrement_flags}
@@ -17,7 +17,7 @@ use Rattle.z80_decode.specs.declared.page_forms.BitForm.{BitForm}
 use Rattle.z80_decode.specs.declared.page_forms.IndexForm.{IndexForm}
 use Rattle.z80_decode.specs.declared.page_forms.IndexForm.TheVariants.{AddPair, LoadNumber, Store, Load, Increment, Decrement, IncrementByte, DecrementByte, LoadByte, LoadHalf, LoadFrom, StoreTo, Calculate, Pop, ExchangeStack, Push, Jump, LoadSp}
 use Rattle.z80_decode.specs.PageOpcodes.{indexed_bit_form_of, index_form_of}
-use Rattle.z80_exec.specs.Operands.{quiet, stored, word_from, pair_word, operand_byte, with_operand}
+use Rattle.z80_exec.specs.Operands.{quiet, stored, pair_word, operand_byte, with_operand}
 use Rattle.z80_exec.specs.StackPairs.{pushed}
 use Rattle.z80_exec.specs.Loads.{word_stored, top_replaced}
 use Rattle.z80_exec.specs.Calculations.{calculated}

@@ -1,6 +1,6 @@
 -- One step of the processor: the instruction at PC, or R alone where it stands in a HALT. (UM0080, "Z80 Instruction
 -- Description" and "HALT".)
-use Rattle.std.specs.Prelude.{◌≡◌, ◌==◌, ◌&&◌, ◌||◌, ◌+◌, ◌*◌, ◌/◌, ◌%◌, ℕ, Bool, List, [], ◌∷◌, Option, None, Some, true, false, if◌then◌else◌}
+use Rattle.std.specs.Prelude.{◌≡◌, ◌==◌, ◌&&◌, ◌||◌, ◌+◌, ◌*◌, ◌/◌, ◌%◌, ℕ, Bool, List, [], ◌∷◌, Option, None, Some, true, false, is_none, if◌then◌else◌}
 use Rattle.z80_regs.specs.Words.{onward, refreshed}
 use Rattle.z80_regs.specs.Outcome.{Action, Outcome}
 use Rattle.z80_regs.specs.declared.regs.Regs.{Regs}
@@ -87,6 +87,10 @@ abbrev pub halted_or_enabled : ℕ → Regs → Regs
 halted_or_enabled opcode regs =
     if opcode == 118 then record (behind 1 (begun regs)) { halted = true }
     else (record (behind 1 (begun regs)) { iff1 = true; iff2 = true; shadow = true })
+
+-- an opcode is a prefix, behind which the opcode of another page stands
+abbrev pub is_behind_prefix : ℕ → Bool
+is_behind_prefix opcode = is_none (form_of opcode)
 
 -- CBh, DDh and FDh, the prefixes of rotations, single bits and the index registers
 abbrev pub is_indexed : ℕ → Bool

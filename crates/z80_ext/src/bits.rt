@@ -1,18 +1,9 @@
-ghost use Rattle.std.specs.Prelude.{◌≡◌, ℕ};
+ghost use Rattle.std.specs.Prelude.{◌≡◌};
 ghost use Rattle.z80_regs.specs.Words.{onward};
 ghost use Rattle.z80_regs.specs.Outcome.{Leaves};
 ghost use Rattle.z80_decode.specs.Decoding.{bit_instr_of};
 ghost use Rattle.z80_ext.specs.Instruction.{begun};
-ghost use Rattle.z80_ext.specs.Bits.{
-  kind_of,
-  changed_byte,
-  changed_flags,
-  bits_changed,
-  bit_tested,
-  operand_bits,
-  memory_bits,
-  bits_outcome,
-};
+ghost use Rattle.z80_ext.specs.Bits.{kind_of, changed_byte, changed_flags, bit_tested, operand_bits, memory_bits, bits_outcome};
 
 use crate::stepped::begin_behind;
 use z80_alu::Rotate;

@@ -1,4 +1,4 @@
-ghost use Rattle.std.specs.Prelude.{◌≡◌, ℕ, not, ◌==◌};
+ghost use Rattle.std.specs.Prelude.{◌≡◌, ◌==◌};
 ghost use Rattle.z80_regs.specs.Outcome.{Leaves};
 ghost use Rattle.z80_ext.specs.Block.{
   walked,

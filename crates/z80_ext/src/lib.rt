@@ -9,9 +9,10 @@ mod stepped;
 
 ghost use Rattle.std.specs.Prelude.{◌≡◌, ◌↔◌, ℕ, true, false, IsNone, IsSome, IfSome, MatchOption, is_none};
 ghost use Rattle.z80_regs.specs.Outcome.{Leaves};
+ghost use Rattle.z80_regs.specs.Words.{onward};
 ghost use Rattle.z80_regs.specs.declared.regs.Regs.{Regs};
 ghost use Rattle.z80_decode.specs.Decoding.{instr_of};
-ghost use Rattle.z80_ext.specs.Instruction.{IsRareAt, IsIndexedAt, IsOtherAt, IsLoadUpAt, is_plain_at, is_indexed, halted_or_enabled, unbegun, risen, four_from, outcome_of, instruction, registers_after, actions_of};
+ghost use Rattle.z80_ext.specs.Instruction.{IsRareAt, IsIndexedAt, IsOtherAt, IsLoadUpAt, is_plain_at, is_behind_prefix, is_indexed, halted_or_enabled, unbegun, risen, four_from, outcome_of, instruction, registers_after, actions_of};
 
 use crate::bits::step_bits;
 use crate::block::load_block;
@@ -20,15 +21,18 @@ use crate::index::{IndexRegister, step_index};
 use crate::stepped::{begin_behind, refresh};
 pub use stepped::{Stepped, begin_all};
 use z80_decode::{Direction, is_prefix};
+pub use z80_exec::Fetched;
 use z80_exec::main_next;
 use z80_regs::{Bus, Regs};
 
-/// Acts as the instruction at PC does, whose opcode is read, but for how it begins: R and the shadow of an EI before it stay
-/// as they are, so that `begin_all` may change them once for many instructions. A prefix, HALT and EI are answered, and
-/// nothing has changed.
+/// Acts as the instruction at PC does, whose opcode and the two bytes behind it are fetched, but for how it begins: R and the
+/// shadow of an EI before it stay as they are, so that `begin_all` may change them once for many instructions. A prefix, HALT
+/// and EI are answered, and nothing has changed.
 #[inline(always)]
-pub fn step_unbegun<B: Bus>(opcode: u8, regs: &mut Regs, bus: &mut B) -> Option<u8>
-    requires { opcode ≡ B.byte bus.old regs.old.pc }
+pub fn step_unbegun<B: Bus>(fetched: Fetched, regs: &mut Regs, bus: &mut B) -> Option<u8>
+    requires opcode { fetched.opcode ≡ B.byte bus.old regs.old.pc }
+    requires first { fetched.first ≡ B.byte bus.old (onward regs.old.pc 1) }
+    requires second { fetched.second ≡ B.byte bus.old (onward regs.old.pc 2) }
     ensures plain { is_none result ≡ is_plain_at regs.old (B.byte bus.old) }
     ensures rare { IfSome result (λ rare. IsRareAt rare regs.old (B.byte bus.old)) }
     ensures registers { MatchOption result
@@ -38,18 +42,19 @@ pub fn step_unbegun<B: Bus>(opcode: u8, regs: &mut Regs, bus: &mut B) -> Option<
         (Leaves B.wrote B.took (unbegun regs.old (B.byte bus.old) (B.port_byte bus.old)).actions bus.old bus.new)
         (λ rare. bus.new ≡ bus.old) }
 {
-    if main_next(opcode, regs, bus) {
+    if main_next(fetched, regs, bus) {
         None
     } else {
-        Some(opcode)
+        Some(fetched.opcode)
     }
 }
 
 /// Whether an opcode is a prefix, behind which the instruction isn't plain.
 #[inline(always)]
-#[tactic(auto, using(crate::proofs::Begun::prefix_is_rare))]
+#[tactic(auto, using(crate::proofs::Begun::prefix_is_rare, crate::proofs::Begun::prefix_told))]
 pub fn is_behind_prefix(opcode: u8) -> bool
-    ensures { (regs : Regs) (memory : ℕ → ℕ) → opcode ≡ memory regs.pc → result ≡ true → IsRareAt opcode regs memory }
+    ensures prefix { result ≡ is_behind_prefix opcode }
+    ensures rare { (regs : Regs) (memory : ℕ → ℕ) → opcode ≡ memory regs.pc → result ≡ true → IsRareAt opcode regs memory }
 {
     is_prefix(opcode)
 }
@@ -144,20 +149,22 @@ pub fn step_load_up<B: Bus>(regs: &mut Regs, bus: &mut B)
     load_block(Direction::Up, true, regs, bus);
 }
 
-/// One step, whose opcode is read.
+/// One step, whose opcode and the two bytes behind it are fetched.
 #[inline(always)]
 #[tactic(auto, using(crate::proofs::Begun::unbegun_once))]
-fn step_opcode<B: Bus>(opcode: u8, regs: &mut Regs, bus: &mut B) -> Stepped
-    requires { opcode ≡ B.byte bus.old regs.old.pc }
+fn step_fetched<B: Bus>(fetched: Fetched, regs: &mut Regs, bus: &mut B) -> Stepped
+    requires opcode { fetched.opcode ≡ B.byte bus.old regs.old.pc }
+    requires first { fetched.first ≡ B.byte bus.old (onward regs.old.pc 1) }
+    requires second { fetched.second ≡ B.byte bus.old (onward regs.old.pc 2) }
     ensures illegal { (result ≡ Stepped.Illegal) ↔ IsNone (instruction regs.old (B.byte bus.old) (B.port_byte bus.old)) }
     ensures registers { regs.new ≡ registers_after (instruction regs.old (B.byte bus.old) (B.port_byte bus.old)) regs.old }
     ensures bus { Leaves B.wrote B.took (actions_of (instruction regs.old (B.byte bus.old) (B.port_byte bus.old)))
         bus.old bus.new }
 {
     if regs.halted {
-        return step_rare(opcode, regs, bus);
+        return step_rare(fetched.opcode, regs, bus);
     }
-    match step_unbegun(opcode, regs, bus) {
+    match step_unbegun(fetched, regs, bus) {
         None => {
             begin_all(1, regs);
             Stepped::Ran
@@ -179,5 +186,10 @@ pub fn step<B: Bus>(regs: &mut Regs, bus: &mut B) -> Stepped
         bus.old bus.new }
     ensures halted { regs.old.halted ≡ true → regs.new ≡ risen regs.old }
 {
-    step_opcode(bus.read(regs.pc), regs, bus)
+    let fetched = Fetched {
+        opcode: bus.read(regs.pc),
+        first: bus.read(regs.pc.wrapping_add(1)),
+        second: bus.read(regs.pc.wrapping_add(2)),
+    };
+    step_fetched(fetched, regs, bus)
 }

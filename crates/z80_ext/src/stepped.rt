@@ -1,5 +1,4 @@
-ghost use Rattle.std.specs.Prelude.{◌≡◌, ℕ, false};
-ghost use Rattle.z80_regs.specs.Words.{refreshed};
+ghost use Rattle.std.specs.Prelude.{◌≡◌, false};
 ghost use Rattle.z80_exec.specs.Performing.{behind};
 ghost use Rattle.z80_ext.specs.Instruction.{risen, begun, begun_times};
 

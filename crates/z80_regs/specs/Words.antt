@@ -13,6 +13,10 @@ back address n = (address + (65536 - n)) % 65536
 abbrev pub word_of : ℕ → ℕ → ℕ
 word_of low high = low + 256 * high
 
+-- the word at an address, low byte first
+abbrev pub word_from : (ℕ → ℕ) → ℕ → ℕ
+word_from memory address = word_of (memory address) (memory (onward address 1))
+
 -- its low byte
 abbrev pub low : ℕ → ℕ
 low word = word % 256

@@ -1,7 +1,6 @@
 use Rattle.std.proofs.Common.{◌∙◌, [], None, if◌then◌else◌, refl, sym, ap}
 use Rattle.std.specs.Option.{option_copied}
-use Rattle.mpm_bdos.specs.Changes.{protected_by, marks_by}
-use Rattle.mpm_bdos.specs.Driving.{freed_by}
+use Rattle.mpm_marks.specs.Driving.{protected_by, marks_by, freed_by}
 use Rattle.mpm_bdos.specs.Serving.{InService}
 use Rattle.mpm_bdos.specs.Finishing.{serving}
 use Rattle.mpm_bdos.proofs.UserLaws.{users_driven}

@@ -2,7 +2,7 @@ use Rattle.std.proofs.Common.{◌∙◌, sym, ap, subst}
 use Rattle.mpm_base.specs.Calls.{Taken}
 use Rattle.std.specs.Option.{option_copied}
 use Rattle.std.proofs.lemmas.Option.{same_Some}
-use Rattle.mpm_bdos.specs.Asking.{called}
+use Rattle.mpm_requests.specs.Asking.{called}
 use Rattle.mpm_bdos.specs.Replying.{IsAnswering}
 use Rattle.mpm_bdos.proofs.Answerable.{nothing_granted}
 use Rattle.mpm_bdos.proofs.Started.{nothing_some}

@@ -1,9 +1,10 @@
 use Rattle.std.proofs.Common.{◌∙◌, Some, None, IfSome, refl, sym, ap, subst}
 use Rattle.mpm_bdos.specs.Jobs.{call_turns}
 use Rattle.mpm_bdos.specs.Serving.{InService, Serves}
-use Rattle.mpm_bdos.specs.Answering.{IsOfDrive, IsOfRow, IsNamed, MayGrant}
+use Rattle.mpm_bdos.specs.Answering.{IsOfDrive, MayGrant}
+use Rattle.mpm_functions.specs.Refusals.{IsOfRow, answered}
+use Rattle.mpm_requests.specs.Subjects.{IsNamed}
 use Rattle.mpm_bdos.specs.Finishing.{serving, ComesTo}
-use Rattle.mpm_bdos.specs.Refusals.{answered}
 use Rattle.mpm_bdos.proofs.Answerable.{of_its_drive}
 use Rattle.mpm_bdos.proofs.FinishLaws.{granted_comes, refused_comes, none_refuses}
 use Rattle.mpm_bdos.proofs.finishing.reply_service.Goals as goal

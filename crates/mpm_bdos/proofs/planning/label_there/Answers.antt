@@ -1,6 +1,6 @@
 use Rattle.std.proofs.Common.{◌∙◌, sym, ap}
 use Rattle.std.specs.Prelude.{option_map}
-use Rattle.mpm_bdos.specs.Looking.{label_of}
+use Rattle.mpm_requests.specs.Looking.{label_of}
 use Rattle.mpm_bdos.proofs.Planned.{kept_by_label}
 use Rattle.mpm_bdos.proofs.planning.label_there.Goals as goal
 

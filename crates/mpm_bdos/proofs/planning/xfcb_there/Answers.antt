@@ -1,7 +1,7 @@
 use Rattle.std.proofs.Common.{◌∙◌, sym, ap}
 use Rattle.std.specs.Prelude.{option_map, unwrap_or}
-use Rattle.mpm_bdos.specs.Jobs.{no_protection}
-use Rattle.mpm_bdos.specs.Looking.{protection_of}
+use Rattle.mpm_requests.specs.Protections.{no_protection}
+use Rattle.mpm_requests.specs.Looking.{protection_of}
 use Rattle.mpm_bdos.proofs.planning.xfcb_there.Goals as goal
 
 pub returns-in-Some : goal.returns-in-Some

@@ -2,8 +2,8 @@ use Rattle.std.proofs.Common.{◌≡◌, ◌∙◌, IfSome, sym, ap, subst}
 use Rattle.mpm_bdos.specs.declared.granting.Granted.{Granted}
 use Rattle.mpm_bdos.specs.Ending.{is_moving, is_reading, HasRead, FewDone, IsPlaced}
 use Rattle.mpm_bdos.specs.Answering.{MayGrant}
-use Rattle.mpm_bdos.specs.Asking.{key_asked}
-use Rattle.mpm_bdos.specs.Leaving.{IsOwn, left_by, left_first, granted_by}
+use Rattle.mpm_requests.specs.Asking.{key_asked, IsOwn}
+use Rattle.mpm_bdos.specs.Leaving.{left_by, left_first, granted_by}
 use Rattle.mpm_bdos.specs.Records.{done_by}
 use Rattle.mpm_bdos.specs.Replies.{found_bytes, value_by, answer_by}
 use Rattle.mpm_bdos.proofs.UserLaws.{users_kept}

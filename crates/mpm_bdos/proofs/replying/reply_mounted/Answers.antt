@@ -4,14 +4,14 @@ use Rattle.mpm_base.specs.Calls.{Taken}
 use Rattle.mpm_mount.specs.Drives.{FileName, Drive}
 use Rattle.mpm_mount.specs.Directories.{Stands}
 use Rattle.mpm_fcb.specs.Blocks.{block_of}
-use Rattle.mpm_bdos.specs.declared.asking.Asked.{Asked}
-use Rattle.mpm_bdos.specs.declared.caller.Caller.{Caller}
-use Rattle.mpm_bdos.specs.Subjects.{drive_number, found, found_by}
+use Rattle.mpm_requests.specs.declared.asking.Asked.{Asked}
+use Rattle.mpm_requests.specs.declared.caller.Caller.{Caller}
+use Rattle.mpm_requests.specs.Subjects.{drive_number, found, found_by}
 use Rattle.mpm_bdos.specs.Jobs.{call_turns, turned}
 use Rattle.mpm_bdos.specs.Changes.{search_by, searches_by, search_of_call}
 use Rattle.mpm_bdos.specs.Replies.{answer_by}
 use Rattle.mpm_bdos.specs.Answering.{MayGrant}
-use Rattle.mpm_bdos.specs.Asking.{called, asked_of, found_as}
+use Rattle.mpm_requests.specs.Asking.{called, asked_of, found_as}
 use Rattle.mpm_bdos.specs.Leaving.{IsInFile, IsGranted, left_first, granted_by, opens_left}
 use Rattle.mpm_bdos.proofs.StillLaws.{moved_drive, asked_still, still_found}
 use Rattle.mpm_bdos.proofs.LastLaws.{answered_so, opens_so}

@@ -1,8 +1,8 @@
 use Rattle.std.proofs.Common.{◌∙◌, None, sym, subst}
 use Rattle.std.specs.Option.{option_copied}
-use Rattle.mpm_bdos.specs.Asking.{called, StandsFor}
+use Rattle.mpm_requests.specs.Asking.{called, StandsFor}
 use Rattle.mpm_bdos.specs.Starting.{Begins}
-use Rattle.mpm_bdos.proofs.UnmountedLaws.{is_there, is_not_there}
+use Rattle.mpm_requests.proofs.UnmountedLaws.{is_there, is_not_there}
 use Rattle.mpm_bdos.proofs.Started.{refused_begins, unmounted_begins, nothing_refuses}
 use Rattle.mpm_bdos.proofs.starting.begun_unless.Goals as goal
 

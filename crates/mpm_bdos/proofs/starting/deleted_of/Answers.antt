@@ -1,8 +1,8 @@
 use Rattle.std.proofs.Common.{◌∙◌, ap, sym, subst}
 use Rattle.std.specs.Option.{option_copied}
 use Rattle.mpm_bdos.specs.Changes.{deleted_by}
-use Rattle.mpm_bdos.specs.Asking.{StandsFor}
-use Rattle.mpm_bdos.proofs.UnmountedLaws.{is_there, is_not_there}
+use Rattle.mpm_requests.specs.Asking.{StandsFor}
+use Rattle.mpm_requests.proofs.UnmountedLaws.{is_there, is_not_there}
 use Rattle.mpm_bdos.proofs.OnDrives.{unmounted_on_drives, none_deleted}
 use Rattle.mpm_bdos.proofs.starting.deleted_of.Goals as goal
 

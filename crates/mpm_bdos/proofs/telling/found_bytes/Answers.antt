@@ -1,4 +1,4 @@
-use Rattle.mpm_mount.specs.Faults.{plain}
+use Rattle.mpm_dirent.specs.Names.{plain}
 use Rattle.mpm_bdos.proofs.Told.{told_stands}
 use Rattle.mpm_bdos.proofs.telling.found_bytes.Goals as goal
 

@@ -1,6 +1,6 @@
 use Rattle.std.proofs.Common.{arith, rules}
 use Rattle.mpm_command.specs.Texts.{is_of}
-use Rattle.mpm_command.proofs.Runs.{stops_at, runs_through}
+use Rattle.mpm_names.proofs.Runs.{stops_at, runs_through}
 use Rattle.mpm_command.proofs.text.run_length.Goals as goal
 
 pub returns-then-not-goes_on-clause-count : goal.returns-then-not-goes_on-clause-count

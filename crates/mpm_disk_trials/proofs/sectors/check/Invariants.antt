@@ -1,4 +1,4 @@
 use Rattle.mpm_disk_trials.proofs.sectors.check.Given as goal
 
-abbrev pub ghosts-is_contained : goal.ghosts-is_contained
-ghosts-is_contained a = record { name = a.blank.name; parts = a.blank.parts }
+abbrev pub ghosts-is_so : goal.ghosts-is_so
+ghosts-is_so a = record { name = a.blank.name; parts = a.blank.parts }

@@ -18,8 +18,8 @@ returns-in-Ok-mount-clause-only g c =
 pub returns-in-Err-Image-clause-err : goal.returns-in-Err-Image-clause-err
 returns-in-Err-Image-clause-err g c = (
   refl,
-  fault_as _ _ c.args.spec.now c.as_str.result.now _ c.in-Err-Image.field-0 c.in-Err-Image.cause c.in-Err-Image.place c.as_str.ensures
-      c.in-Err-Image.field-0-is c.in-Ok.ensures.disks c.in-Err-Image.ensures.err,
+  fault_as _ _ c.args.spec.now c.as_str.result.now _ _ c.in-Err-Image.field-0 c.in-Err-Image.cause c.in-Err-Image.place c.as_str.ensures
+      c.in-Err-Image.field-0-is c.in-Ok.ensures.disks c.in-Err-Image.ensures.err c.in-Err-Image.ensures.some,
   failures_same _ _ _ _
       (count_as Directory _ _ c.in-Err-Image.field-0 c.in-Err-Image.cause c.in-Err-Image.place c.in-Err-Image.field-0-is c.in-Err-Image.ensures.count ∙ c.in-Ok.ensures.count)
       (c.in-Err-Image.ensures.same.failed ∙ c.in-Ok.ensures.names),

@@ -1,6 +1,6 @@
 use Rattle.std.proofs.Common.{◌∙◌, ap}
 use Rattle.mpm_mount.specs.Drives.{extents_of}
-use Rattle.mpm_files.specs.Lookups.{attributes_where}
+use Rattle.mpm_mount.specs.Attributes.{attributes_where}
 use Rattle.mpm_files.specs.Plans.{file_of_job}
 use Rattle.mpm_files.proofs.Placing.{lowest_attributes, no_attributes}
 use Rattle.mpm_files.proofs.adding.attributes.Goals as goal

@@ -2,9 +2,9 @@ use Rattle.std.proofs.Common.{None, refl, sym, subst, ◌∙◌}
 use Rattle.mpm_dirent.specs.declared.kinds.Entry.TheVariants.{Free}
 use Rattle.mpm_mount.specs.Faults.{name_of}
 use Rattle.mpm_mount.specs.Searching.{search_of, IsNext}
+use Rattle.mpm_mount.specs.Files.{file_in}
 use Rattle.mpm_files.specs.Units.{RenamesEntry, RenamesXfcb}
 use Rattle.mpm_files.specs.Plans.{file_of_job, new_file_of_job}
-use Rattle.mpm_files.specs.Counting.{file_in}
 use Rattle.mpm_files.specs.Serving.{units_done}
 use Rattle.mpm_files.proofs.NextDone.{does_next, put_does}
 use Rattle.mpm_files.proofs.RenameTurns.{may_rename, over_renamed, entry_renamed, xfcb_renamed, new_xfcb}

@@ -1,4 +1,4 @@
-use Rattle.mpm_cache.proofs.CoherentLaws.{same_told}
+use Rattle.mpm_port.proofs.Images.{same_told}
 use Rattle.mpm_files.specs.Plans.{file_of_job}
 use Rattle.mpm_files.proofs.RecordReads.{reads, read_inside, reads_visible, reads_only}
 use Rattle.mpm_files.proofs.reading.read_record.Goals as goal

@@ -1,9 +1,10 @@
 use Rattle.std.proofs.Common.{sym, ap, ◌∙◌, arith}
+use Rattle.mpm_dirent.specs.Names.{plain}
 use Rattle.mpm_files.specs.Units.{RenamesEntry}
 use Rattle.mpm_files.specs.Plans.{new_file_of_job}
-use Rattle.mpm_files.specs.Counting.{file_in}
-use Rattle.mpm_mount.specs.Faults.{plain, name_of}
+use Rattle.mpm_mount.specs.Faults.{name_of}
 use Rattle.mpm_mount.specs.Directories.{extent_slot}
+use Rattle.mpm_mount.specs.Files.{file_in}
 use Rattle.mpm_files.proofs.NextDone.{goes_as}
 use Rattle.mpm_files.proofs.Placing.{renamed_clean, renamed_stage, renamed_free}
 use Rattle.mpm_files.proofs.renaming.rename_entry.Goals as goal

@@ -17,7 +17,7 @@ returns-in_default-clause-does g c = λ image files told stands free.
 
 pub put_entry-requires-clause-faultless : goal.put_entry-requires-clause-faultless
 put_entry-requires-clause-faultless g c =
-    subst (λ (name : List ℕ). cause_of c.args.mounted.now.kind (others c.args.mounted.now.entries c.in-Some.found.slot) (Xfcb (record c.in-Some.found.xfcb { name = name })) ≡ None) (sym c.plain.ensures)
+    subst (λ (name : List ℕ). cause_of c.args.mounted.now.kind (others c.args.mounted.now.entries c.in-Some.found.slot) (Xfcb (record c.in-Some.found.xfcb { name = name })) ≡ None) (sym c.plain_name.ensures)
     (moved_clean c.args.mounted.now c.args.job.now c.in-Some.found.slot c.in-Some.found.xfcb (omega (arith, c.in-Some.ensures.found.within, c.in-Some.ensures.found.sound.full))
     (xfcb_owner c.args.mounted.now c.args.job.now c.in-Some.found.slot c.in-Some.found.xfcb c.in-Some.ensures.found.found c.in-Some.ensures.found.entry) (sym c.xfcb.ensures ∙ c.in-None.is))
 
@@ -31,4 +31,4 @@ returns-in-None-clause-does g c = λ image files told stands free.
     (c.put_entry.ensures.puts image files told stands)
     (moved_stage image c.args.mounted.now files c.args.job.now c.in-Some.found.slot c.in-Some.found.xfcb stands c.in-Some.ensures.found.found c.in-Some.ensures.found.entry
     (xfcb_owner c.args.mounted.now c.args.job.now c.in-Some.found.slot c.in-Some.found.xfcb c.in-Some.ensures.found.found c.in-Some.ensures.found.entry)
-    ∙ ap (λ (name : List ℕ). exchanged (sectors_of image c.args.mounted.now.kind) files (entry_in c.args.mounted.now c.in-Some.found.slot) (Xfcb (record c.in-Some.found.xfcb { name = name })) ∷ []) (sym c.plain.ensures))
+    ∙ ap (λ (name : List ℕ). exchanged (sectors_of image c.args.mounted.now.kind) files (entry_in c.args.mounted.now c.in-Some.found.slot) (Xfcb (record c.in-Some.found.xfcb { name = name })) ∷ []) (sym c.plain_name.ensures))

@@ -1,9 +1,9 @@
 use Rattle.std.proofs.Common.{map, ap, ◌∙◌, arith}
 use Rattle.std.specs.Prelude.{nat_le}
 use Rattle.mpm_files.specs.Units.{SetsAttributes}
-use Rattle.mpm_files.specs.Plans.{attributes_in}
-use Rattle.mpm_files.specs.Counting.{file_in}
 use Rattle.mpm_mount.specs.Faults.{name_of}
+use Rattle.mpm_mount.specs.Attributes.{attributes_in}
+use Rattle.mpm_mount.specs.Files.{file_in}
 use Rattle.mpm_files.proofs.NextDone.{goes_as}
 use Rattle.mpm_files.proofs.Placing.{set_clean, set_stage}
 use Rattle.mpm_files.proofs.renaming.set_attributes.Goals as goal

@@ -2,9 +2,9 @@ use Rattle.std.proofs.Common.{Option, refl, subst}
 use Rattle.mpm_mount.specs.declared.searching.Found.{Found}
 use Rattle.mpm_mount.specs.Faults.{name_of}
 use Rattle.mpm_mount.specs.Searching.{search_of, IsNext}
+use Rattle.mpm_mount.specs.Attributes.{attributes_in}
+use Rattle.mpm_mount.specs.Files.{file_in}
 use Rattle.mpm_files.specs.Units.{SetsAttributes}
-use Rattle.mpm_files.specs.Plans.{attributes_in}
-use Rattle.mpm_files.specs.Counting.{file_in}
 use Rattle.mpm_files.specs.Serving.{units_done}
 use Rattle.mpm_files.specs.Turning.{last_of_job}
 use Rattle.mpm_files.proofs.NextDone.{does_next, never_next}

@@ -1,7 +1,7 @@
 use Rattle.std.proofs.Common.{◌∙◌, ◌≤◌, is_some, refl, sym, ap, subst}
 use Rattle.mpm_base.specs.Calls.{Taken}
 use Rattle.mpm_procs.specs.declared.process.Process.{Process}
-use Rattle.mpm_bdos.specs.Functions.{function_of}
+use Rattle.mpm_functions.specs.Functions.{function_of}
 use Rattle.mpm_bdos.specs.Serving.{filing_of}
 use Rattle.mpm_bdos.specs.Turns.{told_images}
 use Rattle.mpm_machine.proofs.FilingLaws.{turns_are, serves_at_entry, entered_as}

@@ -2,7 +2,7 @@ use Rattle.std.proofs.Common.{◌≡◌, drop}
 use Rattle.toml.specs.View.{items_view}
 use Rattle.mpm_machine_file.specs.Fields.{all_of}
 use Rattle.mpm_machine_file.specs.Segments.{segment_of}
-use Rattle.mpm_machine_file.proofs.ArrayLaws.{onto}
+use Rattle.mpm_script.proofs.Finds.{onto}
 use Rattle.mpm_machine_file.proofs.segments.each_segment.Given as goal
 
 abbrev pub invariant-loop-item : goal.invariant-loop-item

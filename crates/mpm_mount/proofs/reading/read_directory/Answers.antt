@@ -23,6 +23,7 @@ loop-sector-init g c =
       whole = All-same IsWhole c.new-entries.result.items [] c.new-entries.ensures.items (All-nil IsWhole);
       count = refl;
       same = same_itself g.D.Drives.attached g.D.Drives.disks g.D.Drives.failed_names c.args.drives.now;
+      unsynced = λ other. refl;
     }
 
 pub loop-sector-preserved : goal.loop-sector-preserved
@@ -38,4 +39,5 @@ loop-sector-preserved g c =
       count = c.in-Ok.ensures.count ∙ c.loop-sector.invariant.count;
       same = same_over g.D.Drives.attached g.D.Drives.disks g.D.Drives.failed_names c.args.drives.now c.loop-sector.drives c.read_sector.new.drives
           c.loop-sector.invariant.same c.in-Ok.ensures.same;
+      unsynced = λ other. c.in-Ok.ensures.unsynced other ∙ c.loop-sector.invariant.unsynced other;
     }

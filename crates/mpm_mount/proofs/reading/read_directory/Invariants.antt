@@ -1,4 +1,4 @@
-use Rattle.std.proofs.Common.{◌≡◌, ◌*◌, length}
+use Rattle.std.proofs.Common.{◌≡◌, ◌*◌, ℕ, length}
 use Rattle.std.specs.Prelude.{IfSome}
 use Rattle.std.specs.List.{All}
 use Rattle.mpm_blocks.specs.Geometries.{geometry_of}
@@ -17,4 +17,5 @@ invariant-loop-sector g l = record {
   whole : All IsWhole l.entries.items;
   count : g.D.Drives.faults l.drives ≡ g.D.Drives.faults l.initial.drives;
   same : SameDrives g.D.Drives.attached g.D.Drives.disks g.D.Drives.failed_names l.initial.drives l.drives;
+  unsynced : (other : ℕ) → g.D.Drives.unsynced l.drives other ≡ g.D.Drives.unsynced l.initial.drives other;
 }

@@ -1,6 +1,6 @@
 use Rattle.std.proofs.Common.{arith, rules}
 use Rattle.mpm_residents.specs.Lines.{is_space}
-use Rattle.mpm_residents.proofs.Runs.{stops_at, runs_through}
+use Rattle.mpm_names.proofs.Runs.{stops_at, runs_through}
 use Rattle.mpm_residents.proofs.line.leading_spaces.Goals as goal
 
 pub returns-then-byte-ne32-clause-count : goal.returns-then-byte-ne32-clause-count

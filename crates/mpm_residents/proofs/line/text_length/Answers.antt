@@ -1,6 +1,6 @@
 use Rattle.std.proofs.Common.{arith, rules}
 use Rattle.mpm_residents.specs.Lines.{is_text}
-use Rattle.mpm_residents.proofs.Runs.{stops_at, runs_through}
+use Rattle.mpm_names.proofs.Runs.{stops_at, runs_through}
 use Rattle.mpm_residents.proofs.line.text_length.Goals as goal
 
 pub returns-then-ends_text-clause-count : goal.returns-then-ends_text-clause-count

@@ -1,10 +1,10 @@
 use Rattle.std.proofs.Common.{◌≡◌, ◌+◌, refl, ap, sym, ◌∙◌, subst, arith}
 use Rattle.mpm_clock.specs.PackedDecimal.{stamp}
-use Rattle.mpm_bdos.specs.Subjects.{drive_number}
+use Rattle.mpm_requests.specs.Subjects.{drive_number}
 use Rattle.mpm_bdos.specs.Jobs.{call_turns}
 use Rattle.mpm_bdos.specs.Serving.{Kept, Serves}
 use Rattle.mpm_bdos.specs.Starting.{caller_of, entering}
-use Rattle.mpm_bdos.specs.Turns.{told_images}
+use Rattle.mpm_bdos.specs.Turns.{KeepsUnsynced, told_images}
 use Rattle.mpm_bdos.proofs.Answerable.{still_entered}
 use Rattle.mpm_bdos.proofs.NextTurns.{idle_work, served_idly}
 use Rattle.mpm_bdos.proofs.AtOnceLaws.{same_drive, changes_alone, alone_still}
@@ -33,7 +33,7 @@ returns-in-Ok-clause-alone g c = λ before function is.
     let s = entering c.args.self.now before (caller_of c.args.p c.args.process.now) function c.args.call.now (stamp c.args.now) in
     alone_still (drive_number s) c.args.self.now.mounted c.start-turns.new.self.mounted c.do_turns.new.self.mounted c.reply.new.self.mounted (disks c.args.drives.now) (disks c.do_turns.new.drives)
     (ap (λ (kept : Kept). kept.mounted) c.start-turns.ensures.kept) (ap (λ (kept : Kept). kept.mounted) c.reply.ensures.kept)
-    (changes_alone g.D.Drives.attached disks g.D.Drives.failed_names c.start-turns.new.self c.do_turns.new.self c.args.drives.now c.do_turns.new.drives (drive_number s)
+    (changes_alone g.D.Drives.attached disks g.D.Drives.failed_names g.D.Drives.unsynced c.start-turns.new.self c.do_turns.new.self c.args.drives.now c.do_turns.new.drives (drive_number s)
     (c.start-turns.ensures.drive before function is) c.do_turns.ensures.left)
 
 pub returns-in-Err-clause-alone : goal.returns-in-Err-clause-alone
@@ -42,7 +42,7 @@ returns-in-Err-clause-alone g c = λ before function is.
     let s = entering c.args.self.now before (caller_of c.args.p c.args.process.now) function c.args.call.now (stamp c.args.now) in
     alone_still (drive_number s) c.args.self.now.mounted c.start-turns.new.self.mounted c.do_turns.new.self.mounted c.leave_service.new.self.mounted (disks c.args.drives.now) (disks c.do_turns.new.drives)
     (ap (λ (kept : Kept). kept.mounted) c.start-turns.ensures.kept) (ap (λ (kept : Kept). kept.mounted) c.leave_service.ensures)
-    (changes_alone g.D.Drives.attached disks g.D.Drives.failed_names c.start-turns.new.self c.do_turns.new.self c.args.drives.now c.do_turns.new.drives (drive_number s)
+    (changes_alone g.D.Drives.attached disks g.D.Drives.failed_names g.D.Drives.unsynced c.start-turns.new.self c.do_turns.new.self c.args.drives.now c.do_turns.new.drives (drive_number s)
     (c.start-turns.ensures.drive before function is) c.do_turns.ensures.left)
 
 pub returns-in-Ok-clause-none : goal.returns-in-Ok-clause-none
@@ -88,3 +88,13 @@ pub returns-in-Ok-clause-drive : goal.returns-in-Ok-clause-drive
 returns-in-Ok-clause-drive g c = λ before function is.
     c.reply.ensures.drive (drive_number (entering c.args.self.now before (caller_of c.args.p c.args.process.now) function c.args.call.now (stamp c.args.now)))
     (same_drive c.start-turns.new.self.service c.do_turns.new.self.service c.do_turns.ensures.left.kept.service ∙ c.start-turns.ensures.drive before function is)
+
+pub returns-in-Ok-clause-unsynced : goal.returns-in-Ok-clause-unsynced
+returns-in-Ok-clause-unsynced g c = λ before function is.
+    let unsynced = g.D.Drives.unsynced in
+    subst (λ drive. KeepsUnsynced drive (unsynced c.args.drives.now) (unsynced c.do_turns.new.drives)) (c.start-turns.ensures.drive before function is) c.do_turns.ensures.left.kept_unsynced
+
+pub returns-in-Err-clause-unsynced : goal.returns-in-Err-clause-unsynced
+returns-in-Err-clause-unsynced g c = λ before function is.
+    let unsynced = g.D.Drives.unsynced in
+    subst (λ drive. KeepsUnsynced drive (unsynced c.args.drives.now) (unsynced c.do_turns.new.drives)) (c.start-turns.ensures.drive before function is) c.do_turns.ensures.left.kept_unsynced

@@ -1,6 +1,7 @@
 use Rattle.std.proofs.Common.{ap, sym, ◌∙◌}
 use Rattle.mpm_base.specs.Calls.{Taken}
-use Rattle.mpm_bdos.specs.Direct.{Directly, direct_of}
+use Rattle.mpm_bdos.specs.Direct.{Directly}
+use Rattle.mpm_functions.specs.Functions.{direct_of}
 use Rattle.mpm_bdos.proofs.DirectLaws.{part_told, comes_directly, told_directly}
 use Rattle.mpm_bdos.proofs.ServedLaws.{part_served}
 use Rattle.mpm_bdos.proofs.bdos.Bdos.direct.Goals as goal

@@ -7,7 +7,7 @@ use Rattle.mpm_bdos.proofs.bdos.Bdos.do_turns.Goals as goal
 pub loop-turn-init : goal.loop-turn-init
 loop-turn-init g c = record {
   serves = λ s ended first few. subst (Serves (told_images (g.D.Drives.disks c.args.drives.now)) c.args.self.now s) (no_more ended) first;
-  left = no_turns g.D.Drives.attached g.D.Drives.disks g.D.Drives.failed_names c.args.self.now c.args.drives.now c.requires.fits;
+  left = no_turns g.D.Drives.attached g.D.Drives.disks g.D.Drives.failed_names g.D.Drives.unsynced c.args.self.now c.args.drives.now c.requires.fits;
   calls = omega arith;
   idle = λ none. record { kept = refl; device = refl; calls = refl };
   count = refl;
@@ -22,8 +22,8 @@ loop-turn-preserved g c =
     record {
       serves = λ s ended first few. subst (Serves (told_images (g.D.Drives.disks now.drives)) now.self s) (one_more ended turn)
           (c.in_default.ensures.ok s (ended + turn) (so.serves s ended first (omega (arith, few))) (omega (arith, few)));
-      left = one_more_turn g.D.Drives.attached g.D.Drives.disks g.D.Drives.failed_names c.args.self.now c.loop-turn.self now.self c.args.drives.now c.loop-turn.drives now.drives so.left
-          (record { kept = does.kept; fits = does.fits; images = does.images; beside = does.beside; names = does.names; attached_are = does.attached });
+      left = one_more_turn g.D.Drives.attached g.D.Drives.disks g.D.Drives.failed_names g.D.Drives.unsynced c.args.self.now c.loop-turn.self now.self c.args.drives.now c.loop-turn.drives now.drives so.left
+          (record { kept = does.kept; fits = does.fits; images = does.images; beside = does.beside; names = does.names; attached_are = does.attached; kept_unsynced = does.unsynced });
       calls = omega (arith, does.calls, so.calls);
       idle = λ none. rests_again c.args.self.now c.loop-turn.self now.self c.args.drives.now c.loop-turn.drives now.drives c.args.steps.now c.loop-turn.steps now.steps (so.idle none) does.kept
           (does.idle (still_none c.args.self.now c.loop-turn.self (so.idle none).kept none));
@@ -44,8 +44,8 @@ returns-in-Err g c =
         its = omega (arith, few, c.loop-turn-test.true);
         stops = c.in-Err.ensures.err s (ended + turn) (so.serves s ended first (omega (arith, few, c.loop-turn-test.true))) (omega (arith, few, c.loop-turn-test.true));
       };
-      left = one_more_turn g.D.Drives.attached g.D.Drives.disks g.D.Drives.failed_names c.args.self.now c.loop-turn.self now.self c.args.drives.now c.loop-turn.drives now.drives so.left
-          (record { kept = does.kept; fits = does.fits; images = does.images; beside = does.beside; names = does.names; attached_are = does.attached });
+      left = one_more_turn g.D.Drives.attached g.D.Drives.disks g.D.Drives.failed_names g.D.Drives.unsynced c.args.self.now c.loop-turn.self now.self c.args.drives.now c.loop-turn.drives now.drives so.left
+          (record { kept = does.kept; fits = does.fits; images = does.images; beside = does.beside; names = does.names; attached_are = does.attached; kept_unsynced = does.unsynced });
       calls = omega (arith, does.calls, so.calls, c.loop-turn-test.true);
       idle = λ none. absurd (is_ok_or_err _ _ _ c.in-Err.is (does.done (still_none c.args.self.now c.loop-turn.self (so.idle none).kept none)));
       unfailing = λ none. absurd (is_ok_or_err _ _ _ c.in-Err.is (does.done (still_none c.args.self.now c.loop-turn.self (so.idle none).kept none)));

@@ -1,4 +1,4 @@
-use Rattle.std.proofs.Common.{◌≡◌, ◌+◌, ℕ, false, None, take}
+use Rattle.std.proofs.Common.{◌≡◌, ◌≤◌, ◌+◌, ℕ, false, None, take}
 use Rattle.mpm_mount.specs.Mounting.{SameDrives}
 use Rattle.mpm_bdos.specs.Serving.{directory_at}
 use Rattle.mpm_bdos.specs.Syncing.{mounted_count}
@@ -14,4 +14,5 @@ invariant-loop-place g l = record {
   synced : AreSyncedTo l.place-index (g.D.Drives.unsynced l.drives) l.self;
   stay : (number : ℕ) → g.D.Drives.unsynced l.initial.drives number ≡ false → g.D.Drives.unsynced l.drives number ≡ false;
   beside : (number : ℕ) → directory_at l.self number ≡ None → g.D.Drives.unsynced l.drives number ≡ g.D.Drives.unsynced l.initial.drives number;
+  rest : (number : ℕ) → l.place-index ≤ number → g.D.Drives.unsynced l.drives number ≡ g.D.Drives.unsynced l.initial.drives number;
 }

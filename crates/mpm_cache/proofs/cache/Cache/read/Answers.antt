@@ -1,5 +1,6 @@
+use Rattle.mpm_port.proofs.Images.{same_told}
 use Rattle.std.proofs.Common.{sym, ◌∙◌}
-use Rattle.mpm_cache.proofs.CoherentLaws.{coherent_hit, coherent_same, same_told}
+use Rattle.mpm_cache.proofs.CoherentLaws.{coherent_hit, coherent_same}
 use Rattle.mpm_cache.proofs.AliasLaws.{apart_same}
 use Rattle.mpm_cache.proofs.cache.Cache.read.Goals as goal
 

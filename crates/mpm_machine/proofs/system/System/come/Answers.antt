@@ -1,5 +1,5 @@
+use Rattle.mpm_kernel.proofs.SoundLaws.{may_come}
 use Rattle.mpm_machine.proofs.WholeStepLaws.{sound_unhalted, whole_happened, aborted_lives}
-use Rattle.mpm_machine.proofs.InterruptLaws.{may_be}
 use Rattle.mpm_machine.proofs.system.System.come.Goals as goal
 
 pub event-requires-clause-sound : goal.event-requires-clause-sound
@@ -7,7 +7,7 @@ event-requires-clause-sound g c = sound_unhalted c.args.self.now c.unhalt.new.se
 
 pub abort_by_key-requires-clause-whole : goal.abort_by_key-requires-clause-whole
 abort_by_key-requires-clause-whole g c =
-    whole_happened c.args.event c.args.self.now c.unhalt.new.self c.event.new.self (may_be c.args.event c.requires.is) c.requires.whole c.unhalt.ensures c.event.ensures.kernel
+    whole_happened c.args.event c.args.self.now c.unhalt.new.self c.event.new.self (may_come c.args.event c.requires.is) c.requires.whole c.unhalt.ensures c.event.ensures.kernel
 
 pub abort_by_key-requires-clause-lives : goal.abort_by_key-requires-clause-lives
 abort_by_key-requires-clause-lives g c =

@@ -1,14 +1,11 @@
-use Rattle.std.proofs.Common.{◌≡◌, ◌∙◌, ◌≤◌, ◌*◌, refl, sym, subst, Option, Some, None, true, false, ℕ, slice_set, arith}
+use Rattle.mpm_base.proofs.Options.{none_there}
+use Rattle.std.proofs.Common.{◌≡◌, ◌∙◌, ◌≤◌, ◌*◌, sym, subst, Some, None, true, false, ℕ, slice_set, arith}
 use Rattle.std.specs.Prelude.{is_some}
 use Rattle.std.proofs.lemmas.Bool.Decides.{nat_tests}
 use Rattle.mpm_queues.specs.Queue.{Queue}
 use Rattle.mpm_queues.specs.Queues.{Queues, IsSound, found, lowest_free, made}
 use Rattle.mpm_queues.proofs.SoundLaws.{sound_made}
 use Rattle.mpm_queues.proofs.queues.Queues.make.Goals as goal
-
-none_there : (o : Option ℕ) → is_some o ≡ false → o ≡ None
-none_there None h = refl
-none_there (Some x) h = absurd (cc)
 
 pub invariant_of-self : goal.invariant_of-self
 unfolding made

@@ -1,7 +1,0 @@
-use Rattle.std.proofs.Common.{◌≡◌}
-use Rattle.mpm_opens.specs.Opens.{given_back}
-use Rattle.mpm_bdos.proofs.Freed.{freed}
-use Rattle.mpm_bdos.proofs.changes.free_drives.Given as goal
-
-abbrev pub invariant-loop-drive : goal.invariant-loop-drive
-invariant-loop-drive l = l.opens ≡ given_back l.initial.opens l.p (freed l.mask l.drive)

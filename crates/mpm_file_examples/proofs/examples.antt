@@ -1,0 +1,13 @@
+pub mod Computing
+pub mod Situations
+pub mod Drives
+pub mod Opening
+pub mod Searching
+pub mod Reading
+pub mod Writing
+pub mod Locking
+pub mod Naming
+pub mod Labels
+pub mod Covering
+pub mod Guarding
+pub mod Order

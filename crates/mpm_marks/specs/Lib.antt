@@ -1,0 +1,4 @@
+pub mod Marks
+pub mod Driving
+pub mod Busy
+pub mod Protected

@@ -1,0 +1,14 @@
+pub mod Looked
+pub mod Rooms
+pub mod PasswordLaws
+pub mod SharedFiles
+pub mod LastSearches
+pub mod Searched
+pub mod Behind
+pub mod Deleted
+pub mod SizeLaws
+pub mod AskedLaws
+pub mod UnmountedLaws
+pub mod Firsts
+pub mod FirstRefused
+pub mod OwnItems

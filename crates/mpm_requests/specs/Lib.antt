@@ -1,0 +1,8 @@
+pub mod Filing
+pub mod Searches
+pub mod Subjects
+pub mod Refusals
+pub mod Looking
+pub mod Sizes
+pub mod Asking
+pub mod Protections
