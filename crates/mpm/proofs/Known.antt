@@ -7,6 +7,7 @@ use Rattle.std.proofs.lemmas.Grind.{common_steps}
 use Rattle.mpm_port.specs.Texts.{Begins}
 use Rattle.mpm_port.specs.Fetches.{TakesWhole, TakesFirst, TakesPart}
 use Rattle.std.specs.Io.KnownBytes.{Appends, Consumes, IsAtEnd, Keeps}
+use Rattle.std.proofs.KnownBytes.{Appends-trans, Appends-kept, Consumes-trans}
 use Rattle.mpm.specs.Known.{WritesPart}
 
 pub record Written (before now : Option (List ℕ)) (bytes rest : List ℕ) : Type 0 where
@@ -18,17 +19,11 @@ pub nothing_written : (known : Option (List ℕ)) (bytes : List ℕ) → Written
 nothing_written None bytes = record { done = []; split = refl; taken = tt }
 nothing_written (Some text) bytes = record { done = []; split = refl; taken = sym (append-nil text) }
 
-appends_more : (a b c : Option (List ℕ)) (xs ys : List ℕ) → Appends a b xs → Appends b c ys → Appends a c (xs ++ ys)
-appends_more None b c xs ys h k = tt
-appends_more (Some text) (Some more) (Some all) xs ys h k = grind (arith, common_steps)
-appends_more (Some text) (Some more) None xs ys h k = k
-appends_more (Some text) None c xs ys h k = absurd h
-
 pub more_written : (a b c : Option (List ℕ)) (bytes rest : List ℕ) (n : ℕ) → Written a b bytes rest → Appends b c (take n rest) → n ≤ length rest → Written a c bytes (take (length rest - n) (drop n rest))
 more_written a b c bytes rest n w h within = record {
   done = w.done ++ take n rest;
   split = grind (arith, common_steps, w.split);
-  taken = appends_more a b c w.done (take n rest) w.taken h;
+  taken = Appends-trans a b c w.done (take n rest) w.taken h;
 }
 
 pub all_written : (a b : Option (List ℕ)) (bytes rest : List ℕ) → Written a b bytes rest → rest ≡ [] → Appends a b bytes
@@ -38,14 +33,8 @@ all_written a b bytes rest w h =
 pub part_written : (a b : Option (List ℕ)) (bytes rest : List ℕ) → Written a b bytes rest → WritesPart a b bytes
 part_written a b bytes rest w = record { part = w.done; begins = record { rest = rest; whole_is = w.split }; taken = w.taken }
 
-appends_kept : (a b c : Option (List ℕ)) (xs : List ℕ) → Appends a b xs → Keeps b c → Appends a c xs
-appends_kept None b c xs h k = tt
-appends_kept (Some text) (Some more) (Some same) xs h k = k ∙ h
-appends_kept (Some text) (Some more) None xs h k = k
-appends_kept (Some text) None c xs h k = absurd h
-
 pub part_stays : (a b c : Option (List ℕ)) (bytes rest : List ℕ) → Written a b bytes rest → Keeps b c → WritesPart a c bytes
-part_stays a b c bytes rest w k = record { part = w.done; begins = record { rest = rest; whole_is = w.split }; taken = appends_kept a b c w.done w.taken k }
+part_stays a b c bytes rest w k = record { part = w.done; begins = record { rest = rest; whole_is = w.split }; taken = Appends-kept a b c w.done w.taken k }
 
 pub record Taken (before now : Option (List ℕ)) (start out : List ℕ) (room limit : ℕ) : Type 0 where
   pub done : List ℕ
@@ -57,18 +46,12 @@ pub nothing_taken : (known : Option (List ℕ)) (start : List ℕ) (limit : ℕ)
 nothing_taken None start limit = record { done = []; appended = sym (append-nil start); within = omega arith; taken = tt }
 nothing_taken (Some left) start limit = record { done = []; appended = sym (append-nil start); within = omega arith; taken = refl }
 
-consumes_more : (a b c : Option (List ℕ)) (xs ys : List ℕ) → Consumes a b xs → Consumes b c ys → Consumes a c (xs ++ ys)
-consumes_more None b c xs ys h k = tt
-consumes_more (Some left) (Some more) (Some last) xs ys h k = grind (arith, common_steps)
-consumes_more (Some left) (Some more) None xs ys h k = k
-consumes_more (Some left) None c xs ys h k = absurd h
-
 pub more_taken : (a b c : Option (List ℕ)) (start out : List ℕ) (room limit : ℕ) (piece : List ℕ) (n : ℕ) → Taken a b start out room limit → Consumes b c (take n piece) → n ≤ length piece → n ≤ room → Taken a c start (out ++ take n piece) (room - n) limit
 more_taken a b c start out room limit piece n t h k r = record {
   done = t.done ++ take n piece;
   appended = grind (arith, common_steps, t.appended);
   within = omega (arith, t.within, length-append t.done (take n piece), length-take n piece);
-  taken = consumes_more a b c t.done (take n piece) t.taken h;
+  taken = Consumes-trans a b c t.done (take n piece) t.taken h;
 }
 
 part_of : (a b : Option (List ℕ)) (start done : List ℕ) → Consumes a b done → MatchOption a ⊤ (λ file. Begins (start ++ done) (start ++ file))

@@ -1,5 +1,4 @@
 ghost use Rattle.std.specs.Prelude.{◌≡◌, ℕ, List, None};
-ghost use Rattle.mpm_port.specs.Causes.{names_after};
 ghost use Rattle.mpm_port.specs.Fetches.{Fetches};
 
 use mpm_port::{FailedNames, FetchError, Fetched, Files};

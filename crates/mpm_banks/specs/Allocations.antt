@@ -1,5 +1,6 @@
--- Who has the segments: nobody, a process that reserved one, or the process that lives in it; and the memory of the
--- beginning. (MP/M II Programmer's Guide, functions 128 to 130.)
+-- Who has the segments: nobody, a process that reserved one, or the process that lives in it; and memory as it begins. (MP/M II
+-- Programmer's Guide, "Function 128: Absolute Memory Request", "Function 129: Relocatable Memory Request", "Function 130: Memory
+-- Free".)
 use Rattle.std.specs.Prelude.{ℕ, ◌+◌, ◌*◌, ◌≤◌, Bool, true, false, List, Option, Some, None, ◌&&◌, ◌==◌, nat_le, map, position, if◌then◌else◌}
 use Rattle.mpm_base.specs.Lists.{zeros}
 use Rattle.mpm_base.specs.declared.segment.SegmentSpec.{SegmentSpec}

@@ -73,7 +73,8 @@ impl Banks {
     }
 
     /// Reserves the lowest free segment of at least `pages` pages, and of that base page where one is given. None comes
-    /// exactly where there is none. (MP/M II Programmer's Guide, functions 128 and 129.)
+    /// exactly where there is none. (MP/M II Programmer's Guide, "Function 128: Absolute Memory Request", "Function 129:
+    /// Relocatable Memory Request".)
     #[tactic(auto, unfolding(crate::specs::Allocations::reserved))]
     pub fn reserve(&mut self, owner: Pid, base: Option<u8>, pages: u8) -> Option<Seg>
         ensures found { result ≡ lowest_free self.old base pages }
@@ -85,7 +86,7 @@ impl Banks {
     }
 
     /// Gives back a segment that the process reserved; false exactly where it didn't, and then nothing changes. (MP/M II
-    /// Programmer's Guide, function 130.)
+    /// Programmer's Guide, "Function 130: Memory Free".)
     #[tactic(auto, unfolding(crate::specs::Allocations::released))]
     pub fn release(&mut self, owner: Pid, seg: Seg) -> bool
         ensures answer { result ≡ is_reserved self.old owner seg }
@@ -168,7 +169,8 @@ impl Banks {
     }
 
     /// The byte that a process reads at an address outside its segment.
-    #[inline(always)]
+    #[cold]
+    #[inline(never)]
     fn byte_outside(&self, address: u16) -> u8
         ensures { result ≡ unwrap_or (byte_among 49152 self.now.common address) 255 }
     {

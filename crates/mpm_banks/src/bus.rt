@@ -6,9 +6,11 @@ use z80_regs::Bus;
 /// Memory and devices as the process of a segment reaches them.
 #[derive(Drop)]
 pub struct BankBus<'a, 'b> {
+    /// All memory.
     pub banks: &'a mut Banks,
     /// The process's segment. Where it doesn't exist, addresses name common memory alone.
     pub seg: Seg,
+    /// The polled devices.
     pub devices: &'b mut Devices,
 }
 

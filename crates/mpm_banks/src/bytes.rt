@@ -34,6 +34,7 @@ impl Bytes {
         Ok(Bytes { items })
     }
 
+    /// How many bytes there are.
     #[inline(always)]
     pub fn len(&self) -> usize
         ensures { result ≡ length self.now }

@@ -17,6 +17,7 @@ impl Model for FirstPage {
 }
 
 impl FirstPage {
+    /// The page of that number.
     pub fn new(page: u8) -> FirstPage
         ensures { result ≡ page }
     {
@@ -25,6 +26,7 @@ impl FirstPage {
         }
     }
 
+    /// Its number.
     pub fn page(&self) -> u8
         ensures { result ≡ self.now }
     {

@@ -8,9 +8,13 @@ use z80_regs::Bus;
 /// Memory and devices as a process reaches them: the bytes of its segment, which lies there, and those of common memory.
 #[derive(Drop)]
 pub struct SliceBus<'a, 'b, 'c> {
+    /// Where the segment lies.
     pub spec: SegmentSpec,
+    /// The segment's bytes, from its base page on.
     pub segment: &'a mut [u8],
+    /// The bytes of common memory, from C000h on.
     pub common: &'b mut [u8],
+    /// The polled devices.
     pub devices: &'c mut Devices,
 }
 

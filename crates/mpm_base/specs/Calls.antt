@@ -23,7 +23,7 @@ pub record Answer : Type 0 where
 abbrev pub no_call : Taken
 no_call = record { function = 0; word = 0; dma = 0; fcb = zeros 36; bytes = [] }
 
--- one of the bytes that a call read, 0 where it lacks, and the word at a place, its low byte first
+-- one of the bytes that a call read, 0 where it is missing, and the word at a place, its low byte first
 abbrev pub byte_in : Taken → ℕ → ℕ
 byte_in call place = slice_index_or call.bytes place 0
 
@@ -34,7 +34,7 @@ word_at call place = byte_in call place + 256 * byte_in call (place + 1)
 abbrev pub asking : ℕ → ℕ → List ℕ → Taken
 asking function word bytes = record { function = function; word = word; dma = 0; fcb = zeros 36; bytes = bytes }
 
--- the eight bytes that a call read at a place, those that lack as zeros, and the name that they are
+-- the eight bytes that a call read at a place, with zeros for those that are missing, and the name that they are
 abbrev pub eight_at : Taken → ℕ → List ℕ
 eight_at call place = in_width 8 (drop place call.bytes)
 

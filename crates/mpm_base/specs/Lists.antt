@@ -5,7 +5,7 @@ use Rattle.std.specs.Prelude.{ℕ, ◌-◌, List, [], ◌∷◌, ◌++◌, take,
 unfoldable pub zeros : ℕ → List ℕ
 zeros n = replicate n 0
 
--- so many bytes: the first of those that are there, and zeros for those that lack
+-- so many bytes: the first of those that are there, and zeros for those that are missing
 unfoldable pub in_width : ℕ → List ℕ → List ℕ
 in_width width bytes = take width bytes ++ replicate (width - length bytes) 0
 

@@ -20,6 +20,7 @@ pub struct Call {
     pub fcb: [u8; 36],
     /// How many bytes were read, at most 4,096.
     pub length: u16,
+    /// Those bytes come first.
     pub bytes: [u8; 4096],
 }
 
@@ -129,7 +130,7 @@ impl Call {
         &taken[place.min(taken.len())..]
     }
 
-    /// The eight bytes at a place of those bytes, those that lack as zeros.
+    /// The eight bytes at a place of those bytes, with zeros for those that are missing.
     pub fn eight(&self, place: usize) -> [u8; 8]
         ensures { result ≡ eight_at self.now place }
     {
@@ -162,11 +163,15 @@ pub const FAILURE_CODE: u16 = 0x00FF;
 pub struct Reply {
     /// The value, for HL.
     pub hl: u16,
+    /// Whether a file control block is placed.
     pub has_fcb: bool,
+    /// The file control block.
     pub fcb: [u8; 36],
+    /// The address from which on bytes are placed.
     pub at: u16,
     /// How many bytes are placed, at most 4,096.
     pub length: u16,
+    /// Those bytes come first.
     pub bytes: [u8; 4096],
 }
 

@@ -2,7 +2,7 @@ ghost use Rattle.std.specs.Prelude.{◌≡◌};
 ghost use Rattle.mpm_base.specs.Lists.{in_width as fitted};
 ghost use Rattle.mpm_base.specs.Texts.{ends_text as is_end};
 
-/// So many bytes: the first of those that are there, and zeros for those that lack.
+/// So many bytes: the first of those that are there, and zeros for those that are missing.
 #[tactic(auto, using(crate::proofs::Widths::over_zeros))]
 pub fn in_width<const N: usize>(bytes: &[u8]) -> [u8; N]
     ensures { result ≡ fitted N bytes.now }

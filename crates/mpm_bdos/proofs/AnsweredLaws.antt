@@ -1,7 +1,7 @@
 -- What a call leaves of open files, and what its reply goes by, is what its turns have come to.
-use Rattle.std.proofs.Common.{◌≡◌, ◌∙◌, ℕ, ◌==◌, ◌&&◌, not, Bool, true, false, cond, List, Option, Some, None, refl, sym, ap, subst}
+use Rattle.std.proofs.Common.{◌≡◌, ◌∙◌, ℕ, ◌==◌, ◌&&◌, Bool, true, false, cond, List, Option, Some, None, refl, sym, ap, subst}
 use Rattle.std.specs.Prelude.{bytes_eq, is_some, option_and_then, option_map, unwrap_or}
-use Rattle.std.proofs.lemmas.Bool.{true≢false, false≢true, eqb-true}
+use Rattle.std.proofs.lemmas.Bool.{true≢false, false≢true, eqb-true, not-false}
 use Rattle.std.proofs.lemmas.Option.{same_Some}
 use Rattle.mpm_mount.specs.Drives.{Drive}
 use Rattle.mpm_opens.specs.declared.kinds.FileKey.{FileKey}
@@ -115,17 +115,13 @@ unlock_subject : (s : Situation) → s.function ≡ UnlockRecord → subject s �
 unfolding subject_by
 unlock_subject s f = ap (subject_by (drive_at s) (own_file s) (open_key s)) f
 
-there : (b : Bool) → not b ≡ false → b ≡ true
-there true e = refl
-there false e = absurd (true≢false e)
-
 pub lock_named : (s : Situation) → refusal_of s ≡ None → s.function ≡ LockRecord → IsNamed s
 unfolding refusals_of applies
-lock_named s none f = item_named s (there (is_some (open_key s)) (none_applies s (refusals_of LockRecord) (ap refusals_of f) none).1.0)
+lock_named s none f = item_named s (not-false (is_some (open_key s)) (none_applies s (refusals_of LockRecord) (ap refusals_of f) none).1.0)
 
 unlock_named : (s : Situation) → refusal_of s ≡ None → s.function ≡ UnlockRecord → IsNamed s
 unfolding refusals_of applies
-unlock_named s none f = item_named s (there (is_some (open_key s)) (none_applies s (refusals_of UnlockRecord) (ap refusals_of f) none).1.0)
+unlock_named s none f = item_named s (not-false (is_some (open_key s)) (none_applies s (refusals_of UnlockRecord) (ap refusals_of f) none).1.0)
 
 by_mode : (drive : Drive) (opens : OpenFiles) (p : ℕ) (file : FileKey) (first count : ℕ) (mode : Mode)
     → locked_by drive opens p file first count mode ≡ cond (is_same_mode mode Unlocked) (locking drive opens p file first count) (nothing_locked opens)

@@ -33,7 +33,7 @@ its_drive (Some service) = refl
 pub same_drive : (one other : Option InService) → option_map without_work other ≡ option_map without_work one → drive_served other ≡ drive_served one
 same_drive one other same = sym (its_drive other) ∙ ap drive_served same ∙ its_drive one
 
-still_there : (one other : Option Directory) → option_map labelled other ≡ option_map labelled one → is_some other ≡ is_some one
+pub still_there : (one other : Option Directory) → option_map labelled other ≡ option_map labelled one → is_some other ≡ is_some one
 still_there one other same = sym (there_label other) ∙ ap is_some same ∙ there_label one
 
 -- what is kept, behind some turns and one more

@@ -1,5 +1,5 @@
 -- The open files that a deletion gives back: what is kept of them as it begins names the same files.
-use Rattle.std.proofs.Common.{◌≡◌, ◌∙◌, ℕ, zero, suc, ◌%◌, ◌+◌, ◌<◌, ◌==◌, Bool, true, false, not, ◌&&◌, ◌||◌, cond, List, [], ◌∷◌, Option, Some, None, length, take, get_or, map, refl, sym, ap, arith, eq-eqb}
+use Rattle.std.proofs.Common.{◌≡◌, ◌∙◌, ℕ, zero, suc, ◌%◌, ◌+◌, ◌<◌, ◌==◌, Bool, true, false, not, ◌&&◌, ◌||◌, cond, List, [], ◌∷◌, Option, Some, None, length, take, get_or, map, refl, sym, ap, arith, eq-eqb, add-one, take_all, le_refl}
 use Rattle.std.proofs.lemmas.List.{get_or-map, length-map}
 use Rattle.std.specs.Prelude.{bytes_eq, is_some, find, filter, option_map}
 use Rattle.std.specs.List.{list_any, list_all}
@@ -33,6 +33,7 @@ use Rattle.mpm_requests.specs.Looking.{entry_found}
 use Rattle.mpm_bdos.specs.Changes.{is_deleted_in, is_at, is_among}
 use Rattle.mpm_requests.proofs.Searched.{next_step}
 use Rattle.mpm_marks.proofs.Freed.{given_alike, no_file, all_kept}
+use Rattle.mpm_files.proofs.Deletions.{three_tests}
 
 -- a file of this very name is there, by a search for its name
 itself_matches : (name : List ℕ) → length name ≡ 11 → does_match name name ≡ true
@@ -112,17 +113,13 @@ deleted_is : (drive : Drive) (deletion : Deletion) (key : FileKey)
 unfolding has_file
 deleted_is drive deletion key = ap (λ b. (key.drive == deletion.drive) && b) (deleted_among (file_of key) deletion.user deletion.pattern (entries_named drive))
 
-both_first : (a b c : Bool) → (a && (b && c)) ≡ ((a && b) && c)
-both_first true b c = refl
-both_first false b c = refl
-
 abbrev names_file : Deletion → FileKey → Bool
 names_file deletion key = (key.drive == deletion.drive) && is_fitting deletion.user deletion.pattern (file_of key)
 
 pub deleted_where_named : (drive : Drive) (deletion : Deletion) (key : FileKey) (named there : Bool) → named ≡ names_file deletion key → there ≡ has_file drive (file_of key) → (named && there) ≡ is_deleted_in drive deletion key
 deleted_where_named drive deletion key named there is so =
     ap (λ b. b && there) is ∙ ap (λ b. names_file deletion key && b) so
-    ∙ sym (deleted_is drive deletion key ∙ both_first (key.drive == deletion.drive) (is_fitting deletion.user deletion.pattern (file_of key)) (has_file drive (file_of key)))
+    ∙ sym (deleted_is drive deletion key ∙ sym (three_tests (key.drive == deletion.drive) (is_fitting deletion.user deletion.pattern (file_of key)) (has_file drive (file_of key))))
 
 -- the process's open files, place after place
 pub deleted_all : (places : List (Option Item)) (made : List (Option FileKey)) (p : ℕ) (among : FileKey → Bool) → length places ≡ 64 → length made ≡ 64
@@ -151,25 +148,18 @@ one_more (file ∷ files) (suc k) key h =
     or_apart true b c = refl
     or_apart false b c = refl
 
-next_number : (k : ℕ) → suc k ≡ k + 1
-next_number k = omega arith
-
 pub one_given : (initial old new : OpenFiles) (p : ℕ) (files : List (Option FileKey)) (k : ℕ) → k < length files → old ≡ given_back initial p (is_among (take k files))
     → new ≡ given_back old p (is_at (get_or files k None)) → new ≡ given_back initial p (is_among (take (k + 1) files))
 one_given initial old new p files k h before is =
     is ∙ ap (λ opens. given_back opens p (is_at (get_or files k None))) before
     ∙ given_back_twice initial p (is_among (take k files)) (is_at (get_or files k None))
     ∙ given_alike initial p (λ key. is_among (take k files) key || is_at (get_or files k None) key) (is_among (take (suc k) files)) (λ key. one_more files k key h)
-    ∙ ap (λ n. given_back initial p (is_among (take n files))) (next_number k)
-
-all_taken : (files : List (Option FileKey)) → take (length files) files ≡ files
-all_taken [] = refl
-all_taken (file ∷ files) = ap (λ (l : List (Option FileKey)). file ∷ l) (all_taken files)
+    ∙ ap (λ n. given_back initial p (is_among (take n files))) (sym (add-one k))
 
 pub all_given : (initial old : OpenFiles) (p : ℕ) (files : List (Option FileKey)) (k : ℕ) → length files ≡ k → old ≡ given_back initial p (is_among (take k files))
     → old ≡ given_back initial p (is_among files)
 all_given initial old p files k size is =
-    is ∙ ap (λ n. given_back initial p (is_among (take n files))) (sym size) ∙ ap (λ l. given_back initial p (is_among l)) (all_taken files)
+    is ∙ ap (λ n. given_back initial p (is_among (take n files))) (sym size) ∙ ap (λ l. given_back initial p (is_among l)) (take_all (length files) files (le_refl (length files)))
 
 -- none at a place gives back nothing
 pub nowhere_given : (opens : OpenFiles) (p : ℕ) → opens ≡ given_back opens p (is_at None)

@@ -138,7 +138,7 @@ unfolding count_until
 until_within stops n zero = omega arith
 until_within stops n (suc count) = free_by (stops n) (count_until stops (n + 1) count) count (until_within stops (n + 1) count)
 
-free_within : (s : Situation) → free_count s ≤ s.caller.multi
+pub free_within : (s : Situation) → free_count s ≤ s.caller.multi
 unfolding free_count
 free_within s = until_within (is_cut_at s s.function) (first_record s) s.caller.multi
 

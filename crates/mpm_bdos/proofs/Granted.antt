@@ -1,15 +1,12 @@
 -- Of a call that nothing refuses, no refusal of its row applies.
 use Rattle.std.proofs.Common.{◌≡◌, ◌∙◌, Bool, true, false, cond, List, [], ◌∷◌, ◌++◌, Option, Some, None, sym, refl, ap}
-use Rattle.std.specs.Prelude.{⊤, find, option_map}
+use Rattle.std.specs.Prelude.{⊤, find}
 use Rattle.mpm_functions.specs.declared.refusals.Refusal.{Refusal}
 use Rattle.mpm_requests.specs.Filing.{Situation}
 use Rattle.mpm_requests.specs.Subjects.{subject, deleted_files}
 use Rattle.mpm_functions.specs.Refusals.{refusals_of, refusals_of_each}
+use Rattle.mpm_mount.proofs.FirstFault.{map_none}
 use Rattle.mpm_requests.specs.Refusals.{applies, Test, tests_for, tests_each, tests_of, does_apply, refusal_of}
-
-not_mapped : {X Y : Type 0} (f : X → Y) (found : Option X) → option_map f found ≡ None → found ≡ None
-not_mapped f None e = refl
-not_mapped f (Some x) e = absurd (cc)
 
 passed : (s : Situation) (test : Test) (more : Option Test) (b : Bool) → does_apply s test ≡ b → cond b (Some test) more ≡ None
     → (does_apply s test ≡ false) × (more ≡ None)
@@ -34,4 +31,4 @@ none_applies s refusals is none =
     let each : List Test = tests_each (refusals_of_each s.function) (deleted_files s) in
     none_found s refusals each
     (ap (λ row. find (does_apply s) (tests_for row (subject s) ++ each)) (sym is)
-    ∙ not_mapped (λ (test : Test). test.refusal) (find (does_apply s) (tests_of s)) none)
+    ∙ map_none (λ (test : Test). test.refusal) (find (does_apply s) (tests_of s)) none)

@@ -1,5 +1,5 @@
 -- Masks of drives, bit by bit.
-use Rattle.std.proofs.Common.{◌≡◌, ℕ, zero, suc, ◌+◌, ◌*◌, ◌^◌, ◌<◌, ◌≤◌, Bool, true, false, refl, subst, arith}
+use Rattle.std.proofs.Common.{◌≡◌, ℕ, zero, suc, ◌+◌, ◌*◌, ◌^◌, ◌<◌, ◌≤◌, Bool, true, false, refl, subst, arith, add-one}
 use Rattle.std.specs.Prelude.{map, sum, if◌then◌else◌}
 use Rattle.std.specs.List.{range_with_len}
 use Rattle.std.proofs.lemmas.Nat.{pow-add}
@@ -22,16 +22,13 @@ bit_small : (test : Bool) (weight : ℕ) → (if test then weight else 0) ≤ we
 bit_small true weight = omega arith
 bit_small false weight = omega arith
 
-one_more : (n : ℕ) → n + 1 ≡ suc n
-one_more n = omega arith
-
 mask_small : (test : ℕ → Bool) (n : ℕ) → mask_below test n < 2 ^ n
 mask_small test zero = omega arith
 mask_small test (suc n) =
     let doubled : 2 ^ (n + 1) ≡ 2 ^ n * 2 = pow-add 2 n 1 in
     let more : mask_below test (n + 1) ≡ mask_below test n + bit_where test n = more_masked test n in
     let less : mask_below test (n + 1) < 2 ^ (n + 1) = omega (arith, doubled, more, mask_small test n, bit_small (test n) (2 ^ n)) in
-    subst (λ m. mask_below test m < 2 ^ m) (one_more n) less
+    subst (λ m. mask_below test m < 2 ^ m) (add-one n) less
 
 pub mask_fits : (test : ℕ → Bool) (n : ℕ) → n < 16 → mask_below test n + 2 ^ n < 65536
 mask_fits test n few =

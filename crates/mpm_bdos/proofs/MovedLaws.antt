@@ -1,5 +1,5 @@
 -- A call on records moves as many as it is asked for at most, and fewer where one of them fails.
-use Rattle.std.proofs.Common.{◌≡◌, ◌∙◌, ℕ, zero, suc, ◌+◌, ◌/◌, ◌≤◌, ◌<◌, Bool, true, false, ◌&&◌, List, [], ◌∷◌, Option, Some, None, length, refl, sym, ap, subst, arith}
+use Rattle.std.proofs.Common.{◌≡◌, ◌∙◌, ℕ, zero, suc, ◌+◌, ◌/◌, ◌≤◌, ◌<◌, Bool, true, false, ◌&&◌, List, [], ◌∷◌, Option, Some, None, length, refl, sym, ap, subst, arith, take_all}
 use Rattle.std.specs.Prelude.{is_some, sum_by, if◌then◌else◌}
 use Rattle.std.proofs.lemmas.Bool.{true≢false, false≢true, le-ltb}
 use Rattle.std.proofs.lemmas.List.Sums.{sum_by-append, sum_by-cons}
@@ -13,7 +13,6 @@ use Rattle.mpm_files.specs.declared.jobs.Job.{Job}
 use Rattle.mpm_files.specs.Units.{FileUnit, ReadsRecord, PassesRecord, AddsEntry, ClearsBlock, WritesRecord, applied, all_applied}
 use Rattle.mpm_files.specs.Plans.{Plan, Test, behind, failing, unless_failing, file_of_job, read_error, reading, needs_entry, needs_block, clears_blocks, write_error, write_units, writing, has_record, passing, testing, record_at, records_of_job, test_at, tests_of_job, plan_by, plan_of, turns_of}
 use Rattle.mpm_files.specs.Serving.{records_moved, moved_after, error_after}
-use Rattle.mpm_files.proofs.TurnLaws.{take_all}
 use Rattle.mpm_bdos.proofs.RecordLaws.{one_written}
 
 pub record FewMoved (plan : Plan) (count : ℕ) : Type 0 where
@@ -111,7 +110,7 @@ never_fails drive job Nothing is = refl
 
 -- behind all turns
 pub all_moved : (drive : Drive) (job : Job) → moved_after drive job (turns_of drive job) ≡ sum_by records_moved (plan_of drive job).units
-all_moved drive job = ap (sum_by records_moved) (take_all (plan_of drive job).units (turns_of drive job) (omega arith))
+all_moved drive job = ap (sum_by records_moved) (take_all (turns_of drive job) (plan_of drive job).units (omega arith))
 
 told_at_last : (drive : Drive) (job : Job) → error_after drive job (turns_of drive job) ≡ (plan_of drive job).error
 told_at_last drive job =

@@ -4,6 +4,7 @@ use Rattle.std.specs.Prelude.{IfOk, OnOk, OnErr, is_some, option_map, unwrap_or,
 use Rattle.std.proofs.lemmas.Bool.{true≢false, cases_eq}
 use Rattle.std.proofs.lemmas.Bool.Decides.{nat_tests}
 use Rattle.std.proofs.lemmas.Result.{on_ok_weaker, on_err_weaker}
+use Rattle.std.proofs.lemmas.Option.{same_Some}
 use Rattle.mpm_base.specs.declared.kind.Kind.{Kind}
 use Rattle.mpm_base.specs.declared.kind.Kind.TheVariants.{Ibm3740, Hd4, Hd8}
 use Rattle.mpm_port.specs.Disks.{Disks}
@@ -38,11 +39,11 @@ bytes_of_some : (image : Option (List ℕ)) (bytes : ℕ) → length (unwrap_or 
 bytes_of_some None bytes size some = absurd (omega (arith, size, some))
 bytes_of_some (Some image) bytes size some = refl
 
-image_told : (disks : Option Disks) (number : ℕ) (kind : Kind) → length (told_images disks number) ≡ (geometry_of kind).bytes → told_image disks number ≡ Some (told_images disks number)
+pub image_told : (disks : Option Disks) (number : ℕ) (kind : Kind) → length (told_images disks number) ≡ (geometry_of kind).bytes → told_image disks number ≡ Some (told_images disks number)
 unfolding told_images
 image_told disks number kind size = bytes_of_some (told_image disks number) (geometry_of kind).bytes size (some_bytes kind)
 
-told_is : (disks : Option Disks) (number : ℕ) (image : List ℕ) → told_image disks number ≡ Some image → image ≡ told_images disks number
+pub told_is : (disks : Option Disks) (number : ℕ) (image : List ℕ) → told_image disks number ≡ Some image → image ≡ told_images disks number
 unfolding told_images
 told_is disks number image told = sym (ap (λ found. unwrap_or found []) told)
 
@@ -72,10 +73,6 @@ no_work image directory before j (Some work) works = absurd works
 idle_works : (image now : List ℕ) (directory new : Option Directory) (before : Drive) (j k : ℕ) (work : Option Work) → WorksOn image directory before None j work → WorksOn now new before None k work
 idle_works image now directory new before j k None works = tt
 idle_works image now directory new before j k (Some work) works = absurd works
-
--- the service that serves a situation
-same_service : (one other : InService) → Some one ≡ Some other → one ≡ other
-same_service one other same = cc
 
 -- what a situation's drives are, with so many turns of its job ended
 pub job_drives : (s : Situation) (job : Job) (j : ℕ) → job_of s ≡ Some job → drives_after s j ≡ slice_set s.filing.drives (drive_number s) (Some (units_done (drive_at s) job j))
@@ -125,7 +122,7 @@ stands_working number image directory before job j None its works = absurd works
 stands_working number image None before job j (Some work) its works = absurd works
 stands_working number image (Some d) before job j (Some work) its works = record { number_is = its; stands = works.stands }
 
-stands_still : (number : ℕ) (image now : List ℕ) (directory : Option Directory) (drive : Option Drive) → (is_some directory ≡ true → now ≡ image) → StandsWhere number image directory drive → StandsWhere number now directory drive
+pub stands_still : (number : ℕ) (image now : List ℕ) (directory : Option Directory) (drive : Option Drive) → (is_some directory ≡ true → now ≡ image) → StandsWhere number image directory drive → StandsWhere number now directory drive
 stands_still number image now None None same stands = tt
 stands_still number image now None (Some drive) same stands = absurd stands
 stands_still number image now (Some d) None same stands = absurd stands
@@ -210,15 +207,12 @@ stands_beside images now old new s j job number is apart place image stand =
     (subst (StandsWhere number (now number) (directory_at old number)) (sym (drive_beside s j job number is apart))
     (stands_still number (images number) (now number) (directory_at old number) (slice_index_or (drives_after s j) number None) image (stand.each number)))
 
-same_number : (one other : ℕ) → Some one ≡ Some other → one ≡ other
-same_number one other same = cc
-
 -- where its drive isn't this one
 served_elsewhere : (images : ℕ → List ℕ) (kept : Kept) (s : Situation) (j number : ℕ) → Serves images kept s j → number ≢ drive_number s → drive_served kept.service ≢ Some number
 served_elsewhere images kept s j number serves apart = λ same.
-    apart (sym (same_number (drive_number s) number (sym (ap drive_served serves.there ∙ ap (λ n. Some n) serves.is.drive) ∙ same)))
+    apart (sym (same_Some (drive_number s) number (sym (ap drive_served serves.there ∙ ap (λ n. Some n) serves.is.drive) ∙ same)))
 
-same_images : (disks now : Option Disks) (number : ℕ) → told_image now number ≡ told_image disks number → told_images now number ≡ told_images disks number
+pub same_images : (disks now : Option Disks) (number : ℕ) → told_image now number ≡ told_image disks number → told_images now number ≡ told_images disks number
 unfolding told_images
 same_images disks now number same = ap (λ image. unwrap_or image []) same
 
@@ -229,7 +223,7 @@ serves_more disks now old new s j job is kept images serves serving =
     let number : ℕ = drive_number s in
     let call = found_by new.service now new.mounted (drive_at s) job (suc j) serving in
     let same : without_work call.one ≡ without_work serves.service =
-    same_service (without_work call.one) (without_work serves.service) (sym (ap (option_map without_work) call.there) ∙ kept.service ∙ ap (option_map without_work) serves.there) in
+    same_Some (without_work call.one) (without_work serves.service) (sym (ap (option_map without_work) call.there) ∙ kept.service ∙ ap (option_map without_work) serves.there) in
     let served = kept_call serves.service call.one s same serves.is in
     let its : IfSome (directory_at new.mounted number) (λ d. d.drive ≡ number) =
     by_label (λ label. label.0 ≡ number) (directory_at old.mounted number) (directory_at new.mounted number) (kept.labels number)

@@ -10,7 +10,7 @@ set_long (y ∷ ys) zero x = refl
 set_long (y ∷ ys) (suc n) x = ap (λ k. suc k) (set_long ys n x)
 
 -- what is so of what comes into a place and of what stands in each stays so of each
-set_each : {X : Type 0} (P : ℕ → X → Type 0) (xs : List (Option X)) (n : ℕ) (x : X) → P n x → ((number : ℕ) → IfSome (slice_index_or xs number None) (P number))
+pub set_each : {X : Type 0} (P : ℕ → X → Type 0) (xs : List (Option X)) (n : ℕ) (x : X) → P n x → ((number : ℕ) → IfSome (slice_index_or xs number None) (P number))
     → (number : ℕ) → IfSome (slice_index_or (slice_set xs n (Some x)) number None) (P number)
 set_each P [] n x here each number = tt
 set_each P (y ∷ ys) zero x here each zero = here
@@ -18,7 +18,7 @@ set_each P (y ∷ ys) zero x here each (suc number) = each (suc number)
 set_each P (y ∷ ys) (suc n) x here each zero = each 0
 set_each P (y ∷ ys) (suc n) x here each (suc number) = set_each (λ k. P (suc k)) ys n x here (λ k. each (suc k)) number
 
-no_place : {X : Type 0} (P : ℕ → X → Type 0) (n number : ℕ) → IfSome (slice_index_or (replicate n None) number None) (P number)
+pub no_place : {X : Type 0} (P : ℕ → X → Type 0) (n number : ℕ) → IfSome (slice_index_or (replicate n None) number None) (P number)
 no_place P zero number = tt
 no_place P (suc n) zero = tt
 no_place P (suc n) (suc number) = no_place (λ k. P (suc k)) n number

@@ -112,7 +112,7 @@ starts_on_drives old new None other workless kept before = λ none.
 starts_on_drives old new (Some function) other workless kept before = λ none.
     workless refl (λ number. ap (λ (k : Kept). directory_at k.mounted number) (sym kept) ∙ none number)
 
-none_before : (one other : Option Directory) → option_map labelled other ≡ option_map labelled one → other ≡ None → one ≡ None
+pub none_before : (one other : Option Directory) → option_map labelled other ≡ option_map labelled one → other ≡ None → one ≡ None
 none_before None other same none = refl
 none_before (Some directory) other same none = absurd (nothing_some (labelled directory) (sym (ap (option_map labelled) none) ∙ same))
 

@@ -1,5 +1,5 @@
 -- The job of a call that nothing refuses suits the drive that it names.
-use Rattle.std.proofs.Common.{◌≡◌, ◌≢◌, ◌∙◌, ℕ, zero, suc, ◌+◌, ◌%◌, ◌<◌, ◌≤◌, ◌==◌, ◌&&◌, not, Bool, true, false, cond, List, Option, Some, None, IfSome, length, sym, refl, ap, subst, arith}
+use Rattle.std.proofs.Common.{◌≡◌, ◌≢◌, ◌∙◌, ℕ, suc, ◌+◌, ◌%◌, ◌<◌, ◌≤◌, ◌==◌, ◌&&◌, not, Bool, true, false, cond, List, Option, Some, None, IfSome, length, sym, refl, ap, subst, arith}
 use Rattle.std.specs.Prelude.{is_some, nat_lt, slice_index, if◌then◌else◌}
 use Rattle.std.specs.FinMap.{get}
 use Rattle.std.proofs.lemmas.Bool.{or_parts}
@@ -27,7 +27,7 @@ use Rattle.mpm_requests.specs.Filing.{Situation, block, HaveUsers}
 use Rattle.mpm_requests.specs.Subjects.{drive_at, open_key, own_file, new_file, is_there, subject_by, subject, first_by, first_record, data_byte}
 use Rattle.mpm_functions.specs.Refusals.{refusals_of}
 use Rattle.mpm_requests.specs.Refusals.{has_question, is_missing, makes_xfcb, one_if, lacks_xfcb, lacks_label, needed_by, existing_file, is_directory_full, applies, refusal_of}
-use Rattle.mpm_bdos.specs.Jobs.{filled, with_stamp, with_one, with_protection, with_new_name, made_xfcb, job_on, is_cut_at, count_until, free_count, reading_job, writing_job, testing_job, making_job, labelling_job, guarding_job, job_by, unless_refused, job_of}
+use Rattle.mpm_bdos.specs.Jobs.{filled, with_stamp, with_one, with_protection, with_new_name, made_xfcb, job_on, free_count, reading_job, writing_job, testing_job, making_job, labelling_job, guarding_job, job_by, unless_refused, job_of}
 use Rattle.mpm_bdos.specs.Ending.{is_moving}
 use Rattle.mpm_bdos.specs.Serving.{IsCaller}
 use Rattle.mpm_requests.proofs.AskedLaws.{file_is}
@@ -35,6 +35,7 @@ use Rattle.mpm_bdos.proofs.Filling.{filled_room}
 use Rattle.mpm_bdos.proofs.Granted.{none_applies}
 use Rattle.mpm_bdos.proofs.Absent.{absent, is_other}
 use Rattle.mpm_bdos.proofs.NamedFiles.{subject_user}
+use Rattle.mpm_bdos.proofs.EndingLaws.{free_within}
 
 -- what is so of each call: of its caller, of the users of open files, and of the bytes of its block
 pub record IsCall (s : Situation) : Type 0 where
@@ -74,19 +75,6 @@ not_beyond : (s : Situation) → applies s (subject s) BeyondFile ≡ false → 
 unfolding applies
 not_beyond s e = within_file (first_record s) s.caller.multi e
 
-few_more : (b : Bool) (k count : ℕ) → k ≤ count → cond b 0 (suc k) ≤ suc count
-few_more true k count h = omega arith
-few_more false k count h = omega arith
-
-few_until : (stops : ℕ → Bool) (n count : ℕ) → count_until stops n count ≤ count
-unfolding count_until
-few_until stops n zero = omega arith
-few_until stops n (suc count) = few_more (stops n) (count_until stops (n + 1) count) count (few_until stops (n + 1) count)
-
-few_free : (s : Situation) → free_count s ≤ s.caller.multi
-unfolding free_count
-few_free s = few_until (is_cut_at s s.function) (first_record s) s.caller.multi
-
 reading_suits : (s : Situation) → IsCall s → first_record s ≤ 262271 → Suits (drive_at s) (reading_job s)
 reading_suits s call low = built (drive_at s) (reading_job s) _ refl (user_of s call) low call.caller.few tt
 
@@ -99,12 +87,12 @@ sequential_reading_suits s call is = reading_suits s call (omega (arith, sequent
 
 writing_suits : (s : Situation) → IsCall s → first_record s + s.caller.multi ≤ 262144 → Suits (drive_at s) (writing_job s (free_count s))
 writing_suits s call last =
-    built (drive_at s) (writing_job s (free_count s)) _ refl (user_of s call) (omega (arith, last)) (omega (arith, few_free s, call.caller.few))
-    (omega (arith, last, few_free s))
+    built (drive_at s) (writing_job s (free_count s)) _ refl (user_of s call) (omega (arith, last)) (omega (arith, free_within s, call.caller.few))
+    (omega (arith, last, free_within s))
 
 testing_suits : (s : Situation) → IsCall s → first_record s + s.caller.multi ≤ 262144 → Suits (drive_at s) (testing_job s (free_count s))
 testing_suits s call last =
-    built (drive_at s) (testing_job s (free_count s)) _ refl (user_of s call) (omega (arith, last)) (omega (arith, few_free s, call.caller.few)) tt
+    built (drive_at s) (testing_job s (free_count s)) _ refl (user_of s call) (omega (arith, last)) (omega (arith, free_within s, call.caller.few)) tt
 
 -- files that are opened, deleted, and whose attributes are set
 opening_suits : (s : Situation) (stamp : Option (List ℕ)) → IsCall s → Suits (drive_at s) (with_stamp stamp (job_on s kinds.Nothing))

@@ -1,6 +1,6 @@
 -- What bounds a reply: few records are done where something ended them, a position is one that a block can have, and the records that
 -- were read stand at the front of their job's bytes.
-use Rattle.std.proofs.Common.{◌≡◌, ◌∙◌, ◌⊎◌, inl, inr, ℕ, zero, suc, ◌+◌, ◌*◌, ◌/◌, ◌≤◌, ◌<◌, ◌==◌, not, Bool, true, false, cond, List, [], ◌∷◌, ◌++◌, Option, Some, None, IfSome, length, refl, sym, ap, subst, arith, eqb-true}
+use Rattle.std.proofs.Common.{◌≡◌, ◌∙◌, ◌⊎◌, inl, inr, ℕ, zero, suc, ◌+◌, ◌*◌, ◌/◌, ◌≤◌, ◌<◌, ◌==◌, not, Bool, true, false, cond, List, [], ◌∷◌, ◌++◌, Option, Some, None, IfSome, length, refl, sym, ap, subst, arith, eqb-true, take_all}
 use Rattle.std.specs.Prelude.{is_some, nat_le, sum_by, option_and_then}
 use Rattle.std.specs.FinMap.{get}
 use Rattle.std.proofs.lemmas.Bool.{false≢true, cases_lt}
@@ -23,7 +23,6 @@ use Rattle.mpm_files.specs.Units.{ReadsRecord, stages, last_of, applied}
 use Rattle.mpm_files.specs.Plans.{Plan, file_of_job, behind, unless_failing, reading, plan_by, plan_of, turns_of}
 use Rattle.mpm_files.specs.Serving.{records_moved, moved_after, all_read, records_after, IsServing}
 use Rattle.mpm_files.specs.Turning.{Suits}
-use Rattle.mpm_files.proofs.TurnLaws.{take_all}
 use Rattle.mpm_bdos.specs.declared.ends.RecordEnd.{RecordEnd}
 use Rattle.mpm_bdos.specs.declared.ends.RecordEnd.TheVariants.{Failing}
 use Rattle.mpm_functions.specs.declared.functions.FileFunction.{FileFunction}
@@ -271,7 +270,7 @@ read_each (suc count) drive file n =
 count_read : (drive : Drive) (job : Job) → job.kind ≡ kinds.Read → length (records_after drive job (turns_of drive job)) ≡ moved_after drive job (turns_of drive job)
 unfolding plan_of
 count_read drive job is =
-    ap (λ units. length (all_read drive units)) (take_all (plan_of drive job).units (turns_of drive job) (omega arith))
+    ap (λ units. length (all_read drive units)) (take_all (turns_of drive job) (plan_of drive job).units (omega arith))
     ∙ ap (λ kind. length (all_read drive (plan_by drive job kind).units)) is
     ∙ read_each job.count drive (file_of_job job) job.first
     ∙ sym (ap (λ kind. sum_by records_moved (plan_by drive job kind).units) is)

@@ -17,16 +17,9 @@ ghost use Rattle.mpm_bdos.specs.Telling as spec;
 use crate::replies::told_bytes;
 use mpm_dirent::{Entry, FileEntry, plain_name};
 use mpm_fcb::{ControlBlock, three_bytes, with_attributes};
-use mpm_mount::Mounted;
+use mpm_mount::{Mounted, last_extent};
 use mpm_opens::Mode;
 use mpm_requests::{FoundEntry, Protection, attributes, attributes_of, count, xfcb};
-
-/// The last extent of an entry of a file.
-fn last_of(file: &FileEntry) -> u16
-    ensures { result ≡ extent_of file.now }
-{
-    32 * u16::from(file.s2) + u16::from(file.ex)
-}
 
 /// An entry of a file, as a search tells it.
 fn told_file(file: &FileEntry) -> [u8; 128]
@@ -35,7 +28,7 @@ fn told_file(file: &FileEntry) -> [u8; 128]
     ensures { result ≡ spec.told_file file.now }
 {
     let name = with_attributes(&plain_name(&file.name), &attributes_of(&file.name));
-    told_bytes(file.user, &name, last_of(file), file.rc)
+    told_bytes(file.user, &name, last_extent(file), file.rc)
 }
 
 /// A directory entry, as a search tells it, if it is one of a file.

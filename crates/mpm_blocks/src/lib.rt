@@ -1,6 +1,5 @@
 //! The geometries of disks: their sizes and disk parameter blocks, where their sectors are in an image, and
-//! which of their blocks are used. (CP/M
-//! Alteration Guide, "Disk Parameter Tables".)
+//! which of their blocks are used. (CP/M Alteration Guide, "Disk Parameter Tables".)
 #![tactic(auto)]
 
 mod blocks;

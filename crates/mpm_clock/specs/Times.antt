@@ -33,7 +33,7 @@ at_moment clock moment =
 unfoldable pub set_to : Clock → Moment → Clock
 set_to clock moment = record (at_moment clock moment) { ticks = 0 }
 
--- a clock that begins at a moment, on whom nobody waits
+-- a clock that begins at a moment, for which nobody waits
 unfoldable pub new_clock : Moment → Clock
 new_clock moment = record {
   date = moment.date;

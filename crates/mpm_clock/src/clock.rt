@@ -58,7 +58,7 @@ impl Clock {
         self.moment
     }
 
-    /// Sets the date and the time; a second begins. (MP/M II Programmer's Guide, function 104.)
+    /// Sets the date and the time; a second begins. (MP/M II Programmer's Guide, "Function 104: Set Date and Time".)
     #[tactic(auto, using(crate::proofs::ClockLaws::clock_set), unfolding(crate::specs::Times::set_to))]
     pub fn set(&mut self, to: Moment)
         requires { IsTime to }
@@ -68,7 +68,7 @@ impl Clock {
         self.ticks = 0;
     }
 
-    /// A process waits for so many ticks. (MP/M II Programmer's Guide, function 141.)
+    /// A process waits for so many ticks. (MP/M II Programmer's Guide, "Function 141: Delay".)
     #[tactic(auto, using(crate::proofs::ClockLaws::room_for_delay), unfolding(crate::specs::Times::delayed))]
     pub fn delay(&mut self, p: Pid, ticks: u16)
         requires once { delays_of self.old.delays p ≡ 0 }
@@ -86,7 +86,7 @@ impl Clock {
         self.delays.leave(p);
     }
 
-    /// A tick: the time goes on, each delay is lowered, and whose delay ends is woken.
+    /// A tick: the time goes on, each delay is lowered, and a process whose delay ends is woken.
     #[tactic(auto, unfolding(crate::specs::Times::ticked))]
     pub fn tick(&mut self) -> Woken
         ensures clock { self.new ≡ ticked self.old }

@@ -73,7 +73,7 @@ impl Delays {
         &self.items[..self.count as usize]
     }
 
-    /// A tick lowers each delay; who waits no more is woken.
+    /// A tick lowers each delay; a process whose delay ends is woken.
     pub(crate) fn tick(&mut self) -> Woken
         ensures delays { self.new ≡ left_by_tick self.old }
         ensures woken { result ≡ woken_by_tick self.old }
@@ -106,7 +106,7 @@ impl Delays {
     }
 }
 
-/// Whether two numbers are one.
+/// Whether two numbers are the same.
 fn is_same(a: Pid, b: Pid) -> bool
     ensures { result ≡ (a == b) }
 {

@@ -6,7 +6,8 @@ use crate::moment::Moment;
 use mpm_base::Call;
 
 /// The moment that a call names by the first four bytes that it read: a date, low byte first, and an hour and a minute in
-/// packed decimal. None where they are none of the day. (MP/M II Programmer's Guide, function 104.)
+/// packed decimal. None where they are no time of the day. (MP/M II Programmer's Guide, "Function
+/// 104: Set Date and Time".)
 #[tactic(auto, unfolding(crate::specs::PackedDecimal::names_time, crate::specs::PackedDecimal::named_moment))]
 pub fn moment_in(call: &Call) -> Option<Moment>
     ensures named { MatchOption result (names_time call.now ≡ false) (λ moment. (names_time call.now ≡ true) × (moment ≡ named_moment call.now)) }
@@ -43,7 +44,8 @@ pub fn packed(number: u8) -> u8
     16 * (number / 10) + number % 10
 }
 
-/// A date, low byte first, an hour and a minute in packed decimal. (MP/M II Programmer's Guide, function 105.)
+/// A date, low byte first, an hour and a minute in packed decimal. (MP/M II Programmer's Guide, "Function 105: Get
+/// Date and Time".)
 pub fn stamp(moment: Moment) -> [u8; 4]
     requires { IsTime moment }
     ensures { result ≡ stamp_of moment }

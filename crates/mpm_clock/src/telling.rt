@@ -9,6 +9,8 @@ use mpm_base::Reply;
 
 /// Tells the date, the hour and the minute at an address, and the second as the value. (MP/M II Programmer's Guide, "Function
 /// 105: Get Date and Time".)
+#[cold]
+#[inline(never)]
 pub fn tell_date(now: Moment, at: u16, reply: &mut Reply)
     requires { IsTime now }
     ensures { reply.new ≡ record (answering (packed_decimal now.second)) { at = at; bytes = stamp_of now } }
@@ -17,6 +19,8 @@ pub fn tell_date(now: Moment, at: u16, reply: &mut Reply)
 }
 
 /// Tells the date and the time at an address. (MP/M II Programmer's Guide, "Function 155: Get Date and Time".)
+#[cold]
+#[inline(never)]
 pub fn tell_time(now: Moment, at: u16, reply: &mut Reply)
     requires { IsTime now }
     ensures { reply.new ≡ record (answering 0) { at = at; bytes = stamp_of now ++ packed_decimal now.second ∷ [] } }

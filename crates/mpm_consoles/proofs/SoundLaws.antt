@@ -6,8 +6,8 @@ use Rattle.std.proofs.lemmas.List.{get_or-set_same, get_or-set_other, get_or_def
 use Rattle.std.proofs.Math.ListN.{get_or-map}
 use Rattle.mpm_ready.specs.Order.{Member, in_list, without_slot, put_in}
 use Rattle.mpm_ready.specs.Tables.{list_at, no_lists, inserted, removed}
-use Rattle.mpm_ready.proofs.OrderLaws.{in_list_put_in, in_list_without_slot, without_slot_absent, first_none}
-use Rattle.mpm_ready.proofs.TableLaws.{list_at_inserted, list_at_inserted_other, list_at_removed, table_removed, table_inserted, table_none, list_at_none, none_in_none, not_itself}
+use Rattle.mpm_ready.proofs.OrderLaws.{in_list_put_in, in_list_without_slot, without_slot_absent, first_none, without_slot_gone}
+use Rattle.mpm_ready.proofs.TableLaws.{list_at_inserted, list_at_inserted_other, list_at_removed, table_removed, table_inserted, table_none, list_at_none, none_in_none}
 use Rattle.mpm_consoles.specs.Console.{Console, new_console, is_owner, passed_to, with_raw, with_output_stopped, awaited_for, awaiting, without_wait_of, resumed, typed, without_first, spoken, written, IsProper}
 use Rattle.mpm_consoles.specs.Consoles.{Consoles, no_owners, console_at, HasConsole, HasUnit, owner_of, owns, place_of, waiters_of, first_waiter, waits_for, WaitsNowhere, with_console, MayWait, IsSound}
 use Rattle.mpm_consoles.specs.Handling.{given, unlisted, listed, first_taken, raw_set, gate_wait_begun, put_out, units_without_waiter}
@@ -172,9 +172,6 @@ sound_listed t p priority unit sound has small nowhere some other = record {
 pub nobody_first : (t : Consoles) (unit : Unit) → first_waiter t unit ≡ None → MayWait None (waiters_of t unit)
 nobody_first t unit none = record { free = λ _. first_none (waiters_of t unit) none; others = λ p is. absurd (cc) }
 
-out : (ms : List Member) (p : ℕ) → in_list p (without_slot p ms) ≡ false
-out ms p = in_list_without_slot ms p p ∙ not_itself _ _ (eq-eqb p p refl)
-
 for_one : (p : ℕ) (ms : List Member) → in_list p ms ≡ false → MayWait (Some p) ms
 for_one p ms absent = record {
   free = λ none. absurd (cc);
@@ -183,7 +180,7 @@ for_one p ms absent = record {
 
 pub for_unlisted : (t : Consoles) (unit : Unit) (p : ℕ) → MayWait (Some p) (waiters_of (unlisted t p) unit)
 unfolding unlisted
-for_unlisted t unit p = for_one p _ (ap (in_list p) (list_at_removed t.waiters p (place_of unit)) ∙ out (waiters_of t unit) p)
+for_unlisted t unit p = for_one p _ (ap (in_list p) (list_at_removed t.waiters p (place_of unit)) ∙ without_slot_gone p (waiters_of t unit))
 
 pub for_absent : (t : Consoles) (unit : Unit) (p : ℕ) → waits_for t p unit ≡ false → MayWait (Some p) (waiters_of t unit)
 for_absent t unit p absent = for_one p (waiters_of t unit) absent

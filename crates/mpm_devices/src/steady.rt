@@ -1,6 +1,4 @@
-ghost use Rattle.std.specs.Prelude.{◌≡◌, ◌≢◌, ◌⊎◌, ℕ, Some, IsSome, IfSome, IfOk, OnOk, OnErr};
-ghost use Rattle.mpm_port.specs.Causes.{HasCause, names_after};
-ghost use Rattle.mpm_port.specs.Disks.{IsInside, SameDisks, Attaches, Writes, Told, image_of, sector_of};
+ghost use Rattle.std.specs.Prelude.{◌≡◌, Some};
 ghost use Rattle.mpm_port.specs.MemoryDisks.{disks_of, size_of, is_unsynced, sizes_told};
 ghost use Rattle.mpm_devices.specs.Steady.{IsSteady};
 

@@ -1,5 +1,5 @@
--- Which process runs: the first of the ready list. (MP/M II System Guide, "Dispatcher"; Programmer's Guide, functions 142,
--- 144 and 145.)
+-- Which process runs: the first of the ready list. (MP/M II System Guide, "Dispatcher"; Programmer's Guide, "Function
+-- 142: Dispatch", "Function 144: Create Process", "Function 145: Set Priority".)
 use Rattle.std.specs.Prelude.{◌≡◌, ℕ, Bool, false, not, Option, Some, None, List, [], ◌∷◌, ◌++◌, ◌&&◌, ◌||◌, ◌==◌, map, if◌then◌else◌}
 use Rattle.z80_regs.specs.declared.regs.Regs.{Regs}
 use Rattle.mpm_ready.specs.Order.{Member, first_of}

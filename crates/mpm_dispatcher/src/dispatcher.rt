@@ -18,13 +18,16 @@ use z80_regs::Regs;
 /// The number of the ready list.
 pub const READY: u8 = 0;
 
-/// The processes, the lists in which they stand, who runs, and whose held calls were completed.
+/// The processes, the lists in which they stand, the one that runs, and those whose held calls were completed.
 #[derive(Drop)]
 pub struct Dispatcher {
+    /// The processes, by slot.
     pub procs: Procs,
+    /// The lists in which they stand: that of the number `READY`, and those that the kernel gives a meaning.
     pub lists: Lists,
     /// The process that runs.
     pub running: Option<Pid>,
+    /// Those whose held calls were completed and are still to be answered.
     pub completed: Completed,
 }
 
@@ -96,6 +99,8 @@ impl Dispatcher {
     }
 
     /// A ready process is put behind those of its priority.
+    #[cold]
+    #[inline(never)]
     pub fn rotate(&mut self, p: Pid)
         requires lives { Lives self.old.procs p }
         requires ready { IsReady self.old p }
@@ -106,6 +111,8 @@ impl Dispatcher {
     }
 
     /// A ready process gets another priority, and is put behind those of it.
+    #[cold]
+    #[inline(never)]
     #[tactic(auto, using(mpm_procs::proofs::MapLaws::lives_changed))]
     pub fn set_priority(&mut self, p: Pid, priority: u8)
         requires lives { Lives self.old.procs p }

@@ -1,4 +1,4 @@
-//! The dispatcher: the processes, the lists in which they stand, who runs, and whose held calls were completed.
+//! The dispatcher: the processes, the lists in which they stand, the one that runs, and those whose held calls were completed.
 #![tactic(auto)]
 
 mod completed;

@@ -77,13 +77,16 @@ mounted_more a x images (first ∷ specs) (e ∷ ds) spec d mounted here = (moun
 
 -- and so do drives that none of them is
 
+pub not_listed : (specs front : List DriveSpec) (spec : DriveSpec) (rest : List DriveSpec) → specs ≡ front ++ (spec ∷ rest) → (number : ℕ)
+    → All (λ s. number_of s ≢ number) specs → number ≢ number_of spec
+not_listed specs front spec rest is number apart same =
+    each_at (λ s. number_of s ≢ number) front spec rest
+    (subst (AllByRecursion (λ s. number_of s ≢ number)) is (recursion_from_All (λ s. number_of s ≢ number) specs apart)) (sym same)
+
 pub beside_more : (specs front : List DriveSpec) (spec : DriveSpec) (rest : List DriveSpec) (a b c : ℕ → Option ℕ) (x y z : Option Disks) → specs ≡ front ++ (spec ∷ rest)
     → SameBeside specs a b x y → OnlyDrive (number_of spec) b c y z → SameBeside specs a c x z
 beside_more specs front spec rest a b c x y z is beside only =
-    let other : (number : ℕ) → All (λ s. number_of s ≢ number) specs → number ≢ number_of spec =
-    λ number apart. λ same.
-    each_at (λ s. number_of s ≢ number) front spec rest
-    (subst (AllByRecursion (λ s. number_of s ≢ number)) is (recursion_from_All (λ s. number_of s ≢ number) specs apart)) (sym same) in
+    let other = not_listed specs front spec rest is in
     record {
       drives = λ number apart. only.others number (other number apart) ∙ beside.drives number apart;
       images = λ number apart. only.told number (other number apart) ∙ beside.images number apart;

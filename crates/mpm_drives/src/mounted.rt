@@ -1,10 +1,10 @@
-ghost use Rattle.std.specs.Prelude.{◌≡◌, ◌<◌, ◌≤◌, ◌+◌, true, false, [], ℕ, List, All, IfOk, IfErr, OnOk, OnErr, length};
+ghost use Rattle.std.specs.Prelude.{◌≡◌, ◌≢◌, ◌<◌, ◌≤◌, ◌+◌, true, false, [], ℕ, List, All, IfOk, IfErr, OnOk, OnErr, length};
 ghost use Rattle.mpm_port.specs.Causes.{HasCause};
 ghost use Rattle.mpm_machine_file.specs.Drives.{all_differ};
 ghost use Rattle.mpm_machine_file.specs.MachineFiles.{IsDrive};
 ghost use Rattle.mpm_mount.specs.Mounting.{SameDrives};
 ghost use Rattle.mpm_drives.specs.Images.{image_named};
-ghost use Rattle.mpm_drives.specs.Mounted.{number_of, IsMountedAs, AreMounted, AreAttached, AreSynced, OnlyDrive, SameBeside};
+ghost use Rattle.mpm_drives.specs.Mounted.{number_of, IsMountedAs, AreMounted, AreAttached, AreSynced, StopsSyncing, OnlyDrive, SameBeside};
 ghost use Rattle.mpm_drives.specs.Stopping.{StopsAt, Stops};
 
 use crate::error::BootError;
@@ -42,7 +42,7 @@ impl MountedDrives {
     }
 
     /// Attaches and mounts the drives that a machine file lists, one after another up to the first that can't be; they are
-    /// listed by letter. No image changes, and no other drive.
+    /// listed by letter. No image changes, and no other drive; behind a success each of these is synced.
     ///
     /// # Errors
     /// `BootError::Image` comes exactly where that drive is the first whose image has a fault, `BootError::DiskFault` only
@@ -62,6 +62,8 @@ impl MountedDrives {
             (record { faults = D.faults drives.new; names = D.failed_names drives.new }) error) }
         ensures images { (name : List ℕ) → image_named (D.disks drives.new) name ≡ image_named (D.disks drives.old) name }
         ensures beside { SameBeside specs.now (D.attached drives.old) (D.attached drives.new) (D.disks drives.old) (D.disks drives.new) }
+        ensures fresh { IfOk result (λ mounted. AreSynced (D.unsynced drives.new) mounted) }
+        ensures unsynced { (number : ℕ) → All (λ spec. number_of spec ≢ number) specs.now → D.unsynced drives.new number ≡ D.unsynced drives.old number }
         ensures none { specs.now ≡ [] → drives.new ≡ drives.old }
     {
         let mut items = Vec::new(alloc);
@@ -85,7 +87,7 @@ impl MountedDrives {
     }
 
     /// Brings what was written to the drives to where it stays, one drive after another in order of their letters, up to the
-    /// first that fails. `steps` counts the calls.
+    /// first that fails: then those before it are synced, and the others as they were. `steps` counts the calls.
     pub fn sync<D: Drives, L: Ledger>(
         &self,
         drives: &mut D,
@@ -100,6 +102,7 @@ impl MountedDrives {
         ensures none { self.now ≡ [] → drives.new ≡ drives.old }
         ensures synced { OnOk result (AreSynced (D.unsynced drives.new) self.now) }
         ensures stay { (number : ℕ) → D.unsynced drives.old number ≡ false → D.unsynced drives.new number ≡ false }
+        ensures stops { OnErr result (StopsSyncing self.now (D.unsynced drives.old) (D.unsynced drives.new) steps.old steps.new) }
     {
         for mounted in self.items.as_slice() {
             steps.tick();
@@ -124,6 +127,8 @@ fn mount_drive<D: Drives>(
     ensures err { IfErr result (λ error. StopsAt (image_named (D.disks drives.old)) spec.now
         (record { faults = D.faults drives.old; names = D.failed_names drives.old })
         (record { faults = D.faults drives.new; names = D.failed_names drives.new }) error) }
+    ensures fresh { OnOk result (D.unsynced drives.new (number_of spec.now) ≡ false) }
+    ensures unsynced { (other : ℕ) → other ≢ number_of spec.now → D.unsynced drives.new other ≡ D.unsynced drives.old other }
     ensures only { OnlyDrive (number_of spec.now) (D.attached drives.old) (D.attached drives.new) (D.disks drives.old) (D.disks drives.new) }
 {
     let drive = spec.letter - b'A';

@@ -6,11 +6,11 @@
 ghost use Rattle.std.specs.Prelude.{IfOk};
 ghost use Rattle.mpm_machine_file.specs.MachineFiles.{IsMachine};
 
-use crate::disk::{Slots, at_first, bytes_of, entry, gone, guard, has_files, is_restored, made};
+use crate::disk::{Slots, at_first, bytes_of, entry, gone, has_files, is_restored, made};
 use crate::placed::run_placed;
 use crate::play::{ROUND, fail_behind};
 use mpm_base::Kind;
-use mpm_images::layout_of;
+use mpm_images::{guard, layout_of};
 use mpm_machine_file::{MachineFile, read_machine};
 use mpm_port::{Drives, MemoryDrives, MemorySink};
 use mpm_top::Status;
@@ -193,7 +193,7 @@ fn changed(scene: &Scene<'_>, left: u64) -> Course {
     let mut course = begun(kind, left);
     course.calls(scene.step(2, 1), 1);
     course.puts(scene.step(2, 1), 2, &made(kind, 0));
-    course.puts(scene.step(2, 2), 3, &guard());
+    course.puts(scene.step(2, 2), 3, &guard(16, b'A', 0x80));
     write(scene, &mut course);
     course.calls(scene.step(5, 1), 1);
     course.puts(scene.step(5, 1), 6, &gone(entry(kind, b'G', 0, 1)));

@@ -1,8 +1,10 @@
 //! A disk of each kind with a file of three entries that a program deletes, another that it renames, and one that nobody names; and
 //! what is there of it. Each file's records have its letter throughout, but those that the program writes.
-use crate::play::{is_read, is_written};
 use mpm_base::Kind;
-use mpm_images::{Entry, UNUSED, file, held, image, layout_of, named, place, xfcb};
+use mpm_images::{
+    Entry, UNUSED, directory_sector, file, held, image, is_written, layout_of, named, place,
+    put_sector, read_record, record_at, with,
+};
 use mpm_port::MemoryDrives;
 use std::alloc::{AllocError, Global};
 
@@ -45,26 +47,13 @@ pub(crate) fn made(kind: Kind, records: u8) -> Entry {
 
 /// An entry that was deleted.
 pub(crate) fn gone(entry: Entry) -> Entry {
-    let mut entry = entry;
-    entry[0] = 0xE5;
-    entry
-}
-
-/// The XFCB of that file: mode 80h, and the password SECRET, whose bytes' sum is 06h modulo 256, kept reversed and crossed with that.
-pub(crate) fn guard() -> Entry {
-    let mut entry = xfcb(b'A');
-    entry[12] = 0x80;
-    entry[13] = 6;
-    entry[16..24].copy_from_slice(b"&&RCTECU");
-    entry
+    with(entry, 0, 0xE5)
 }
 
 /// A label that asks for passwords; a file that nobody names; and three entries of G.TXT and of O.TXT, in two sectors.
 pub(crate) fn at_first(kind: Kind) -> Slots {
-    let mut label = named(32, b'L');
-    label[12] = 0x81;
     [
-        label,
+        with(named(32, b'L'), 12, 0x81),
         entry(kind, b'B', 0, 0),
         UNUSED,
         UNUSED,
@@ -79,61 +68,34 @@ pub(crate) fn at_first(kind: Kind) -> Slots {
     ]
 }
 
-/// Where behind the system's tracks the record of a number is of a file's entry.
-fn sector_of(kind: Kind, entry: &Entry, record: u32) -> u32 {
-    let layout = layout_of(kind);
-    let index = (record / layout.block % 2) as usize;
-    let block = if layout.is_wide {
-        u16::from_le_bytes([entry[16 + 2 * index], entry[17 + 2 * index]])
-    } else {
-        u16::from(entry[16 + index])
-    };
-    u32::from(block)
-        .saturating_mul(layout.block)
-        .saturating_add(record % layout.block)
-}
-
 /// The bytes of that image: each file's one record has its letter.
 pub(crate) fn bytes_of(alloc: Global, kind: Kind, slots: &Slots) -> Result<Vec<u8>, AllocError> {
     let mut bytes = image(alloc, kind, slots)?;
     for entry in slots {
         if entry[0] == 0 {
-            put_record(
-                bytes.as_mut_slice(),
-                place(kind, sector_of(kind, entry, 0)),
-                entry[1],
-            );
+            if let Some(at) = record_at(kind, entry, 0) {
+                put_sector(bytes.as_mut_slice(), place(kind, at), &[entry[1]; 128]);
+            }
         }
     }
     Ok(bytes)
-}
-
-/// Gives each byte of a sector of an image this value.
-fn put_record(image: &mut [u8], sector: u32, value: u8) {
-    let first = (sector as usize).saturating_mul(128);
-    for byte in 0..128 {
-        if let Some(old) = image.get_mut(first.saturating_add(byte)) {
-            *old = value;
-        }
-    }
 }
 
 /// Puts the directory's first sectors, and the records that are written, as they were.
 pub(crate) fn is_restored(drives: &mut MemoryDrives, kind: Kind) -> bool {
     let slots = at_first(kind);
     for sector in 0..3 {
-        let mut bytes = [0; 128];
-        for (byte, value) in bytes.iter_mut().enumerate() {
-            *value = slots[(sector % 3) as usize * 4 + byte / 32 % 4][byte % 32];
-        }
-        if !is_written(drives, place(kind, sector), &bytes) {
+        let bytes = directory_sector(&slots, sector as usize * 4);
+        if !is_written(drives, kind, sector, &bytes) {
             return false;
         }
     }
     let entry = made(kind, 16);
     for record in 0..16 {
-        let sector = place(kind, sector_of(kind, &entry, record));
-        if !is_written(drives, sector, &[0xE5; 128]) {
+        let Some(at) = record_at(kind, &entry, record) else {
+            return false;
+        };
+        if !is_written(drives, kind, at, &[0xE5; 128]) {
             return false;
         }
     }
@@ -157,17 +119,10 @@ pub(crate) fn has_files(drives: &mut MemoryDrives, kind: Kind, slots: &Slots) ->
 
 /// Whether a sector of the directory has its four entries.
 fn has_entries(drives: &mut MemoryDrives, kind: Kind, slots: &Slots, sector: u32) -> bool {
-    let mut bytes = [0; 128];
-    if !is_read(drives, place(kind, sector), &mut bytes) {
-        return false;
+    match read_record(drives, kind, sector) {
+        Some(bytes) => bytes == directory_sector(slots, sector as usize % 3 * 4),
+        None => false,
     }
-    for (byte, value) in bytes.iter().enumerate() {
-        let slot = (sector % 3) as usize * 4 + byte / 32 % 4;
-        if slots[slot][byte % 32] != *value {
-            return false;
-        }
-    }
-    true
 }
 
 /// Whether a file's records are there that its entry counts.
@@ -176,13 +131,22 @@ fn has_records(drives: &mut MemoryDrives, kind: Kind, entry: &Entry) -> bool {
         return true;
     }
     for record in 0..entry[15] {
-        let mut bytes = [0; 128];
-        let sector = place(kind, sector_of(kind, entry, u32::from(record)));
-        if !is_read(drives, sector, &mut bytes) || bytes != [byte_of(entry[1], record); 128] {
+        if !has_record(drives, kind, entry, record) {
             return false;
         }
     }
     true
+}
+
+/// Whether a record of a file is there.
+fn has_record(drives: &mut MemoryDrives, kind: Kind, entry: &Entry, number: u8) -> bool {
+    let Some(at) = record_at(kind, entry, u32::from(number)) else {
+        return false;
+    };
+    match read_record(drives, kind, at) {
+        Some(bytes) => bytes == [byte_of(entry[1], number); 128],
+        None => false,
+    }
 }
 
 /// The byte of a record by its number and by its file's letter; the renamed file has the old one's.

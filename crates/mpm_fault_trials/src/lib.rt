@@ -1,4 +1,5 @@
-//! Tests of runs of whose devices a call fails: each of their calls in turn, up to the last that they make.
+//! Tests of runs of whose devices a call fails: of the files, or of the drives and the sink, each of their calls in turn up to the last
+//! that they make.
 #![tactic(auto)]
 
 #[cfg(test)]
@@ -11,5 +12,7 @@ mod placed;
 mod play;
 #[cfg(test)]
 mod puts;
+#[cfg(test)]
+mod runs;
 #[cfg(test)]
 mod ways;

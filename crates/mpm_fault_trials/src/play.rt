@@ -1,8 +1,6 @@
 //! Runs of a machine that begins, and what they leave of its disk.
-ghost use Rattle.std.specs.Prelude.{ℕ, ◌≡◌, ◌<◌, ◌≤◌, Some};
+ghost use Rattle.std.specs.Prelude.{◌≡◌, ◌<◌, ◌≤◌, Some};
 ghost use Rattle.mpm_port.specs.MemoryDisks.{size_of, disks_of};
-ghost use Rattle.mpm_port.specs.Disks.{IsInside};
-ghost use Rattle.std.specs.Bool.{OnTrue};
 ghost use Rattle.mpm_machine.specs.State.{IsWhole, NoCompletions};
 ghost use Rattle.mpm_machine.specs.Holding.{HoldsDrives};
 
@@ -101,7 +99,7 @@ pub(crate) fn run_booted(
 }
 
 /// Words as they come from a command line.
-fn strings(alloc: Global, words: &[&str]) -> Result<Vec<String>, Fail> {
+pub(crate) fn strings(alloc: Global, words: &[&str]) -> Result<Vec<String>, Fail> {
     let mut strings = Vec::new(alloc);
     for word in words {
         strings.push(String::from_str(alloc, word)?)?;
@@ -129,29 +127,6 @@ pub(crate) fn run_by_words(
     let words = strings(alloc, words)?;
     let mut files = files(alloc, machine, keys)?;
     Ok(run_words(alloc, words.as_slice(), &mut files, drives, sink))
-}
-
-/// Attaches the image `a.img`: whether it has a sector.
-fn has_sector(drives: &mut MemoryDrives, sector: u32) -> bool
-    ensures { OnTrue result (IsInside (size_of drives.new 0) sector) }
-{
-    if drives.attach(0, "a.img") != Ok(()) {
-        return false;
-    }
-    let Ok(size) = drives.size(0) else {
-        return false;
-    };
-    128 * u64::from(sector) + 128 <= size
-}
-
-/// Reads a sector of the image: whether it has that sector.
-pub(crate) fn is_read(drives: &mut MemoryDrives, sector: u32, bytes: &mut [u8; 128]) -> bool {
-    has_sector(drives, sector) && drives.read(0, sector, bytes) == Ok(())
-}
-
-/// Writes a sector of the image: whether it has that sector.
-pub(crate) fn is_written(drives: &mut MemoryDrives, sector: u32, bytes: &[u8; 128]) -> bool {
-    has_sector(drives, sector) && drives.write(0, sector, bytes) == Ok(())
 }
 
 /// Calls the drives up to the call of a number, which fails, and lists one behind that to fail.

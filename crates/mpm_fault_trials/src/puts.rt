@@ -4,7 +4,7 @@ ghost use Rattle.std.specs.Prelude.{◌≤◌};
 
 use crate::play::{run_booted, run_by_words};
 use mpm_base::Kind;
-use mpm_images::{Entry, held, image, place};
+use mpm_images::{Entry, held, image, put_text};
 use mpm_port::{MemoryDrives, MemorySink};
 use mpm_top::Status;
 use std::alloc::Global;
@@ -64,26 +64,13 @@ fn entry(name: &[u8; 11], records: u8, block: u16) -> Entry {
     held(Kind::Hd4, entry, 0, block)
 }
 
-/// Puts a record into an image: what isn't said of it are zeros.
-fn put_record(image: &mut [u8], record: u32, text: &[u8]) {
-    let first = (place(Kind::Hd4, record) as usize).saturating_mul(128);
-    for byte in 0..128 {
-        if let Some(old) = image.get_mut(first.saturating_add(byte)) {
-            *old = match text.get(byte) {
-                Some(new) => *new,
-                None => 0,
-            };
-        }
-    }
-}
-
 /// Puts a program's file into a block: its header of two records, its code, and the bits of that.
 fn put_program(image: &mut [u8], block: u32, code: &[u8]) {
     let first = block % 2048 * 16;
-    put_record(image, first, HEADER);
-    put_record(image, first + 1, b"");
-    put_record(image, first + 2, code);
-    put_record(image, first + 3, b"");
+    put_text(image, Kind::Hd4, first, HEADER);
+    put_text(image, Kind::Hd4, first + 1, b"");
+    put_text(image, Kind::Hd4, first + 2, code);
+    put_text(image, Kind::Hd4, first + 3, b"");
 }
 
 /// Drives with both programs and DATA.DAT, of ten records.

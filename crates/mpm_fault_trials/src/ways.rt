@@ -6,7 +6,7 @@ ghost use Rattle.mpm_port.specs.MemoryDisks.{size_of};
 
 use crate::play::{run_booted, run_by_words};
 use mpm_base::Kind;
-use mpm_images::{file, held, image, place};
+use mpm_images::{file, held, image, put_text};
 use mpm_port::{Drives, MemoryDrives, MemorySink};
 use mpm_top::Status;
 use std::alloc::Global;
@@ -36,22 +36,14 @@ const STEPS: u64 = 2000;
 /// What a run writes where nothing fails.
 const WHOLE: &[u8] = b"c0 0A>hi\\r\nc0 done\\r\nc0 0A>\\\n";
 
-/// Puts the program's records into an image, from the first block of files on: what isn't said of them are zeros.
+/// Puts the program's records into an image, from the first block of files on.
 fn put_program(image: &mut [u8]) {
     for number in 0..4 {
-        let first = (place(Kind::Ibm3740, 16 + number) as usize).saturating_mul(128);
         let text: &[u8] = match PROGRAM.get(number as usize) {
             Some(text) => text,
             None => b"",
         };
-        for byte in 0..128 {
-            if let Some(old) = image.get_mut(first.saturating_add(byte)) {
-                *old = match text.get(byte) {
-                    Some(new) => *new,
-                    None => 0,
-                };
-            }
-        }
+        put_text(image, Kind::Ibm3740, 16 + number, text);
     }
 }
 

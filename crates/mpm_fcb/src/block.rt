@@ -1,4 +1,4 @@
-ghost use Rattle.std.specs.Prelude.{◌≡◌, ◌+◌, ◌≤◌, ◌∷◌, ◌++◌, ℕ, length};
+ghost use Rattle.std.specs.Prelude.{◌≡◌, ◌+◌, ◌≤◌, length};
 ghost use Rattle.mpm_dirent.specs.Entries.{part};
 
 /// A file control block, as it stands in a process's memory. (MP/M II Programmer's Guide, "File Control Block Definition".)

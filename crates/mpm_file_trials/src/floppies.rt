@@ -7,42 +7,23 @@ ghost use Rattle.mpm_file_trials.specs.Floppies.{AreFloppies};
 
 use mpm_base::Kind;
 use mpm_bdos::in_places;
-use mpm_images::{Entry, image, named};
+use mpm_images::{Entry, guard, image, named, put_sector, sector_of, with};
 use mpm_mount::{Mounted, mount};
 use mpm_port::{Drives, Failed, FetchError};
 use std::alloc::Global;
 use std::test::Fail;
 
-/// The password SECRET and two spaces, as directories keep it, by the decode byte 06h.
-const STORED: [u8; 8] = [0x26, 0x26, 0x52, 0x43, 0x54, 0x45, 0x43, 0x55];
-
-/// A file of user 0 that is read-only, by T1'.
-fn read_only(letter: u8) -> Entry {
-    let mut entry = named(0, letter);
-    entry[9] = b'T' + 128;
-    entry
-}
-
-/// An XFCB, or the label, of which byte 12 is given, with the password.
-fn guard(first: u8, letter: u8, mode: u8) -> Entry {
-    let mut entry = named(first, letter);
-    entry[12] = mode;
-    entry[13] = 0x06;
-    entry[16..24].copy_from_slice(&STORED);
-    entry
-}
-
 /// A disk with a label by which passwords hold and that has one itself, and with the files A; G, guarded against reading; P,
-/// read-only and guarded; and R, read-only.
+/// read-only by T1' and guarded; and R, read-only.
 pub(crate) fn small_disk() -> [Entry; 7] {
     [
         guard(32, b'L', 0x81),
         named(0, b'A'),
         named(0, b'G'),
         guard(16, b'G', 0x80),
-        read_only(b'P'),
+        with(named(0, b'P'), 9, b'T' + 128),
         guard(16, b'P', 0x80),
-        read_only(b'R'),
+        with(named(0, b'R'), 9, b'T' + 128),
     ]
 }
 
@@ -61,29 +42,6 @@ pub(crate) fn full_disk() -> [Entry; 64] {
         entry[1..12].copy_from_slice(&name_of_slot((slot % 64) as u8));
     }
     entries
-}
-
-/// Puts a byte into an image.
-fn put(image: &mut Vec<u8>, place: usize, byte: u8) {
-    if let Some(old) = image.get_mut(place) {
-        *old = byte;
-    }
-}
-
-/// A byte of an image.
-fn byte_at(image: &Vec<u8>, place: usize) -> u8 {
-    match image.get(place) {
-        Some(byte) => *byte,
-        None => 0xE5,
-    }
-}
-
-/// Puts a sector into an image.
-fn put_sector(image: &mut Vec<u8>, sector: u32, bytes: &[u8; 128]) {
-    let first = (sector as usize).saturating_mul(128);
-    for (place, byte) in bytes.iter().enumerate() {
-        put(image, first.saturating_add(place), *byte);
-    }
 }
 
 /// The two disks, which drive fails in each call that writes to it, if one does, and the drives that were written and not synced.
@@ -133,10 +91,7 @@ impl Drives for Floppies {
 
     fn read(&mut self, drive: u8, sector: u32, out: &mut [u8; 128]) -> Result<(), Failed> {
         let image = if drive == 0 { &self.a } else { &self.b };
-        let first = (sector as usize).saturating_mul(128);
-        for (place, byte) in out.iter_mut().enumerate() {
-            *byte = byte_at(image, first.saturating_add(place));
-        }
+        *out = sector_of(image.as_slice(), sector);
         Ok(())
     }
 
@@ -147,9 +102,9 @@ impl Drives for Floppies {
             return Err(Failed);
         }
         if drive == 0 {
-            put_sector(&mut self.a, sector, bytes);
+            put_sector(self.a.as_mut_slice(), sector, bytes);
         } else {
-            put_sector(&mut self.b, sector, bytes);
+            put_sector(self.b.as_mut_slice(), sector, bytes);
         }
         Ok(())
     }

@@ -5,26 +5,19 @@ use crate::desk::Line::*;
 use crate::floppies::small_disk;
 use crate::scene::{first_wrong_failing, first_wrong_line};
 use mpm_base::functions::*;
-use mpm_images::{Entry, named};
+use mpm_images::{file, xfcb};
 use std::alloc::Global;
 use std::test::Fail;
-
-/// An entry of user 0 with an extent, or the XFCB of one of its files.
-fn extent(first: u8, letter: u8, ex: u8) -> Entry {
-    let mut entry = named(first, letter);
-    entry[12] = ex;
-    entry
-}
 
 /// Drive A has three entries of a file A, one of B, an XFCB of A, and one of N, which isn't there.
 fn wrong_of(alloc: Global, lines: &[Line<'_>]) -> Result<Option<usize>, Fail> {
     let entries = [
-        extent(0, b'A', 2),
-        extent(0, b'B', 0),
-        extent(0, b'A', 0),
-        extent(16, b'A', 0),
-        extent(0, b'A', 1),
-        extent(16, b'N', 0),
+        file(b'A', 2, 0),
+        file(b'B', 0, 0),
+        file(b'A', 0, 0),
+        xfcb(b'A'),
+        file(b'A', 1, 0),
+        xfcb(b'N'),
     ];
     first_wrong_line(alloc, &entries, &[], lines)
 }

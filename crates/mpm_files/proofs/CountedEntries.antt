@@ -1,5 +1,5 @@
 -- Directory entries that are counted in memory, against the drive that they stand for.
-use Rattle.std.proofs.Common.{◌≡◌, ℕ, ◌+◌, Bool, true, false, ◌&&◌, List, ◌++◌, Option, Some, None, map, length, refl, sym, ap, ◌∙◌, arith}
+use Rattle.std.proofs.Common.{◌≡◌, ℕ, ◌+◌, Bool, true, false, ◌&&◌, List, ◌++◌, Option, Some, None, map, length, refl, sym, ap, ◌∙◌, arith, zero-add, add-zero}
 use Rattle.std.specs.Prelude.{is_some, nat_lt, sum_by, count_by}
 use Rattle.std.specs.List.{list_any, filter}
 use Rattle.std.specs.FinMap.{get, entries, keys}
@@ -111,18 +111,12 @@ there_same image d files file stands =
     ∙ sym (any_counted (is_part_of file) d.entries)
 
 -- what a deletion removes
-plus_none : (n : ℕ) → n + 0 ≡ n
-plus_none n = omega arith
-
-none_plus : (n : ℕ) → 0 + n ≡ n
-none_plus n = omega arith
-
 deleted_by : (sectors : Sectors) (d : Directory) (user : ℕ) (pattern : List ℕ) (e : Entry)
     → of_item (λ p. bit (is_fitting user pattern (record { user = p.0.user; name = p.0.name }))) (extent_from sectors d.kind e)
     + of_item (λ p. bit (is_fitting user pattern p.0 && list_any (is_part_of p.0) d.entries)) (xfcb_from e)
     ≡ bit (is_deleted d user pattern e)
-deleted_by sectors d user pattern (File f) = plus_none (bit (is_fitting user pattern (file_in f.user f.name)))
-deleted_by sectors d user pattern (Xfcb x) = none_plus (bit (is_fitting user pattern (file_in x.user x.name) && list_any (is_part_of (file_in x.user x.name)) d.entries))
+deleted_by sectors d user pattern (File f) = add-zero (bit (is_fitting user pattern (file_in f.user f.name)))
+deleted_by sectors d user pattern (Xfcb x) = zero-add (bit (is_fitting user pattern (file_in x.user x.name) && list_any (is_part_of (file_in x.user x.name)) d.entries))
 deleted_by sectors d user pattern Free = refl
 deleted_by sectors d user pattern (Label l) = refl
 deleted_by sectors d user pattern (Kept bytes) = refl

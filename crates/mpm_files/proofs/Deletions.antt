@@ -1,5 +1,5 @@
 -- How many entries a deletion removes.
-use Rattle.std.proofs.Common.{◌≡◌, ℕ, ◌+◌, Bool, true, false, ◌&&◌, ◌||◌, not, List, [], ◌∷◌, length, refl, sym, ap, ◌∙◌, arith}
+use Rattle.std.proofs.Common.{◌≡◌, ℕ, ◌+◌, Bool, true, false, ◌&&◌, ◌||◌, not, List, [], ◌∷◌, length, refl, sym, ap, ◌∙◌, arith, add-zero}
 use Rattle.std.specs.Prelude.{is_some, sum_by, if◌then◌else◌}
 use Rattle.std.specs.List.{list_any}
 use Rattle.std.specs.FinMap.{get, entries}
@@ -32,9 +32,6 @@ four_ways true true = refl
 four_ways true false = refl
 four_ways false among = refl
 
-plus_none : (n : ℕ) → n ≡ n + 0
-plus_none n = omega arith
-
 one_xfcb : (user : ℕ) (pattern : List ℕ) (entry : FileName × ℕ) (named : List (FileName × ℕ)) (file : FileName) (b : Bool) → is_same_file file entry.0 ≡ b
     → bit (is_fitting user pattern file && (b || list_any (is_entry_of file) named))
     ≡ bit (is_fitting user pattern file && list_any (is_entry_of file) named) + bit (b && (is_fitting user pattern entry.0 && not (list_any (is_entry_of entry.0) named)))
@@ -42,7 +39,7 @@ one_xfcb user pattern entry named file true same =
     four_ways (is_fitting user pattern file) (list_any (is_entry_of file) named)
     ∙ ap (λ (f : FileName). bit (is_fitting user pattern file && list_any (is_entry_of file) named) + bit (true && (is_fitting user pattern f && not (list_any (is_entry_of f) named))))
     (one_file file entry.0 same)
-one_xfcb user pattern entry named file false apart = plus_none (bit (is_fitting user pattern file && list_any (is_entry_of file) named))
+one_xfcb user pattern entry named file false apart = sym (add-zero (bit (is_fitting user pattern file && list_any (is_entry_of file) named)))
 
 never : (b : Bool) → bit (b && false) ≡ 0
 never true = refl
@@ -59,7 +56,7 @@ where_counted : (drive : Drive) (file : FileName) (c : Bool)
 where_counted drive file true = sums_alike (λ q. bit (is_same_file q.0 file && true)) (λ q. bit (is_same_file q.0 file)) (entries drive.xfcbs) (λ q. ap bit (and_all (is_same_file q.0 file))) ∙ its_xfcb drive file
 where_counted drive file false = sums_alike (λ q. bit (is_same_file q.0 file && false)) (λ q. 0) (entries drive.xfcbs) (λ q. never (is_same_file q.0 file)) ∙ sum_nothing (entries drive.xfcbs)
 
-three_tests : (a b c : Bool) → ((a && b) && c) ≡ (a && (b && c))
+pub three_tests : (a b c : Bool) → ((a && b) && c) ≡ (a && (b && c))
 three_tests true b c = refl
 three_tests false b c = refl
 

@@ -1,10 +1,11 @@
 -- Each unit of a plan can be done: what it needs is free, or there, on the drive that those before it left.
-use Rattle.std.proofs.Common.{◌≡◌, ◌≢◌, ℕ, zero, suc, ◌+◌, ◌-◌, ◌*◌, ◌/◌, ◌<◌, Bool, true, false, not, ◌&&◌, ◌==◌, List, [], ◌∷◌, ◌++◌, Option, Some, None, take, length, refl, sym, ap, ◌∙◌, arith}
+use Rattle.std.proofs.Common.{◌≡◌, ◌≢◌, ℕ, zero, suc, ◌+◌, ◌-◌, ◌*◌, ◌/◌, ◌<◌, Bool, true, false, not, ◌&&◌, ◌==◌, List, [], ◌∷◌, ◌++◌, Option, Some, None, take, length, refl, sym, ap, ◌∙◌, arith, add-zero}
 use Rattle.std.specs.Prelude.{is_some, slice_index_or, if◌then◌else◌}
 use Rattle.std.specs.FinMap.{get, len}
-use Rattle.std.proofs.lemmas.Bool.{true≢false, eq-eqb}
+use Rattle.std.proofs.lemmas.Bool.{true≢false}
 use Rattle.mpm_blocks.specs.Geometries.{geometry_of, last_block, block_records}
 use Rattle.mpm_mount.specs.Drives.{FileName, PhysicalExtent, Drive, places, entry_number, entry_name, free_records, free_entries}
+use Rattle.mpm_mount.proofs.Still.{nonzero}
 use Rattle.mpm_files.specs.declared.errors.RecordError.{RecordError}
 use Rattle.mpm_files.specs.declared.errors.RecordError.TheVariants.{Mismatch, NoDirectorySpace, NoDataBlock}
 use Rattle.mpm_files.specs.Units.{FileUnit, Idles, ReadsRecord, PassesRecord, AddsEntry, ClearsBlock, WritesRecord, RemovesEntry, SetsAttributes, RenamesEntry, PutsXfcb, RemovesXfcb, RenamesXfcb, PutsLabel, new_entry, stages, last_of, applied, all_applied}
@@ -72,14 +73,11 @@ no_block_held : (drive : Drive) (file : FileName) (extent : ℕ) → get drive.e
 unfolding applied stages last_of new_entry
 no_block_held drive file extent none = (put_new drive file (entry_number drive.kind extent) (new_entry drive file extent) none (none_held (places drive.kind))).blocks
 
-plus_none : (n : ℕ) → n + 0 ≡ n
-plus_none n = omega arith
-
 pub added_records : (drive : Drive) (file : FileName) (extent : ℕ) → get drive.extents (entry_name drive.kind file extent) ≡ None
     → free_records (applied drive (AddsEntry file extent)) ≡ free_records drive
 unfolding free_records applied stages last_of
 added_records drive file extent none =
-    ap (λ (n : ℕ). (last_block drive.kind + 1 - (geometry_of drive.kind).directory_blocks - n) * block_records drive.kind) (no_block_held drive file extent none ∙ plus_none (held drive))
+    ap (λ (n : ℕ). (last_block drive.kind + 1 - (geometry_of drive.kind).directory_blocks - n) * block_records drive.kind) (no_block_held drive file extent none ∙ add-zero (held drive))
 
 one_fewer : (a e x l k : ℕ) → a - (e + 1 + x + l + k) ≡ a - (e + x + l + k) - 1
 one_fewer a e x l k = omega arith
@@ -102,9 +100,6 @@ not_refused false b true true one other none = absurd (true≢false (ap is_some 
 not_refused false b true false one other none = (λ is. absurd (true≢false (sym is)), λ is. refl)
 not_refused false b false e one other none = (λ is. absurd (true≢false (sym is)), λ is. absurd (true≢false (sym is)))
 
-some_free : (n : ℕ) → (n == 0) ≡ false → n ≢ 0
-some_free n is none = true≢false (sym (eq-eqb n 0 none) ∙ is)
-
 pub record RoomFor (drive : Drive) (file : FileName) (n : ℕ) : Type 0 where
   pub entry : needs_entry drive file n ≡ true → free_entries drive ≢ 0
   pub block : needs_block drive file n ≡ true → free_records drive ≢ 0
@@ -112,7 +107,7 @@ pub record RoomFor (drive : Drive) (file : FileName) (n : ℕ) : Type 0 where
 room_for : (drive : Drive) (file : FileName) (n : ℕ) → write_error drive file n ≡ None → RoomFor drive file n
 room_for drive file n none =
     let both = not_refused (needs_entry drive file n) (free_entries drive == 0) (needs_block drive file n) (free_records drive == 0) NoDirectorySpace NoDataBlock none in
-    record { entry = λ is. some_free (free_entries drive) (both.0 is); block = λ is. some_free (free_records drive) (both.1 is) }
+    record { entry = λ is. nonzero (free_entries drive) (both.0 is); block = λ is. nonzero (free_records drive) (both.1 is) }
 
 -- the units of a record fit
 needed_none : (o : Option PhysicalExtent) → not (is_some o) ≡ true → o ≡ None

@@ -18,12 +18,10 @@ use Rattle.mpm_mount.specs.Changes.{HasRanges}
 use Rattle.mpm_mount.specs.Directories.{Directory, entry_in, extent_slot, xfcb_slot, others}
 use Rattle.mpm_mount.proofs.Distinct.{named_by}
 use Rattle.mpm_mount.proofs.Puts.{ranges_at, still_xfcb_changed}
+use Rattle.mpm_mount.proofs.Still.{file_injective}
 use Rattle.mpm_files.specs.declared.stamps.Stamp.{Stamp}
 use Rattle.mpm_files.specs.declared.stamps.Stamp.TheVariants.{First, Second}
 use Rattle.mpm_files.specs.Lookups.{HasEntry, HasXfcb, stamped_entry}
-
-pub same_file_entry : (f g : FileEntry) → File f ≡ File g → f ≡ g
-same_file_entry f g is = cc
 
 -- a record is one of an extent that a file can have
 low_number : (kind : Kind) (f : FileEntry) (n : ℕ) → HasRanges f → entry_number kind (extent_of f) ≡ entry_number kind (n / 128) → n ≤ 262143
@@ -36,7 +34,7 @@ slot_name : (d : Directory) (file : FileName) (n slot : ℕ) (f : FileEntry) →
 slot_name d file n slot f found is =
     let at = position-Some (is_named d.kind (entry_name d.kind file (n / 128))) d.entries slot Free found in
     let by = named_by d.kind (entry_name d.kind file (n / 128)) (get_or d.entries slot Free) at.1 in
-    ap (λ (g : FileEntry). name_of d.kind g) (same_file_entry f by.file (sym is ∙ by.is)) ∙ by.named
+    ap (λ (g : FileEntry). name_of d.kind g) (file_injective f by.file (sym is ∙ by.is)) ∙ by.named
 
 slot_number : (d : Directory) (file : FileName) (n slot : ℕ) (f : FileEntry) → extent_slot d file (n / 128) ≡ Some slot → entry_in d slot ≡ File f
     → entry_number d.kind (extent_of f) ≡ entry_number d.kind (n / 128)

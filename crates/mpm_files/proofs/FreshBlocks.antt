@@ -2,7 +2,7 @@
 use Rattle.std.proofs.Common.{◌≡◌, ◌≢◌, inl, inr, ℕ, zero, suc, ◌+◌, ◌-◌, ◌*◌, ◌<◌, ◌≤◌, Bool, true, false, ◌==◌, max, List, [], ◌∷◌, ◌++◌, Some, length, map, refl, sym, ap, subst, ◌∙◌, arith, eq-eqb, ne_eqb}
 use Rattle.std.specs.Prelude.{replicate, slice_set, if◌then◌else◌}
 use Rattle.std.specs.List.{AllByRecursion, range_with_len}
-use Rattle.std.proofs.lemmas.Bool.{cases_eq, cases_lt}
+use Rattle.std.proofs.lemmas.Bool.{cases_eq, cases_lt, cond-true, cond-false}
 use Rattle.std.proofs.lemmas.List.{length-replicate}
 use Rattle.mpm_base.specs.declared.kind.Kind.{Kind}
 use Rattle.mpm_base.specs.declared.kind.Kind.TheVariants.{Ibm3740, Hd4, Hd8}
@@ -79,12 +79,6 @@ unfoldable behind_writes : List Write → ℕ → List ℕ → List ℕ
 behind_writes [] s before = before
 behind_writes (w ∷ ws) s before = behind_writes ws s (if w.sector == s then w.bytes else before)
 
-picked : (b : Bool) (x y : List ℕ) → b ≡ true → (if b then x else y) ≡ x
-picked b x y is = ap (λ (c : Bool). if c then x else y) is
-
-passed : (b : Bool) (x y : List ℕ) → b ≡ false → (if b then x else y) ≡ y
-passed b x y is = ap (λ (c : Bool). if c then x else y) is
-
 one_read : (d : Directory) (files : Drive) (block s : ℕ) (w : Write) (image : List ℕ) → IsFreeBlock d block → IsInto d.kind block w → Stands image d files
     → sectors_of (with_sector image (place_of d.kind w.sector) w.bytes) d.kind s ≡ (if w.sector == s then w.bytes else sectors_of image d.kind s)
 one_read d files block s w image free into stands =
@@ -92,8 +86,8 @@ one_read d files block s w image free into stands =
     let written = sectors_written d.kind image w.bytes w.sector stands.size into.long room in
     elim (cases_eq w.sector s) [
       | inl same ↦ ap (sectors_of (with_sector image (place_of d.kind w.sector) w.bytes) d.kind) (sym same) ∙ written.here
-          ∙ sym (picked (w.sector == s) w.bytes (sectors_of image d.kind s) (eq-eqb w.sector s same))
-      | inr apart ↦ written.others s (λ same. apart (sym same)) ∙ sym (passed (w.sector == s) w.bytes (sectors_of image d.kind s) (ne_eqb w.sector s apart))
+          ∙ sym (cond-true (w.sector == s) w.bytes (sectors_of image d.kind s) (eq-eqb w.sector s same))
+      | inr apart ↦ written.others s (λ same. apart (sym same)) ∙ sym (cond-false (w.sector == s) w.bytes (sectors_of image d.kind s) (ne_eqb w.sector s apart))
     ]
 
 all_read : (d : Directory) (files : Drive) (block s : ℕ) (ws : List Write) (image : List ℕ) → IsFreeBlock d block → AreInto d.kind block ws → Stands image d files
@@ -122,7 +116,7 @@ zeros_cover : (first count s : ℕ) (before : List ℕ) → first ≤ s → s < 
 unfolding behind_writes zeros_from
 zeros_cover first zero s before low high = absurd (omega (arith, low, high))
 zeros_cover first (suc count) s before low high = elim (cases_eq first s) [
-  | inl same ↦ ap (behind_writes (map cleared (range_with_len (first + 1) count)) s) (picked (first == s) zeros before (eq-eqb first s same)) ∙ zeros_keep (first + 1) count s
+  | inl same ↦ ap (behind_writes (map cleared (range_with_len (first + 1) count)) s) (cond-true (first == s) zeros before (eq-eqb first s same)) ∙ zeros_keep (first + 1) count s
   | inr apart ↦ zeros_cover (first + 1) count s (if first == s then zeros else before) (omega (arith, low, apart)) (omega (arith, high))
 ]
 
@@ -183,11 +177,11 @@ block_filled d files block clear index bytes image free h less long stands were 
     fresh_block (sectors_of (written d.kind ws image) d.kind) d.kind block index bytes (not_zero d.kind block free.low) less
     (all_read d files block (first + index) ws image free into stands
     ∙ block_behind d.kind block clear index (first + index) bytes (sectors_of image d.kind (first + index))
-    ∙ picked (first + index == first + index) bytes _ (eq-eqb (first + index) (first + index) refl))
+    ∙ cond-true (first + index == first + index) bytes _ (eq-eqb (first + index) (first + index) refl))
     (λ i inside apart.
     all_read d files block (first + i) ws image free into stands
     ∙ block_behind d.kind block clear index (first + i) bytes (sectors_of image d.kind (first + i))
-    ∙ passed (first + index == first + i) bytes _ (ne_eqb (first + index) (first + i) (not_same first i index apart))
+    ∙ cond-false (first + index == first + i) bytes _ (ne_eqb (first + index) (first + i) (not_same first i index apart))
     ∙ within_block first clear index (block_records d.kind) i (sectors_of image d.kind (first + i)) less inside apart (were i))
 
 -- the cleared sectors of one

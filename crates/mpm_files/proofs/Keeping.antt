@@ -106,7 +106,7 @@ unfolding last_of
 last_too P [] drive here each = here
 last_too P (next ∷ drives) drive here each = last_too P drives next each.0 each.1
 
-pub all_both : (P : Drive → Type 0) (xs ys : List Drive) → AllByRecursion P xs → AllByRecursion P ys → AllByRecursion P (xs ++ ys)
+pub all_both : {X : Type 0} (P : X → Type 0) (xs ys : List X) → AllByRecursion P xs → AllByRecursion P ys → AllByRecursion P (xs ++ ys)
 all_both P [] ys each more = more
 all_both P (x ∷ xs) ys each more = (each.0, all_both P xs ys each.1 more)
 

@@ -1,5 +1,5 @@
 -- Why a call ends, once all its turns have ended.
-use Rattle.std.proofs.Common.{◌≡◌, ℕ, ◌+◌, ◌≤◌, Bool, true, false, ◌||◌, List, [], ◌∷◌, Option, Some, None, take, length, refl, sym, ap, ◌∙◌, arith}
+use Rattle.std.proofs.Common.{◌≡◌, ℕ, ◌+◌, ◌≤◌, Bool, true, false, ◌||◌, List, [], ◌∷◌, Option, Some, None, take, length, refl, sym, ap, ◌∙◌, arith, take_all}
 use Rattle.std.specs.Prelude.{is_some, nat_lt, if◌then◌else◌}
 use Rattle.std.specs.List.{list_any}
 use Rattle.std.proofs.lemmas.Bool.{le-ltb}
@@ -17,7 +17,6 @@ use Rattle.mpm_files.specs.Plans.{Plan, Test, behind, unless_failing, file_of_jo
 use Rattle.mpm_files.specs.Counting.{unless_refused, read_count}
 use Rattle.mpm_files.specs.Serving.{is_passing, missed_by, error_after, untested_by, untested_plan, turns_in, IsServing, told_error}
 use Rattle.mpm_files.proofs.Needs.{IsWhole}
-use Rattle.mpm_files.proofs.TurnLaws.{take_all}
 use Rattle.mpm_files.proofs.Tested.{counted_reading, reads_alike, same_reads, still_whole}
 
 -- where records are tested the end is a mismatch, or what it would be if they were read
@@ -95,5 +94,5 @@ error_told before job work whole serving =
     ap (λ b. if b then None else (if work.has_missed then Some Mismatch else work.error)) ended
     ∙ ap (λ b. if b then Some Mismatch else work.error) serving.missed
     ∙ ap (λ e. if missed_by before job j job.kind then Some Mismatch else e) serving.error
-    ∙ ended_by before job j job.kind whole size (ap (list_any is_passing) (take_all (plan_of before job).units j size))
+    ∙ ended_by before job j job.kind whole size (ap (list_any is_passing) (take_all j (plan_of before job).units size))
     ∙ sym (ap (λ b. if b then None else (plan_by before job job.kind).error) over)

@@ -1,8 +1,9 @@
 -- A unit that was done is a turn of its job.
 use Rattle.std.proofs.Common.{◌≡◌, ℕ, suc, ◌+◌, ◌≤◌, ◌<◌, Bool, false, List, [], ◌∷◌, Option, Some, None, Result, Ok, Err, length, sym, ap, subst, ◌∙◌, arith}
 use Rattle.std.proofs.lemmas.List.Quantifiers.{position-Some}
-use Rattle.std.specs.Prelude.{is_some, position, OnOk, OnErr, IfSome}
+use Rattle.std.specs.Prelude.{is_some, position, OnErr, IfSome}
 use Rattle.std.proofs.lemmas.Bool.{true≢false}
+use Rattle.std.proofs.lemmas.Result.{on_ok_weaker}
 use Rattle.mpm_port.specs.Disks.{Disks}
 use Rattle.mpm_blocks.specs.Sectors.{sectors_of, told_image}
 use Rattle.mpm_dirent.specs.declared.kinds.Entry.{Entry}
@@ -21,10 +22,6 @@ use Rattle.mpm_files.specs.Standing.{StandsOn, StandsAmong, StandsWithin, GoesTh
 use Rattle.mpm_files.specs.Turning.{Suits, InService, Contained, one_ended, DoesNext}
 use Rattle.mpm_files.proofs.TurnLaws.{one_turn}
 
-pub on_ok : {A E P Q : Type 0} (result : Result A E) → (P → Q) → OnOk result P → OnOk result Q
-on_ok (Ok x) f p = f p
-on_ok (Err e) f p = tt
-
 pub on_err : {A E P Q : Type 0} (result : Result A E) → (P → Q) → OnErr result P → OnErr result Q
 on_err (Ok x) f p = tt
 on_err (Err e) f p = f p
@@ -39,7 +36,7 @@ pub goes_as : {A E : Type 0} (disks : Option Disks) (drive : ℕ) (now : Directo
     → GoesThrough disks drive now files later result → stages unit files ≡ later → Does disks drive now files unit result
 unfolding applied
 goes_as disks drive now files later unit result goes is = record {
-  ok = on_ok result (subst (λ l. StandsOn disks now (last_of files l)) (sym is)) goes.ok;
+  ok = on_ok_weaker result (subst (λ l. StandsOn disks now (last_of files l)) (sym is)) goes.ok;
   err = on_err result (subst (StandsAmong disks drive files) (sym is)) goes.err;
 }
 
@@ -120,7 +117,7 @@ pub does_next : {A E : Type 0} (disks now : Option Disks) (d e : Directory) (old
 does_next disks now d e old new result none by = record {
   ok = λ before job j suits service h.
       let done = by service.image before job j service.told suits service.service h in
-      on_ok result (in_service now e before job j new done.0 done.1.0 none) done.1.1.ok;
+      on_ok_weaker result (in_service now e before job j new done.0 done.1.0 none) done.1.1.ok;
   err = λ before job j suits service h.
       let done = by service.image before job j service.told suits service.service h in
       on_err result (contained now d.drive before job j done.0 done.1.0.unit_is) done.1.1.err;

@@ -3,7 +3,7 @@ use Rattle.std.proofs.Common.{◌≡◌, ℕ, zero, suc, ◌+◌, ◌-◌, ◌/�
 use Rattle.std.specs.Prelude.{is_some, slice_index_or, if◌then◌else◌}
 use Rattle.std.specs.List.{range_with_len}
 use Rattle.std.specs.FinMap.{get}
-use Rattle.std.proofs.lemmas.Bool.{true≢false}
+use Rattle.std.proofs.lemmas.Bool.{true≢false, not-true}
 use Rattle.mpm_mount.specs.Drives.{FileName, PhysicalExtent, Drive, places, entry_number, entry_name}
 use Rattle.mpm_files.specs.Units.{FileUnit, AddsEntry, ClearsBlock, WritesRecord, ReadsRecord, PassesRecord, new_entry, stages, last_of, applied, all_applied}
 use Rattle.mpm_files.specs.Plans.{Test, has_record, needs_entry, has_block, needs_block, clears_blocks, when, write_units}
@@ -39,10 +39,6 @@ after_units : (files : Drive) (cleared : Bool) (file : FileName) (n : ℕ) (byte
 unfolding left_writing
 after_units files cleared file n bytes records stamp units is = ap (λ us. us ++ left_writing (all_applied files us) false file (n + 1) records None) is
 
-needed : (b : Bool) → not b ≡ true → b ≡ false
-needed true e = sym e
-needed false e = refl
-
 pub entry_next : (units : List FileUnit) (j : ℕ) (files : Drive) (cleared : Bool) (file : FileName) (n : ℕ) (bytes : List ℕ) (records : List (List ℕ)) (stamp : Option (List ℕ)) (other : FileUnit)
     → Follows units j (left_writing files cleared file n (bytes ∷ records) stamp) → needs_entry files file n ≡ true → j < length units
     → Next units j (AddsEntry file (n / 128)) other (left_writing (applied files (AddsEntry file (n / 128))) cleared file n (bytes ∷ records) stamp)
@@ -51,7 +47,7 @@ entry_next units j files cleared file n bytes records stamp other follows needs 
     let o : Option PhysicalExtent = get files.extents (entry_name files.kind file (n / 128)) in
     next_of units j (AddsEntry file (n / 128)) other (left_writing (applied files (AddsEntry file (n / 128))) cleared file n (bytes ∷ records) stamp)
     (left_writing files cleared file n (bytes ∷ records) stamp) follows
-    (after_units files cleared file n bytes records stamp _ (entry_units files cleared file n bytes stamp o refl (needed (is_some o) needs))) h
+    (after_units files cleared file n bytes records stamp _ (entry_units files cleared file n bytes stamp o refl (not-true (is_some o) needs))) h
 
 -- a record whose block is cleared first
 clearing_units : (a b : Bool) (x y z : FileUnit) → a ≡ false → b ≡ true → when a x ++ (when b y ++ (z ∷ [])) ≡ y ∷ z ∷ []

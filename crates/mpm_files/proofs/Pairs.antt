@@ -1,5 +1,5 @@
 -- Pairs of a finite map that are counted by their keys, against the list that it was collected from.
-use Rattle.std.proofs.Common.{◌≡◌, ℕ, ◌+◌, ◌<◌, Bool, true, false, ◌||◌, List, [], ◌∷◌, Option, Some, None, map, length, refl, sym, ap, ◌∙◌, arith}
+use Rattle.std.proofs.Common.{◌≡◌, ℕ, ◌+◌, ◌<◌, Bool, true, false, ◌||◌, List, [], ◌∷◌, Option, Some, None, map, length, refl, sym, ap, ◌∙◌, arith, zero-add}
 use Rattle.std.specs.Prelude.{is_some, nat_lt, sum_by}
 use Rattle.std.specs.List.{list_any}
 use Rattle.std.specs.declared.cmp.Ordering.{Ordering}
@@ -11,11 +11,9 @@ use Rattle.std.proofs.lemmas.List.Sums.{sum_by-cons}
 use Rattle.mpm_mount.specs.Images.{collected}
 use Rattle.mpm_mount.proofs.Tails.{EachWithRest}
 use Rattle.mpm_mount.proofs.Collected.{StandsAlone, get_collected, scanned_none}
+use Rattle.mpm_mount.proofs.Sorts.{again}
 use Rattle.mpm_files.specs.Counting.{bit}
-use Rattle.mpm_files.proofs.Sums.{sum_new, put_again, as_it_was, gone}
-
-plus_nothing : (n : ℕ) → 0 + n ≡ n
-plus_nothing n = omega arith
+use Rattle.mpm_files.proofs.Sums.{sum_new, as_it_was, gone}
 
 -- sums of the same
 pub sums_alike : {X : Type 0} (f g : X → ℕ) (xs : List X) → ((x : X) → f x ≡ g x) → sum_by f xs ≡ sum_by g xs
@@ -37,7 +35,7 @@ sum_both f g (x ∷ xs) =
 
 pub sum_nothing : {X : Type 0} (xs : List X) → sum_by (λ x. 0) xs ≡ 0
 sum_nothing [] = refl
-sum_nothing (x ∷ xs) = sum_by-cons (λ y. 0) x xs ∙ plus_nothing (sum_by (λ y. 0) xs) ∙ sum_nothing xs
+sum_nothing (x ∷ xs) = sum_by-cons (λ y. 0) x xs ∙ zero-add (sum_by (λ y. 0) xs) ∙ sum_nothing xs
 
 -- some passes where some are counted
 any_next : (b c : Bool) (n : ℕ) → c ≡ nat_lt 0 n → (b || c) ≡ nat_lt 0 (bit b + n)
@@ -45,7 +43,7 @@ any_next true c n some = sym (positive (bit true + n) (omega arith))
   where
     positive : (m : ℕ) → 0 < m → nat_lt 0 m ≡ true
     positive m h = lt-ltb 0 m h
-any_next false c n some = some ∙ ap (nat_lt 0) (sym (plus_nothing n))
+any_next false c n some = some ∙ ap (nat_lt 0) (sym (zero-add n))
 
 pub any_counted : {X : Type 0} (test : X → Bool) (xs : List X) → list_any test xs ≡ nat_lt 0 (sum_by (λ x. bit (test x)) xs)
 any_counted test [] = refl
@@ -64,7 +62,7 @@ pub pairs_collected : {K X : Type 0} (R : K → K → Ordering) → IsTotalOrder
     → sum_by g (entries (collected R items)) ≡ sum_by (of_item g) items
 unfolding collected
 pairs_collected {X = X} R o g [] apart = no_pairs g (entries (empty {X = X} {R = R})) (sym (len-entries (empty {X = X} {R = R})) ∙ len-empty R X)
-pairs_collected R o g (None ∷ items) apart = pairs_collected R o g items apart.1 ∙ sym (sum_by-cons (of_item g) None items ∙ plus_nothing (sum_by (of_item g) items))
+pairs_collected R o g (None ∷ items) apart = pairs_collected R o g items apart.1 ∙ sym (sum_by-cons (of_item g) None items ∙ zero-add (sum_by (of_item g) items))
 pairs_collected R o g (Some item ∷ items) apart =
     sum_new R o g (collected R items) item.0 item.1 (get_collected R o items item.0 ∙ scanned_none R item.0 items apart.0)
     ∙ ap (λ n. g item + n) (pairs_collected R o g items apart.1) ∙ sym (sum_by-cons (of_item g) (Some item) items)
@@ -75,7 +73,7 @@ none_tied : {K X : Type 0} (R : K → K → Ordering) (k : K) (es : List (K × X
 none_tied R k [] none = refl
 none_tied R k (e ∷ es) none =
     let parts = or_parts (eq_by_cmp R k e.0) (list_any (eq_by_cmp R k) (map (λ x. x.0) es)) none in
-    sum_by-cons (λ x. bit (eq_by_cmp R k x.0)) e es ∙ ap (λ n. n + sum_by (λ x. bit (eq_by_cmp R k x.0)) es) (ap bit parts.0) ∙ plus_nothing (sum_by (λ x. bit (eq_by_cmp R k x.0)) es) ∙ none_tied R k es parts.1
+    sum_by-cons (λ x. bit (eq_by_cmp R k x.0)) e es ∙ ap (λ n. n + sum_by (λ x. bit (eq_by_cmp R k x.0)) es) (ap bit parts.0) ∙ zero-add (sum_by (λ x. bit (eq_by_cmp R k x.0)) es) ∙ none_tied R k es parts.1
 
 without_key : {K X : Type 0} (R : K → K → Ordering) (m : FinMap R X) (k : K) → get m k ≡ None → sum_by (λ e. bit (eq_by_cmp R k e.0)) (entries m) ≡ 0
 without_key R m k none = none_tied R k (entries m) (sym (contains_key-keys m k) ∙ ap is_some none)
@@ -85,7 +83,7 @@ key_by : {K X : Type 0} (R : K → K → Ordering) → IsTotalOrder R → IsAnti
 key_by R total same m k None none = without_key R m k none
 key_by {K = K} {X = X} R total same m k (Some w) is =
     let g : K × X → ℕ = λ e. bit (eq_by_cmp R k e.0) in
-    ap (λ n. sum_by g (entries n)) (sym (as_it_was R total same m k w is) ∙ put_again R total same m k w)
+    ap (λ n. sum_by g (entries n)) (sym (as_it_was R total same m k w is) ∙ sym (again R total same m k w))
     ∙ sum_new R total g (remove m k) k w (gone R total m k)
     ∙ ap (λ n. g (k, w) + n) (without_key R (remove m k) k (gone R total m k)) ∙ ap (λ r. bit (is_eq r) + 0) (tied_itself total k)
 

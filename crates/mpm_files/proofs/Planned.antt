@@ -1,5 +1,5 @@
 -- A job that begins: how many units it has, and what is left of it.
-use Rattle.std.proofs.Common.{◌≡◌, ℕ, zero, suc, ◌+◌, ◌-◌, Bool, true, false, ◌==◌, ◌&&◌, not, List, [], ◌∷◌, ◌++◌, Option, Some, None, map, length, refl, sym, ap, subst, ◌∙◌, arith}
+use Rattle.std.proofs.Common.{◌≡◌, ℕ, zero, suc, ◌+◌, ◌-◌, Bool, true, false, ◌==◌, ◌&&◌, not, List, [], ◌∷◌, ◌++◌, Option, Some, None, map, length, refl, sym, ap, subst, ◌∙◌, arith, add-zero}
 use Rattle.std.specs.Prelude.{is_some, if◌then◌else◌}
 use Rattle.std.specs.List.{filter}
 use Rattle.std.proofs.lemmas.List.{append-nil}
@@ -148,22 +148,19 @@ setting_first files file attributes =
     sym (ap (map (λ number. SetsAttributes file number attributes)) (all_later files.kind (each (extents_of files file) (λ entry. entry.0.number)))
     ∙ map-map (λ number. SetsAttributes file number attributes) (λ entry. entry.0.number) (extents_of files file))
 
-from_first : (n : ℕ) → n ≡ n + 0
-from_first n = omega arith
-
 all_of : (n : ℕ) → n ≡ n - 0
 all_of n = omega arith
 
 left_by_kind : (files : Drive) (job : Job) (count : Count) (kind : JobKind) → Follows (plan_by files job kind).units 0 (left_by files (begun job count) kind)
 left_by_kind files job count Read =
     subst (λ c. Follows (plan_by files job Read).units 0 (left_reading (file_of_job job) (job.first + 0) c)) (all_of job.count)
-    (subst (λ n. Follows (plan_by files job Read).units 0 (left_reading (file_of_job job) n job.count)) (from_first job.first)
+    (subst (λ n. Follows (plan_by files job Read).units 0 (left_reading (file_of_job job) n job.count)) (sym (add-zero job.first))
     (reading_first job.count files (file_of_job job) job.first))
 left_by_kind files job count Write =
-    subst (λ n. Follows (plan_by files job Write).units 0 (left_writing files false (file_of_job job) n (records_of_job job) job.stamp)) (from_first job.first)
+    subst (λ n. Follows (plan_by files job Write).units 0 (left_writing files false (file_of_job job) n (records_of_job job) job.stamp)) (sym (add-zero job.first))
     (writing_first (records_of_job job) files (file_of_job job) job.first job.stamp)
 left_by_kind files job count TestWrite =
-    subst (λ n. Follows (plan_by files job TestWrite).units 0 (left_testing files (file_of_job job) n (tests_of_job job) job.stamp)) (from_first job.first)
+    subst (λ n. Follows (plan_by files job TestWrite).units 0 (left_testing files (file_of_job job) n (tests_of_job job) job.stamp)) (sym (add-zero job.first))
     (testing_first (tests_of_job job) files (file_of_job job) job.first job.stamp)
 left_by_kind files job count Make = all_left (plan_by files job Make).units
 left_by_kind files job count Delete = all_left (plan_by files job Delete).units

@@ -17,7 +17,7 @@ use Rattle.mpm_mount.specs.Images.{contents_of, extent_in}
 use Rattle.mpm_mount.specs.Directories.{Directory, Stands, free_block}
 use Rattle.mpm_mount.proofs.LookedUp.{free_block_unheld}
 use Rattle.mpm_mount.proofs.Unheld.{block_sector}
-use Rattle.mpm_sectors.specs.Writes.{Write, written, AreWritten, Puts, block_writes, block_calls, zeros_from}
+use Rattle.mpm_sectors.specs.Writes.{Write, written, Puts, block_writes, block_calls, zeros_from}
 use Rattle.mpm_sectors.specs.Writes as sectors
 use Rattle.mpm_sectors.specs.declared.disk.Disk.{Disk}
 use Rattle.mpm_files.specs.Units.{WritesRecord, ClearsBlock, fresh_records, with_stamp, last_of, stages}

@@ -1,5 +1,5 @@
 -- A unit more is done: a cursor that was moved on serves its job still.
-use Rattle.std.proofs.Common.{◌≡◌, ℕ, zero, suc, ◌+◌, ◌≤◌, ◌<◌, List, [], ◌∷◌, ◌++◌, None, take, drop, length, refl, sym, ap, subst, ◌∙◌, arith}
+use Rattle.std.proofs.Common.{◌≡◌, ℕ, zero, suc, ◌+◌, ◌≤◌, ◌<◌, List, [], ◌∷◌, ◌++◌, None, take, drop, length, refl, sym, ap, subst, ◌∙◌, arith, add-zero, take_all}
 use Rattle.std.specs.Prelude.{sum_by, slice_index_or}
 use Rattle.std.specs.List.{list_any}
 use Rattle.std.proofs.lemmas.List.{append-nil, append_assoc}
@@ -13,7 +13,7 @@ use Rattle.mpm_files.specs.Units.{FileUnit, Idles, applied, all_applied}
 use Rattle.mpm_files.specs.Plans.{plan_of, file_of_job, unit_at, turns_of}
 use Rattle.mpm_files.specs.Serving.{units_done, records_moved, record_read, all_read, records_after, with_records, is_passing, missed_by, has_missed, left_by, left_of, Follows, IsServing}
 use Rattle.mpm_files.specs.Turning.{one_ended}
-use Rattle.mpm_files.proofs.TurnLaws.{one_turn, take_all}
+use Rattle.mpm_files.proofs.TurnLaws.{one_turn}
 
 -- one unit more
 pub take_more : (us : List FileUnit) (j : ℕ) (other : FileUnit) → j < length us → take (suc j) us ≡ take j us ++ (slice_index_or us j other ∷ [])
@@ -71,9 +71,6 @@ serves_on before job j work new unit serving h is records units ended moved erro
     }
 
 -- the same, where the unit neither moves nor reads a record
-no_more : (n : ℕ) → n ≡ n + 0
-no_more n = omega arith
-
 pub serves_quietly : (before : Drive) (job : Job) (j : ℕ) (work new : Work) (unit : FileUnit) → IsServing before job j work → j < length (plan_of before job).units
     → unit_at before job j ≡ unit → records_moved unit ≡ 0 → record_read (units_done before job j) unit ≡ []
     → new.job ≡ work.job → new.units ≡ work.units → new.ended ≡ work.ended → new.moved ≡ work.moved → new.error ≡ work.error → new.has_missed ≡ work.has_missed
@@ -83,7 +80,7 @@ pub serves_quietly : (before : Drive) (job : Job) (j : ℕ) (work new : Work) (u
 serves_quietly before job j work new unit serving h is moves reads job_is units ended moved error missed misses left =
     serves_on before job j work new unit serving h is
     (job_is ∙ serving.job_is ∙ ap (with_records job) (sym (append-nil (records_after before job j)) ∙ ap (λ l. records_after before job j ++ l) (sym reads)))
-    units ended (moved ∙ no_more work.moved ∙ ap (λ n. work.moved + n) (sym moves)) error (missed ∙ serving.missed ∙ sym misses) left
+    units ended (moved ∙ sym (add-zero work.moved) ∙ ap (λ n. work.moved + n) (sym moves)) error (missed ∙ serving.missed ∙ sym misses) left
 
 -- a job without units has one turn, in which nothing is done
 no_front : (us : List FileUnit) → length us ≡ 0 → us ≡ []
@@ -107,7 +104,7 @@ nothing_done : (before : Drive) (job : Job) (k : ℕ) → (plan_of before job).u
 nothing_done before job k none = take_none k (plan_of before job).units none
   where
     take_none : (i : ℕ) (us : List FileUnit) → us ≡ [] → take i us ≡ []
-    take_none i [] e = take_all [] i (omega arith)
+    take_none i [] e = take_all i [] (omega arith)
     take_none i (u ∷ us) e = absurd (omega (arith, ap length e))
 
 pub done_idly : (before : Drive) (job : Job) (j : ℕ) → j < turns_of before job → length (plan_of before job).units ≤ j → units_done before job (suc j) ≡ units_done before job j

@@ -19,6 +19,7 @@ use Rattle.mpm_files.specs.Units.{FileUnit, AddsEntry, RemovesEntry, SetsAttribu
 use Rattle.mpm_files.specs.Plans.{each, of_entries, of_xfcb, deleting_entry, deleting, renaming, making, file_of_job, new_file_of_job, protection_in, plan_by, plan_of, turns_of}
 use Rattle.mpm_files.specs.Serving.{units_done}
 use Rattle.mpm_files.proofs.TurnLaws.{all_turns}
+use Rattle.mpm_files.proofs.Keeping.{all_both}
 
 -- a unit leaves what is seen of a drive, or settles it: what is settled no unit changes
 pub record Settles (see : Drive → Option (List ℕ)) (settled : Drive → Type 0) (unit : FileUnit) : Type 0 where
@@ -102,10 +103,6 @@ removing file g number n = record {
 removing_xfcb : (file g : FileName) (n : ℕ) → Settles (λ d. visible_of d g n) (λ d. visible_of d g n ≡ None) (RemovesXfcb file)
 unfolding applied stages last_of visible_of extent_at
 removing_xfcb file g n = record { step = λ d. inl refl; stays = λ d none. (none, refl) }
-
-all_both : (P : FileUnit → Type 0) (us vs : List FileUnit) → AllByRecursion P us → AllByRecursion P vs → AllByRecursion P (us ++ vs)
-all_both P [] vs first second = second
-all_both P (u ∷ us) vs first second = (first.0, all_both P us vs first.1 second)
 
 all_when : (P : FileUnit → Type 0) (b : Bool) (u : FileUnit) → P u → AllByRecursion P (if b then u ∷ [] else [])
 all_when P true u is = (is, tt)

@@ -7,13 +7,13 @@ use Rattle.std.proofs.lemmas.Bool.Decides.{nat_tests}
 use Rattle.std.proofs.lemmas.Option.{same_Some}
 use Rattle.std.proofs.lemmas.List.{get_or-set_other, get_or-replicate}
 use Rattle.mpm_base.specs.declared.kind.Kind.{Kind}
-use Rattle.mpm_base.specs.declared.kind.Kind.TheVariants.{Ibm3740, Hd4, Hd8}
 use Rattle.mpm_blocks.specs.Geometries.{block_records}
 use Rattle.mpm_mount.specs.Drives.{PhysicalExtent, entry_number, count_in, block_place, record_in, visible_in}
 use Rattle.mpm_mount.proofs.KeptRecords.{other_record, one_place}
 use Rattle.mpm_files.specs.Units.{zero_record, is_raising, raised, holds_block, fresh_records}
 use Rattle.mpm_files.proofs.Seen.{seen}
 use Rattle.mpm_files.proofs.Writes.{block_written, still_some}
+use Rattle.mpm_files.proofs.HeldRecords.{index_within}
 
 -- what is seen of a record, by three tests
 abbrev pub shown_by : Bool → Bool → Option (List ℕ) → Option (List ℕ)
@@ -109,10 +109,6 @@ pub record IsWritten (kind : Kind) (n : ℕ) (bytes : List ℕ) (old new : Physi
   pub block : slice_index_or new.blocks (block_place kind n) None ≡ block_written kind n bytes old (holds_block kind n old)
 
 -- its records
-mapped_some : (o : Option (List (List ℕ))) (f : List (List ℕ) → List ℕ) → is_some (option_map f o) ≡ is_some o
-mapped_some None f = refl
-mapped_some (Some records) f = refl
-
 record_stays : (kind : Kind) (n m : ℕ) (bytes : List ℕ) (old new : PhysicalExtent) → IsWritten kind n bytes old new → m ≢ n → entry_number kind (m / 128) ≡ entry_number kind (n / 128)
     → is_some (record_in kind m old) ≡ true → record_in kind m new ≡ record_in kind m old
 record_stays kind n m bytes old new written apart number there =
@@ -120,7 +116,7 @@ record_stays kind n m bytes old new written apart number there =
     elim (cases_eq (block_place kind m) (block_place kind n)) [
       | inl same ↦
           let held : holds_block kind n old ≡ true =
-          ap (λ p. is_some (slice_index_or old.blocks p None)) (sym same) ∙ sym (mapped_some (slice_index_or old.blocks (block_place kind m) None) (λ rs. slice_index_or rs q [])) ∙ there in
+          ap (λ p. is_some (slice_index_or old.blocks p None)) (sym same) ∙ sym (still_some (slice_index_or old.blocks (block_place kind m) None) (λ rs. slice_index_or rs q [])) ∙ there in
           ap (λ p. option_map (λ rs. slice_index_or rs q []) (slice_index_or new.blocks p None)) same
           ∙ ap (option_map (λ rs. slice_index_or rs q [])) (written.block ∙ ap (block_written kind n bytes old) held)
           ∙ other_record (slice_index_or old.blocks (block_place kind n) None) (n % block_records kind) q bytes (λ one. apart (one_place kind n m number same one))
@@ -128,22 +124,17 @@ record_stays kind n m bytes old new written apart number there =
       | inr other ↦ ap (option_map (λ rs. slice_index_or rs q [])) (written.others (block_place kind m) other)
     ]
 
-place_in_block : (kind : Kind) (m : ℕ) → m % block_records kind < block_records kind
-place_in_block Ibm3740 m = omega arith
-place_in_block Hd4 m = omega arith
-place_in_block Hd8 m = omega arith
-
 zeros_there : (kind : Kind) (n m : ℕ) (bytes : List ℕ) → m % block_records kind ≢ n % block_records kind → slice_index_or (fresh_records kind n bytes) (m % block_records kind) [] ≡ zero_record
 zeros_there kind n m bytes apart =
     get_or-set_other (replicate (block_records kind) zero_record) (n % block_records kind) (m % block_records kind) bytes [] apart
-    ∙ get_or-replicate (block_records kind) (m % block_records kind) zero_record [] (place_in_block kind m)
+    ∙ get_or-replicate (block_records kind) (m % block_records kind) zero_record [] (index_within kind m)
 
 record_new : (kind : Kind) (n m : ℕ) (bytes : List ℕ) (old new : PhysicalExtent) (b : List ℕ) → IsWritten kind n bytes old new → m ≢ n
     → entry_number kind (m / 128) ≡ entry_number kind (n / 128) → is_some (record_in kind m old) ≡ false → record_in kind m new ≡ Some b
     → (b ≡ zero_record) × (holds_block kind m old ≡ false)
 record_new kind n m bytes old new b written apart number none now =
     let q : ℕ = m % block_records kind in
-    let free : holds_block kind m old ≡ false = sym (mapped_some (slice_index_or old.blocks (block_place kind m) None) (λ rs. slice_index_or rs q [])) ∙ none in
+    let free : holds_block kind m old ≡ false = sym (still_some (slice_index_or old.blocks (block_place kind m) None) (λ rs. slice_index_or rs q [])) ∙ none in
     elim (cases_eq (block_place kind m) (block_place kind n)) [
       | inl same ↦
           let fresh : holds_block kind n old ≡ false = ap (λ p. is_some (slice_index_or old.blocks p None)) (sym same) ∙ free in
@@ -158,7 +149,7 @@ record_new kind n m bytes old new b written apart number none now =
 
 record_there : (kind : Kind) (n : ℕ) (bytes : List ℕ) (old new : PhysicalExtent) → IsWritten kind n bytes old new → is_some (record_in kind n new) ≡ true
 record_there kind n bytes old new written =
-    mapped_some (slice_index_or new.blocks (block_place kind n) None) (λ rs. slice_index_or rs (n % block_records kind) [])
+    still_some (slice_index_or new.blocks (block_place kind n) None) (λ rs. slice_index_or rs (n % block_records kind) [])
     ∙ ap is_some written.block ∙ by_held (holds_block kind n old) refl
   where
     by_held : (b : Bool) → holds_block kind n old ≡ b → is_some (block_written kind n bytes old b) ≡ true

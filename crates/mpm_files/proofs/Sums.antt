@@ -9,7 +9,7 @@ use Rattle.std.specs.FinMap.{FinMap, IsAntisymmetric, get, insert, remove, entri
 use Rattle.std.specs.FinMap.Entries.{by_order}
 use Rattle.std.proofs.lemmas.Bool.{true≢false}
 use Rattle.std.proofs.lemmas.List.Sums.{sum_by-cons}
-use Rattle.mpm_mount.proofs.Sorts.{shadowed}
+use Rattle.mpm_mount.proofs.Sorts.{again}
 use Rattle.mpm_mount.proofs.InAll.{regroup}
 
 sum_placed : {K X : Type 0} (R : K → K → Ordering) (g : K × X → ℕ) (k : K) (v : X) (e : K × X) (es : List (K × X)) (r : Ordering) → cond (is_eq r) (Some e.1) (find R k es) ≡ None
@@ -31,11 +31,6 @@ pub sum_new : {K X : Type 0} (R : K → K → Ordering) → IsTotalOrder R → (
 sum_new R o g m k v none = ap (sum_by g) (entries-insert o m k v) ∙ sum_put R g k v (entries m) (sym (get-entries m k) ∙ none)
 
 -- a key that is there
-pub put_again : {K X : Type 0} (R : K → K → Ordering) → IsTotalOrder R → IsAntisymmetric R → (m : FinMap R X) (k : K) (v : X) → insert m k v ≡ insert (remove m k) k v
-put_again R o same m k v = same_map o same (insert m k v) (insert (remove m k) k v) (λ q.
-    get-insert o m k v q ∙ sym (shadowed (eq_by_cmp R q k) (Some v) None (get m q))
-    ∙ sym (get-insert o (remove m k) k v q ∙ ap (cond (eq_by_cmp R q k) (Some v)) (get-remove o m k q)))
-
 pub as_it_was : {K X : Type 0} (R : K → K → Ordering) → IsTotalOrder R → IsAntisymmetric R → (m : FinMap R X) (k : K) (w : X) → get m k ≡ Some w → insert m k w ≡ m
 as_it_was {K = K} R o same m k w is = same_map o same (insert m k w) m (λ q. get-insert o m k w q ∙ at q (eq_by_cmp R q k) refl)
   where
@@ -54,8 +49,8 @@ pub sum_there : {K X : Type 0} (R : K → K → Ordering) → IsTotalOrder R →
 sum_there R o same g m k v w is =
     let rest = sum_by g (entries (remove m k)) in
     traded (sum_by g (entries (insert m k v))) (g (k, v)) rest (sum_by g (entries m)) (g (k, w))
-    (ap (λ n. sum_by g (entries n)) (put_again R o same m k v) ∙ sum_new R o g (remove m k) k v (gone R o m k))
-    (ap (λ n. sum_by g (entries n)) (sym (as_it_was R o same m k w is) ∙ put_again R o same m k w) ∙ sum_new R o g (remove m k) k w (gone R o m k))
+    (ap (λ n. sum_by g (entries n)) (sym (again R o same m k v)) ∙ sum_new R o g (remove m k) k v (gone R o m k))
+    (ap (λ n. sum_by g (entries n)) (sym (as_it_was R o same m k w is) ∙ sym (again R o same m k w)) ∙ sum_new R o g (remove m k) k w (gone R o m k))
 
 -- over the values alone
 pub sum_values : {K X : Type 0} (f : X → ℕ) (es : List (K × X)) → sum_by f (map (λ e. e.1) es) ≡ sum_by (λ e. f e.1) es

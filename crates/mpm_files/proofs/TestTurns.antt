@@ -1,5 +1,5 @@
 -- The turns of a job that tests records and writes them.
-use Rattle.std.proofs.Common.{◌≡◌, ◌⊎◌, inl, inr, ℕ, suc, ◌+◌, ◌-◌, ◌≤◌, ◌<◌, Bool, true, false, not, ◌||◌, List, [], ◌∷◌, ◌++◌, Option, Some, None, Ok, take, drop, length, refl, sym, ap, subst, ◌∙◌, arith}
+use Rattle.std.proofs.Common.{◌≡◌, ◌⊎◌, inl, inr, ℕ, suc, ◌+◌, ◌-◌, ◌≤◌, ◌<◌, Bool, true, false, not, ◌||◌, List, [], ◌∷◌, ◌++◌, Option, Some, None, Ok, take, drop, length, refl, sym, ap, subst, ◌∙◌, arith, add-zero}
 use Rattle.std.specs.Prelude.{bytes_eq, if◌then◌else◌}
 use Rattle.std.specs.List.{list_any}
 use Rattle.std.proofs.lemmas.Bool.{cases_lt}
@@ -167,9 +167,6 @@ missed_then before job j b is h passes =
     ∙ ap (λ c. c || b) (sym (ap (missed_by before job j) is))
 
 -- the turn of a record that is passed
-plus_none : (n : ℕ) → n ≡ n + 0
-plus_none n = omega arith
-
 passed_done : (before : Drive) (job : Job) (j : ℕ) (work : Work) (missed : Bool) → IsServing before job j work → work.job.kind ≡ TestWrite → j < length (plan_of before job).units → missed ≡ true
     → Next (plan_of before job).units j (PassesRecord (file_of_job work.job) (read_now work)) (Idles (file_of_job job) None) (passes_later work)
     → IsDone before job j (record work { has_missed = missed; cleared = None }) (PassesRecord (file_of_job work.job) (read_now work))
@@ -180,7 +177,7 @@ passed_done before job j work missed serving is h passing next =
     record {
       unit_is = next.0;
       serving = serves_on before job j work new unit serving h next.0
-          (serving.job_is ∙ ap (with_records job) (sym (append-nil (records_after before job j)))) refl refl (plus_none work.moved) refl
+          (serving.job_is ∙ ap (with_records job) (sym (append-nil (records_after before job j)))) refl refl (sym (add-zero work.moved)) refl
           (passing ∙ sym (missed_then before job j true (kind_is before job j work serving is) h (ap is_passing next.0) ∙ or_last (has_missed before job j)))
           (subst (Follows (plan_of before job).units (suc j))
           (sym (left_as (applied files unit) (one_ended new) TestWrite is ∙ ap (λ b. if b then passes_later work else tests_now (applied files unit) (one_ended new)) passing)) next.1);

@@ -1,5 +1,5 @@
 -- The same of a call that tests records and writes them; and by jobs.
-use Rattle.std.proofs.Common.{◌≡◌, ◌⊎◌, inl, inr, ℕ, zero, suc, ◌+◌, ◌/◌, ◌<◌, Bool, true, false, ◌&&◌, not, List, [], ◌∷◌, Option, Some, None, take, length, refl, sym, ap, subst, ◌∙◌, arith}
+use Rattle.std.proofs.Common.{◌≡◌, ◌⊎◌, inl, inr, ℕ, zero, suc, ◌+◌, ◌/◌, ◌<◌, Bool, true, false, ◌&&◌, not, List, [], ◌∷◌, Option, Some, None, take, length, refl, sym, ap, subst, ◌∙◌, arith, take_all, le_refl}
 use Rattle.std.specs.Prelude.{is_some, if◌then◌else◌}
 use Rattle.std.specs.FinMap.{get}
 use Rattle.std.proofs.lemmas.Bool.{true≢false}
@@ -34,13 +34,9 @@ passing_same [] d file n zero = refl
 passing_same [] d file n (suc j) = refl
 passing_same (test ∷ tests) d file n j = passed_none d file n (is_some (read_error d file n)) (passing d file (n + 1) tests) (λ i. passing_same tests d file (n + 1) i) j
 
-all_taken : (us : List FileUnit) → take (length us) us ≡ us
-all_taken [] = refl
-all_taken (u ∷ us) = ap (λ l. u ∷ l) (all_taken us)
-
 passing_all : (tests : List Test) (d : Drive) (file : FileName) (n : ℕ) → all_applied d (passing d file n tests).units ≡ d
 passing_all tests d file n =
-    sym (ap (all_applied d) (all_taken (passing d file n tests).units)) ∙ passing_same tests d file n (length (passing d file n tests).units)
+    sym (ap (all_applied d) (take_all (length (passing d file n tests).units) (passing d file n tests).units (le_refl (length (passing d file n tests).units)))) ∙ passing_same tests d file n (length (passing d file n tests).units)
 
 -- a record that can be read is written by its own unit alone
 entry_there : (d : Drive) (file : FileName) (n : ℕ) (o : Option PhysicalExtent) → read_in d.kind n o ≡ None → not (is_some o) ≡ false

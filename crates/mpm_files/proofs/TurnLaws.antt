@@ -1,5 +1,5 @@
 -- A turn does the next unit; a call is all of its units.
-use Rattle.std.proofs.Common.{◌≡◌, ℕ, suc, zero, ◌≤◌, List, [], ◌∷◌, ◌++◌, None, take, length, refl, ap, arith}
+use Rattle.std.proofs.Common.{◌≡◌, ℕ, suc, zero, List, [], ◌∷◌, ◌++◌, None, take, refl, ap, arith, take_all}
 use Rattle.std.specs.Prelude.{slice_index_or}
 use Rattle.mpm_mount.specs.Drives.{FileName, Drive}
 use Rattle.mpm_files.specs.declared.jobs.Job.{Job}
@@ -24,15 +24,9 @@ one_more (u ∷ us) (suc j) file drive = one_more us j file (last_of drive (stag
 pub one_turn : (drive : Drive) (job : Job) (j : ℕ) → units_done drive job (suc j) ≡ applied (units_done drive job j) (unit_at drive job j)
 one_turn drive job j = one_more (plan_of drive job).units j (file_of_job job) drive
 
-pub take_all : (us : List FileUnit) (j : ℕ) → length us ≤ j → take j us ≡ us
-take_all [] zero h = refl
-take_all [] (suc j) h = refl
-take_all (u ∷ us) zero h = absurd (omega arith)
-take_all (u ∷ us) (suc j) h = ap (λ vs. u ∷ vs) (take_all us j (omega arith))
-
 -- after all turns it is what all units make, one after the other
 pub all_turns : (drive : Drive) (job : Job) → units_done drive job (turns_of drive job) ≡ all_applied drive (plan_of drive job).units
-all_turns drive job = ap (all_applied drive) (take_all (plan_of drive job).units (turns_of drive job) (omega arith))
+all_turns drive job = ap (all_applied drive) (take_all (turns_of drive job) (plan_of drive job).units (omega arith))
 
 -- before the first it is the drive
 pub no_turn : (drive : Drive) (job : Job) → units_done drive job 0 ≡ drive

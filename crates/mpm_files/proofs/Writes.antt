@@ -55,9 +55,9 @@ record SetsBlock (kind : Kind) (n : ℕ) (bytes : List ℕ) (old new : PhysicalE
   others : (place : ℕ) → place ≢ block_place kind n → slice_index_or new.blocks place None ≡ slice_index_or old.blocks place None
   block : slice_index_or new.blocks (block_place kind n) None ≡ block_written kind n bytes old (holds_block kind n old)
 
-pub still_some : (o : Option (List (List ℕ))) (f : List (List ℕ) → List (List ℕ)) → is_some (option_map f o) ≡ is_some o
+pub still_some : {X Y : Type 0} (o : Option X) (f : X → Y) → is_some (option_map f o) ≡ is_some o
 still_some None f = refl
-still_some (Some records) f = refl
+still_some (Some x) f = refl
 
 content_sets : (kind : Kind) (n : ℕ) (bytes : List ℕ) (old : PhysicalExtent) → block_place kind n < length old.blocks → (b : Bool) → holds_block kind n old ≡ b
     → SetsBlock kind n bytes old (if b then with_record_in old (block_place kind n) (n % block_records kind) bytes else with_fresh_block kind n bytes old)

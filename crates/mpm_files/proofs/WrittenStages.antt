@@ -15,12 +15,13 @@ use Rattle.mpm_mount.specs.Files.{where_there}
 use Rattle.mpm_mount.proofs.Orders.{entry_total, entry_same}
 use Rattle.mpm_mount.proofs.Sorts.{shadowed}
 use Rattle.mpm_mount.proofs.LookedUp.{extent_found, kind_of}
+use Rattle.mpm_mount.proofs.Still.{file_injective}
 use Rattle.mpm_files.specs.Units.{WritesRecord, is_raising, raised, holds_block, fresh_records, with_fresh_block, rewritten, written_extents, with_stamp, stages}
 use Rattle.mpm_files.specs.Lookups.{HasEntry}
 use Rattle.mpm_files.specs.Standing.{with_record, with_taken, raises}
 use Rattle.mpm_files.proofs.Tied.{held_at}
 use Rattle.mpm_files.proofs.Recorded.{at_itself}
-use Rattle.mpm_files.proofs.FoundEntries.{same_file_entry, entry_named}
+use Rattle.mpm_files.proofs.FoundEntries.{entry_named}
 
 -- what the drive has of an entry in the directory
 pub its_extent : (image : List ℕ) (d : Directory) (files : Drive) (file : FileName) (n slot : ℕ) (f : FileEntry) → Stands image d files → HasEntry d file n slot f
@@ -28,7 +29,7 @@ pub its_extent : (image : List ℕ) (d : Directory) (files : Drive) (file : File
 its_extent image d files file n slot f stands has =
     let there = extent_found image d files file (n / 128) slot stands has.found in
     there.extent
-    ∙ ap (λ (g : FileEntry). Some (extent_in (sectors_of image d.kind) d.kind g)) (same_file_entry there.file f (sym there.entry ∙ has.entry))
+    ∙ ap (λ (g : FileEntry). Some (extent_in (sectors_of image d.kind) d.kind g)) (file_injective there.file f (sym there.entry ∙ has.entry))
 
 -- the stages by the kind of the directory and the entry
 by_entry : (image : List ℕ) (d : Directory) (files : Drive) (file : FileName) (n slot : ℕ) (f : FileEntry) (bytes : List ℕ) (moment : Option (List ℕ)) → Stands image d files

@@ -26,6 +26,7 @@ pub enum JobKind {
 /// What a file call asks of its drive, as it was taken.
 #[derive(Clone, Copy)]
 pub struct Job {
+    /// What is done.
     pub kind: JobKind,
     /// The user of the files, 0 to 15.
     pub user: u8,

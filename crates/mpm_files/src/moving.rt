@@ -1,6 +1,6 @@
 ghost use Rattle.mpm_files.specs.declared.moving.Step.TheVariants as steps_of;
 ghost use Rattle.mpm_files.specs.Stepping as stepping;
-ghost use Rattle.std.specs.Prelude.{length, ℕ, ◌≡◌, ◌+◌, ◌*◌, ◌<◌, ◌≤◌, Some, None, if◌then◌else◌};
+ghost use Rattle.std.specs.Prelude.{length, ℕ, ◌≡◌, ◌+◌, ◌*◌, ◌<◌, ◌≤◌, Some, None};
 ghost use Rattle.mpm_port.specs.Causes.{HasCause};
 ghost use Rattle.mpm_blocks.specs.Geometries.{geometry_of};
 ghost use Rattle.mpm_cache.specs.Coherent.{IsCoherent, HasNoAlias};
@@ -46,13 +46,13 @@ fn stamp(job: &Job, done: u32) -> Option<[u8; 4]>
 }
 
 /// Puts a record that was read behind those that were read before it.
-fn keep(work: &mut Work, record: &[u8; 128])
+fn keep(work: &mut Work, bytes: &[u8; 128])
     requires { work.old.moved < 32 }
-    ensures kept { work.new ≡ turning.with_record_read work.old record.now }
+    ensures kept { work.new ≡ turning.with_record_read work.old bytes.now }
     ensures size { length work.old.job.bytes ≡ 4096 }
 {
     let from = 128 * usize::from(work.moved);
-    work.job.bytes[from..from + 128].copy_from_slice(record);
+    work.job.bytes[from..from + 128].copy_from_slice(bytes);
     work.moved += 1;
 }
 

@@ -13,7 +13,7 @@ use crate::jobs::Job;
 use mpm_base::Kind;
 use mpm_blocks::geometry;
 use mpm_dirent::{Entry, FileEntry};
-use mpm_mount::Mounted;
+use mpm_mount::{Mounted, last_extent};
 
 /// How many records a block has.
 pub(crate) fn block_records(kind: Kind) -> u32
@@ -81,7 +81,7 @@ pub(crate) fn lacks_block(mounted: &Mounted, job: &Job, n: u32) -> bool
 fn count_there(file: &FileEntry, extent: u32) -> u32
     ensures { result ≡ spec.count_there file.now extent }
 {
-    if extent == 32 * u32::from(file.s2) + u32::from(file.ex) {
+    if extent == u32::from(last_extent(file)) {
         u32::from(file.rc)
     } else {
         128
@@ -92,7 +92,7 @@ fn count_there(file: &FileEntry, extent: u32) -> u32
 fn file_error(kind: Kind, file: &FileEntry, n: u32) -> Option<RecordError>
     ensures { result ≡ spec.file_error kind n file.now }
 {
-    if 32 * u32::from(file.s2) + u32::from(file.ex) < n / 128 {
+    if u32::from(last_extent(file)) < n / 128 {
         Some(RecordError::UnwrittenExtent)
     } else if count_there(file, n / 128) <= n % 128 || file.blocks[block_place(kind, n)] == 0 {
         Some(RecordError::UnwrittenData)

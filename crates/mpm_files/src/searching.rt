@@ -1,7 +1,6 @@
-ghost use Rattle.std.specs.Prelude.{◌≡◌, ◌≤◌, ℕ, count_by, bytes_eq};
+ghost use Rattle.std.specs.Prelude.{◌≡◌, ◌≤◌, count_by, bytes_eq};
 ghost use Rattle.std.specs.List.{list_any};
 ghost use Rattle.mpm_dirent.specs.Names as names;
-ghost use Rattle.mpm_mount.specs.Directories as directory;
 ghost use Rattle.mpm_mount.specs.Files as lookups;
 ghost use Rattle.mpm_files.specs.Counting as spec;
 

@@ -28,7 +28,7 @@ use crate::stamps::{Stamp, put_stamp, put_stamped};
 use mpm_base::Steps;
 use mpm_cache::Cache;
 use mpm_dirent::FileEntry;
-use mpm_mount::Mounted;
+use mpm_mount::{Mounted, last_extent};
 use mpm_port::{Drives, Failed};
 use std::sync::ledger::Ledger;
 
@@ -45,7 +45,7 @@ pub(crate) struct Record {
 fn is_above(file: &FileEntry, n: u32) -> bool
     ensures { result ≡ entries.is_above n file.now }
 {
-    let last = 32 * u32::from(file.s2) + u32::from(file.ex);
+    let last = u32::from(last_extent(file));
     last < n / 128 || (n / 128 == last && u32::from(file.rc) <= n % 128)
 }
 
@@ -108,33 +108,33 @@ pub(crate) fn put_held<D: Drives, L: Ledger>(
     cache: &mut Cache,
     drives: &mut D,
     job: &Job,
-    record: &Record,
+    written: &Record,
     steps: &mut Steps<L>,
 ) -> Result<(), Failed>
-    requires number { record.now.number ≤ 262286 }
+    requires number { written.now.number ≤ 262286 }
     requires size { D.attached drives.old mounted.old.drive ≡ Some (geometry_of mounted.old.kind).bytes }
     requires coherent { IsCoherent cache.old (D.disks drives.old) }
     requires apart { HasNoAlias cache.old (D.disks drives.old) mounted.old.drive }
     ensures does { (image : List ℕ) (files : Drive) → told_image (D.disks drives.old) mounted.old.drive ≡ Some image → Stands image mounted.old files
-        → lacks_block mounted.old (file_of_job job.now) record.now.number ≡ false
+        → lacks_block mounted.old (file_of_job job.now) written.now.number ≡ false
         → Does (D.disks drives.new) mounted.old.drive mounted.new files
-        (WritesRecord (file_of_job job.now) record.now.number record.now.bytes record.now.moment) result }
+        (WritesRecord (file_of_job job.now) written.now.number written.now.bytes written.now.moment) result }
     ensures drive { mounted.new.drive ≡ mounted.old.drive }
     ensures kind { mounted.new.kind ≡ mounted.old.kind }
     ensures calls { steps.new ≤ steps.old + 5 }
     ensures leaves { Leaves D.attached D.disks D.failed_names D.unsynced mounted.old.drive cache.old cache.new drives.old drives.new }
     ensures cause { HasCause (D.faults drives.old) (D.faults drives.new) result }
 {
-    let found = match find_entry(mounted, job, record.number) {
+    let found = match find_entry(mounted, job, written.number) {
         Some(found) => found,
         None => return Ok(()),
     };
-    let sector = match held_sector(mounted, &found.file, record.number) {
+    let sector = match held_sector(mounted, &found.file, written.number) {
         Some(sector) => sector,
         None => return Ok(()),
     };
-    match put_in_block(mounted, cache, drives, job, record, &found, sector, steps) {
-        Ok(()) => put_raised(mounted, cache, drives, job, record, &found, steps),
+    match put_in_block(mounted, cache, drives, job, written, &found, sector, steps) {
+        Ok(()) => put_raised(mounted, cache, drives, job, written, &found, steps),
         Err(failed) => Err(failed),
     }
 }
@@ -147,27 +147,27 @@ pub(crate) fn put_fresh<D: Drives, L: Ledger>(
     cache: &mut Cache,
     drives: &mut D,
     job: &Job,
-    record: &Record,
+    written: &Record,
     cleared: Option<u16>,
     steps: &mut Steps<L>,
 ) -> Result<(), Failed>
-    requires number { record.now.number ≤ 262286 }
+    requires number { written.now.number ≤ 262286 }
     requires size { D.attached drives.old mounted.old.drive ≡ Some (geometry_of mounted.old.kind).bytes }
     requires coherent { IsCoherent cache.old (D.disks drives.old) }
     requires apart { HasNoAlias cache.old (D.disks drives.old) mounted.old.drive }
     ensures does { (image : List ℕ) (files : Drive) → told_image (D.disks drives.old) mounted.old.drive ≡ Some image → Stands image mounted.old files
-        → lacks_entry mounted.old (file_of_job job.now) record.now.number ≡ false
-        → lacks_block mounted.old (file_of_job job.now) record.now.number ≡ true
+        → lacks_entry mounted.old (file_of_job job.now) written.now.number ≡ false
+        → lacks_block mounted.old (file_of_job job.now) written.now.number ≡ true
         → HasFreshBlock (plans.clears_blocks mounted.old.kind) (sectors_of image mounted.old.kind) mounted.old cleared
         → Does (D.disks drives.new) mounted.old.drive mounted.new files
-        (WritesRecord (file_of_job job.now) record.now.number record.now.bytes record.now.moment) result }
+        (WritesRecord (file_of_job job.now) written.now.number written.now.bytes written.now.moment) result }
     ensures drive { mounted.new.drive ≡ mounted.old.drive }
     ensures kind { mounted.new.kind ≡ mounted.old.kind }
     ensures calls { steps.new ≤ steps.old + 20 }
     ensures leaves { Leaves D.attached D.disks D.failed_names D.unsynced mounted.old.drive cache.old cache.new drives.old drives.new }
     ensures cause { HasCause (D.faults drives.old) (D.faults drives.new) result }
 {
-    let found = match find_entry(mounted, job, record.number) {
+    let found = match find_entry(mounted, job, written.number) {
         Some(found) => found,
         None => return Ok(()),
     };
@@ -179,7 +179,7 @@ pub(crate) fn put_fresh<D: Drives, L: Ledger>(
         Some(clear) => clear,
         None => return Ok(()),
     };
-    let index = index_in(mounted, record.number);
+    let index = index_in(mounted, written.number);
     match put_with_block(
         mounted,
         cache,
@@ -187,10 +187,10 @@ pub(crate) fn put_fresh<D: Drives, L: Ledger>(
         block,
         clear,
         index,
-        &record.bytes,
+        &written.bytes,
         steps,
     ) {
-        Ok(()) => put_taken(mounted, cache, drives, job, record, &found, block, steps),
+        Ok(()) => put_taken(mounted, cache, drives, job, written, &found, block, steps),
         Err(failed) => Err(failed),
     }
 }
@@ -223,7 +223,7 @@ fn put_in_block<D: Drives, L: Ledger>(
     cache: &mut Cache,
     drives: &mut D,
     job: &Job,
-    record: &Record,
+    written: &Record,
     found: &FoundEntry,
     sector: u32,
     steps: &mut Steps<L>,
@@ -231,17 +231,17 @@ fn put_in_block<D: Drives, L: Ledger>(
     requires size { D.attached drives.old mounted.now.drive ≡ Some (geometry_of mounted.now.kind).bytes }
     requires coherent { IsCoherent cache.old (D.disks drives.old) }
     requires apart { HasNoAlias cache.old (D.disks drives.old) mounted.now.drive }
-    requires entry { HasEntry mounted.now (file_of_job job.now) record.now.number found.now.slot found.now.file }
-    requires held { IsHeldAt mounted.now.kind found.now.file record.now.number sector }
+    requires entry { HasEntry mounted.now (file_of_job job.now) written.now.number found.now.slot found.now.file }
+    requires held { IsHeldAt mounted.now.kind found.now.file written.now.number sector }
     ensures puts { (image : List ℕ) (files : Drive) → told_image (D.disks drives.old) mounted.now.drive ≡ Some image → Stands image mounted.now files
         → GoesThrough (D.disks drives.new) mounted.now.drive mounted.now files
         (with_extent files (name_of mounted.now.kind found.now.file)
-        (spec.with_record mounted.now.kind record.now.number record.now.bytes (extent_in (sectors_of image mounted.now.kind) mounted.now.kind found.now.file)) ∷ []) result }
+        (spec.with_record mounted.now.kind written.now.number written.now.bytes (extent_in (sectors_of image mounted.now.kind) mounted.now.kind found.now.file)) ∷ []) result }
     ensures calls { steps.new ≤ steps.old + 1 }
     ensures leaves { Leaves D.attached D.disks D.failed_names D.unsynced mounted.now.drive cache.old cache.new drives.old drives.new }
     ensures cause { HasCause (D.faults drives.old) (D.faults drives.new) result }
 {
-    put_sector(mounted, cache, drives, sector, &record.bytes, steps)
+    put_sector(mounted, cache, drives, sector, &written.bytes, steps)
 }
 
 /// Puts last extent and record count of the directory entry of a record that is there, where they rise, and the second stamp.
@@ -250,26 +250,26 @@ fn put_raised<D: Drives, L: Ledger>(
     cache: &mut Cache,
     drives: &mut D,
     job: &Job,
-    record: &Record,
+    written: &Record,
     found: &FoundEntry,
     steps: &mut Steps<L>,
 ) -> Result<(), Failed>
     requires size { D.attached drives.old mounted.old.drive ≡ Some (geometry_of mounted.old.kind).bytes }
     requires coherent { IsCoherent cache.old (D.disks drives.old) }
     requires apart { HasNoAlias cache.old (D.disks drives.old) mounted.old.drive }
-    requires entry { HasEntry mounted.old (file_of_job job.now) record.now.number found.now.slot found.now.file }
+    requires entry { HasEntry mounted.old (file_of_job job.now) written.now.number found.now.slot found.now.file }
     ensures puts { (image : List ℕ) (files : Drive) → told_image (D.disks drives.old) mounted.old.drive ≡ Some image → Stands image mounted.old files
         → GoesThrough (D.disks drives.new) mounted.old.drive mounted.new files
-        (with_stamp (file_of_job job.now) record.now.moment files
-        (spec.raises mounted.old.kind record.now.number found.now.file files (extent_in (sectors_of image mounted.old.kind) mounted.old.kind found.now.file))) result }
+        (with_stamp (file_of_job job.now) written.now.moment files
+        (spec.raises mounted.old.kind written.now.number found.now.file files (extent_in (sectors_of image mounted.old.kind) mounted.old.kind found.now.file))) result }
     ensures drive { mounted.new.drive ≡ mounted.old.drive }
     ensures kind { mounted.new.kind ≡ mounted.old.kind }
     ensures calls { steps.new ≤ steps.old + 4 }
     ensures leaves { Leaves D.attached D.disks D.failed_names D.unsynced mounted.old.drive cache.old cache.new drives.old drives.new }
     ensures cause { HasCause (D.faults drives.old) (D.faults drives.new) result }
 {
-    if is_above(&found.file, record.number) {
-        let raised = raised(&found.file, record.number);
+    if is_above(&found.file, written.number) {
+        let raised = raised(&found.file, written.number);
         put_stamped(
             mounted,
             cache,
@@ -277,7 +277,7 @@ fn put_raised<D: Drives, L: Ledger>(
             found.slot,
             &raised,
             job,
-            record.moment,
+            written.moment,
             steps,
         )
     } else {
@@ -287,7 +287,7 @@ fn put_raised<D: Drives, L: Ledger>(
             drives,
             job,
             Stamp::Second,
-            record.moment,
+            written.moment,
             steps,
         )
     }
@@ -327,7 +327,7 @@ fn put_taken<D: Drives, L: Ledger>(
     cache: &mut Cache,
     drives: &mut D,
     job: &Job,
-    record: &Record,
+    written: &Record,
     found: &FoundEntry,
     block: u16,
     steps: &mut Steps<L>,
@@ -335,13 +335,13 @@ fn put_taken<D: Drives, L: Ledger>(
     requires size { D.attached drives.old mounted.old.drive ≡ Some (geometry_of mounted.old.kind).bytes }
     requires coherent { IsCoherent cache.old (D.disks drives.old) }
     requires apart { HasNoAlias cache.old (D.disks drives.old) mounted.old.drive }
-    requires entry { HasEntry mounted.old (file_of_job job.now) record.now.number found.now.slot found.now.file }
+    requires entry { HasEntry mounted.old (file_of_job job.now) written.now.number found.now.slot found.now.file }
     requires free { free_block mounted.old ≡ Some block }
     ensures puts { (image : List ℕ) (files : Drive) → told_image (D.disks drives.old) mounted.old.drive ≡ Some image → Stands image mounted.old files
         → GoesThrough (D.disks drives.new) mounted.old.drive mounted.new files
-        (with_stamp (file_of_job job.now) record.now.moment files
+        (with_stamp (file_of_job job.now) written.now.moment files
         (with_extent files (name_of mounted.old.kind found.now.file)
-        (spec.with_taken mounted.old.kind record.now.number (contents_of (sectors_of image mounted.old.kind) mounted.old.kind block)
+        (spec.with_taken mounted.old.kind written.now.number (contents_of (sectors_of image mounted.old.kind) mounted.old.kind block)
         (extent_in (sectors_of image mounted.old.kind) mounted.old.kind found.now.file)) ∷ [])) result }
     ensures drive { mounted.new.drive ≡ mounted.old.drive }
     ensures kind { mounted.new.kind ≡ mounted.old.kind }
@@ -349,7 +349,7 @@ fn put_taken<D: Drives, L: Ledger>(
     ensures leaves { Leaves D.attached D.disks D.failed_names D.unsynced mounted.old.drive cache.old cache.new drives.old drives.new }
     ensures cause { HasCause (D.faults drives.old) (D.faults drives.new) result }
 {
-    let taken = taken(mounted, &found.file, record.number, block);
+    let taken = taken(mounted, &found.file, written.number, block);
     put_stamped(
         mounted,
         cache,
@@ -357,7 +357,7 @@ fn put_taken<D: Drives, L: Ledger>(
         found.slot,
         &taken,
         job,
-        record.moment,
+        written.moment,
         steps,
     )
 }

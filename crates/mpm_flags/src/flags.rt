@@ -65,7 +65,7 @@ impl Flags {
         }
     }
 
-    /// A process waits for a flag. (MP/M II Programmer's Guide, function 132.)
+    /// A process waits for a flag. (MP/M II Programmer's Guide, "Function 132: Flag Wait".)
     pub fn wait(&mut self, p: Pid, flag: u8) -> FlagWait
         requires { flag < 32 }
         ensures flags { self.new ≡ with_flag self.old flag (waited_for p (flag_at self.old flag)) }
@@ -87,7 +87,7 @@ impl Flags {
         }
     }
 
-    /// A flag is set. (MP/M II Programmer's Guide, function 133.)
+    /// A flag is set. (MP/M II Programmer's Guide, "Function 133: Flag Set".)
     pub fn set(&mut self, flag: u8) -> FlagSet
         requires { flag < 32 }
         ensures flags { self.new ≡ with_flag self.old flag (after_set (flag_at self.old flag)) }

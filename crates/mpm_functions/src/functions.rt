@@ -6,59 +6,59 @@ use mpm_base::functions;
 /// A function on files and drives that the disk serves. (MP/M II Programmer's Guide, "BDOS Function Calls".)
 #[derive(Clone, Copy, Debug, PartialEq, Eq)]
 pub enum FileFunction {
-    /// 13: resets all drives.
+    /// 13, Reset Disk System: resets all drives.
     ResetDisks,
-    /// 15.
+    /// 15, Open File.
     OpenFile,
-    /// 16.
+    /// 16, Close File.
     CloseFile,
-    /// 17.
+    /// 17, Search for First.
     SearchFirst,
-    /// 18.
+    /// 18, Search for Next.
     SearchNext,
-    /// 19.
+    /// 19, Delete File.
     DeleteFile,
-    /// 20.
+    /// 20, Read Sequential.
     ReadSequential,
-    /// 21.
+    /// 21, Write Sequential.
     WriteSequential,
-    /// 22.
+    /// 22, Make File.
     MakeFile,
-    /// 23.
+    /// 23, Rename File.
     RenameFile,
-    /// 28: protects the process's drive from writing.
+    /// 28, Write Protect Disk: protects the process's drive from writing.
     ProtectDisk,
-    /// 30.
+    /// 30, Set File Attributes.
     SetAttributes,
-    /// 33.
+    /// 33, Read Random.
     ReadRandom,
-    /// 34, and 40, which is the same: a fresh block begins as zeros.
+    /// 34, Write Random, and 40, Write Random With Zero Fill, which are the same: a fresh block begins as zeros.
     WriteRandom,
-    /// 35.
+    /// 35, Compute File Size.
     FileSize,
-    /// 37: resets some drives.
+    /// 37, Reset Drive: resets some drives.
     ResetDrives,
-    /// 38: marks some drives.
+    /// 38, Access Drive: marks some drives.
     AccessDrives,
-    /// 39: gives some drives back.
+    /// 39, Free Drive: gives some drives back.
     FreeDrives,
-    /// 41.
+    /// 41, Test and Write Record.
     TestAndWrite,
-    /// 42.
+    /// 42, Lock Record.
     LockRecord,
-    /// 43.
+    /// 43, Unlock Record.
     UnlockRecord,
-    /// 46.
+    /// 46, Get Disk Free Space.
     FreeSpace,
-    /// 48.
+    /// 48, Flush Buffers.
     FlushBuffers,
-    /// 100.
+    /// 100, Set Directory Label.
     SetLabel,
-    /// 101.
+    /// 101, Return Directory Label Data.
     LabelData,
-    /// 102.
+    /// 102, Read File XFCB.
     ReadXfcb,
-    /// 103.
+    /// 103, Write File XFCB.
     WriteXfcb,
 }
 
@@ -107,15 +107,15 @@ impl FileFunction {
 /// Function Calls".)
 #[derive(Clone, Copy, Debug, PartialEq, Eq)]
 pub enum DirectFunction {
-    /// 14.
+    /// 14, Select Disk.
     SelectDisk,
-    /// 24.
+    /// 24, Return Login Vector.
     LoginVector,
-    /// 29.
+    /// 29, Get Read/Only Vector.
     ReadOnlyVector,
-    /// 31.
+    /// 31, Get Address of Disk Parameters.
     DiskParameters,
-    /// 36.
+    /// 36, Set Random Record.
     SetRandomRecord,
 }
 

@@ -1,4 +1,5 @@
--- Texts in a caller's memory. (MP/M II Programmer's Guide, "Print String", "Chain To Program", "Send CLI Command".)
+-- Texts in a caller's memory. (MP/M II Programmer's Guide, "Function 9: Print String", "Function 47: Chain to Program", "Function
+-- 150: Send CLI Command".)
 use Rattle.std.specs.Prelude.{ℕ, List, Bool, not, ◌==◌, take_while}
 use Rattle.mpm_base.specs.Texts.{ends_text}
 use Rattle.mpm_gate.specs.Bytes.{bytes_from}

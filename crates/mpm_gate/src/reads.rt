@@ -1,4 +1,4 @@
-ghost use Rattle.std.specs.Prelude.{◌≡◌, ◌≤◌};
+ghost use Rattle.std.specs.Prelude.{◌≡◌, ◌≤◌, false};
 
 use mpm_base::functions;
 
@@ -86,5 +86,30 @@ pub fn reads_of(function: u8) -> Reads
         },
         functions::ABORT_SPECIFIED_PROCESS => Reads::Block(13),
         _ => Reads::Registers,
+    }
+}
+
+/// Whether the call of a function reads something in its caller's memory. Of those below 15 two do.
+#[inline(always)]
+#[tactic(auto, unfolding(crate::specs::Reads::reads_of))]
+pub(crate) fn reads_memory(function: u8) -> bool
+    ensures { result ≡ false → reads_in_table function ≡ Reads.Registers }
+{
+    if function < functions::OPEN_FILE {
+        return matches!(
+            function,
+            functions::PRINT_STRING | functions::READ_CONSOLE_BUFFER
+        );
+    }
+    match reads_of(function) {
+        Reads::Registers => false,
+        Reads::Block(_)
+        | Reads::Pointing { .. }
+        | Reads::Descriptors
+        | Reads::DollarString
+        | Reads::TextAtDma
+        | Reads::Command
+        | Reads::File(_)
+        | Reads::Records(_) => true,
     }
 }

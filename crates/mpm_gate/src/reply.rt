@@ -59,6 +59,7 @@ pub fn put_bytes(bytes: &[u8], banks: &mut Banks, seg: Seg, address: u16)
 }
 
 /// Writes bytes, at least one, from an address on. It is code of its own, since most replies place none.
+#[cold]
 #[inline(never)]
 fn put_some(bytes: &[u8], banks: &mut Banks, seg: Seg, address: u16)
     requires some { 0 < length bytes.now }

@@ -1,12 +1,14 @@
-ghost use Rattle.std.specs.Prelude.{◌≡◌, ◌≤◌, ◌+◌, length};
+ghost use Rattle.std.specs.Prelude.{◌≡◌, ◌≤◌, ◌+◌, [], length};
 ghost use Rattle.mpm_banks.specs.Memory.{byte_at};
 ghost use Rattle.z80_regs.specs.Words.{word_from};
 ghost use Rattle.mpm_gate.specs.Bytes.{bytes_from};
 ghost use Rattle.mpm_gate.specs.Texts.{text_from};
-ghost use Rattle.mpm_gate.specs.Calls.{with_more, descriptor_from, descriptors_from, taken_call};
+ghost use Rattle.mpm_gate.specs.Calls.{with_more, descriptor_from, descriptors_from, bytes_read, block_read, taken_call};
+ghost use Rattle.mpm_gate.specs.Reads.{reads_of as reads_in_table};
+ghost use Rattle.mpm_base.specs.Lists.{zeros};
 
 use crate::memory::{range_at, word_at};
-use crate::reads::{Reads, reads_of};
+use crate::reads::{Reads, reads_memory, reads_of};
 use mpm_banks::Banks;
 use mpm_base::{Call, Seg, ends_text};
 use z80_regs::Regs;
@@ -39,14 +41,35 @@ impl TextEnd {
 /// Takes a kernel call: fills it in with its function, its parameter, the DMA address, and every byte that it reads in its
 /// caller's memory, all as they are now. The multi-sector count is at most 16.
 #[inline(always)]
-#[tactic(auto, using(crate::proofs::BytesLaws::length_bytes), unfolding(crate::specs::Calls::taken_call, crate::specs::Calls::bytes_read, crate::specs::Calls::block_read))]
+#[tactic(auto, unfolding(crate::specs::Calls::taken_call, crate::specs::Calls::bytes_read, crate::specs::Calls::block_read))]
 pub fn call_of(regs: &Regs, banks: &Banks, seg: Seg, dma: u16, multi: u8, call: &mut Call)
     requires { multi ≤ 16 }
     ensures { call.new ≡ taken_call regs.now (byte_at banks.now seg) dma multi }
 {
     let word = u16::from_le_bytes([regs.e, regs.d]);
     call.begin(regs.c, word, dma);
-    match reads_of(regs.c) {
+    if reads_memory(regs.c) {
+        take_read(regs.c, word, banks, seg, dma, multi, call);
+    }
+}
+
+/// Takes what the call of a function reads in its caller's memory, which has read nothing yet. It is code of its own, as most
+/// calls read nothing.
+#[cold]
+#[inline(never)]
+#[tactic(auto, using(crate::proofs::BytesLaws::length_bytes), unfolding(crate::specs::Calls::bytes_read, crate::specs::Calls::block_read))]
+fn take_read(function: u8, word: u16, banks: &Banks, seg: Seg, dma: u16, multi: u8, call: &mut Call)
+    requires few { multi ≤ 16 }
+    requires begun { call.old ≡ record { function = function; word = word; dma = dma; fcb = zeros 36; bytes = [] } }
+    ensures { call.new ≡ record {
+      function = function;
+      word = word;
+      dma = dma;
+      fcb = block_read (reads_in_table function) word (byte_at banks.now seg);
+      bytes = bytes_read (reads_in_table function) word dma multi (byte_at banks.now seg);
+    } }
+{
+    match reads_of(function) {
         Reads::Registers => {}
         Reads::Block(size) => take_bytes(banks, seg, word, size, call),
         Reads::Pointing {
@@ -84,6 +107,8 @@ pub fn call_of(regs: &Regs, banks: &Banks, seg: Seg, dma: u16, multi: u8, call: 
 }
 
 /// Takes so many bytes from an address on.
+#[cold]
+#[inline(never)]
 #[tactic(auto, using(crate::proofs::TakenLaws::taken_none))]
 fn take_bytes(banks: &Banks, seg: Seg, address: u16, count: u16, call: &mut Call)
     requires { length call.old.bytes + count ≤ 4096 }
@@ -109,6 +134,8 @@ fn take_each(banks: &Banks, seg: Seg, address: u16, count: u16, call: &mut Call)
 }
 
 /// Takes the text at an address, up to its end, at most so many bytes.
+#[cold]
+#[inline(never)]
 fn take_text(end: TextEnd, banks: &Banks, seg: Seg, address: u16, most: u16, call: &mut Call)
     requires { length call.old.bytes + most ≤ 4096 }
     ensures { call.new ≡ with_more call.old (text_from end (byte_at banks.now seg) address most) }
@@ -135,6 +162,8 @@ fn take_descriptor(banks: &Banks, seg: Seg, address: u16, call: &mut Call) -> u1
 }
 
 /// Takes the process descriptors that are chained from an address on.
+#[cold]
+#[inline(never)]
 fn take_descriptors(banks: &Banks, seg: Seg, first: u16, call: &mut Call)
     requires { length call.old.bytes + 576 ≤ 4096 }
     ensures { call.new ≡ with_more call.old (descriptors_from (byte_at banks.now seg) first 32) }
@@ -149,6 +178,7 @@ fn take_descriptors(banks: &Banks, seg: Seg, first: u16, call: &mut Call)
 }
 
 /// Takes the file control block at an address, in code of its own: few calls read one.
+#[cold]
 #[inline(never)]
 fn take_control_block(banks: &Banks, seg: Seg, address: u16, call: &mut Call)
     ensures { call.new ≡ record call.old { fcb = bytes_from (byte_at banks.now seg) address 36 } }

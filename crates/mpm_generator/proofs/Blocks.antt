@@ -1,5 +1,5 @@
 -- One block more, and the numbers behind it.
-use Rattle.std.proofs.Common.{◌≡◌, ℕ, suc, ◌+◌, ◌*◌, List, ◌++◌, refl, ap, arith, ◌∙◌, sym, append-nil}
+use Rattle.std.proofs.Common.{◌≡◌, ℕ, suc, ◌+◌, ◌*◌, List, ◌++◌, refl, ap, arith, ◌∙◌, sym, append-nil, add-one}
 use Rattle.std.proofs.lemmas.List.{append_assoc}
 use Rattle.mpm_generator.specs.Draws.{nth_behind}
 use Rattle.mpm_generator.specs.Programs.{blocks_behind, block_behind, code_of}
@@ -19,11 +19,8 @@ pub numbers_more : (n x : ℕ) → nth_behind 3 (nth_behind (3 * n) x) ≡ nth_b
 unfolding nth_behind
 numbers_more n x = sym (ap (λ m. nth_behind m x) (three_more n))
 
-one_more : (n : ℕ) → n + 1 ≡ suc n
-one_more n = omega arith
-
 pub blocks_more : (code : List ℕ) (n x : ℕ) → (code ++ blocks_behind n x) ++ code_of (block_behind (nth_behind (3 * n) x)) ≡ code ++ blocks_behind (n + 1) x
 unfolding blocks_behind
 blocks_more code n x =
     append_assoc code (blocks_behind n x) (code_of (block_behind (nth_behind (3 * n) x)))
-    ∙ ap (λ m. code ++ blocks_behind m x) (sym (one_more n))
+    ∙ ap (λ m. code ++ blocks_behind m x) (sym (add-one n))

@@ -1,5 +1,5 @@
--- Programs of drawn blocks: each opens DATA.DAT in unlocked mode, does four hundred blocks, and ends. (Z80 Family CPU User
--- Manual; MP/M II Programmer's Guide, functions 2, 15, 33, 34, 42, 43 and 141.)
+-- Programs of drawn blocks: each opens DATA.DAT in unlocked mode, does four hundred blocks, and ends. (UM0080, "Z80
+-- Instruction Description"; MP/M II Programmer's Guide, functions 2, 15, 33, 34, 42, 43 and 141.)
 use Rattle.std.specs.Prelude.{ℕ, zero, suc, ◌+◌, ◌*◌, ◌%◌, ◌==◌, if◌then◌else◌, List, [], ◌∷◌, ◌++◌}
 use Rattle.mpm_generator.specs.Draws.{nth_behind, drawn}
 use Rattle.mpm_generator.specs.Sizes.{filled_to, in_records}

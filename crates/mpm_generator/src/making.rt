@@ -12,8 +12,11 @@ use std::alloc::Global;
 /// A machine that is made of a seed, with what is typed at its consoles, and its drives.
 #[derive(Drop)]
 pub struct Generated {
+    /// The machine.
     pub machine: MachineFile,
+    /// What is typed at its consoles.
     pub script: Script,
+    /// Its drives, with their images.
     pub drives: MemoryDrives,
 }
 

@@ -1,10 +1,13 @@
-//! Images of disks as tests make them: entries from slot 0 on, and all other bytes E5h. Where entries and records are stands here once
-//! more, by the guides alone, so that what is tried and what it is tried with have no code in common.
+//! Images of disks as tests make and read them: entries from slot 0 on, and all other bytes E5h. Where entries and records are stands
+//! here once more, by the guides alone, so that what is tried and what it is tried with have no code in common.
 //! (CP/M Alteration Guide, "Disk Parameter Tables"; MP/M II System Guide, "Disk Definition Tables".)
 #![tactic(auto)]
 
 ghost use Rattle.std.specs.Prelude.{◌<◌};
 
+mod drives;
+
+pub use crate::drives::{is_written, read_record};
 use mpm_base::Kind;
 use std::alloc::{AllocError, Global};
 
@@ -95,7 +98,14 @@ pub fn file(letter: u8, ex: u8, rc: u8) -> Entry {
     entry
 }
 
-/// The same with a block at a place.
+/// An entry with a byte changed.
+pub fn with(entry: Entry, place: usize, byte: u8) -> Entry {
+    let mut entry = entry;
+    entry[place % 32] = byte;
+    entry
+}
+
+/// An entry with a block at a place.
 pub fn held(kind: Kind, entry: Entry, index: usize, block: u16) -> Entry {
     let mut entry = entry;
     let [low, high] = block.to_le_bytes();
@@ -117,6 +127,93 @@ pub fn other(kind: Kind) -> Entry {
 /// An XFCB of a file of user 0.
 pub fn xfcb(letter: u8) -> Entry {
     named(16, letter)
+}
+
+/// An entry of a first byte and a letter's name that guards by the password SECRET: the XFCB of a file, or the label. Its mode is byte
+/// 12. The password's bytes are kept from the last to the first, each crossed with their sum, which is 06h modulo 256.
+pub fn guard(first: u8, letter: u8, mode: u8) -> Entry {
+    let mut entry = with(with(named(first, letter), 12, mode), 13, 6);
+    entry[16..24].copy_from_slice(b"&&RCTECU");
+    entry
+}
+
+/// The number of the block at a place of an entry; 0 where there is none.
+fn block_at(kind: Kind, entry: &Entry, index: u32) -> u32 {
+    if layout_of(kind).is_wide {
+        let at = (index % 8 * 2) as usize;
+        u32::from(u16::from_le_bytes([entry[16 + at], entry[17 + at]]))
+    } else {
+        u32::from(entry[16 + (index % 16) as usize])
+    }
+}
+
+/// Where behind the system's tracks the record of a number is in a file, by the entry that covers it, if that has its block.
+pub fn record_at(kind: Kind, entry: &Entry, number: u32) -> Option<u32> {
+    let layout = layout_of(kind);
+    let block = block_at(kind, entry, number % layout.entry / layout.block);
+    if block == 0 {
+        return None;
+    }
+    Some(
+        block
+            .saturating_mul(layout.block)
+            .saturating_add(number % layout.block),
+    )
+}
+
+/// The bytes of the directory's sector with the entries from a slot on; where none of them is left, E5h.
+pub fn directory_sector(entries: &[Entry], slot: usize) -> [u8; 128] {
+    let mut sector = [0xE5; 128];
+    for (byte, value) in sector.iter_mut().enumerate() {
+        if let Some(entry) = entries.get(slot.saturating_add(byte / 32)) {
+            *value = entry[byte % 32];
+        }
+    }
+    sector
+}
+
+/// One of the four entries of a sector of the directory.
+pub fn entry_in(sector: &[u8; 128], index: usize) -> Entry {
+    let mut entry = [0; 32];
+    for (byte, value) in entry.iter_mut().enumerate() {
+        if let Some(found) = sector.get((index % 4 * 32).saturating_add(byte)) {
+            *value = *found;
+        }
+    }
+    entry
+}
+
+/// Puts a sector into an image.
+pub fn put_sector(image: &mut [u8], sector: u32, bytes: &[u8; 128]) {
+    let first = (sector as usize).saturating_mul(128);
+    for (byte, value) in bytes.iter().enumerate() {
+        if let Some(old) = image.get_mut(first.saturating_add(byte)) {
+            *old = *value;
+        }
+    }
+}
+
+/// The bytes of a sector of an image; those that the image hasn't are E5h.
+pub fn sector_of(image: &[u8], sector: u32) -> [u8; 128] {
+    let first = (sector as usize).saturating_mul(128);
+    let mut bytes = [0xE5; 128];
+    for (byte, value) in bytes.iter_mut().enumerate() {
+        if let Some(found) = image.get(first.saturating_add(byte)) {
+            *value = *found;
+        }
+    }
+    bytes
+}
+
+/// Puts a text into an image as a record that is counted behind the system's tracks, with zeros behind the text.
+pub fn put_text(image: &mut [u8], kind: Kind, number: u32, text: &[u8]) {
+    let mut bytes = [0; 128];
+    for (byte, value) in bytes.iter_mut().enumerate() {
+        if let Some(letter) = text.get(byte) {
+            *value = *letter;
+        }
+    }
+    put_sector(image, place(kind, number), &bytes);
 }
 
 /// Puts the entry of a slot into an image.

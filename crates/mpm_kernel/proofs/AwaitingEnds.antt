@@ -149,7 +149,7 @@ awaits_ticked k q kernel s a =
     awaits_lists_behind k q kernel.dispatcher.running (dispatched (all_woken woken) (with_tick kernel))
     (λ p runs. lives_below kernel.dispatcher.procs p s.slots (listed kernel p ready s (s.runs p runs))) all
 
-if_some : (P : ℕ → Type 0) (o : Option ℕ) (h : ℕ) → IfSome o P → o ≡ Some h → P h
+pub if_some : (P : ℕ → Type 0) (o : Option ℕ) (h : ℕ) → IfSome o P → o ≡ Some h → P h
 if_some P None h all is = absurd (cc)
 if_some P (Some r) h all is = (let same : r ≡ h = cc in subst P same all)
 

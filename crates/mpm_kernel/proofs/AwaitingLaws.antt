@@ -2,8 +2,7 @@
 use Rattle.std.proofs.Common.{◌≡◌, ◌≢◌, ◌∙◌, ℕ, ◌+◌, ◌<◌, ◌≤◌, false, ◌==◌, List, [], ◌∷◌, ◌++◌, Option, Some, None, inl, inr, map, refl, sym, ap, subst, arith}
 use Rattle.std.specs.List.{AllByRecursion}
 use Rattle.std.proofs.lemmas.Bool.{cases_eq, cases_lt, ne_eqb, or_parts}
-use Rattle.std.proofs.lemmas.Bool.Decides.{nat_tests}
-use Rattle.mpm_base.proofs.CountLaws.{one_if, count_cons, one_if_true, one_if_false}
+use Rattle.mpm_base.proofs.CountLaws.{one_if, count_cons, one_if_false}
 use Rattle.mpm_ready.specs.Order.{Member, in_list, IsOnce}
 use Rattle.mpm_ready.specs.Tables.{list_of, removed, IsTable}
 use Rattle.mpm_ready.proofs.TableLaws.{table_removed, list_of_removed_other}
@@ -19,9 +18,6 @@ use Rattle.mpm_kernel.proofs.PlaceLaws.{not_equal, moved_lists, table_moved, lis
 use Rattle.mpm_kernel.proofs.Soundness.{listed_once}
 
 -- completions
-
-itself : (q : ℕ) → one_if (q == q) ≡ 1
-itself q = one_if_true (q == q) (grind (arith, nat_tests))
 
 apart_from : (p q : ℕ) → p ≢ q → one_if (p == q) ≡ 0
 apart_from p q other = one_if_false (p == q) (ne_eqb p q other)

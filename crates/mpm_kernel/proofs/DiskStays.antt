@@ -52,7 +52,7 @@ HasDisk disk called = called.kernel.disk ≡ disk
 call_if : (disk : DiskService) (b : Bool) (x y : Called) → HasDisk disk x → HasDisk disk y → HasDisk disk (if b then x else y)
 call_if disk b x y one other = either (HasDisk disk) b x y (λ _. one) (λ _. other)
 
-kernel_if : (disk : DiskService) (b : Bool) (x y : Kernel) → x.disk ≡ disk → y.disk ≡ disk → (if b then x else y).disk ≡ disk
+pub kernel_if : (disk : DiskService) (b : Bool) (x y : Kernel) → x.disk ≡ disk → y.disk ≡ disk → (if b then x else y).disk ≡ disk
 kernel_if disk b x y one other = either (λ (kernel : Kernel). kernel.disk ≡ disk) b x y (λ _. one) (λ _. other)
 
 -- waiting

@@ -1,7 +1,7 @@
 -- What stays so as a process ends: all that it gives back while it still lives and waits for nothing, and then its end.
 use Rattle.std.proofs.Common.{◌≡◌, ◌≢◌, ◌∙◌, ℕ, suc, ◌+◌, ◌<◌, ◌≤◌, true, false, List, [], ◌∷◌, ◌++◌, length, Option, Some, None, inl, inr, refl, sym, ap, subst, arith, get_or-set_other}
 use Rattle.std.specs.List.{AllByRecursion, range_with_len}
-use Rattle.std.proofs.lemmas.Bool.{cases_eq, false≢true}
+use Rattle.std.proofs.lemmas.Bool.{cases_eq, false≢true, both_ways}
 use Rattle.std.proofs.lemmas.List.{length-append}
 use Rattle.mpm_base.proofs.Choices.{either}
 use Rattle.mpm_base.specs.Calls.{no_call}
@@ -29,7 +29,7 @@ use Rattle.mpm_kernel.specs.Queueing.{given_to}
 use Rattle.mpm_kernel.specs.Procedures.{writing, outside, given_back_to, given_back}
 use Rattle.mpm_kernel.specs.Ending.{dropped_out, returned, all_returned, units_left, relieved, vacated, discharged, Leaves}
 use Rattle.mpm_kernel.proofs.PlaceLaws.{in_none, not_equal, list_moved_other, flags_without_own, flags_without_other, length_without_waiter}
-use Rattle.mpm_kernel.proofs.Soundness.{AreUnits, fit_kept, dead_and_alive, listed_once, runs_other, sound_ready, sound_with_completed, MayBeReady}
+use Rattle.mpm_kernel.proofs.Soundness.{AreUnits, fit_kept, listed_once, runs_other, sound_ready, sound_with_completed, MayBeReady}
 use Rattle.mpm_kernel.proofs.UnitWaits.{units_without_own, units_without_other, length_units_without, printers_units_without, has_units_without, owner_units_without}
 use Rattle.mpm_kernel.proofs.LeavingLaws.{OwnsNothing, left_units, owns_none}
 use Rattle.mpm_kernel.proofs.Staying.{all_and_one}
@@ -289,7 +289,7 @@ sound_vacated p kernel l nothing =
       slots = slots_without kernel.dispatcher.procs p s.slots;
       table = s.table;
       fit = λ q living. elim (cases_eq q p) [
-        | inl same ↦ absurd (dead_and_alive _ (ap (lives (without kernel.dispatcher.procs p)) same ∙ lives_without kernel.dispatcher.procs p (omega (arith, s.slots.alive))) living)
+        | inl same ↦ absurd (both_ways _ (ap (lives (without kernel.dispatcher.procs p)) same ∙ lives_without kernel.dispatcher.procs p (omega (arith, s.slots.alive))) living)
         | inr other ↦
             let P : Process → Type 0 = λ x. IsFit kernel.units x in
             subst P (sym (process_without_other kernel.dispatcher.procs p q other)) (s.fit q (sym (lives_without_other kernel.dispatcher.procs p q other) ∙ living))
@@ -298,7 +298,7 @@ sound_vacated p kernel l nothing =
       queues = s.queues;
       system = s.system;
       inside = λ q k living is. elim (cases_eq q p) [
-        | inl same ↦ absurd (dead_and_alive _ (ap (lives (without kernel.dispatcher.procs p)) same ∙ lives_without kernel.dispatcher.procs p (omega (arith, s.slots.alive))) living)
+        | inl same ↦ absurd (both_ways _ (ap (lives (without kernel.dispatcher.procs p)) same ∙ lives_without kernel.dispatcher.procs p (omega (arith, s.slots.alive))) living)
         | inr other ↦
             s.inside q k (sym (lives_without_other kernel.dispatcher.procs p q other) ∙ living)
             (ap (λ x. x.procedure) (sym (process_without_other kernel.dispatcher.procs p q other)) ∙ is)

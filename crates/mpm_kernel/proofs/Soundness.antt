@@ -1,7 +1,7 @@
 -- What a sound kernel stays through: changes of its parts, one by one.
 use Rattle.std.proofs.Common.{◌≡◌, ◌≢◌, ◌∙◌, ℕ, zero, suc, ◌+◌, ◌<◌, ◌≤◌, Bool, true, false, ◌&&◌, List, [], ◌∷◌, length, replicate, Option, Some, None, if◌then◌else◌, inl, inr, refl, sym, ap, subst, arith}
 use Rattle.std.specs.List.{AllByRecursion}
-use Rattle.std.proofs.lemmas.Bool.{cases_eq, cases_lt, false≢true}
+use Rattle.std.proofs.lemmas.Bool.{cases_eq, cases_lt, false≢true, both_ways}
 use Rattle.std.proofs.lemmas.Bool.Decides.{nat_tests}
 use Rattle.std.specs.Prelude.{count_by}
 use Rattle.std.proofs.lemmas.List.{length-set, set_past}
@@ -43,10 +43,6 @@ use Rattle.mpm_kernel.specs.Kernel.{Kernel, in_lists, flags_of, waits_in, waits_
 use Rattle.mpm_kernel.specs.Columns.{spoke}
 pub use Rattle.mpm_dispatcher.proofs.ReadyLaws.{is_ready_true}
 use Rattle.mpm_kernel.proofs.PlaceLaws.{in_some, in_none, in_at_most, not_equal, moved_lists, table_moved, list_moved, list_moved_other, flags_none}
-
-pub dead_and_alive : (b : Bool) → b ≡ false → b ≡ true → ⊥
-dead_and_alive true e f = absurd (cc)
-dead_and_alive false e f = absurd (cc)
 
 pub none_and_some : (o : Option ℕ) (n : ℕ) → o ≡ None → o ≡ Some n → ⊥
 none_and_some None n e f = absurd (cc)
@@ -102,11 +98,11 @@ sound_new consoles printers now some few more = record {
   owners = λ unit p has is. owners_new consoles printers no_processes unit p is;
   slots = slots_none;
   table = table_none;
-  fit = λ p living. absurd (dead_and_alive _ (nobody_lives p) living);
+  fit = λ p living. absurd (both_ways _ (nobody_lives p) living);
   flags = refl;
   queues = sound_none;
   system = λ q below. absurd (omega (arith, below));
-  inside = λ p q living is. absurd (dead_and_alive _ (nobody_lives p) living);
+  inside = λ p q living is. absurd (both_ways _ (nobody_lives p) living);
   once = λ p. omega (arith, nowhere p, nowhere_new consoles printers p, at_none 0 p);
   live = λ p some. absurd (omega (arith, nowhere p, nowhere_new consoles printers p, at_none 0 p));
   runs = λ p e. absurd (none_and_some None p refl e);
@@ -338,7 +334,7 @@ sound_picked kernel instruction s = record {
 -- a slot where nobody lives stands in no list
 pub free_is_unlisted : (kernel : Kernel) (p : ℕ) → IsSound kernel → lowest_free kernel.dispatcher.procs ≡ Some p → list_of kernel.dispatcher.lists p ≡ None
 free_is_unlisted kernel p s free =
-    unlisted_if_dead (list_of kernel.dispatcher.lists p) (λ list e. dead_and_alive _ (free_is_dead kernel.dispatcher.procs p free) (listed kernel p list s e))
+    unlisted_if_dead (list_of kernel.dispatcher.lists p) (λ list e. both_ways _ (free_is_dead kernel.dispatcher.procs p free) (listed kernel p list s e))
 
 -- and nowhere else
 none_if_dead : (n : ℕ) → (0 < n → ⊥) → n ≡ 0
@@ -348,14 +344,14 @@ none_if_dead (suc n) h = absurd (h (omega arith))
 free_is_nowhere : (kernel : Kernel) (p : ℕ) → IsSound kernel → lowest_free kernel.dispatcher.procs ≡ Some p
     → waits_of kernel p ≡ 0
 free_is_nowhere kernel p s free =
-    let none = none_if_dead (places kernel p) (λ some. dead_and_alive _ (free_is_dead kernel.dispatcher.procs p free) (s.live p some)) in
+    let none = none_if_dead (places kernel p) (λ some. both_ways _ (free_is_dead kernel.dispatcher.procs p free) (s.live p some)) in
     omega (arith, none)
 
 -- who lives lives on as a process begins
 lives_on : (kernel : Kernel) (p : ℕ) (new : NewProcess) → IsSound kernel → lowest_free kernel.dispatcher.procs ≡ Some p → (q : ℕ) → Lives kernel.dispatcher.procs q
     → Lives (added kernel.dispatcher.procs p new) q
 lives_on kernel p new s free q living = elim (cases_eq q p) [
-  | inl same ↦ absurd (dead_and_alive _ (free_is_dead kernel.dispatcher.procs p free) (ap (lives kernel.dispatcher.procs) (sym same) ∙ living))
+  | inl same ↦ absurd (both_ways _ (free_is_dead kernel.dispatcher.procs p free) (ap (lives kernel.dispatcher.procs) (sym same) ∙ living))
   | inr other ↦ lives_added_other kernel.dispatcher.procs p q new other ∙ living
 ]
 

@@ -1,5 +1,5 @@
 -- The end of a process: it waits no more, its messages go back, its consoles and printers pass on, and its slot is free. (MP/M
--- II Programmer's Guide, functions 0, "System Reset", and 143, "Terminate Process"; "Mutual Exclusion Queues".)
+-- II Programmer's Guide, "Function 0: System Reset", "Function 143: Terminate Process", "Mutual Exclusion Queues".)
 use Rattle.std.specs.Prelude.{◌≡◌, ◌≢◌, ℕ, zero, suc, List, length, [], ◌∷◌, Some, if◌then◌else◌}
 use Rattle.std.specs.List.{AllByRecursion, range_with_len}
 use Rattle.mpm_flags.specs.States.{flags_without_waiter}

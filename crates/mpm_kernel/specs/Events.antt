@@ -1,4 +1,4 @@
--- What events do. (MP/M II System Guide, "Polled devices", "Interrupt service routines", "Tick".)
+-- What events do. (MP/M II System Guide, "Polled Devices", "Interrupt Service Routines", "Tick".)
 use Rattle.std.specs.Prelude.{ℕ, ◌<◌, ⊤, true, List, Option, Some, None, ◌==◌, drop, slice_set, if◌then◌else◌}
 use Rattle.mpm_clock.specs.Delays.{woken_by_tick}
 use Rattle.mpm_clock.specs.Times.{ticked}

@@ -1,4 +1,5 @@
-ghost use Rattle.std.specs.Prelude.{◌≡◌};
+ghost use Rattle.std.specs.Prelude.{◌≡◌, ◌<◌, length};
+ghost use Rattle.mpm_base.specs.Calls.{answering};
 ghost use Rattle.mpm_base.specs.Lists.{is_among};
 ghost use Rattle.mpm_kernel.specs.Called.{functions_of};
 ghost use Rattle.mpm_kernel.specs.Consoling.{unit_rows};
@@ -15,10 +16,10 @@ const VERSION: u16 = 0x0130;
 pub(crate) const NO_FUNCTION: u16 = 0xFFFF;
 
 impl Kernel {
-    ghost use Rattle.mpm_procs.specs.Table.{Lives};
+    ghost use Rattle.mpm_procs.specs.Table.{Lives, call_of, process_in};
     ghost use Rattle.mpm_dispatcher.specs.Dispatch.{IsReady};
     ghost use Rattle.mpm_kernel.specs.Kernel.{IsSound, CompletedLive};
-    ghost use Rattle.mpm_kernel.specs.Calls.{called};
+    ghost use Rattle.mpm_kernel.specs.Calls.{called, call_done};
 
     /// Does the call that a ready process keeps.
     #[inline(always)]
@@ -35,9 +36,9 @@ impl Kernel {
         self.serve(p, reply)
     }
 
-    /// The call that a process keeps, by its function.
+    /// The call that a process keeps begins, and is done.
     #[inline(always)]
-    #[tactic(auto, using(crate::proofs::SoundLaws::sound_begun), unfolding(crate::specs::Calls::call_done, crate::specs::Dates::date_answered, crate::specs::Dates::time_answered))]
+    #[tactic(auto, using(crate::proofs::SoundLaws::sound_begun))]
     fn serve(&mut self, p: Pid, reply: &mut Reply) -> Outcome
         requires sound { IsSound self.old }
         requires lives { Lives self.old.dispatcher.procs p }
@@ -49,9 +50,27 @@ impl Kernel {
         let call = self.dispatcher.procs.call(p);
         let function = call.function;
         let word = call.word;
-        self.begin_call(echoes(function));
-        let byte = (word % 256) as u8;
+        self.begin_call(function <= functions::READ_CONSOLE_BUFFER && echoes(function));
         reply.answer(0);
+        self.serve_begun(p, function, word, reply)
+    }
+
+    /// A call that has begun, by its function.
+    #[inline(always)]
+    #[tactic(auto, unfolding(crate::specs::Calls::call_done, crate::specs::Dates::date_answered, crate::specs::Dates::time_answered))]
+    fn serve_begun(&mut self, p: Pid, function: u8, word: u16, reply: &mut Reply) -> Outcome
+        requires sound { IsSound self.old }
+        requires lives { Lives self.old.dispatcher.procs p }
+        requires ready { IsReady self.old.dispatcher p }
+        requires room { length self.old.dispatcher.completed < 64 }
+        requires function { function ≡ (call_of self.old.dispatcher.procs p).function }
+        requires word { word ≡ (call_of self.old.dispatcher.procs p).word }
+        requires reply { reply.old ≡ answering 0 }
+        ensures kernel { self.new ≡ (call_done (call_of self.old.dispatcher.procs p) p (process_in self.old.dispatcher.procs p) self.old).kernel }
+        ensures outcome { result ≡ (call_done (call_of self.old.dispatcher.procs p) p (process_in self.old.dispatcher.procs p) self.old).outcome }
+        ensures reply { reply.new ≡ (call_done (call_of self.old.dispatcher.procs p) p (process_in self.old.dispatcher.procs p) self.old).reply }
+    {
+        let byte = (word % 256) as u8;
         match function {
             functions::SYSTEM_RESET | functions::TERMINATE_PROCESS => return Outcome::Ended,
             functions::CONSOLE_INPUT
@@ -62,19 +81,22 @@ impl Kernel {
             | functions::PRINT_STRING
             | functions::READ_CONSOLE_BUFFER
             | functions::GET_CONSOLE_STATUS => return self.console_call(p, reply),
-            functions::RETURN_VERSION_NUMBER | functions::RETURN_MPM_VERSION_NUMBER => reply.answer(
+            functions::RETURN_VERSION_NUMBER | functions::RETURN_MPM_VERSION_NUMBER => reply.hl =
                 VERSION,
-            ),
-            functions::RETURN_CURRENT_DISK => reply.answer(u16::from(
+            functions::RETURN_CURRENT_DISK => reply.hl = u16::from(
                 self.dispatcher.procs.get(p).drive,
-            )),
+            ),
             functions::SET_DMA_ADDRESS => self.dispatcher.procs.get_mut(p).set_dma(word),
-            functions::SET_GET_USER_CODE => reply.answer(
-                self.dispatcher.procs.get_mut(p).ask_user(byte),
-            ),
-            functions::SET_MULTI_SECTOR_COUNT => reply.answer(
-                self.dispatcher.procs.get_mut(p).set_multi(byte),
-            ),
+            functions::SET_GET_USER_CODE => reply.hl = self
+                .dispatcher
+                .procs
+                .get_mut(p)
+                .ask_user(byte),
+            functions::SET_MULTI_SECTOR_COUNT => reply.hl = self
+                .dispatcher
+                .procs
+                .get_mut(p)
+                .set_multi(byte),
             functions::SET_BDOS_ERROR_MODE => self.dispatcher.procs.get_mut(p).set_error_mode(byte),
             functions::SET_DATE_AND_TIME => return self.set_date(p, reply),
             functions::GET_DATE_AND_TIME => tell_date(self.clock.now(), word, reply),
@@ -98,7 +120,7 @@ impl Kernel {
             functions::CALL_RESIDENT_SYSTEM_PROCEDURE => return self.call_procedure(p, reply),
             functions::GET_DATE_TIME_AND_SECOND => tell_time(self.clock.now(), word, reply),
             _ if is_for_unit(function) => return self.unit_call(p, reply),
-            _ => reply.answer(NO_FUNCTION),
+            _ => reply.hl = NO_FUNCTION,
         }
         Outcome::Done
     }

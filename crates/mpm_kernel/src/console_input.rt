@@ -20,6 +20,8 @@ impl Kernel {
 
     /// The calls that read from the caller's console or write to it: it is attached first, or waited for. (MP/M II Programmer's
     /// Guide, functions 1 to 4, 6 and 9 to 11.)
+    #[cold]
+    #[inline(never)]
     #[tactic(auto, using(crate::proofs::UnitLaws::has_own_console, crate::proofs::InputCalls::stays_console_called), unfolding(crate::specs::ConsoleInput::console_called, crate::specs::Consoling::retried))]
     pub(crate) fn console_call(&mut self, p: Pid, reply: &mut Reply) -> Outcome
         requires sound { IsSound self.old }

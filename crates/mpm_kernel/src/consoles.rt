@@ -123,6 +123,8 @@ impl Kernel {
     }
 
     /// The calls on consoles and printers: they are attached, detached, changed or assigned, or their numbers are told.
+    #[cold]
+    #[inline(never)]
     #[tactic(auto, using(crate::proofs::UnitLaws::has_own_console, crate::proofs::UnitCalls::stays_unit_called), unfolding(crate::specs::Consoling::unit_called))]
     pub(crate) fn unit_call(&mut self, p: Pid, reply: &mut Reply) -> Outcome
         requires sound { IsSound self.old }

@@ -9,7 +9,9 @@ impl Kernel {
     ghost use Rattle.mpm_procs.specs.Table.{Lives, call_of};
     ghost use Rattle.mpm_kernel.specs.Dates.{date_set};
 
-    /// A process sets the date and the time. (MP/M II Programmer's Guide, function 104.)
+    /// A process sets the date and the time. (MP/M II Programmer's Guide, "Function 104: Set Date and Time".)
+    #[cold]
+    #[inline(never)]
     #[tactic(auto, unfolding(crate::specs::Dates::date_set))]
     pub(crate) fn set_date(&mut self, p: Pid, reply: &mut Reply) -> Outcome
         requires { Lives self.old.dispatcher.procs p }

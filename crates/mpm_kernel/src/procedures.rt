@@ -20,6 +20,8 @@ impl Kernel {
     /// A process calls a resident procedure: it reads the message of the queue that it names, and waits for one where there is
     /// none. It is refused by FFFFh where the process is in a procedure, and where there is no such queue of two bytes. (MP/M II
     /// Programmer's Guide, "Function 151: Call Resident System Procedure".)
+    #[cold]
+    #[inline(never)]
     #[tactic(auto, using(crate::proofs::ProcedureLaws::lives_other, crate::proofs::ProcedureLaws::procedure_made), unfolding(crate::specs::Procedures::procedure_called, crate::specs::Procedures::procedure_at, crate::specs::Procedures::procedure_read, crate::specs::Procedures::inside))]
     pub(crate) fn call_procedure(&mut self, p: Pid, reply: &mut Reply) -> Outcome
         requires sound { IsSound self.old }

@@ -39,6 +39,8 @@ impl Kernel {
     }
 
     /// A process makes a queue. (MP/M II Programmer's Guide, "Function 134: Make Queue".)
+    #[cold]
+    #[inline(never)]
     #[tactic(auto, unfolding(crate::specs::Queueing::queue_made, crate::specs::Queueing::with_queue))]
     pub(crate) fn make_queue(&mut self, p: Pid, reply: &mut Reply) -> Outcome
         requires { Lives self.old.dispatcher.procs p }
@@ -58,6 +60,8 @@ impl Kernel {
 
     /// A process opens a queue: its pointer is written where the block stands. (MP/M II Programmer's Guide, "Function 135:
     /// Open Queue".)
+    #[cold]
+    #[inline(never)]
     #[tactic(auto, unfolding(crate::specs::Queueing::opened))]
     pub(crate) fn open_queue(&self, p: Pid, reply: &mut Reply) -> Outcome
         requires { Lives self.now.dispatcher.procs p }
@@ -76,6 +80,8 @@ impl Kernel {
     }
 
     /// A process deletes a queue. (MP/M II Programmer's Guide, "Function 136: Delete Queue".)
+    #[cold]
+    #[inline(never)]
     #[tactic(auto, unfolding(crate::specs::Queueing::deleted, mpm_queues::specs::Queues::without_queue))]
     pub(crate) fn delete_queue(&mut self, p: Pid, reply: &mut Reply) -> Outcome
         requires { Lives self.old.dispatcher.procs p }
@@ -98,6 +104,8 @@ impl Kernel {
 
     /// A process reads a message, which comes to the address that its block names; where there is none it waits for one, if it
     /// may. (MP/M II Programmer's Guide, "Function 137: Read Queue", "Function 138: Conditional Read Queue".)
+    #[cold]
+    #[inline(never)]
     #[tactic(auto, unfolding(crate::specs::Queueing::read_at, crate::specs::Queueing::was_read))]
     pub(crate) fn read_queue(&mut self, p: Pid, waits: bool, reply: &mut Reply) -> Outcome
         requires sound { IsSound self.old }
@@ -126,6 +134,8 @@ impl Kernel {
 
     /// A process writes a message; where there is no room it waits for some, if it may. (MP/M II Programmer's Guide, "Function
     /// 139: Write Queue", "Function 140: Conditional Write Queue".)
+    #[cold]
+    #[inline(never)]
     #[tactic(auto, unfolding(crate::specs::Queueing::write_at, crate::specs::Queueing::was_written))]
     pub(crate) fn write_queue(&mut self, p: Pid, waits: bool, reply: &mut Reply) -> Outcome
         requires sound { IsSound self.old }

@@ -24,7 +24,9 @@ impl Kernel {
     ghost use Rattle.mpm_kernel.specs.Called.{low_parameter};
     ghost use Rattle.mpm_kernel.specs.Waiting.{polled, flag_waited, flag_set as flag_set_by, slept, signalled};
 
-    /// A process waits until a device is ready, unless it is. (MP/M II Programmer's Guide, function 131.)
+    /// A process waits until a device is ready, unless it is. (MP/M II Programmer's Guide, "Function 131: Poll".)
+    #[cold]
+    #[inline(never)]
     #[tactic(auto, unfolding(crate::specs::Waiting::polled))]
     pub(crate) fn poll(&mut self, p: Pid, device: u8, reply: &mut Reply) -> Outcome
         requires lives { Lives self.old.dispatcher.procs p }
@@ -43,7 +45,9 @@ impl Kernel {
         self.dispatcher.hold(p, reply)
     }
 
-    /// A process waits for a flag, unless it is set. (MP/M II Programmer's Guide, function 132.)
+    /// A process waits for a flag, unless it is set. (MP/M II Programmer's Guide, "Function 132: Flag Wait".)
+    #[cold]
+    #[inline(never)]
     #[tactic(auto, unfolding(crate::specs::Waiting::flag_waited, crate::specs::Waiting::waited))]
     pub(crate) fn wait_flag(&mut self, p: Pid, flag: u8, reply: &mut Reply) -> Outcome
         requires flag { flag ≡ low_parameter (call_of self.old.dispatcher.procs p) }
@@ -64,7 +68,9 @@ impl Kernel {
         }
     }
 
-    /// A process sets a flag. (MP/M II Programmer's Guide, function 133.)
+    /// A process sets a flag. (MP/M II Programmer's Guide, "Function 133: Flag Set".)
+    #[cold]
+    #[inline(never)]
     #[tactic(auto, unfolding(crate::specs::Waiting::flag_set))]
     pub(crate) fn set_flag(&mut self, p: Pid, flag: u8, reply: &mut Reply) -> Outcome
         requires sound { IsSound self.old }
@@ -82,7 +88,10 @@ impl Kernel {
         }
     }
 
-    /// A process waits for so many ticks; for none, it is put behind its equals. (MP/M II Programmer's Guide, function 141.)
+    /// A process waits for so many ticks; for none, it is put behind its equals. (MP/M II Programmer's Guide, "Function 141:
+    /// Delay".)
+    #[cold]
+    #[inline(never)]
     #[tactic(auto, using(crate::proofs::SoundLaws::not_delayed), unfolding(crate::specs::Waiting::slept))]
     pub(crate) fn sleep(&mut self, p: Pid, ticks: u16, reply: &mut Reply) -> Outcome
         requires sound { IsSound self.old }

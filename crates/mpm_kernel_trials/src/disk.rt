@@ -1,6 +1,5 @@
 //! Scenes of file calls at the disk, beside processes that run: who waits, who is served, and who is ready again.
-ghost use Rattle.std.specs.Prelude.{◌≡◌, ◌<◌, IfOk};
-ghost use Rattle.mpm_kernel.specs.Kernel.{IsSound};
+ghost use Rattle.std.specs.Prelude.{◌<◌};
 ghost use Rattle.mpm_kernel_trials.specs.Serving.{Serves};
 
 use crate::scene::{begin, kernel_of_one, slot};

@@ -7,7 +7,7 @@ use Rattle.mpm_prl.specs.Relocation.{relocated, relocated_byte}
 use Rattle.mpm_prl.proofs.Laws.{length_relocated, byte_relocated}
 
 -- a byte of code at a page, by the byte of the marks in which its bit is, and the place of its bit there
-abbrev moved : ℕ → ℕ → ℕ → ℕ → ℕ
+abbrev pub moved : ℕ → ℕ → ℕ → ℕ → ℕ
 moved mark bit byte page = if mark / 2 ^ (7 - bit) % 2 == 1 then (byte + page) % 256 else byte
 
 byte_of_first : (one next marks more : List ℕ) (page place : ℕ) → length one ≡ 8 * length marks → place < length one → relocated_byte (one ++ next) (marks ++ more) page place ≡ relocated_byte one marks page place

@@ -24,6 +24,7 @@ use Rattle.mpm_requests.specs.Filing.{Filing, Situation}
 use Rattle.mpm_functions.specs.Functions.{function_of}
 use Rattle.mpm_bdos.specs.Serving.{Kept, InService, Serves, directory_at}
 use Rattle.mpm_bdos.specs.Turns.{FitsDrives, has_work, labelled, told_images}
+use Rattle.mpm_bdos.proofs.ServedLaws.{none_before}
 use Rattle.mpm_machine.specs.declared.system.System.{System}
 use Rattle.mpm_machine.specs.declared.machine.StepFault.{StepFault}
 use Rattle.mpm_machine.specs.declared.machine.StepFault.TheVariants.{DiskFault, WriteFault}
@@ -38,8 +39,7 @@ use Rattle.mpm_machine.specs.Failing.{HaveImagesOf, FailsWithin, working_if, tur
 use Rattle.mpm_machine.specs.After.{StopsBy, HasCalled, HasToldAtGate, HasStoppedAtGate}
 use Rattle.mpm_machine.proofs.KeepingLaws.{ready_unserved, concluded_serves}
 use Rattle.mpm_machine.proofs.TurnLaws.{worked_on}
-use Rattle.mpm_machine.proofs.WorkLaws.{nothing_there}
-use Rattle.mpm_machine.proofs.ToldLaws.{something_told, served_as_kept}
+use Rattle.mpm_machine.proofs.ToldLaws.{something_told, waits_as_kept}
 use Rattle.mpm_machine.proofs.HoldingLaws.{not_none}
 use Rattle.mpm_machine.proofs.BegunLaws.{waiting_serves}
 
@@ -101,7 +101,8 @@ waits_told {kept} p o old new waits is =
       told = told;
       of_call = refl;
       tells = any.2;
-      as_kept = served_as_kept kept p old any.0 any.1 (not_none (function_of (call_of old.kernel.dispatcher.procs p).function) (old.kernel.disk.turn_steps == 0) waits);
+      as_kept = waits_as_kept kept p old any.0 any.1 (not_none (function_of (call_of old.kernel.dispatcher.procs p).function) (old.kernel.disk.turn_steps == 0) waits)
+          (or_parts (is_none (function_of (call_of old.kernel.dispatcher.procs p).function)) (old.kernel.disk.turn_steps == 0) waits).1;
       called = waits_called told p o old new waits is;
     }
 
@@ -331,5 +332,5 @@ holds_filed attached disks kernel found old new before behind holds apart direct
   fits = fits;
   workless = λ none.
       workless_by found old new direct idle
-      (holds.workless (λ number. nothing_there (directory_at old.mounted number) (directory_at new.mounted number) (labels number) (none number)));
+      (holds.workless (λ number. none_before (directory_at old.mounted number) (directory_at new.mounted number) (labels number) (none number)));
 }

@@ -1,6 +1,6 @@
 -- The drives with which a machine begins, and what steps leave of them, one after another.
 use Rattle.std.proofs.Common.{◌≡◌, ◌≢◌, ◌∙◌, ℕ, List, [], ◌∷◌, Option, Some, None, IfSome, sym, ap, subst, arith, get_or-set_same, get_or-set_other}
-use Rattle.std.specs.Prelude.{is_some, option_map, slice_set}
+use Rattle.std.specs.Prelude.{option_map, slice_set}
 use Rattle.std.specs.List.{AllByRecursion}
 use Rattle.std.proofs.lemmas.List.Elements.{recursion_from_All}
 use Rattle.mpm_port.specs.Disks.{Disks, Told}
@@ -13,7 +13,8 @@ use Rattle.mpm_drives.specs.Images.{Images}
 use Rattle.mpm_drives.specs.Mounted.{number_of, IsNamed, AreMounted}
 use Rattle.mpm_bdos.specs.Serving.{Kept, directory_at, all_put, in_places, nothing_kept}
 use Rattle.mpm_bdos.specs.Turns.{StaysBeside, labelled}
-use Rattle.mpm_bdos.proofs.Fitting.{there_label, stays_same, stays_again}
+use Rattle.mpm_bdos.proofs.Fitting.{stays_same, stays_again}
+use Rattle.mpm_bdos.proofs.AtOnceLaws.{still_there}
 use Rattle.mpm_machine.specs.Mounting.{HasMounted, IsInPlace, HasDrives, KeepsMounted}
 use Rattle.mpm_machine.proofs.FilingLaws.{label_none}
 use Rattle.mpm_machine.proofs.MountedLaws.{many_places, none_mounted}
@@ -23,13 +24,10 @@ use Rattle.mpm_machine.proofs.MountedLaws.{many_places, none_mounted}
 pub keeps_still : (disks : Option Disks) (one other : List (Option Directory)) → other ≡ one → KeepsMounted disks disks one other
 keeps_still disks one other same = record { labels = λ number. ap (λ m. option_map labelled (directory_at m number)) same; beside = stays_same one disks }
 
-is_still_there : (one other : Option Directory) → option_map labelled other ≡ option_map labelled one → is_some other ≡ is_some one
-is_still_there one other same = sym (there_label other) ∙ ap is_some same ∙ there_label one
-
 pub keeps_both : (x y z : Option Disks) (one other last : List (Option Directory)) → KeepsMounted x y one other → KeepsMounted y z other last → KeepsMounted x z one last
 keeps_both x y z one other last first next = record {
   labels = λ number. next.labels number ∙ first.labels number;
-  beside = stays_again one other x y z (λ number. is_still_there (directory_at one number) (directory_at other number) (first.labels number)) first.beside next.beside;
+  beside = stays_again one other x y z (λ number. still_there (directory_at one number) (directory_at other number) (first.labels number)) first.beside next.beside;
 }
 
 -- so the drives of a machine file stay

@@ -14,7 +14,7 @@ use Rattle.mpm_output.proofs.WritingLaws.{wrote_after, fails_before, fails_withi
 use Rattle.mpm_output.specs.Outside.{Outside, TheSink}
 use Rattle.mpm_render.specs.Outputs.{Output}
 use Rattle.mpm_bdos.specs.Direct.{Directly}
-use Rattle.mpm_bdos.specs.Serving.{Kept, InService, directory_at, filing_of}
+use Rattle.mpm_bdos.specs.Serving.{Kept, InService, StandEach, Serves, directory_at, filing_of}
 use Rattle.mpm_bdos.specs.Turns.{has_work}
 use Rattle.mpm_machine.specs.declared.system.System.{System}
 use Rattle.mpm_machine.specs.Files.{Files, StandsServed, StandsForFiles, all_left, given_back}
@@ -23,9 +23,10 @@ use Rattle.mpm_machine.specs.Due.{NobodyDue, with_ends}
 use Rattle.mpm_machine.specs.Step.{records_out}
 use Rattle.mpm_machine.specs.Mounting.{HasNoDrive}
 use Rattle.mpm_machine.specs.Holding.{OwnsService, AreFiled}
-use Rattle.mpm_machine.specs.DiskStep.{step_passed, over_after, served_by, disk_served, all_paid, entered_by, entered_unless, call_entered}
+use Rattle.mpm_machine.specs.FileCalls.{situation_of}
+use Rattle.mpm_machine.specs.DiskStep.{step_passed, over_after, process_over, served_by, disk_served, all_paid, entered_by, entered_unless, call_entered}
 use Rattle.mpm_machine.specs.Stepping.{Telling, nothing_told, told_within, paid_after, entered_after, ended_after, rest_of, telling_then, files_then, files_rest}
-use Rattle.mpm_machine.specs.After.{HasServedTo, HasStoppedServing, HasServed, HasEndedStep, HasEndedTo, HasEndedToStop, EndKeeps}
+use Rattle.mpm_machine.specs.After.{ServesEntered, HasServedTo, HasStoppedServing, HasServed, HasEndedStep, HasEndedTo, HasEndedToStop, EndKeeps}
 use Rattle.mpm_machine.proofs.RecordsLaws.{recorded_after}
 use Rattle.mpm_machine.proofs.WholeStepLaws.{whole_with_ends}
 use Rattle.mpm_machine.proofs.KeepingLaws.{ServesSame, ends_serve}
@@ -35,7 +36,7 @@ use Rattle.mpm_machine.proofs.TellingLaws.{any_turns, enters_for_any}
 use Rattle.mpm_machine.proofs.CallsLaws.{SystemKeepsCalls, calls_same, calls_then, calls_with_ends}
 use Rattle.mpm_machine.proofs.HoldingLaws.{filed_still, own_still}
 use Rattle.mpm_machine.proofs.ServeLaws.{over_serves, none_behind}
-use Rattle.mpm_machine.proofs.EnterLaws.{paid_kernel, pays}
+use Rattle.mpm_machine.proofs.EnterLaws.{entry_serves, still_behind, paid_kernel, pays}
 use Rattle.mpm_machine.proofs.CarryingLaws.{keeps_by}
 
 -- what comes behind the disk's step
@@ -72,12 +73,42 @@ ended_so : (instruction : Bool) (served ended paid new : System) → ended ≡ (
 ended_so instruction served ended paid new ends pays picks =
     picks ∙ ap (λ (system : System). record system { kernel = with_dispatcher (picked instruction) system.kernel }) (pays ∙ ap all_paid ends)
 
-pub has_ended : (instruction : Bool) (o m n : Outside) (old served ended paid new : System) → HasServed o m old served
-    → ended ≡ (records_out (with_ends served)).system → Wrote m n (records_out (with_ends served)).emitted → paid ≡ all_paid ended
-    → new ≡ record paid { kernel = with_dispatcher (picked instruction) paid.kernel } → HasEndedStep instruction o n old new
-has_ended instruction o m n old served ended paid new has ends wrote pays picks =
+-- a call in service stays there as ends come
+pub ends_still : (served ended : System) → ended ≡ (records_out (with_ends served)).system → is_some served.kernel.disk.served ≡ true → is_some ended.kernel.disk.served ≡ true
+ends_still served ended is some =
+    subst (λ (call : Option Served). is_some call ≡ true) (sym (ap (λ (system : System). system.kernel.disk.served) is ∙ (ends_serve served).served)) some
+
+pub ended_still : {kept kept' : Kept} (o n : Outside) (old served ended : System) → HasServed kept kept' o n old served → ended ≡ (records_out (with_ends served)).system
+    → is_some old.kernel.disk.served ≡ true → process_over old ≡ None → is_some ended.kernel.disk.served ≡ true
+ended_still o n old served ended has is some none =
+    ends_still served ended is (subst (λ (s : System). is_some s.kernel.disk.served ≡ true) (sym has.system) (still_behind has.telling old some none))
+
+-- so one that entered is served by what is kept behind it
+entered_then : {kept kept' kept'' : Kept} (o n : Outside) (old served ended : System) (has : HasServed kept kept' o n old served) → ended ≡ (records_out (with_ends served)).system
+    → (is_some ended.kernel.disk.served ≡ true → kept'' ≡ kept') → ServesEntered kept'' (paid_after has.telling.at_disk old)
+entered_then o n old served ended has is same = record {
+  serves = λ function p images drives enters stand.
+      let there = subst (λ (s : System). is_some s.kernel.disk.served ≡ true) (sym has.system) (entry_serves has.telling old function p enters) in
+      let keeps = same (ends_still served ended is there) in
+      subst (λ (k : Kept). Serves images k (situation_of (filing_of k drives) function p (paid_after has.telling.at_disk old)) 0) (sym keeps)
+      (has.entered.serves function p images drives enters (subst (λ (k : Kept). StandEach images k.mounted drives) keeps stand));
+}
+
+pub has_ended : {kept kept' kept'' : Kept} (instruction : Bool) (o m n : Outside) (old served ended paid new : System) → HasServed kept kept' o m old served
+    → (is_some ended.kernel.disk.served ≡ true → kept'' ≡ kept') → ended ≡ (records_out (with_ends served)).system → Wrote m n (records_out (with_ends served)).emitted → paid ≡ all_paid ended
+    → new ≡ record paid { kernel = with_dispatcher (picked instruction) paid.kernel } → HasEndedStep kept kept'' instruction o n old new
+has_ended instruction o m n old served ended paid new has same ends wrote pays picks =
     let done = rest_done instruction has.telling o m n old served new has.system has.wrote wrote (ended_so instruction served ended paid new ends pays picks) in
-    record { telling = has.telling; turns = has.turns; of_call = has.of_call; tells = has.tells; system = done.0; wrote = done.1 }
+    record {
+      telling = has.telling;
+      turns = has.turns;
+      of_call = has.of_call;
+      tells = has.tells;
+      as_kept = has.as_kept;
+      entered = entered_then o m old served ended has ends same;
+      system = done.0;
+      wrote = done.1;
+    }
 
 -- by what is on the drives
 
@@ -192,7 +223,7 @@ steps_entered_after telling system =
     steps_entered_unless (served_process (paid_after telling.at_disk system).kernel.disk) telling.turns (paid_after telling.at_disk system)
     ∙ steps_served_by (served_process system.kernel.disk) telling.at_disk system
 
-pub ended_turn_steps : (instruction : Bool) (o n : Outside) (old served new : System) → EndsServed instruction served new → HasServed o n old served
+pub ended_turn_steps : {kept kept' : Kept} (instruction : Bool) (o n : Outside) (old served new : System) → EndsServed instruction served new → HasServed kept kept' o n old served
     → new.kernel.disk.turn_steps ≡ old.kernel.disk.turn_steps
 ended_turn_steps instruction o n old served new so has =
     so.serves.steps ∙ ap (λ (system : System). system.kernel.disk.turn_steps) has.system ∙ steps_entered_after has.telling old
@@ -228,7 +259,7 @@ pub ending_stopped : (instruction : Bool) (files : Files) (o m n : Outside) (old
 ending_stopped instruction files o m n old served kept disks has stopped =
     ends_stop instruction (telling_then nothing_told old files) o m n old served (served_so files o m old served kept disks has) (said_so files o m old served kept disks has) stopped
 
-pub ended_stops : (instruction : Bool) (o m n : Outside) (old served : System) → HasServed o m old served → Stopped m n (records_out (with_ends served)).emitted
+pub ended_stops : {kept kept' : Kept} (instruction : Bool) (o m n : Outside) (old served : System) → HasServed kept kept' o m old served → Stopped m n (records_out (with_ends served)).emitted
     → HasEndedToStop instruction o n old
 ended_stops instruction o m n old served has stopped = record {
   telling = has.telling;
@@ -240,25 +271,25 @@ ended_stops instruction o m n old served has stopped = record {
 
 -- what is so of the system behind the disk's step, and behind the rest of a step
 
-pub served_nobody : (o n : Outside) (old new : System) → old.kernel.dispatcher.completed ≡ [] → HasServed o n old new → new.kernel.dispatcher.completed ≡ []
+pub served_nobody : {kept kept' : Kept} (o n : Outside) (old new : System) → old.kernel.dispatcher.completed ≡ [] → HasServed kept kept' o n old new → new.kernel.dispatcher.completed ≡ []
 served_nobody o n old new none has = ap (λ (system : System). system.kernel.dispatcher.completed) has.system ∙ none_entered_after has.telling old none
 
-ended_as : (P : System → Type 0) (instruction : Bool) (o n : Outside) (old new : System) (has : HasEndedStep instruction o n old new)
+ended_as : {kept kept' : Kept} (P : System → Type 0) (instruction : Bool) (o n : Outside) (old new : System) (has : HasEndedStep kept kept' instruction o n old new)
     → P (rest_of instruction has.telling (silent old)).system → P new
 ended_as P instruction o n old new has so = subst P (sym has.system) so
 
-pub ended_whole : (instruction : Bool) (o n : Outside) (old new : System) → IsWhole old → HasEndedStep instruction o n old new → IsWhole new
+pub ended_whole : {kept kept' : Kept} (instruction : Bool) (o n : Outside) (old new : System) → IsWhole old → HasEndedStep kept kept' instruction o n old new → IsWhole new
 ended_whole instruction o n old new w has = ended_as IsWhole instruction o n old new has (whole_rest instruction has.telling (silent old) w)
 
-pub ended_nobody_due : (instruction : Bool) (o n : Outside) (old new : System) → IsWhole old → HasEndedStep instruction o n old new → NobodyDue new.kernel
+pub ended_nobody_due : {kept kept' : Kept} (instruction : Bool) (o n : Outside) (old new : System) → IsWhole old → HasEndedStep kept kept' instruction o n old new → NobodyDue new.kernel
 ended_nobody_due instruction o n old new w has =
     ended_as (λ system. NobodyDue system.kernel) instruction o n old new has (nobody_due_rest instruction has.telling (silent old) w)
 
-pub ended_no_completions : (instruction : Bool) (o n : Outside) (old new : System) → old.kernel.dispatcher.completed ≡ [] → HasEndedStep instruction o n old new → NoCompletions new
+pub ended_no_completions : {kept kept' : Kept} (instruction : Bool) (o n : Outside) (old new : System) → old.kernel.dispatcher.completed ≡ [] → HasEndedStep kept kept' instruction o n old new → NoCompletions new
 ended_no_completions instruction o n old new none has =
     ended_as NoCompletions instruction o n old new has (no_completions_rest instruction has.telling (silent old) none)
 
-pub ended_steps : (instruction : Bool) (o n : Outside) (old new : System) → HasEndedStep instruction o n old new → new.steps ≡ old.steps
+pub ended_steps : {kept kept' : Kept} (instruction : Bool) (o n : Outside) (old new : System) → HasEndedStep kept kept' instruction o n old new → new.steps ≡ old.steps
 ended_steps instruction o n old new has =
     ended_as (λ system. system.steps ≡ old.steps) instruction o n old new has (rest_steps instruction has.telling (silent old))
 

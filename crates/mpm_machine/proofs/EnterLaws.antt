@@ -25,7 +25,7 @@ use Rattle.mpm_bdos.specs.Answering.{HasEntered}
 use Rattle.mpm_requests.specs.Filing.{Filing}
 use Rattle.mpm_functions.specs.Functions.{function_of}
 use Rattle.mpm_bdos.specs.Jobs.{call_turns}
-use Rattle.mpm_bdos.specs.Serving.{Kept, InService, Serves, filing_of}
+use Rattle.mpm_bdos.specs.Serving.{Kept, InService, StandEach, Serves, filing_of}
 use Rattle.mpm_bdos.specs.Starting.{caller_of}
 use Rattle.mpm_bdos.specs.Turns.{told_images}
 use Rattle.mpm_machine.specs.declared.system.System.{System}
@@ -34,13 +34,13 @@ use Rattle.mpm_machine.specs.Holding.{IsOwn, OwnsService, AreFiled}
 use Rattle.mpm_machine.specs.State.{Change, IsWhole, silent}
 use Rattle.mpm_machine.specs.FileCalls.{looked_at, situation_of}
 use Rattle.mpm_machine.specs.DiskStep.{with_kernel, step_passed, served_by, disk_served, over_by, process_over, files_served_by, files_served, all_paid, entered_by, entered_unless, call_entered, within_call, entering_call, files_entered_by, files_entered_unless, files_entered, turns_within}
-use Rattle.mpm_machine.specs.Stepping.{Telling, nothing_told, told_within, entered_after, files_paid, files_then}
-use Rattle.mpm_machine.specs.After.{IsOfCall, IsToldIn, EntersFor, HasServedTo, HasPassed, HasServed, HasEnteredCall}
+use Rattle.mpm_machine.specs.Stepping.{Telling, nothing_told, told_within, paid_after, entered_after, files_paid, files_then}
+use Rattle.mpm_machine.specs.After.{IsOfCall, IsToldIn, IsOverAsKept, EntersService, ServesEntered, EntersFor, HasServedTo, HasPassed, HasServed, HasEnteredCall}
 use Rattle.mpm_machine.proofs.DiskStepLaws.{whole_passed, whole_call_entered, whole_all_paid}
 use Rattle.mpm_machine.proofs.CallsLaws.{SystemKeepsCalls, calls_same, calls_then, calls_disk_served, calls_call_entered, at_disk_lives}
 use Rattle.mpm_machine.proofs.HoldingLaws.{filed_still}
 use Rattle.mpm_machine.proofs.FilingLaws.{named_by}
-use Rattle.mpm_machine.proofs.ServeLaws.{somebody}
+use Rattle.mpm_machine.proofs.ServeLaws.{somebody, still_served}
 use Rattle.mpm_machine.proofs.TellingLaws.{any_turns, enters_for_any}
 use Rattle.mpm_machine.proofs.TurnLaws.{who, stands_idle, entered_first, paid_stands, entry_stands}
 
@@ -137,8 +137,8 @@ pub record Begins (p turns : ℕ) (old : System) (kept kept' : Kept) : Type 0 wh
       → StandsBetween kept disks filing → turns ≡ call_turns (situation_of filing function p old)
   pub takes : (function : FileFunction) → function_of (call_of old.kernel.dispatcher.procs p).function ≡ Some function
       → (filing : Filing) × (turns ≡ call_turns (situation_of filing function p old))
-  pub serves : (disks : Option Disks) (filing : Filing) (function : FileFunction) → function_of (call_of old.kernel.dispatcher.procs p).function ≡ Some function
-      → StandsBetween kept disks filing → Serves (told_images disks) kept' (situation_of filing function p old) 0
+  pub serves : (images : ℕ → List ℕ) (drives : List (Option Drive)) (function : FileFunction) → function_of (call_of old.kernel.dispatcher.procs p).function ≡ Some function
+      → StandEach images kept.mounted drives → Serves images kept' (situation_of (filing_of kept drives) function p old) 0
   pub entered : (function : FileFunction) → function_of (call_of old.kernel.dispatcher.procs p).function ≡ Some function
       → HasEntered (caller_of p (looked_at (process_in old.kernel.dispatcher.procs p))) function (call_of old.kernel.dispatcher.procs p) kept'.service
   pub some : 0 < turns
@@ -160,7 +160,8 @@ enters_so old new p turns kept kept' disks files is starts none filed begins sta
     (λ filing between.
     let its = named_by (function_of (call_of old.kernel.dispatcher.procs p).function) (filed p (starts_at old.kernel.disk p starts)) in
     let so = enters_ok old filing its.0 p turns kept kept' disks starts none its.1 between (begins.turns_are disks filing its.0 its.1 between) begins.some
-    (begins.serves disks filing its.0 its.1 between) in
+    (subst (λ (found : Filing). Serves (told_images disks) kept' (situation_of found its.0 p old) 0) between.filing_is
+    (begins.serves (told_images disks) filing.drives its.0 its.1 between.stand)) in
     (is ∙ so.0, subst (λ (system : System). StandsForFiles system.kernel.disk kept' disks (files_entered old (Between filing))) (sym is) so.1))
 
 enters_for : (old : System) (p turns : ℕ) (kept kept' : Kept) → turn_answer old.kernel.disk ≡ Starts p → old.kernel.disk.served ≡ None → AreFiled old.kernel
@@ -171,12 +172,42 @@ enters_for old p turns kept kept' starts none filed begins =
     let files : files_entered old (Between takes.0) ≡ entering_call p old (Between takes.0) = files_so old (Between takes.0) (Starts p) none starts in
     record { filing = takes.0; are = takes.1 ∙ sym (ap turns_within (files ∙ enters_within old takes.0 its.0 p its.1)) }
 
-pub has_entered : (old new : System) (p turns : ℕ) (kept kept' : Kept) → new ≡ with_kernel (with_disk (λ disk. begun disk turns)) (step_passed old) → turn_answer old.kernel.disk ≡ Starts p
-    → old.kernel.disk.served ≡ None → AreFiled old.kernel → Begins p turns (step_passed old) kept kept' → HasEnteredCall old new
-has_entered old new p turns kept kept' is starts none filed begins =
-    record { turns = turns; its = enters_for old p turns kept kept' starts none filed begins; is = is ∙ sym (entered_so turns old (Starts p) none starts) }
+-- by what is kept then it is served in the situation of that moment
+enters_anew : (old : System) (p turns : ℕ) (kept kept' : Kept) → turn_answer old.kernel.disk ≡ Starts p → kept' ≡ record kept { service = kept'.service }
+    → Begins p turns (step_passed old) kept kept' → ServesEntered kept' old
+enters_anew old p turns kept kept' starts rest begins = record {
+  serves = λ function q images drives enters stand.
+      let same : p ≡ q = ap who (sym starts ∙ enters.starts) in
+      let its = subst (λ (r : ℕ). function_of (call_of old.kernel.dispatcher.procs r).function ≡ Some function) (sym same) enters.calls in
+      let serves = begins.serves images drives function its (subst (λ (k : Kept). StandEach images k.mounted drives) rest stand) in
+      subst (λ (found : Filing). Serves images kept' (situation_of found function q old) 0) (sym (ap (λ (k : Kept). filing_of k drives) rest))
+      (subst (λ (r : ℕ). Serves images kept' (situation_of (filing_of kept drives) function r old) 0) same serves);
+}
 
-pub enters_whole : (old new : System) → IsWhole old → HasEnteredCall old new → IsWhole new
+-- and is in service behind it
+serves_behind : (turns : ℕ) (system : System) (p : ℕ) → system.kernel.disk.served ≡ None → turn_answer system.kernel.disk ≡ Starts p
+    → is_some (call_entered turns system).kernel.disk.served ≡ true
+unfolding turn_answer turned begun
+serves_behind turns system p none starts =
+    let disk = system.kernel.disk in
+    subst (λ (s : System). is_some s.kernel.disk.served ≡ true) (sym (entered_so turns system (Starts p) none starts))
+    (ap is_some (entered_first disk.turn_steps disk.served (first_of disk.waiting) p turns none starts))
+
+pub entry_serves : (telling : Telling) (old : System) (function : FileFunction) (p : ℕ) → EntersService function p (paid_after telling.at_disk old)
+    → is_some (entered_after telling old).kernel.disk.served ≡ true
+unfolding entered_after
+entry_serves telling old function p enters = serves_behind telling.turns (paid_after telling.at_disk old) p enters.idle enters.starts
+
+pub has_entered : (old new : System) (p turns : ℕ) (kept kept' : Kept) → new ≡ with_kernel (with_disk (λ disk. begun disk turns)) (step_passed old) → turn_answer old.kernel.disk ≡ Starts p
+    → old.kernel.disk.served ≡ None → AreFiled old.kernel → kept' ≡ record kept { service = kept'.service } → Begins p turns (step_passed old) kept kept' → HasEnteredCall kept' old new
+has_entered old new p turns kept kept' is starts none filed rest begins = record {
+  turns = turns;
+  its = enters_for old p turns kept kept' starts none filed begins;
+  entered = enters_anew old p turns kept kept' starts rest begins;
+  is = is ∙ sym (entered_so turns old (Starts p) none starts);
+}
+
+pub enters_whole : {kept : Kept} (old new : System) → IsWhole old → HasEnteredCall kept old new → IsWhole new
 enters_whole old new w has = subst IsWhole (sym has.is) (whole_call_entered has.turns old w)
 
 -- his is the call in service then
@@ -253,13 +284,18 @@ unserved_begun kernel none = subst (λ (served : Option Served). IfSome served (
 pub unserved_own : (kernel : Kernel) (service : Option InService) → kernel.disk.served ≡ None → OwnsService kernel service
 unserved_own kernel service none = subst (λ (served : Option Served). IfSome served (λ (call : Served). IsOwn kernel.dispatcher.procs call.p service)) (sym none) tt
 
-pub has_entered_none : (old : System) → old.kernel.disk.served ≡ None → StartsNobody (turn_answer old.kernel.disk) → HasEnteredCall old (step_passed old)
-has_entered_none old none nobody =
-    record { turns = any_turns old; its = enters_for_any old; is = sym (entered_so (any_turns old) old Idle none (stays_idle old.kernel.disk none nobody)) }
+pub has_entered_none : (kept : Kept) (old : System) → old.kernel.disk.served ≡ None → StartsNobody (turn_answer old.kernel.disk) → HasEnteredCall kept old (step_passed old)
+unfolding StartsNobody
+has_entered_none kept old none nobody = record {
+  turns = any_turns old;
+  its = enters_for_any old;
+  entered = record { serves = λ function p images drives enters stand. absurd (nobody p enters.starts) };
+  is = sym (entered_so (any_turns old) old Idle none (stays_idle old.kernel.disk none nobody));
+}
 
-pub has_entered_nobody : (old : System) (kernel : Kernel) → kernel ≡ with_disk turned old.kernel → old.kernel.disk.served ≡ None → StartsNobody (turn_answer old.kernel.disk)
-    → HasEnteredCall old (record old { kernel = kernel })
-has_entered_nobody old kernel is none nobody = subst (λ (k : Kernel). HasEnteredCall old (record old { kernel = k })) (sym is) (has_entered_none old none nobody)
+pub has_entered_nobody : (kept : Kept) (old : System) (kernel : Kernel) → kernel ≡ with_disk turned old.kernel → old.kernel.disk.served ≡ None → StartsNobody (turn_answer old.kernel.disk)
+    → HasEnteredCall kept old (record old { kernel = kernel })
+has_entered_nobody kept old kernel is none nobody = subst (λ (k : Kernel). HasEnteredCall kept old (record old { kernel = k })) (sym is) (has_entered_none kept old none nobody)
 
 -- those who ended give back where nobody is in service
 
@@ -324,8 +360,21 @@ goes_on system kept disks files some stands = (
   subst (λ (f : Files). StandsForFiles system.kernel.disk kept disks f) (sym (files_stay system files some)) stands,
 )
 
-pub has_entered_still : (old : System) → is_some old.kernel.disk.served ≡ true → HasEnteredCall old old
-has_entered_still old some = record { turns = any_turns old; its = enters_for_any old; is = sym (nobody_enters (any_turns old) old some) }
+pub has_entered_still : (kept : Kept) (old : System) → is_some old.kernel.disk.served ≡ true → HasEnteredCall kept old old
+has_entered_still kept old some = record {
+  turns = any_turns old;
+  its = enters_for_any old;
+  entered = record { serves = λ function p images drives enters stand. absurd (false≢true (sym (ap is_some enters.idle) ∙ some)) };
+  is = sym (nobody_enters (any_turns old) old some);
+}
+
+-- behind the disk's step a call in service that isn't over is in service still
+pub still_behind : (telling : Telling) (old : System) → is_some old.kernel.disk.served ≡ true → process_over old ≡ None
+    → is_some (entered_after telling old).kernel.disk.served ≡ true
+unfolding entered_after all_paid
+still_behind telling old some none =
+    let still = still_served telling.at_disk old some none in
+    subst (λ (s : System). is_some s.kernel.disk.served ≡ true) (sym (nobody_enters telling.turns (paid_after telling.at_disk old) still)) still
 
 -- so the disk made its step
 
@@ -351,14 +400,16 @@ entered_behind passed paid new kept kept' kept'' disks files is stands rest same
     (subst (λ (system : System). StandsForFiles system.kernel.disk kept' disks (given_back passed.owed files)) (sym is)
     (pays passed kept kept' disks files stands rest same left)))
 
-pub has_served : (turns : ℕ) (o n : Outside) (old passed new : System) (has : HasPassed o n old passed) → EntersFor turns (all_paid passed) → new ≡ call_entered turns (all_paid passed)
-    → HasServed o n old new
+pub has_served : {kept kept' : Kept} (turns : ℕ) (o n : Outside) (old passed new : System) (has : HasPassed kept o n old passed) → EntersFor turns (all_paid passed)
+    → ServesEntered kept' (all_paid passed) → new ≡ call_entered turns (all_paid passed) → HasServed kept kept' o n old new
 unfolding entered_after
-has_served turns o n old passed new has enters is = record {
+has_served {kept} {kept'} turns o n old passed new has enters entered is = record {
   telling = record { at_gate = nothing_told; at_disk = has.told; turns = turns };
   turns = subst (λ (system : System). EntersFor turns (all_paid system)) has.system enters;
   of_call = has.of_call;
   tells = has.tells;
+  as_kept = has.as_kept;
+  entered = subst (λ (system : System). ServesEntered kept' (all_paid system)) has.system entered;
   system = is ∙ ap (λ (system : System). call_entered turns (all_paid system)) has.system;
   wrote = has.wrote;
 }
@@ -392,25 +443,26 @@ nothing_passes files o old kept disks none stands =
           (record { stands = worked_between old.kernel.disk.turn_steps old.kernel.disk.served kept disks files none stands.stands }),
     )
 
-pub has_passed_none : (o : Outside) (old : System) → old.kernel.disk.served ≡ None → HasPassed o o old old
-has_passed_none o old none =
+pub has_passed_none : (kept : Kept) (o : Outside) (old : System) → old.kernel.disk.served ≡ None → HasPassed kept o o old old
+has_passed_none kept o old none =
     let is = none_served nothing_told old none in
     record {
       told = nothing_told;
       of_call = subst (λ (over : Option ℕ). IsOfCall over nothing_told old) (sym (none_over old none)) tt;
       tells = subst (λ (over : Option ℕ). IsToldIn over nothing_told old) (sym (none_over old none)) tt;
+      as_kept = subst (λ (over : Option ℕ). IsOverAsKept kept over nothing_told) (sym (none_over old none)) tt;
       system = sym (ap (λ (c : Change). c.system) is);
       wrote = subst (λ (c : Change). Wrote o o c.emitted) (sym is) (wrote_nothing o);
     }
 
 -- who is at the disk keeps a call that it serves
 
-pub passed_filed : (o n : Outside) (old new : System) → IsWhole old → AreFiled old.kernel → HasPassed o n old new → AreFiled new.kernel
+pub passed_filed : {kept : Kept} (o n : Outside) (old new : System) → IsWhole old → AreFiled old.kernel → HasPassed kept o n old new → AreFiled new.kernel
 passed_filed o n old new w filed has = filed_still old.kernel new.kernel (subst (SystemKeepsCalls old) (sym has.system) (calls_disk_served has.told old w)) filed
 
-pub filed_if_passed : {A E : Type 0} (r : Result A E) (o n : Outside) (old new : System) → IsWhole old → AreFiled old.kernel → OnOk r (HasPassed o n old new) → OnOk r (AreFiled new.kernel)
-filed_if_passed (Ok a) o n old new w filed has = passed_filed o n old new w filed has
-filed_if_passed (Err e) o n old new w filed has = tt
+pub filed_if_passed : {A E : Type 0} (r : Result A E) (kept : Kept) (o n : Outside) (old new : System) → IsWhole old → AreFiled old.kernel → OnOk r (HasPassed kept o n old new) → OnOk r (AreFiled new.kernel)
+filed_if_passed (Ok a) kept o n old new w filed has = passed_filed o n old new w filed has
+filed_if_passed (Err e) kept o n old new w filed has = tt
 
 calls_paid : (system : System) → SystemKeepsCalls system (all_paid system)
 unfolding all_paid
@@ -424,5 +476,5 @@ calls_entered_after telling system w =
     (calls_then system.kernel passed.kernel (all_paid passed).kernel (calls_disk_served telling.at_disk system w) (calls_paid passed))
     (calls_call_entered telling.turns (all_paid passed))
 
-pub served_filed : (o n : Outside) (old new : System) → IsWhole old → AreFiled old.kernel → HasServed o n old new → AreFiled new.kernel
+pub served_filed : {kept kept' : Kept} (o n : Outside) (old new : System) → IsWhole old → AreFiled old.kernel → HasServed kept kept' o n old new → AreFiled new.kernel
 served_filed o n old new w filed has = filed_still old.kernel new.kernel (subst (SystemKeepsCalls old) (sym has.system) (calls_entered_after has.telling old w)) filed

@@ -3,6 +3,7 @@ use Rattle.std.proofs.Common.{◌≡◌, ◌≢◌, ◌<◌, ◌≤◌, ◌+◌,
 use Rattle.std.specs.Prelude.{◌⊎◌, OnErr, is_some, option_map, unwrap_or, slice_index_or, slice_set}
 use Rattle.std.proofs.lemmas.Bool.{false≢true, cases_eq}
 use Rattle.std.proofs.lemmas.Result.{on_err_weaker}
+use Rattle.std.proofs.lemmas.Option.{same_Some}
 use Rattle.mpm_base.specs.Calls.{Taken}
 use Rattle.mpm_port.specs.Disks.{Disks}
 use Rattle.mpm_blocks.specs.Sectors.{told_image}
@@ -33,6 +34,7 @@ use Rattle.mpm_bdos.specs.Turns.{KeepsImages, StopsWithin, drive_served, labelle
 use Rattle.mpm_bdos.specs.AtOnce.{FailsSince, FailsIn, ChangesAlone}
 use Rattle.mpm_bdos.proofs.ServedLaws.{job_mounted, kinds_within, set_within}
 use Rattle.mpm_bdos.proofs.Fitting.{there_label}
+use Rattle.mpm_bdos.proofs.NextTurns.{stands_still, same_images, told_is}
 use Rattle.mpm_render.specs.Shown.{Kept as Lines}
 use Rattle.mpm_mount.proofs.LookedUp.{kind_of}
 use Rattle.mpm_machine.specs.declared.system.System.{System}
@@ -66,21 +68,6 @@ label_there number image directory None there stands = absurd (false≢true ther
 label_there number image None (Some drive) there stands = absurd stands
 label_there number image (Some d) (Some drive) there stands =
     ap (λ n. Some (n, d.kind)) stands.number_is ∙ ap (λ k. Some (number, k)) (sym (kind_of image d drive stands.stands))
-
-still_stands : (number : ℕ) (image now : List ℕ) (directory : Option Directory) (drive : Option Drive) → (is_some directory ≡ true → now ≡ image) → StandsWhere number image directory drive
-    → StandsWhere number now directory drive
-still_stands number image now None None same stands = tt
-still_stands number image now None (Some drive) same stands = absurd stands
-still_stands number image now (Some d) None same stands = absurd stands
-still_stands number image now (Some d) (Some drive) same stands = subst (λ i. StandsWhere number i (Some d) (Some drive)) (sym (same refl)) stands
-
-told_images_same : (disks now : Option Disks) (number : ℕ) → told_image now number ≡ told_image disks number → told_images now number ≡ told_images disks number
-unfolding told_images
-told_images_same disks now number same = ap (λ image. unwrap_or image []) same
-
-told_images_is : (disks : Option Disks) (number : ℕ) (image : List ℕ) → told_image disks number ≡ Some image → image ≡ told_images disks number
-unfolding told_images
-told_images_is disks number image told = sym (ap (λ found. unwrap_or found []) told)
 
 -- the image of one drive stands for other files, with its directory, and each other image is as it was
 record Changes (disks now : Option Disks) (old new : List (Option Directory)) (drives : List (Option Drive)) (number : ℕ) (d : Directory) (files : Drive) : Type 0 where
@@ -116,8 +103,8 @@ changed_stands disks now old new drives number d files c other (inr apart) =
     subst (λ place. StandsWhere other (told_images now other) place (slice_index_or (slice_set drives number (Some files)) other None))
     (sym (get_or-set_other old number other (Some d) None apart))
     (subst (λ place. StandsWhere other (told_images now other) (directory_at old other) place) (sym (get_or-set_other drives number other (Some files) None apart))
-    (still_stands other (told_images disks other) (told_images now other) (directory_at old other) (slice_index_or drives other None)
-    (λ some. told_images_same disks now other (c.images other apart some)) (c.stand.each other)))
+    (stands_still other (told_images disks other) (told_images now other) (directory_at old other) (slice_index_or drives other None)
+    (λ some. same_images disks now other (c.images other apart some)) (c.stand.each other)))
 
 have_changed : (disks now : Option Disks) (old new : List (Option Directory)) (drives : List (Option Drive)) (number : ℕ) (d : Directory) (files : Drive) → Changes disks now old new drives number d files
     → HaveImages now new (slice_set drives number (Some files))
@@ -160,9 +147,6 @@ call_label images mounted call drives behind stand =
     label_there number (images number) (directory_at mounted number) (slice_index_or drives number None) behind.there (stand.each number)
     ∙ ap (λ k. Some (number, k)) behind.kind
 
-same_number : (one other : ℕ) → Some one ≡ Some other → other ≡ one
-same_number one other same = cc
-
 fails_stand : (disks now : Option Disks) (old new : List (Option Directory)) (call : Situation) (drives : List (Option Drive)) (ended most : ℕ) → AreBehind call drives
     → (fails : FailsSince now call ended) → fails.turn < ended + most → KeepsImages (Some (drive_number call)) old disks now
     → ((number : ℕ) → option_map labelled (directory_at new number) ≡ option_map labelled (directory_at old number)) → StandEach (told_images disks) old drives
@@ -179,9 +163,9 @@ fails_stand disks now old new call drives ended most behind fails before images 
     let changes : Changes disks now old new drives number d found.files = record {
       label = call_label (told_images disks) old call drives behind stand ∙ ap (λ n. Some (n, (drive_at call).kind)) (sym found.here) ∙ ap (λ k. Some (d.drive, k)) kind;
       here = found.here;
-      stands = subst (λ image. Stands image d found.files) (told_images_is now number found.stands.image told) found.stands.stands;
+      stands = subst (λ image. Stands image d found.files) (told_is now number found.stands.image told) found.stands.stands;
       there = behind.there;
-      images = λ other apart some. images other (λ same. apart (same_number number other same)) some;
+      images = λ other apart some. images other (λ same. apart (sym (same_Some number other same))) some;
       labels = labels;
       stand = stand;
     } in

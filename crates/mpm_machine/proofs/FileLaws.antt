@@ -6,13 +6,11 @@ use Rattle.mpm_base.proofs.Choices.{either}
 use Rattle.mpm_base.specs.Calls.{Answer}
 use Rattle.mpm_procs.specs.Table.{Lives, process_in, call_of}
 use Rattle.mpm_procs.specs.declared.process.Process.{Process}
-use Rattle.mpm_procs.proofs.MapLaws.{lives_below, lives_changed, process_changed, call_after}
+use Rattle.mpm_procs.proofs.MapLaws.{lives_below, process_changed}
 use Rattle.mpm_banks.specs.Memory.{byte_at}
 use Rattle.mpm_gate.specs.Replies.{returned}
 use Rattle.mpm_dispatcher.specs.Dispatch.{IsReady}
 use Rattle.mpm_kernel.specs.Kernel.{with_changed}
-use Rattle.mpm_kernel.proofs.SoundLaws.{sound_process, live_kept}
-use Rattle.mpm_kernel.proofs.HomeLaws.{homes_changed}
 use Rattle.mpm_residents.specs.declared.native.Native.{Native}
 use Rattle.mpm_residents.specs.Natives.{native_call, native_in}
 use Rattle.mpm_output.specs.Outside.{Outside, Device}
@@ -27,7 +25,7 @@ use Rattle.mpm_machine.specs.Serving.{asked, keeping, popped}
 use Rattle.mpm_machine.specs.Residing.{asked_by}
 use Rattle.mpm_machine.specs.Step.{counted}
 use Rattle.mpm_machine.specs.FileCalls.{made_by, call_made, first_dma, with_caller, reply_by, file_replied, error_told, answered_or_ended, told_then, error_met, answered_by, concluded}
-use Rattle.mpm_machine.proofs.WholeLaws.{StaysWhole, whole_kernel, whole_speaking, whole_ended, whole_popped, whole_replied, whole_residents, keeps_call, keeps_asked}
+use Rattle.mpm_machine.proofs.WholeLaws.{StaysWhole, whole_speaking, whole_ended, whole_popped, whole_replied, whole_residents, keeps_call, keeps_asked, whole_changed}
 use Rattle.mpm_machine.proofs.WholeStepLaws.{whole_counted}
 
 -- the call is made
@@ -77,15 +75,7 @@ granted_is false (Some error) e = refl
 whole_placed : (p drive dma : ℕ) (system : System) → IsWhole system → Lives system.kernel.dispatcher.procs p
     → StaysWhole p system (record system { kernel = with_changed system.kernel p (record (process_in system.kernel.dispatcher.procs p) { drive = drive; dma = dma }) })
 whole_placed p drive dma system w h =
-    let process = record (process_in system.kernel.dispatcher.procs p) { drive = drive; dma = dma } in
-    record {
-      whole = whole_kernel system _ w
-          (sound_process system.kernel p process w.sound h refl refl refl refl)
-          (live_kept system.kernel (with_changed system.kernel p process) refl (λ q living. lives_changed system.kernel.dispatcher.procs p q process ∙ living) w.live)
-          (homes_changed system.kernel p process w.sound.slots h refl refl);
-      lives = lives_changed system.kernel.dispatcher.procs p p process ∙ h;
-      call = call_after system.kernel.dispatcher.procs p p process;
-    }
+    whole_changed p (record (process_in system.kernel.dispatcher.procs p) { drive = drive; dma = dma }) system w h refl refl refl refl refl refl
 
 pub whole_caller : (change : CallerChange) (p : ℕ) (system : System) → IsWhole system → Lives system.kernel.dispatcher.procs p
     → StaysWhole p system (with_caller change p system)

@@ -19,13 +19,13 @@ use Rattle.mpm_machine.specs.Ending.{ended}
 use Rattle.mpm_machine.specs.Serving.{keeping, popped}
 use Rattle.mpm_machine.specs.Residing.{asked_by}
 use Rattle.mpm_machine.specs.Step.{gate_before, coming, counted}
-use Rattle.mpm_machine.specs.FileCalls.{at_gate, is_of_files, called_next, is_file_number, calls_files, file_caller_by, file_caller, made_by, call_made, with_caller, reply_by, file_replied, error_told, told_then, error_met, answered_by, concluded}
+use Rattle.mpm_machine.specs.FileCalls.{at_gate, is_of_files, is_file_number, file_caller_by, file_caller, made_by, call_made, with_caller, reply_by, file_replied, error_told, told_then, error_met, answered_by, concluded}
 use Rattle.mpm_machine.specs.DiskStep.{is_done_at_once, file_called, ready_again, step_passed, call_over, over_after, served_by, disk_served, process_over, all_paid, entered_by, entered_unless, call_entered}
 use Rattle.mpm_machine.specs.Stepping.{Telling, begun_with, begun_as, is_instruction, paid_after, entered_after, ended_after, rest_of, step_with, nothing_told}
 use Rattle.mpm_machine.specs.After.{IsOfCall, made_in, IsStep, IsToldIn, EntersFor, IsMade}
 use Rattle.mpm_machine.proofs.FiledLaws.{contained_by}
 use Rattle.mpm_machine.proofs.TallyLaws.{Tally, tally, OneMore, none_more, one_more_behind, answering_more, more_have_room, begun_more, all_answered_steps, all_finished_steps, ends_steps}
-use Rattle.mpm_machine.proofs.StepWithLaws.{instructed_with, served_with}
+use Rattle.mpm_machine.proofs.StepWithLaws.{no_file_at, instructed_with, served_with}
 use Rattle.mpm_machine.proofs.ValueLaws.{resided_with}
 use Rattle.mpm_machine.proofs.FiledValue.{filed_by_value, over_by_value, enters_by_value}
 use Rattle.mpm_machine.proofs.TellingLaws.{any_turns, enters_for_any}
@@ -43,19 +43,13 @@ no_file_called (Some End) number other = refl
 no_file_called (Some Call) number other = other
 no_file_called (Some Return) number other = refl
 
-calls_nothing : (system : System) (p seg : ℕ) → (process_in system.kernel.dispatcher.procs p).seg ≡ Some seg → gate_before p seg system ≡ None → calls_files p system ≡ false
-unfolding calls_files
-calls_nothing system p seg home none =
-    ap (λ segment. is_file_number (called_next segment p system)) home
-    ∙ ap (λ (gate : Option Gate). is_file_number (at_gate gate (process_in system.kernel.dispatcher.procs p).regs.c)) none
-
 pub gateless : (system : System) (p seg : ℕ) → system.kernel.dispatcher.running ≡ Some p → (process_in system.kernel.dispatcher.procs p).seg ≡ Some seg
     → gate_before p seg system ≡ None → file_caller system ≡ None
 unfolding file_caller
 gateless system p seg runs home none =
     let comes = is_some (coming (counted system)) in
     ap (λ running. file_caller_by comes running system) runs
-    ∙ ap (λ (b : Bool). if b && not comes then Some p else None) (calls_nothing system p seg home none)
+    ∙ ap (λ (b : Bool). if b && not comes then Some p else None) (no_file_at p seg system home none)
 
 -- it is counted once, and completes one call at most
 
@@ -206,7 +200,7 @@ is_step telling system change w handed first later is = subst (IsStep system) (s
 
 pub record IsMadeAs (telling : Telling) (system : System) (change : Change) : Type 0 where
   pub made : IsMade system change
-  pub at_gate : made.step.telling.at_gate ≡ telling.at_gate
+  pub telling_is : made.step.telling ≡ telling
 
 pub made_as : (telling : Telling) (system : System) (change : Change) → EntersFor telling.turns (paid_after telling.at_disk (begun_as telling.at_gate system).system)
     → IsWhole system → NoCompletions system
@@ -224,7 +218,7 @@ made_as telling system change enters w handed first later tells_first tells_late
       over = over_by_value (process_over (begun_as telling.at_gate system).system) telling.at_disk (begun_as telling.at_gate system).system tells_later;
       enters = enters_by_value (paid_after telling.at_disk (begun_as telling.at_gate system).system);
     } in
-    subst (IsMadeAs telling system) (sym is) (record { made = made; at_gate = refl })
+    subst (IsMadeAs telling system) (sym is) (record { made = made; telling_is = refl })
 
 pub is_made : (telling : Telling) (system : System) (change : Change) → EntersFor telling.turns (paid_after telling.at_disk (begun_as telling.at_gate system).system)
     → IsWhole system → NoCompletions system

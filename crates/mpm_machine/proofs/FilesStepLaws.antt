@@ -1,11 +1,12 @@
 -- A step of the machine is what it begins with and the rest of it, by what its file calls may tell, and by what is on the drives.
-use Rattle.std.specs.Prelude.{option_map}
+use Rattle.std.specs.Prelude.{◌≢◌, is_some, option_and_then, option_map, slice_index_or}
 use Rattle.std.proofs.Math.Path.{fun_ext}
-use Rattle.std.proofs.Common.{◌≡◌, ◌∙◌, ℕ, Bool, true, ◌++◌, List, [], Option, Some, None, refl, sym, ap, subst}
+use Rattle.std.proofs.Common.{◌≡◌, ◌∙◌, ℕ, Bool, true, false, ◌++◌, List, [], Option, Some, None, refl, sym, ap, subst}
 use Rattle.mpm_port.specs.Disks.{Disks}
 use Rattle.mpm_base.specs.Calls.{Answer}
 use Rattle.mpm_base.specs.declared.kind.Kind.{Kind}
 use Rattle.mpm_mount.specs.Directories.{Directory}
+use Rattle.mpm_mount.specs.Drives.{Drive}
 use Rattle.mpm_procs.specs.Table.{process_in, call_of}
 use Rattle.mpm_render.specs.Outputs.{Output}
 use Rattle.mpm_output.specs.Outside.{Outside, TheSink}
@@ -16,19 +17,27 @@ use Rattle.mpm_functions.specs.declared.functions.DirectFunction.{DirectFunction
 use Rattle.mpm_functions.specs.declared.refusals.Extended.{Extended}
 use Rattle.mpm_bdos.specs.Direct.{Directly, ComesDirectly, is_protected}
 use Rattle.mpm_functions.specs.Functions.{direct_of, function_of}
-use Rattle.mpm_bdos.specs.Serving.{Kept, directory_at, kind_at}
-use Rattle.mpm_bdos.specs.Turns.{TurnKeeps, labelled}
+use Rattle.mpm_requests.specs.Filing.{Filing, Situation}
+use Rattle.mpm_requests.specs.Asking.{StandsWhere}
+use Rattle.mpm_service.specs.Disk.{turn_answer, served_process}
+use Rattle.mpm_service.specs.declared.service.Served.{Served}
+use Rattle.mpm_bdos.specs.AtOnce.{IsJobless}
+use Rattle.mpm_bdos.specs.Jobs.{job_of}
+use Rattle.mpm_bdos.specs.Outcomes.{file_call}
+use Rattle.mpm_bdos.specs.Serving.{Kept, Serves, directory_at, filing_of, kind_at}
+use Rattle.mpm_bdos.specs.Turns.{TurnKeeps, drive_served, has_work, labelled, without_work}
+use Rattle.mpm_bdos.proofs.NextTurns.{idle_work}
 use Rattle.mpm_machine.specs.declared.system.System.{System}
 use Rattle.mpm_machine.specs.declared.machine.StepFault.{StepFault}
 use Rattle.mpm_machine.specs.declared.machine.StepFault.TheVariants.{DiskFault, WriteFault}
 use Rattle.mpm_machine.specs.Files.{Files, StandsForFiles, drives_in}
 use Rattle.mpm_machine.specs.State.{Change, IsWhole, NoCompletions, silent}
 use Rattle.mpm_machine.specs.Faults.{OnDiskFault}
-use Rattle.mpm_machine.specs.FileCalls.{file_caller, told_of, TellsAsKept, IsToldAsKept}
-use Rattle.mpm_machine.specs.DiskStep.{process_over}
+use Rattle.mpm_machine.specs.FileCalls.{file_caller, situation_of, told_of, ComesWithoutJob, EndsWithoutJob, TellsAsKept, IsToldAsKept}
+use Rattle.mpm_machine.specs.DiskStep.{over_by, process_over}
 use Rattle.mpm_machine.specs.Failing.{does_work}
 use Rattle.mpm_machine.specs.Stepping.{Telling, begun_as, is_instruction, paid_after, entered_after, ended_after, rest_of, step_with, nothing_told, told_first, files_begun, before_disk, telling_then, telling_of, files_rest, stepped}
-use Rattle.mpm_machine.specs.After.{IsOfCall, made_in, IsToldIn, EntersFor, IsAsKept, HasStepped, HasSteppedTo, HasStopped, StopsBy, HasBegunStep, HasBegunTo, HasBegunToStop, HasEndedStep, HasEndedTo, HasEndedToStop}
+use Rattle.mpm_machine.specs.After.{IsOfCall, made_in, IsToldIn, EntersFor, IsAsKept, IsOverAsKept, ServesEntered, HasStepped, HasSteppedTo, HasStopped, StopsBy, HasBegunStep, HasBegunTo, HasBegunToStop, HasEndedStep, HasEndedTo, HasEndedToStop}
 use Rattle.mpm_machine.proofs.RestLaws.{rest_emitted}
 use Rattle.mpm_machine.proofs.FileStepLaws.{is_made, made_as}
 use Rattle.mpm_machine.proofs.ToldLaws.{something_told}
@@ -94,9 +103,10 @@ change_is new change is = ap (λ (s : System). let c : Change = record { system 
 
 -- whatever is on the drives
 
-pub has_stepped : {kept : Kept} (instruction : Bool) (o m n : Outside) (old middle new : System) → IsWhole old → NoCompletions old → HasBegunStep kept instruction o m old middle
-    → HasEndedStep instruction m n middle new → HasStepped kept o n old new
-has_stepped {kept} instruction o m n old middle new w handed begun ended =
+pub has_stepped : {kept kept' : Kept} (instruction : Bool) (o m n : Outside) (old middle new : System) → IsWhole old → NoCompletions old → HasBegunStep kept instruction o m old middle
+    → HasEndedStep kept kept' instruction m n middle new
+    → (has_work kept.service ≡ false → is_some old.kernel.disk.served ≡ true → process_over middle ≡ None → kept' ≡ kept) → HasStepped kept kept' o n old new
+has_stepped {kept} {kept'} instruction o m n old middle new w handed begun ended stays =
     let telling = joined begun.told ended.telling in
     let change = step_with telling old in
     let P : System → Type 0 = λ s. IsOfCall (process_over s) ended.telling.at_disk s in
@@ -108,17 +118,53 @@ has_stepped {kept} instruction o m n old middle new w handed begun ended =
     record {
       emitted = change.emitted;
       is = by.made;
-      as_kept = subst (λ (told : Directly). IsAsKept kept (file_caller old) told (made_in (file_caller old) old)) (sym by.at_gate) begun.as_kept;
+      as_kept = subst (λ (t : Telling). IsAsKept kept (file_caller old) t.at_gate (made_in (file_caller old) old)) (sym by.telling_is) begun.as_kept;
+      over_as_kept = subst (λ (t : Telling). IsOverAsKept kept (process_over (begun_as t.at_gate old).system) t.at_disk) (sym by.telling_is)
+          (subst (λ (s : System). IsOverAsKept kept (process_over s) ended.telling.at_disk) begun.system ended.as_kept);
+      entered = subst (λ (t : Telling). ServesEntered kept' (paid_after t.at_disk (begun_as t.at_gate old).system)) (sym by.telling_is)
+          (subst (λ (s : System). ServesEntered kept' (paid_after ended.telling.at_disk s)) begun.system ended.entered);
+      stays = λ less some still. stays less some (subst (λ (s : System). process_over s ≡ None)
+          (sym (begun.system ∙ ap (λ (t : Telling). (begun_as t.at_gate old).system) (sym by.telling_is))) still);
       wrote = wrote_same o n _ change.emitted (whole_emitted instruction begun.told ended.telling old middle begun.instruction_is begun.system)
           (wrote_after o m n (begun_as begun.told old).emitted (rest_of instruction ended.telling (silent middle)).emitted begun.wrote ended.wrote);
     }
 
--- a turn of the call in service leaves what goes by which drives are mounted and protected
+-- a turn of the call in service leaves what goes by which drives are mounted and protected, and where none is in service all that is
+-- kept
 same_label : (old new : Option Directory) → option_map labelled new ≡ option_map labelled old → option_map (λ (d : Directory). d.kind) new ≡ option_map (λ (d : Directory). d.kind) old
 same_label None None same = refl
 same_label None (Some new) same = absurd (cc)
 same_label (Some old) None same = absurd (cc)
 same_label (Some old) (Some new) same = ap (option_map (λ (label : ℕ × Kind). label.1)) same
+
+none_served : {A B : Type 0} (f : A → B) (old new : Option A) → option_map f new ≡ option_map f old → old ≡ None → new ≡ None
+none_served f old None same none = refl
+none_served f old (Some call) same none = absurd (cc)
+
+kept_still : (old new : Kept) (images : ℕ → List ℕ) (s : Situation) → TurnKeeps old new → old.service ≡ None → IsJobless images old.mounted s → IsJobless images new.mounted s
+kept_still old new images s keeps none jobless = record {
+  stand = record {
+    each = λ number. subst (λ (here : Option Directory). StandsWhere number (images number) here (slice_index_or s.filing.drives number None))
+        (sym (keeps.places number (not_served number))) (jobless.stand.each number);
+  };
+  none = jobless.none;
+}
+  where
+    not_served : (number : ℕ) → drive_served old.service ≢ Some number
+    not_served number is = absurd (cc)
+
+without_job_before : (old new : Kept) (function : FileFunction) (p : ℕ) (system : System) (answer : Answer) (extended : Option Extended) → TurnKeeps old new → old.service ≡ None
+    → ComesWithoutJob function new p system answer extended → ComesWithoutJob function old p system answer extended
+without_job_before old new function p system answer extended keeps none comes =
+    let same : (drives : List (Option Drive)) → filing_of new drives ≡ filing_of old drives = λ drives. ap (λ (k : Kept). filing_of k drives) keeps.rest in
+    let at : Filing → Situation = λ filing. situation_of filing function p system in
+    let has_none : (images : ℕ → List ℕ) (drives : List (Option Drive)) → IsJobless images old.mounted (at (filing_of old drives)) → IsJobless images new.mounted (at (filing_of new drives)) =
+    λ images drives jobless. kept_still old new images (at (filing_of new drives)) keeps none
+    (subst (λ (f : Filing). IsJobless images old.mounted (at f)) (sym (same drives)) jobless) in
+    record {
+      answer_is = λ images drives jobless. comes.answer_is images drives (has_none images drives jobless) ∙ ap (λ (f : Filing). (file_call (at f)).answer) (same drives);
+      extended_is = λ images drives jobless. comes.extended_is images drives (has_none images drives jobless) ∙ ap (λ (f : Filing). (file_call (at f)).extended) (same drives);
+    }
 
 told_as_before : (old new : Kept) (p : ℕ) (system : System) (answer : Answer) (extended : Option Extended) → TurnKeeps old new → IsToldAsKept new p system answer extended
     → IsToldAsKept old p system answer extended
@@ -128,7 +174,8 @@ told_as_before old new p system answer extended keeps told =
     by_function (function_of number) (direct_of number) told
   where
     by_function : (served : Option FileFunction) (found : Option DirectFunction) → TellsAsKept served found new p system answer extended → TellsAsKept served found old p system answer extended
-    by_function (Some function) found so = tt
+    by_function (Some function) found so =
+        λ once none. without_job_before old new function p system answer extended keeps none (so once (none_served without_work old.service new.service keeps.service none))
     by_function None None so = tt
     by_function None (Some function) so =
         let procs = system.kernel.dispatcher.procs in
@@ -152,6 +199,43 @@ begun_as_before old new instruction o n system middle keeps begun = record {
   instruction_is = begun.instruction_is;
   system = begun.system;
   wrote = begun.wrote;
+}
+
+-- so one that is over and has no job: where it is in service neither its turn nor what a step begins with changes anything that is kept
+ends_before : (old worked middle : Kept) (answer : Answer) (extended : Option Extended) → (has_work old.service ≡ false → worked ≡ old) → middle ≡ worked
+    → EndsWithoutJob middle answer extended → EndsWithoutJob old answer extended
+ends_before old worked middle answer extended rests same ends =
+    let still : (images : ℕ → List ℕ) (s : Situation) → Serves images old s 0 → job_of s ≡ None → Serves images middle s 0 =
+    λ images s serves none. subst (λ (kept : Kept). Serves images kept s 0) (sym (same ∙ rests (idle_work images old s 0 none serves))) serves in
+    record {
+      answer_is = λ images s serves none. ends.answer_is images s (still images s serves none) none;
+      extended_is = λ images s serves none. ends.extended_is images s (still images s serves none) none;
+    }
+
+over_as_before : (old worked middle : Kept) (over : Option ℕ) (told : Directly) → (has_work old.service ≡ false → worked ≡ old) → (is_some over ≡ true → middle ≡ worked)
+    → IsOverAsKept middle over told → IsOverAsKept old over told
+over_as_before old worked middle None told rests same is = tt
+over_as_before old worked middle (Some p) told rests same is = ends_before old worked middle told.answer told.extended rests (same refl) is
+
+served_if_some : (served : Option Served) (f : ℕ → Option ℕ) → is_some (option_and_then f (option_map (λ (call : Served). call.p) served)) ≡ true → is_some served ≡ true
+served_if_some None f some = some
+served_if_some (Some call) f some = refl
+
+served_if_over : (system : System) → is_some (process_over system) ≡ true → is_some system.kernel.disk.served ≡ true
+unfolding process_over served_process
+served_if_over system some = served_if_some system.kernel.disk.served (λ p. over_by (turn_answer system.kernel.disk)) some
+
+pub ended_as_before : {behind : Kept} (old worked begun : Kept) (instruction : Bool) (o n : Outside) (middle new : System) → (has_work old.service ≡ false → worked ≡ old)
+    → (is_some middle.kernel.disk.served ≡ true → begun ≡ worked) → HasEndedStep begun behind instruction o n middle new → HasEndedStep old behind instruction o n middle new
+ended_as_before old worked begun instruction o n middle new rests same ended = record {
+  telling = ended.telling;
+  turns = ended.turns;
+  of_call = ended.of_call;
+  tells = ended.tells;
+  as_kept = over_as_before old worked begun (process_over middle) ended.telling.at_disk rests (λ some. same (served_if_over middle some)) ended.as_kept;
+  entered = ended.entered;
+  system = ended.system;
+  wrote = ended.wrote;
 }
 
 -- what it begins with stopped

@@ -19,6 +19,7 @@ use Rattle.mpm_functions.specs.declared.refusals.Refusal.{Refusal}
 use Rattle.mpm_functions.specs.declared.refusals.Extended.{Extended}
 use Rattle.mpm_functions.specs.Functions.{numbers, function_of, direct_numbers, direct_of}
 use Rattle.mpm_requests.specs.Filing.{Filing, Situation}
+use Rattle.mpm_bdos.specs.AtOnce.{IsJobless}
 use Rattle.mpm_bdos.specs.Finishing.{ComesTo}
 use Rattle.mpm_bdos.specs.Jobs.{turned, call_turns}
 use Rattle.mpm_bdos.specs.Outcomes.{CallerChange, Stays, Selects, Resets, caller_by, file_call, outcome_by as served_by}
@@ -27,14 +28,14 @@ use Rattle.mpm_bdos.specs.Direct.{Directly, parameters_told, direct, direct_by, 
 use Rattle.mpm_bdos.specs.Serving.{Kept, InService, StandEach, Serves, directory_at, filing_of}
 use Rattle.mpm_bdos.specs.Answering.{HasEntered}
 use Rattle.mpm_bdos.specs.Starting.{caller_of, entering as entering_here}
-use Rattle.mpm_bdos.specs.Turns.{labelled, told_images}
+use Rattle.mpm_bdos.specs.Turns.{KeepsUnsynced, labelled, told_images}
 use Rattle.mpm_base.specs.declared.kind.Kind.{Kind}
 use Rattle.mpm_machine.specs.declared.system.System.{System}
 use Rattle.mpm_mount.specs.Directories.{Directory}
 use Rattle.mpm_machine.specs.Files.{StandsBetween, left_each, owes, all_left}
 use Rattle.mpm_machine.specs.Mounting.{HasNoDrive}
 use Rattle.mpm_machine.specs.Filed.{IsOutcome, left_if}
-use Rattle.mpm_machine.specs.FileCalls.{looked_at, entering, situation_of, outcome_by, outcome_in, change_of, told_by, told_of}
+use Rattle.mpm_machine.specs.FileCalls.{looked_at, entering, situation_of, outcome_by, outcome_in, change_of, told_by, told_of, ComesWithoutJob, TellsAsKept, IsToldAsKept}
 
 -- a row of a table of numbers
 
@@ -179,15 +180,6 @@ told_all filing p system =
     let outcome = outcome_in filing p system in
     ap (λ (c : CallerChange). let told : Directly = record { caller = c; answer = outcome.answer; extended = outcome.extended } in told) (sym (caller_changed filing p system))
 
--- what was answered is told
-pub told_is : (disks : Option Disks) (filing : Filing) (p : ℕ) (system : System) (kept : Kept) (answer : Answer) (extended : Option Extended)
-    → IsOutcome disks (outcome_in filing p system) kept answer extended
-    → told_of (call_of system.kernel.dispatcher.procs p) answer extended
-    ≡ told_of (call_of system.kernel.dispatcher.procs p) (outcome_in filing p system).answer (outcome_in filing p system).extended
-told_is disks filing p system kept answer extended is =
-    let call = call_of system.kernel.dispatcher.procs p in
-    ap (λ (a : Answer). told_of call a extended) is.answer_is ∙ ap (λ (e : Option Extended). told_of call (outcome_in filing p system).answer e) is.extended_is
-
 -- a call that no disk serves: what it answers, and that it leaves files as they are
 
 directly_by : (found : Option DirectFunction) (filing : Filing) (p : ℕ) (system : System) (answer : Answer) (extended : Option Extended)
@@ -298,11 +290,44 @@ disk_is disks now filing p system kept new caller process call moment answer res
     (λ extended comes. comes_to now filing p system new s function answer extended is found.1 (idle function its) comes)
     (ok filing.drives function its stands.stand)
 
+-- one without a job comes to what its definition says, whatever the images are
+pub disk_as_kept : {E : Type 0} (p : ℕ) (system : System) (kept new : Kept) (caller process : Process) (call : Taken) (moment : Moment) (answer : Answer) (result : Result (Option Extended) E)
+    → caller ≡ looked_at process → process ≡ process_in system.kernel.dispatcher.procs p → call ≡ call_of system.kernel.dispatcher.procs p → moment ≡ moment_of system.kernel.clock
+    → IsSome (function_of (call_of system.kernel.dispatcher.procs p).function)
+    → ((images : ℕ → List ℕ) (before : List (Option Drive)) (function : FileFunction) → function_of call.function ≡ Some function
+    → IsJobless images kept.mounted (entering_here kept before (caller_of p caller) function call (stamp moment))
+    → IfOk result (ComesTo images (entering_here kept before (caller_of p caller) function call (stamp moment)) new answer))
+    → IfOk result (IsToldAsKept kept p system answer)
+unfolding IsToldAsKept
+disk_as_kept p system kept new caller process call moment answer (Err error) looks lives calls at some jobless = tt
+disk_as_kept p system kept new caller process call moment answer (Ok extended) looks lives calls at some jobless =
+    let found = named_by (function_of (call_of system.kernel.dispatcher.procs p).function) some in
+    let function = found.0 in
+    let its : function_of call.function ≡ Some function = ap (λ (c : Taken). function_of c.function) calls ∙ found.1 in
+    let here : List (Option Drive) → Situation = λ drives. entering_here kept drives (caller_of p caller) function call (stamp moment) in
+    let is : (drives : List (Option Drive)) → here drives ≡ situation_of (filing_of kept drives) function p system =
+    λ drives. situation_is (filing_of kept drives) p system kept function caller process call moment refl looks lives calls at in
+    let comes : (images : ℕ → List ℕ) (drives : List (Option Drive)) → IsJobless images kept.mounted (situation_of (filing_of kept drives) function p system)
+    → ComesTo images (here drives) new answer extended =
+    λ images drives none. jobless images drives function its (subst (IsJobless images kept.mounted) (sym (is drives)) none) in
+    let so : ComesWithoutJob function kept p system answer extended = record {
+      answer_is = λ images drives none. (comes images drives none).answer_is ∙ ap (λ (s : Situation). (file_call s).answer) (is drives);
+      extended_is = λ images drives none. (comes images drives none).extended_is ∙ ap (λ (s : Situation). (file_call s).extended) (is drives);
+    } in
+    subst (λ f. TellsAsKept f (direct_of (call_of system.kernel.dispatcher.procs p).function) kept p system answer extended) (sym found.1) (λ once idle. so)
+
 -- behind it no call is in service
 pub at_once_idle : (call kept : Taken) {service : Option InService} → call ≡ kept → IsSome (function_of kept.function)
     → ((function : FileFunction) → function_of call.function ≡ Some function → service ≡ None) → service ≡ None
 at_once_idle call kept calls some idle =
     let found = named_by (function_of kept.function) some in idle found.0 (ap (λ (c : Taken). function_of c.function) calls ∙ found.1)
+
+-- no drive is synced, whichever it was of
+pub at_once_owed : (call kept : Taken) (drive : List (Option Drive) → FileFunction → Option ℕ) (before now : ℕ → Bool) → call ≡ kept → IsSome (function_of kept.function)
+    → ((drives : List (Option Drive)) (function : FileFunction) → function_of call.function ≡ Some function → KeepsUnsynced (drive drives function) before now)
+    → (number : ℕ) → before number ≡ true → now number ≡ true
+at_once_owed call kept drive before now calls some keeps =
+    let found = named_by (function_of kept.function) some in (keeps [] found.0 (ap (λ (c : Taken). function_of c.function) calls ∙ found.1)).owed
 
 -- a call that enters service, in the situation of this moment
 pub turns_are : (images : ℕ → List ℕ) (filing : Filing) (p : ℕ) (system : System) (kept : Kept) (function : FileFunction) (caller process : Process) (call : Taken) (moment : Moment) (turns : ℕ)
@@ -315,15 +340,15 @@ turns_are images filing p system kept function caller process call moment turns 
     each images filing.drives function (ap (λ (c : Taken). function_of c.function) calls ∙ is) stand
     ∙ ap call_turns (situation_is filing p system kept function caller process call moment filed looks lives calls at)
 
-pub serves_at_entry : (disks : Option Disks) (filing : Filing) (p : ℕ) (system : System) (kept new : Kept) (function : FileFunction) (caller process : Process) (call : Taken) (moment : Moment)
+pub serves_at_entry : (images : ℕ → List ℕ) (drives : List (Option Drive)) (p : ℕ) (system : System) (kept new : Kept) (function : FileFunction) (caller process : Process) (call : Taken) (moment : Moment)
     → caller ≡ looked_at process → process ≡ process_in system.kernel.dispatcher.procs p → call ≡ call_of system.kernel.dispatcher.procs p → moment ≡ moment_of system.kernel.clock
-    → function_of (call_of system.kernel.dispatcher.procs p).function ≡ Some function → StandsBetween kept disks filing
+    → function_of (call_of system.kernel.dispatcher.procs p).function ≡ Some function → StandEach images kept.mounted drives
     → ((images : ℕ → List ℕ) (drives : List (Option Drive)) (named : FileFunction) → function_of call.function ≡ Some named → StandEach images kept.mounted drives
     → Serves images new (entering_here kept drives (caller_of p caller) named call (stamp moment)) 0)
-    → Serves (told_images disks) new (situation_of filing function p system) 0
-serves_at_entry disks filing p system kept new function caller process call moment looks lives calls at is stands each =
-    subst (λ (s : Situation). Serves (told_images disks) new s 0) (situation_is filing p system kept function caller process call moment stands.filing_is looks lives calls at)
-    (each (told_images disks) filing.drives function (ap (λ (c : Taken). function_of c.function) calls ∙ is) stands.stand)
+    → Serves images new (situation_of (filing_of kept drives) function p system) 0
+serves_at_entry images drives p system kept new function caller process call moment looks lives calls at is stand each =
+    subst (λ (s : Situation). Serves images new s 0) (situation_is (filing_of kept drives) p system kept function caller process call moment refl looks lives calls at)
+    (each images drives function (ap (λ (c : Taken). function_of c.function) calls ∙ is) stand)
 
 pub entered_as : (p : ℕ) (caller process : Process) (call : Taken) (system : System) (service : Option InService) (function : FileFunction)
     → caller ≡ looked_at process → process ≡ process_in system.kernel.dispatcher.procs p → call ≡ call_of system.kernel.dispatcher.procs p

@@ -1,20 +1,15 @@
 -- The command line interpreter goes on with the segment that it has reserved through the disk's part of a step: a step of the call in
 -- service, which is over behind its last turn, what is paid, and the entry of the next call.
-use Rattle.std.proofs.Common.{ℕ, zero, suc, ◌≡◌, ◌≢◌, ◌∙◌, ◌+◌, ◌-◌, ◌==◌, ◌&&◌, ◌||◌, not, cond, eqb, Bool, true, false, List, [], ◌∷◌, Option, Some, None, option_map, refl, sym, ap, subst, arith}
-use Rattle.std.proofs.lemmas.Bool.{eqb-true, ne_eqb}
-use Rattle.mpm_base.proofs.CountLaws.{one_if, one_if_true, one_if_false}
+use Rattle.std.proofs.Common.{ℕ, zero, suc, ◌≡◌, ◌≢◌, true, false, Option, Some, None, option_map, refl, subst}
 use Rattle.mpm_bdos.specs.Direct.{Directly}
 use Rattle.mpm_kernel.proofs.AwaitingLaws.{awaits_heir}
 use Rattle.mpm_kernel.proofs.Beside.{beside_same}
 use Rattle.mpm_kernel.proofs.DiskLaws.{over_turned}
 use Rattle.mpm_kernel.specs.Disk.{with_disk, ready_again as made_ready_again}
 use Rattle.mpm_procs.specs.Table.{Lives}
-use Rattle.mpm_ready.proofs.OrderLaws.{in_list_without_slot}
-use Rattle.mpm_ready.specs.Order.{Member, without_slot, in_list, first_of}
-use Rattle.mpm_service.proofs.PlaceLaws.{at_begun}
-use Rattle.mpm_service.proofs.SoundLaws.{gone}
-use Rattle.mpm_service.specs.Disk.{DiskService, served_process, waiting_after, served_after, turned, answer_by, turn_answer, begun, after_step, step_answer}
-use Rattle.mpm_service.specs.Places.{is_call_of, at_disk}
+use Rattle.mpm_ready.specs.Order.{first_of}
+use Rattle.mpm_service.proofs.PlaceLaws.{at_begun, at_turned_still}
+use Rattle.mpm_service.specs.Disk.{DiskService, served_process, turned, answer_by, turn_answer, begun}
 use Rattle.mpm_service.specs.declared.service.Served.{Served}
 use Rattle.mpm_service.specs.declared.service.Turn.{Turn}
 use Rattle.mpm_service.specs.declared.service.Turn.TheVariants.{Idle, Passing, Work, Starts}
@@ -29,39 +24,6 @@ use Rattle.mpm_machine.specs.Interpreting.{Interprets}
 use Rattle.mpm_machine.specs.State.{IsWhole}
 use Rattle.mpm_machine.specs.Stepping.{Telling, paid_after, entered_after}
 use Rattle.mpm_machine.specs.declared.system.System.{System}
-
--- whose last turn doesn't end stands at as many places of the disk as before
-
-stepped_still : (b c : Bool) (call : Served) (q : ℕ) → (cond b (Work call.p c) Passing ≡ Work q true → ⊥)
-    → one_if (is_call_of q (cond b (cond c None (Some (record call { left = call.left - 1; passed = 0 }))) (Some (record call { passed = call.passed + 1 })))) ≡ one_if (is_call_of q (Some call))
-stepped_still true true call q last = sym (one_if_false (call.p == q) (ne_eqb call.p q (λ same. last (ap (λ p. Work p true) same))))
-stepped_still true false call q last = refl
-stepped_still false c call q last = refl
-
-starts_still : (p q : ℕ) (waiting : List Member) (b : Bool) → first_of waiting ≡ Some p → eqb p q ≡ b → one_if (in_list q (without_slot p waiting)) + one_if b ≡ one_if (in_list q waiting)
-unfolding first_of in_list
-starts_still p q [] b first same = absurd (cc)
-starts_still p q (m ∷ ms) true first same =
-    let here : in_list q (m ∷ ms) ≡ true = ap (λ k. eqb k q || in_list q ms) slot ∙ ap (λ x. x || in_list q ms) same in
-    let none : in_list q (without_slot p (m ∷ ms)) ≡ false = subst (λ k. in_list k (without_slot p (m ∷ ms)) ≡ false) (eqb-true p q same) (gone p (m ∷ ms)) in
-    omega (arith, one_if_true _ here, one_if_false _ none)
-  where
-    slot : m.slot ≡ p
-    slot = cc
-starts_still p q (m ∷ ms) false first same =
-    omega (arith, ap one_if (in_list_without_slot (m ∷ ms) p q ∙ ap (λ x. not x && in_list q (m ∷ ms)) same))
-
-turn_still : (turn_steps q : ℕ) (waiting : List Member) (served : Option Served) (first : Option ℕ) → first_of waiting ≡ first → (answer_by turn_steps served first ≡ Work q true → ⊥)
-    → one_if (in_list q (waiting_after served first waiting)) + one_if (is_call_of q (served_after turn_steps served first)) ≡ one_if (in_list q waiting) + one_if (is_call_of q served)
-unfolding after_step step_answer
-turn_still turn_steps q waiting (Some call) first is last =
-    ap (λ n. one_if (in_list q waiting) + n) (stepped_still (call.passed + 1 == turn_steps) (call.left == 1) call q last)
-turn_still turn_steps q waiting None None is last = refl
-turn_still turn_steps q waiting None (Some p) is last = omega (arith, starts_still p q waiting (eqb p q) is refl)
-
-at_turned_still : (service : DiskService) (q : ℕ) → (turn_answer service ≡ Work q true → ⊥) → at_disk (turned service) q ≡ at_disk service q
-unfolding at_disk turned turn_answer
-at_turned_still service q last = turn_still service.turn_steps q service.waiting service.served (first_of service.waiting) refl last
 
 -- no turn ends where no call is in service
 never_by : (turn_steps q : ℕ) (served : Option Served) (first : Option ℕ) → option_map (λ call. call.p) served ≡ None → answer_by turn_steps served first ≡ Work q true → ⊥

@@ -74,7 +74,7 @@ goes_in_step telling system w i =
     goes_rest (is_instruction (file_caller system) system) telling (begun_as telling.at_gate system) (whole_begun_as telling.at_gate system w)
     (goes_begun_as telling.at_gate system w i)
 
-pub interprets_stepped : {kept : Kept} (before behind : Outside) (old new : System) → IsWhole old → HasStepped kept before behind old new → Interprets old → Interprets new
+pub interprets_stepped : {kept kept' : Kept} (before behind : Outside) (old new : System) → IsWhole old → HasStepped kept kept' before behind old new → Interprets old → Interprets new
 interprets_stepped before behind old new w stepped i =
     subst (λ (c : Change). Interprets c.system) (sym stepped.is.step.is) (goes_in_step stepped.is.step.telling old w i)
 

@@ -19,7 +19,8 @@ use Rattle.mpm_machine.proofs.WholeLaws.{whole_kernel, whole_steps}
 use Rattle.mpm_machine.proofs.FileStepLaws.{nobody_calls, is_made_still}
 use Rattle.mpm_machine.proofs.PlainLaws.{plain_next, files_still}
 use Rattle.mpm_machine.proofs.QuietLaws.{none_comes, begun_quiet, step_quiet, picked_same}
-use Rattle.mpm_machine.proofs.PassingLaws.{still_ahead, passes_on, passes_nothing, fewer_pass, nobody_over, rest_still, none_before, within_on}
+use Rattle.mpm_machine.proofs.PassingLaws.{still_ahead, passes_on, fewer_pass, nobody_over, rest_still, none_before, within_on}
+use Rattle.mpm_machine.proofs.PassedLaws.{later_none}
 
 -- nothing is done
 
@@ -87,14 +88,9 @@ fewer system n on = record {
   passing = fewer_pass n system.kernel.disk on.passing;
 }
 
-later_nothing : (system : System) → later system 0 ≡ system
-later_nothing system =
-    ap (λ (disk : DiskService). record system { steps = system.steps + 0; kernel = record system.kernel { disk = disk } }) (passes_nothing system.kernel.disk)
-    ∙ ap (λ (steps : ℕ). record system { steps = steps }) (omega arith)
-
 after_idle : (n : ℕ) (s : State) → Idles s.system n → AreWithin s.system.kernel.disk.served s.files → after n s ≡ record s { system = later s.system n }
 unfolding after
-after_idle zero s on within = ap (λ (system : System). record s { system = system }) (sym (later_nothing s.system))
+after_idle zero s on within = ap (λ (system : System). record s { system = system }) (later_none s.system)
 after_idle (suc n) s on within =
     let on_more : Idles s.system (n + 1) = subst (Idles s.system) (sym (add-one n)) on in
     ap next (after_idle n s (fewer s.system n on_more) within) ∙ idle_next s n on_more within ∙ ap (λ k. record s { system = later s.system k }) (add-one n)
@@ -115,7 +111,7 @@ whole_later system n w =
 
 steps_idle : (n : ℕ) (system : System) → IsWhole system → Idles system n → AreSteps n system (silent (later system n))
 unfolding AreSteps
-steps_idle zero system w on = ap silent (later_nothing system)
+steps_idle zero system w on = ap silent (sym (later_none system))
 steps_idle (suc n) system w on =
     let on_more : Idles system (n + 1) = subst (Idles system) (sym (add-one n)) on in
     let here = later system n in

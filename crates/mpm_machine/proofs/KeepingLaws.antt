@@ -27,7 +27,7 @@ use Rattle.mpm_kernel.specs.Calls.{called}
 use Rattle.mpm_consoles.specs.Consoles.{owner_of}
 use Rattle.mpm_consoles.specs.declared.unit.Unit.TheVariants.{Console as ConsoleUnit}
 use Rattle.mpm_kernel.proofs.DiskLaws.{ready_not_at_disk}
-use Rattle.mpm_kernel.proofs.DiskStays.{disk_called, disk_happened, disk_handed_out, disk_given_back, disk_discharged}
+use Rattle.mpm_kernel.proofs.DiskStays.{disk_called, disk_happened, disk_handed_out, disk_given_back, disk_discharged, kernel_if}
 use Rattle.mpm_xdos.specs.Aborting.{waits_to_end, target, abort_done}
 use Rattle.mpm_xdos.specs.Creating.{created, all_admitted, children_of, may_create, home_base}
 use Rattle.mpm_xdos.specs.Procedures.{entered, returned_from_procedure}
@@ -114,10 +114,6 @@ abort_serves p system =
     (same_service system.kernel.disk _ refl)
 
 -- parts of the kernel that leave the disk
-kernel_if : (disk : DiskService) (b : Bool) (x y : Kernel) → x.disk ≡ disk → y.disk ≡ disk → (if b then x else y).disk ≡ disk
-kernel_if disk true x y one other = one
-kernel_if disk false x y one other = other
-
 handed_disk : (console : ℕ) (from to : Option ℕ) (kernel : Kernel) → (handed_console console from to kernel).disk ≡ kernel.disk
 unfolding owner_made unit_left
 handed_disk console None None kernel = refl

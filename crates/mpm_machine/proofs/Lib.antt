@@ -9,6 +9,7 @@ pub mod FinishLaws
 pub mod DueLaws
 pub mod TallyLaws
 pub mod WholeLaws
+pub mod ActingLaws
 pub mod NobodyDueLaws
 pub mod FileLaws
 pub mod TakenLaws

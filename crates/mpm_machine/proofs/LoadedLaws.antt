@@ -1,6 +1,6 @@
 -- A program's file comes into the segment that the interpreter reserved: each piece's code is placed, then code is moved by its marks,
 -- then the next piece is read; once the whole file came, its code stands there, moved to the segment's first page.
-use Rattle.std.proofs.Common.{◌≡◌, ◌∙◌, ℕ, ◌+◌, ◌-◌, ◌*◌, ◌/◌, ◌%◌, ◌^◌, ◌<◌, ◌≤◌, ◌==◌, Bool, true, false, if◌then◌else◌, List, length, min, take, drop, get_or, Option, Some, None, inl, inr, refl, sym, ap, subst, arith, length-take, length-drop}
+use Rattle.std.proofs.Common.{◌≡◌, ◌∙◌, ℕ, ◌+◌, ◌-◌, ◌*◌, ◌/◌, ◌%◌, ◌<◌, ◌≤◌, ◌==◌, Bool, true, false, if◌then◌else◌, List, length, min, take, drop, get_or, Option, Some, None, inl, inr, refl, sym, ap, subst, arith, length-take, length-drop}
 use Rattle.std.specs.Prelude.{◌⊎◌, nat_lt, is_some}
 use Rattle.std.proofs.lemmas.Bool.{cases_lt, false≢true}
 use Rattle.std.proofs.lemmas.Bool.Decides.{nat_tests}
@@ -22,6 +22,7 @@ use Rattle.mpm_loader.specs.Pieces.{part, code_in, code_place, marks_in, marked_
 use Rattle.mpm_loader.specs.Plans.{code_end, all_bytes}
 use Rattle.mpm_loader.specs.declared.plan.Plan.{Plan}
 use Rattle.mpm_loader.proofs.Parts.{within_part, some_marked}
+use Rattle.mpm_loader.proofs.Moving.{moved as by_mark}
 use Rattle.mpm_cli.specs.Interpreters.{Interpreter, act_at, call_at, next_act, next_call, took, took_at, process_of, last_page, code_address, records_in, with_block, read_on, row_for_piece, row_behind_code, row_behind_marks}
 use Rattle.mpm_cli.specs.Standing.{is_loading, StandsIn, AreInPages}
 use Rattle.mpm_cli.specs.declared.table.Message.TheVariants.{BadLoad, NoProcess}
@@ -117,9 +118,6 @@ nothing_placed plan file piece before page seg marked memory none h place within
 ]
 
 -- code is moved by a piece's marks
-
-abbrev by_mark : ℕ → ℕ → ℕ → ℕ → ℕ
-by_mark mark bit byte page = if mark / 2 ^ (7 - bit) % 2 == 1 then (byte + page) % 256 else byte
 
 code_moved : (plan : Plan) (file piece code : List ℕ) (before page seg : ℕ) (old new : Memory) → IsPiece file before piece
     → HasCode plan file page seg (before + length piece) (min before (all_bytes plan)) old

@@ -1,16 +1,17 @@
 -- What is kept of files as a machine begins holds its drives.
-use Rattle.std.proofs.Common.{◌≡◌, ◌≢◌, ◌∙◌, ℕ, zero, suc, ◌<◌, true, false, List, [], ◌∷◌, Option, Some, None, IfSome, inl, inr, ◌==◌, length, refl, sym, ap, subst, arith}
-use Rattle.std.specs.Prelude.{◌⊎◌, replicate, is_some, bytes_eq, slice_index_or, slice_set}
+use Rattle.std.proofs.Common.{◌≡◌, ◌≢◌, ◌∙◌, ℕ, ◌<◌, true, false, List, [], ◌∷◌, Option, Some, None, IfSome, inl, inr, ◌==◌, length, refl, sym, ap, subst, arith}
+use Rattle.std.specs.Prelude.{◌⊎◌, is_some, bytes_eq}
 use Rattle.std.specs.List.{AllByRecursion}
 use Rattle.std.proofs.lemmas.Bool.{false≢true, or_right}
 use Rattle.std.proofs.lemmas.List.{length-set}
 use Rattle.std.proofs.lemmas.Slice.Eq.{bytes_eq-Decides}
 use Rattle.std.proofs.lemmas.Option.{same_Some}
 use Rattle.mpm_port.specs.Disks.{Disks}
+use Rattle.mpm_base.proofs.Lists.{all_at}
 use Rattle.mpm_blocks.specs.Geometries.{geometry_of}
 use Rattle.mpm_cache.specs.Coherent.{HaveOwnImages}
-use Rattle.mpm_cache.proofs.CoherentLaws.{coherent_none}
 use Rattle.mpm_cache.proofs.AliasLaws.{no_alias_none}
+use Rattle.mpm_cache.proofs.CoherentLaws.{coherent_none}
 use Rattle.mpm_machine_file.specs.declared.lists.DriveSpec.{DriveSpec}
 use Rattle.mpm_machine_file.specs.Drives.{all_differ}
 use Rattle.mpm_machine_file.proofs.OrderLaws.{IsApart, AreApart as SpecsApart, apart_from_differ}
@@ -19,6 +20,7 @@ use Rattle.mpm_drives.specs.Images.{Untold, Images}
 use Rattle.mpm_drives.specs.Mounted.{number_of, IsNamed, AreMounted}
 use Rattle.mpm_bdos.specs.Serving.{Kept, directory_at, all_put, in_places, nothing_kept}
 use Rattle.mpm_bdos.specs.Turns.{FitsDrives, has_directory, has_work}
+use Rattle.mpm_bdos.proofs.Placed.{set_each, no_place}
 use Rattle.mpm_service.specs.Disk.{DiskService, no_service}
 use Rattle.mpm_service.specs.Places.{at_disk}
 use Rattle.mpm_service.specs.declared.service.Served.{Served}
@@ -29,24 +31,11 @@ use Rattle.mpm_machine.specs.Mounting.{HasMounted, HasNoDrive}
 
 -- what is so of each directory by its number is so of what stands in each place
 
-set_here : {X : Type 0} (P : ℕ → X → Type 0) (xs : List (Option X)) (n : ℕ) (x : X) → P n x → ((number : ℕ) → IfSome (slice_index_or xs number None) (P number))
-    → (number : ℕ) → IfSome (slice_index_or (slice_set xs n (Some x)) number None) (P number)
-set_here P [] n x here each number = tt
-set_here P (y ∷ ys) zero x here each zero = here
-set_here P (y ∷ ys) zero x here each (suc number) = each (suc number)
-set_here P (y ∷ ys) (suc n) x here each zero = each 0
-set_here P (y ∷ ys) (suc n) x here each (suc number) = set_here (λ k. P (suc k)) ys n x here (λ k. each (suc k)) number
-
-none_here : {X : Type 0} (P : ℕ → X → Type 0) (n number : ℕ) → IfSome (slice_index_or (replicate n None) number None) (P number)
-none_here P zero number = tt
-none_here P (suc n) zero = tt
-none_here P (suc n) (suc number) = none_here (λ k. P (suc k)) n number
-
 each_placed : (P : ℕ → Directory → Type 0) (ds : List Directory) → AllByRecursion (λ (d : Directory). P d.drive d) ds → (number : ℕ)
     → IfSome (directory_at (in_places ds) number) (P number)
 unfolding all_put
-each_placed P [] all number = none_here P 16 number
-each_placed P (d ∷ ds) all number = set_here P (in_places ds) d.drive d all.0 (each_placed P ds all.1) number
+each_placed P [] all number = no_place P 16 number
+each_placed P (d ∷ ds) all number = set_each P (in_places ds) d.drive d all.0 (each_placed P ds all.1) number
 
 -- its size
 
@@ -173,14 +162,9 @@ unfolding all_put
 many_places [] = refl
 many_places (d ∷ ds) = length-set (in_places ds) d.drive (Some d) ∙ many_places ds
 
-no_place : {X : Type 0} (n number : ℕ) → ◌≡◌ {A = Option X} (slice_index_or (replicate n None) number None) None
-no_place zero number = refl
-no_place (suc n) zero = refl
-no_place (suc n) (suc number) = no_place n number
-
 pub none_mounted : HasNoDrive (in_places [])
 unfolding all_put
-none_mounted = λ number. no_place 16 number
+none_mounted = λ number. all_at 16 number None
 
 -- and where nothing is mounted
 pub holds_nothing : {D : Type 0} (attached : D → ℕ → Option ℕ) (disks : D → Option Disks) (kernel : Kernel) (turn_steps : ℕ) (kept : Kept) (drives : D)

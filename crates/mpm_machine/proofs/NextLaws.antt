@@ -176,12 +176,12 @@ run_both m n o p q old middle new one two = record {
 pub run_silent : (n : ℕ) (o : Outside) (old new : System) → AreSteps n old (silent new) → HasRun n o o old new
 run_silent n o old new are = record { emitted = []; steps = are; wrote = wrote_nothing o }
 
-run_step : {kept : Kept} (o p : Outside) (old new : System) → HasStepped kept o p old new → HasRun 1 o p old new
+run_step : {kept kept' : Kept} (o p : Outside) (old new : System) → HasStepped kept kept' o p old new → HasRun 1 o p old new
 run_step o p old new one =
     record { emitted = one.emitted; steps = are_steps_one old (record { system = new; emitted = one.emitted }) one.is; wrote = one.wrote }
 
 -- some that wrote nothing, and one more
-pub run_and_step : {kept : Kept} (n : ℕ) (o p : Outside) (old middle new : System) → AreSteps n old (silent middle) → HasStepped kept o p middle new → HasRun (n + 1) o p old new
+pub run_and_step : {kept kept' : Kept} (n : ℕ) (o p : Outside) (old middle new : System) → AreSteps n old (silent middle) → HasStepped kept kept' o p middle new → HasRun (n + 1) o p old new
 run_and_step n o p old middle new are one = run_both n 1 o o p old middle new (run_silent n o old middle are) (run_step o p middle new one)
 
 -- some that wrote nothing, and one that stopped; and some before these

@@ -294,22 +294,24 @@ may_place_first events size script h =
 pub may_place_program : (size : ℕ) → size ≤ 48512 → MayPlace (booted program_file []) 0 0 size
 may_place_program size h = may_place_first [] size (All-nil IsTimed) h
 
-pub booted_parts : (file : MachineFile) (events : List Timed) (interrupts : Interrupts) (kernel : Kernel) (memory : Memory) (residents : List Native)
-    (records : List Completion) (owed : List Bool) → 1 ≤ file.consoles → file.consoles ≤ 8 → file.printers ≤ 4 → length file.segments ≤ 16 → All IsTimed events → IsMemory (new_memory file.segments)
+pub booted_is : (file : MachineFile) (events : List Timed) (interrupts : Interrupts) (kernel : Kernel) (memory : Memory) (residents : List Native)
+    (records : List Completion) (owed : List Bool)
     → interrupts ≡ record { tick_every = file.tick_every; ticks = 0; script = events }
     → kernel ≡ in_turns file.disk_turn (new_kernel file.consoles file.printers (moment_of file)) → memory ≡ new_memory file.segments → residents ≡ [] → records ≡ [] → owed ≡ nobody_owes
-    → IsBare (record { steps = 0; interrupts = interrupts; kernel = kernel; memory = memory; abort_deferred = false; residents = residents; records = records; owed = owed })
+    → record { steps = 0; interrupts = interrupts; kernel = kernel; memory = memory; abort_deferred = false; residents = residents; records = records; owed = owed } ≡ booted file events
 unfolding booted
-booted_parts file events interrupts kernel memory residents records owed some few printers count script fit is was there none no_records nobody =
+booted_is file events interrupts kernel memory residents records owed is was there none no_records nobody =
     let booting = booted file events in
-    let whole : record { steps = 0; interrupts = interrupts; kernel = kernel; memory = memory; abort_deferred = false; residents = residents; records = records; owed = owed } ≡ booting =
     ap (λ (r : List Native). record booting { interrupts = interrupts; kernel = kernel; memory = memory; residents = r; records = records; owed = owed }) none
     ∙ ap (λ (r : List Completion). record booting { interrupts = interrupts; kernel = kernel; memory = memory; records = r; owed = owed }) no_records
     ∙ ap (λ (o : List Bool). record booting { interrupts = interrupts; kernel = kernel; memory = memory; owed = o }) nobody
     ∙ ap (λ (i : Interrupts). record booting { interrupts = i; kernel = kernel; memory = memory }) is
     ∙ ap (λ (k : Kernel). record booting { kernel = k; memory = memory }) was
-    ∙ ap (λ (m : Memory). record booting { memory = m }) there in
-    subst IsBare (sym whole) (booted_is_bare file events some few printers count script fit)
+    ∙ ap (λ (m : Memory). record booting { memory = m }) there
+
+pub booted_bare : (file : MachineFile) (events : List Timed) (system : System) → 1 ≤ file.consoles → file.consoles ≤ 8 → file.printers ≤ 4 → length file.segments ≤ 16
+    → All IsTimed events → IsMemory (new_memory file.segments) → system ≡ booted file events → IsBare system
+booted_bare file events system some few printers count script fit is = subst IsBare (sym is) (booted_is_bare file events some few printers count script fit)
 
 pub booted_program : (file : MachineFile) (events : List Timed) (machine : System) → machine ≡ booted file events → file ≡ program_file → events ≡ []
     → machine ≡ booted program_file []

@@ -2,6 +2,7 @@
 use Rattle.std.proofs.Common.{◌≡◌, ◌≢◌, ◌∙◌, ℕ, ◌<◌, ◌≤◌, Bool, true, false, ◌&&◌, ◌==◌, if◌then◌else◌, List, [], ◌∷◌, refl, sym, ap, subst, arith, length}
 use Rattle.std.specs.Prelude.{nat_lt}
 use Rattle.std.proofs.lemmas.Bool.Decides.{nat_tests}
+use Rattle.std.proofs.lemmas.Bool.{cond-true, cond-false}
 use Rattle.mpm_base.specs.Calls.{Taken}
 use Rattle.mpm_base.specs.declared.functions.TheConstants.{CONSOLE_OUTPUT, RAW_CONSOLE_OUTPUT, LIST_OUTPUT, DIRECT_CONSOLE_IO, PRINT_STRING}
 use Rattle.mpm_procs.specs.Table.{process_in}
@@ -218,17 +219,11 @@ echoes_nothing console o call kernel none =
 
 -- a text of the system comes to the console that its call names, where that is there
 
-there : (b : Bool) (x y : Change) → b ≡ true → (if b then x else y) ≡ x
-there b x y e = rw e refl
-
-nowhere : (b : Bool) (x y : Change) → b ≡ false → (if b then x else y) ≡ y
-nowhere b x y e = rw e refl
-
 pub told_there : (call : Taken) (console : ℕ) (system : System) → console ≡ low_parameter call → console < length system.kernel.units.consoles
     → text_told call system ≡ writing console (expanded (column_of system.kernel console) call.bytes) system
 told_there call console system is below =
     let seen : is_console console system.kernel ≡ true = grind (arith, nat_tests, below) in
-    there (is_console (low_parameter call) system.kernel) _ _ (ap (λ (n : ℕ). is_console n system.kernel) (sym is) ∙ seen)
+    cond-true (is_console (low_parameter call) system.kernel) _ _ (ap (λ (n : ℕ). is_console n system.kernel) (sym is) ∙ seen)
     ∙ ap (λ (n : ℕ). speaking n (expanded (column_of system.kernel n) call.bytes) system) (sym is)
     ∙ speaking_is console (expanded (column_of system.kernel console) call.bytes) system
 
@@ -236,4 +231,4 @@ pub told_nowhere : (call : Taken) (console : ℕ) (system : System) → console 
     → text_told call system ≡ silent system
 told_nowhere call console system is beyond =
     let unseen : is_console console system.kernel ≡ false = grind (arith, nat_tests, beyond) in
-    nowhere (is_console (low_parameter call) system.kernel) _ _ (ap (λ (n : ℕ). is_console n system.kernel) (sym is) ∙ unseen)
+    cond-false (is_console (low_parameter call) system.kernel) _ _ (ap (λ (n : ℕ). is_console n system.kernel) (sym is) ∙ unseen)

@@ -37,11 +37,11 @@ use Rattle.mpm_bdos.specs.Turns.{told_images}
 use Rattle.mpm_machine.specs.declared.system.System.{System}
 use Rattle.mpm_machine.specs.Files.{Files, Between, Within, StandsBetween, StandsServed, StandsForFiles, StandsWorkedBy, StandsWorked}
 use Rattle.mpm_machine.specs.State.{Change, HasRoomForAll, IsWhole, silent}
-use Rattle.mpm_machine.specs.FileCalls.{MayTell, IsToldOf, told_of, concluded}
+use Rattle.mpm_machine.specs.FileCalls.{MayTell, IsToldOf, EndsWithoutJob, told_of, concluded}
 use Rattle.mpm_machine.specs.DiskStep.{ready_again, step_passed, call_over, over_after, served_by, disk_served, over_by, process_over, files_over, files_served_by, files_served, told_of_call}
 use Rattle.mpm_machine.specs.Stepping.{nothing_told, told_by_process, told_within}
 use Rattle.mpm_machine.specs.Holding.{IsOwn}
-use Rattle.mpm_machine.specs.After.{IsOfCall, IsToldIn, HasAnswered, HasStoppedAnswering, HasPassed, HasStoppedServing}
+use Rattle.mpm_machine.specs.After.{IsOfCall, IsToldIn, IsOverAsKept, HasAnswered, HasStoppedAnswering, HasPassed, HasStoppedServing}
 use Rattle.mpm_machine.proofs.FinishLaws.{no_completions_finished}
 use Rattle.mpm_machine.proofs.FileLaws.{whole_concluded}
 use Rattle.mpm_machine.proofs.FileStepLaws.{concluded_more}
@@ -84,16 +84,18 @@ answered_err (Err e) p old o n s kept disks answer extended comes failed =
 pub answered_told : {A E : Type 0} (r : Result A E) (p : ℕ) (old new : System) (o n : Outside) (kept : Kept) (answer : Answer) (extended : Option Extended)
     → IsOwn old.kernel.dispatcher.procs p kept.service
     → ((caller : Caller) (function : FileFunction) (call : Taken) → HasEntered caller function call kept.service → MayAnswer caller.multi function call answer extended)
+    → EndsWithoutJob kept answer extended
     → OnOk r (new ≡ (call_over (told_here p old answer extended) p old).system) → OnOk r (Wrote o n (call_over (told_here p old answer extended) p old).emitted)
-    → OnOk r (HasAnswered p o n old new)
-answered_told (Ok a) p old new o n kept answer extended own may system wrote = record {
+    → OnOk r (HasAnswered kept p o n old new)
+answered_told (Ok a) p old new o n kept answer extended own may ends system wrote = record {
   told = told_here p old answer extended;
   of_call = refl;
   tells = own_told p old kept.service answer extended own may;
+  as_kept = ends;
   system = system;
   wrote = wrote;
 }
-answered_told (Err e) p old new o n kept answer extended own may system wrote = tt
+answered_told (Err e) p old new o n kept answer extended own may ends system wrote = tt
 
 pub answered_stops : {A : Type 0} (r : Result A Failed) (p : ℕ) (old : System) (o n : Outside) (kept : Kept) (answer : Answer) (extended : Option Extended)
     → IsOwn old.kernel.dispatcher.procs p kept.service
@@ -249,14 +251,15 @@ told_passed p system answer extended tells =
     let number = (call_of system.kernel.dispatcher.procs p).function in
     tells_passed (function_of number) (direct_of number) p system answer extended tells
 
-pub has_passed_over : {A E : Type 0} (r : Result A E) (p : ℕ) (o n : Outside) (old new : System) → turn_answer old.kernel.disk ≡ Work p true
-    → OnOk r (HasAnswered p o n (step_passed old) new) → OnOk r (HasPassed o n old new)
-has_passed_over r p o n old new works =
-    on_ok_weaker r (λ (answered : HasAnswered p o n (step_passed old) new). record {
+pub has_passed_over : {A E : Type 0} (r : Result A E) (kept : Kept) (p : ℕ) (o n : Outside) (old new : System) → turn_answer old.kernel.disk ≡ Work p true
+    → OnOk r (HasAnswered kept p o n (step_passed old) new) → OnOk r (HasPassed kept o n old new)
+has_passed_over r kept p o n old new works =
+    on_ok_weaker r (λ (answered : HasAnswered kept p o n (step_passed old) new). record {
       told = answered.told;
       of_call = subst (λ (over : Option ℕ). IsOfCall over answered.told old) (sym (over_process old p works)) answered.of_call;
       tells = subst (λ (over : Option ℕ). IsToldIn over answered.told old) (sym (over_process old p works))
           (told_passed p old answered.told.answer answered.told.extended answered.tells);
+      as_kept = subst (λ (over : Option ℕ). IsOverAsKept kept over answered.told) (sym (over_process old p works)) answered.as_kept;
       system = answered.system ∙ sym (ap (λ (c : Change). c.system) (over_served answered.told old p works));
       wrote = subst (λ (c : Change). Wrote o n c.emitted) (sym (over_served answered.told old p works)) answered.wrote;
     })
@@ -326,6 +329,37 @@ none_over : (system : System) → IsNotLast (turn_answer system.kernel.disk) →
 unfolding process_over
 none_over system more = nobody_over_by (served_process system.kernel.disk) (turn_answer system.kernel.disk) more
 
+-- a call in service that isn't over stays there
+none_or_some : (over : Option ℕ) (p : ℕ) → over ≡ Some p → over ≡ None → ⊥
+none_or_some over p some none = absurd (cc)
+
+pub last_is_over : (old : System) (p : ℕ) → turn_answer old.kernel.disk ≡ Work p true → process_over old ≡ None → ⊥
+last_is_over old p works none = none_or_some (process_over old) p (over_process old p works) none
+
+never_last : (system : System) → process_over system ≡ None → IsNotLast (turn_answer system.kernel.disk)
+unfolding IsNotLast
+never_last system none = λ p works. last_is_over system p works none
+
+still_by : (turn_steps : ℕ) (served : Option Served) (first : Option ℕ) → is_some served ≡ true → IsNotLast (answer_by turn_steps served first)
+    → is_some (served_after turn_steps served first) ≡ true
+unfolding IsNotLast step_answer after_step
+still_by turn_steps None first some more = absurd (false≢true some)
+still_by turn_steps (Some call) first some more = by_step (is_last_step turn_steps call) (call.left == 1) more
+  where
+    by_step : (ends last : Bool) → ((p : ℕ) → (if ends then Work call.p last else Passing) ≡ Work p true → ⊥)
+        → is_some (if ends then (if last then None else (Some (record call { left = call.left - 1; passed = 0 }))) else (Some (record call { passed = call.passed + 1 }))) ≡ true
+    by_step true true more = absurd (more call.p refl)
+    by_step true false more = refl
+    by_step false last more = refl
+
+pub still_served : (told : Directly) (system : System) → is_some system.kernel.disk.served ≡ true → process_over system ≡ None
+    → is_some (disk_served told system).system.kernel.disk.served ≡ true
+unfolding turn_answer turned
+still_served told system some none =
+    let disk = system.kernel.disk in
+    subst (λ (c : Change). is_some c.system.kernel.disk.served ≡ true) (sym (silent_served told system some (never_last system none)))
+    (still_by disk.turn_steps disk.served (first_of disk.waiting) some (never_last system none))
+
 -- what stands goes on by the turn
 served_still : (served : Option Served) (turn : Turn) (turn_steps : ℕ) (first : Option ℕ) → answer_by turn_steps served first ≡ turn → is_some served ≡ true
     → ((turn ≡ Passing) ⊎ ((p : ℕ) × (last : Bool) × (turn ≡ Work p last)))
@@ -367,13 +401,14 @@ pass_on (Within s) o old kept disks some more stands =
       subst (λ (files : Files). StandsForFiles (turned old.kernel.disk) kept disks files) (sym (same_served old s some more)) (turn_goes_on old.kernel.disk kept disks s some more stands),
     )
 
-pub has_passed_on : (o : Outside) (old : System) → is_some old.kernel.disk.served ≡ true → IsNotLast (turn_answer old.kernel.disk) → HasPassed o o old (step_passed old)
-has_passed_on o old some more =
+pub has_passed_on : (kept : Kept) (o : Outside) (old : System) → is_some old.kernel.disk.served ≡ true → IsNotLast (turn_answer old.kernel.disk) → HasPassed kept o o old (step_passed old)
+has_passed_on kept o old some more =
     let is = silent_served nothing_told old some more in
     record {
       told = nothing_told;
       of_call = subst (λ (over : Option ℕ). IsOfCall over nothing_told old) (sym (none_over old more)) tt;
       tells = subst (λ (over : Option ℕ). IsToldIn over nothing_told old) (sym (none_over old more)) tt;
+      as_kept = subst (λ (over : Option ℕ). IsOverAsKept kept over nothing_told) (sym (none_over old more)) tt;
       system = sym (ap (λ (c : Change). c.system) is);
       wrote = subst (λ (c : Change). Wrote o o c.emitted) (sym is) (wrote_nothing o);
     }
@@ -407,9 +442,9 @@ pub passes_so : (files : Files) (o : Outside) (old : System) (kernel : Kernel) (
 passes_so files o old kernel kept disks is some more stands =
     subst (λ (new : System). Passed files o o old new kept disks) (sym (passed_is old kernel is)) (pass_on files o old kept disks some more stands)
 
-pub has_passed_so : (o : Outside) (old : System) (kernel : Kernel) → kernel ≡ with_disk turned old.kernel → is_some old.kernel.disk.served ≡ true
-    → IsNotLast (turn_answer old.kernel.disk) → HasPassed o o old (record old { kernel = kernel })
-has_passed_so o old kernel is some more = subst (HasPassed o o old) (sym (passed_is old kernel is)) (has_passed_on o old some more)
+pub has_passed_so : (kept : Kept) (o : Outside) (old : System) (kernel : Kernel) → kernel ≡ with_disk turned old.kernel → is_some old.kernel.disk.served ≡ true
+    → IsNotLast (turn_answer old.kernel.disk) → HasPassed kept o o old (record old { kernel = kernel })
+has_passed_so kept o old kernel is some more = subst (HasPassed kept o o old) (sym (passed_is old kernel is)) (has_passed_on kept o old some more)
 
 pub begun_so : (disk after : DiskService) (answer : Turn) → is_some disk.served ≡ true → answer ≡ turn_answer disk → IsAfter answer after → HasBegun after
 unfolding turn_answer
@@ -430,10 +465,10 @@ pub none_behind : (disk : DiskService) (p : ℕ) → turn_answer disk ≡ Work p
 unfolding turn_answer turned
 none_behind disk p works = none_by disk.turn_steps disk.served (first_of disk.waiting) p works
 
-pub nobody_behind : {A E : Type 0} (r : Result A E) (p : ℕ) (o n : Outside) (old new : System) → turn_answer old.kernel.disk ≡ Work p true
-    → OnOk r (HasAnswered p o n (step_passed old) new) → OnOk r (new.kernel.disk.served ≡ None)
-nobody_behind r p o n old new works =
-    on_ok_weaker r (λ (answered : HasAnswered p o n (step_passed old) new).
+pub nobody_behind : {A E : Type 0} (r : Result A E) (kept : Kept) (p : ℕ) (o n : Outside) (old new : System) → turn_answer old.kernel.disk ≡ Work p true
+    → OnOk r (HasAnswered kept p o n (step_passed old) new) → OnOk r (new.kernel.disk.served ≡ None)
+nobody_behind r kept p o n old new works =
+    on_ok_weaker r (λ (answered : HasAnswered kept p o n (step_passed old) new).
     let none = none_behind old.kernel.disk p works in
     ap (λ (system : System). system.kernel.disk.served) answered.system ∙ (over_serves answered.told p (step_passed old) none).served ∙ none)
 

@@ -1,5 +1,5 @@
 -- The end of a run: what was written and what the images stand for, where it came through and where it stopped.
-use Rattle.std.proofs.Common.{◌≡◌, ◌∙◌, ℕ, suc, ◌+◌, ◌<◌, Bool, List, [], ◌∷◌, ◌++◌, Option, Some, None, Result, Ok, Err, inl, inr, refl, sym, ap, subst, arith}
+use Rattle.std.proofs.Common.{◌≡◌, ◌∙◌, ℕ, suc, ◌+◌, ◌<◌, Bool, true, List, [], ◌∷◌, ◌++◌, Option, Some, None, Result, Ok, Err, inl, inr, refl, sym, ap, subst, arith}
 use Rattle.std.proofs.Math.Path.{fun_ext}
 use Rattle.std.specs.Prelude.{OnOk, IfErr, is_some, option_map, unwrap_or}
 use Rattle.mpm_base.proofs.CountLaws.{count_cons}
@@ -19,7 +19,7 @@ use Rattle.mpm_service.specs.Disk.{DiskService, no_service, served_process}
 use Rattle.mpm_service.specs.declared.service.Served.{Served}
 use Rattle.mpm_requests.specs.Filing.{Filing, Situation}
 use Rattle.mpm_bdos.specs.Serving.{Kept as Filed, StandEach, Serves, directory_at}
-use Rattle.mpm_bdos.specs.Syncing.{mounted_count}
+use Rattle.mpm_bdos.specs.Syncing.{StopsAtDrive, mounted_count}
 use Rattle.mpm_bdos.specs.Turns.{StaysBeside, labelled, told_images}
 use Rattle.mpm_machine.specs.declared.system.System.{System}
 use Rattle.mpm_machine.specs.declared.machine.StepFault.{StepFault}
@@ -29,7 +29,7 @@ use Rattle.mpm_machine.specs.Files.{Files, Between, Within, StandsServed, Stands
 use Rattle.mpm_machine.specs.Faults.{Counts, HaveCause, EndsBy, OnDiskFault}
 use Rattle.mpm_machine.specs.Mounting.{HasNoDrive, KeepsMounted}
 use Rattle.mpm_machine.specs.Failing.{FailsWithin, HaveImages, HaveImagesOf}
-use Rattle.mpm_machine.specs.Settling.{at_end, carried_out, carried, HasCarried, left_of, StopsCarrying, StopsAtEnd, WritesEndOf, WritesEnd, StopsEnd, ClosesEnd, StopsSettling}
+use Rattle.mpm_machine.specs.Settling.{at_end, carried_out, carried, HasCarried, left_of, StopsCarrying, StopsAtEnd, WritesEndOf, WritesEnd, StopsEnd, ClosesEnd, StopsSettling, SyncsBelow}
 use Rattle.mpm_machine.proofs.DriveLaws.{keeps_both}
 
 -- what is told of the images where the drives were synced
@@ -249,6 +249,20 @@ pub sink_alone : {A : Type 0} (r : Result A StepFault) (places : List (Option Di
 sink_alone (Ok x) places none some = tt
 sink_alone (Err WriteFault) places none some = refl
 sink_alone (Err DiskFault) places none some = absurd (omega (arith, some, none_counted places none))
+
+-- the drives as the call in service left them, and as they were synced up to one that failed
+pub none_synced : (fault : StepFault) (mounted : List (Option Directory)) (before now : ℕ → Bool) → ((number : ℕ) → before number ≡ true → now number ≡ true)
+    → OnDiskFault fault (SyncsBelow mounted before now)
+none_synced WriteFault mounted before now owed = tt
+none_synced DiskFault mounted before now owed = record { drive = 0; front = λ number less. absurd (omega (arith, less)); rest = λ number _. owed number }
+
+pub some_synced : {A : Type 0} (r : Result A StepFault) (mounted : List (Option Directory)) (before between now : ℕ → Bool) (steps steps' : ℕ)
+    → ((number : ℕ) → before number ≡ true → between number ≡ true) → IfErr r (λ fault. OnDiskFault fault (StopsAtDrive mounted between now steps steps'))
+    → IfErr r (λ fault. OnDiskFault fault (SyncsBelow mounted before now))
+some_synced (Ok x) mounted before between now steps steps' owed stops = tt
+some_synced (Err WriteFault) mounted before between now steps steps' owed stops = tt
+some_synced (Err DiskFault) mounted before between now steps steps' owed stops =
+    record { drive = stops.drive; front = stops.front; rest = λ number from was. stops.rest number from ∙ owed number was }
 
 pub cause_behind : {A E : Type 0} (fault : E → StepFault) (old middle new : Counts) (r : Result A E) → middle ≡ old → HaveCause fault middle new r → HaveCause fault old new r
 cause_behind fault old middle new r same cause = subst (λ (k : Counts). HaveCause fault k new r) same cause

@@ -34,7 +34,7 @@ no_completions_with telling system =
 
 -- at an instruction
 
-no_file_at : (p seg : ℕ) (system : System) → (process_in system.kernel.dispatcher.procs p).seg ≡ Some seg → gate_before p seg system ≡ None
+pub no_file_at : (p seg : ℕ) (system : System) → (process_in system.kernel.dispatcher.procs p).seg ≡ Some seg → gate_before p seg system ≡ None
     → calls_files p system ≡ false
 unfolding calls_files
 no_file_at p seg system home none =

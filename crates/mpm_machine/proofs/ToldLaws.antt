@@ -1,6 +1,6 @@
 -- What a process may be told of its file call, whatever is on the drives.
-use Rattle.std.proofs.Common.{◌≡◌, ◌∙◌, ℕ, true, false, Option, Some, None, IfSome, IfOk, Result, Ok, Err, refl, sym, ap, subst}
-use Rattle.std.specs.Prelude.{is_some}
+use Rattle.std.proofs.Common.{◌≡◌, ◌∙◌, ℕ, true, false, List, Option, Some, None, IfSome, IfOk, Result, refl, sym, ap, subst}
+use Rattle.std.specs.Prelude.{is_some, ◌==◌}
 use Rattle.std.proofs.lemmas.Bool.{false≢true}
 use Rattle.mpm_base.specs.Calls.{Taken, Answer, answering}
 use Rattle.mpm_procs.specs.Table.{process_in, call_of}
@@ -11,12 +11,16 @@ use Rattle.mpm_functions.specs.declared.refusals.Extended.{Extended}
 use Rattle.mpm_functions.specs.Functions.{function_of, direct_of}
 use Rattle.mpm_bdos.specs.Direct.{Directly, IsToldDirectly, ComesDirectly, direct_by, is_protected}
 use Rattle.mpm_requests.specs.declared.caller.Caller.{Caller}
-use Rattle.mpm_bdos.specs.Serving.{InService, Kept, kind_at}
+use Rattle.mpm_requests.specs.Filing.{Situation}
+use Rattle.mpm_bdos.specs.Finishing.{ComesTo}
+use Rattle.mpm_bdos.specs.Jobs.{call_turns}
+use Rattle.mpm_bdos.specs.Serving.{InService, Kept, Serves, kind_at}
 use Rattle.mpm_bdos.specs.Answering.{MayAnswer, HasEntered}
 use Rattle.mpm_bdos.proofs.Answerable.{something_granted}
+use Rattle.mpm_bdos.proofs.NextTurns.{served_idly}
 use Rattle.mpm_machine.specs.declared.system.System.{System}
 use Rattle.mpm_machine.specs.Holding.{IsOwn}
-use Rattle.mpm_machine.specs.FileCalls.{looked_at, MayTell, IsToldOf, TellsAsKept, IsToldAsKept}
+use Rattle.mpm_machine.specs.FileCalls.{looked_at, MayTell, IsToldOf, EndsWithoutJob, TellsAsKept, IsToldAsKept}
 use Rattle.mpm_machine.proofs.FilingLaws.{named_by}
 
 -- one that the disk serves
@@ -105,20 +109,23 @@ directly_as_kept kept p system call process reply extended calls lives none exac
         subst (λ found. IfSome found (λ one. ComesDirectly (kind_at kept.mounted) (is_protected kept.protected) process.drive one call reply extended)) is exact in
         subst (λ (one : Process). comes one.drive (call_of system.kernel.dispatcher.procs p)) lives (subst (comes process.drive) calls its)
 
--- nothing is said so of one that the disk serves
-served_by_function : (kept : Kept) (function : Option FileFunction) (other : Option DirectFunction) (p : ℕ) (system : System) (answer : Answer) (extended : Option Extended)
-    → is_some function ≡ true → TellsAsKept function other kept p system answer extended
-served_by_function kept None other p system answer extended some = absurd (false≢true some)
-served_by_function kept (Some function) other p system answer extended some = tt
+-- nothing is said so of one that waits for the disk
+waits_by_function : (kept : Kept) (function : Option FileFunction) (other : Option DirectFunction) (p : ℕ) (system : System) (answer : Answer) (extended : Option Extended)
+    → is_some function ≡ true → (system.kernel.disk.turn_steps == 0) ≡ false → TellsAsKept function other kept p system answer extended
+waits_by_function kept None other p system answer extended some steps = absurd (false≢true some)
+waits_by_function kept (Some function) other p system answer extended some steps = λ once. absurd (false≢true (sym steps ∙ once))
 
-pub served_as_kept : (kept : Kept) (p : ℕ) (system : System) (answer : Answer) (extended : Option Extended)
-    → is_some (function_of (call_of system.kernel.dispatcher.procs p).function) ≡ true → IsToldAsKept kept p system answer extended
+pub waits_as_kept : (kept : Kept) (p : ℕ) (system : System) (answer : Answer) (extended : Option Extended)
+    → is_some (function_of (call_of system.kernel.dispatcher.procs p).function) ≡ true → (system.kernel.disk.turn_steps == 0) ≡ false → IsToldAsKept kept p system answer extended
 unfolding IsToldAsKept
-served_as_kept kept p system answer extended some =
+waits_as_kept kept p system answer extended some steps =
     let number = (call_of system.kernel.dispatcher.procs p).function in
-    served_by_function kept (function_of number) (direct_of number) p system answer extended some
+    waits_by_function kept (function_of number) (direct_of number) p system answer extended some steps
 
-pub ok_as_kept : {E : Type 0} (kept : Kept) (p : ℕ) (system : System) (answer : Answer) (result : Result (Option Extended) E)
-    → is_some (function_of (call_of system.kernel.dispatcher.procs p).function) ≡ true → IfOk result (IsToldAsKept kept p system answer)
-ok_as_kept kept p system answer (Ok extended) some = served_as_kept kept p system answer extended some
-ok_as_kept kept p system answer (Err error) some = tt
+-- one in service that has no job comes to what its definition says, whatever the images are
+pub ends_as_kept : (old new : Kept) (answer : Answer) (extended : Option Extended)
+    → ((images : ℕ → List ℕ) (s : Situation) → Serves images old s (call_turns s) → ComesTo images s new answer extended) → EndsWithoutJob old answer extended
+ends_as_kept old new answer extended comes = record {
+  answer_is = λ images s serves none. (comes images s (served_idly images old s none serves)).answer_is;
+  extended_is = λ images s serves none. (comes images s (served_idly images old s none serves)).extended_is;
+}

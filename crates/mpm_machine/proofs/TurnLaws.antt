@@ -11,6 +11,7 @@ use Rattle.mpm_service.specs.Disk.{DiskService, is_last_step, after_turn, after_
 use Rattle.mpm_service.specs.declared.service.Served.{Served}
 use Rattle.mpm_service.specs.declared.service.Turn.{Turn}
 use Rattle.mpm_service.specs.declared.service.Turn.TheVariants.{Idle, Passing, Work, Starts}
+use Rattle.mpm_service.proofs.SoundLaws.{last_of}
 use Rattle.mpm_mount.specs.Drives.{Drive}
 use Rattle.mpm_mount.specs.Directories.{Directory}
 use Rattle.mpm_functions.specs.declared.functions.FileFunction.{FileFunction}
@@ -32,12 +33,6 @@ who Idle = 0
 who Passing = 0
 who (Work p last) = p
 who (Starts p) = p
-
-abbrev is_last : Turn → Bool
-is_last Idle = false
-is_last Passing = false
-is_last (Work p last) = last
-is_last (Starts p) = false
 
 -- the same stands where the disk serves the same call, in turns of as many steps
 pub worked_on : (old new : DiskService) (kept : Kept) (disks : Option Disks) (files : Files) → new.served ≡ old.served → new.turn_steps ≡ old.turn_steps
@@ -137,7 +132,7 @@ turned_step : (b : Bool) (call : Served) (kept : Kept) (disks : Option Disks) (s
     → Serves (told_images disks) kept s (one_more b turns)
     → StandsServed (if b then after_turn call else (Some (record call { passed = call.passed + 1 }))) kept disks (Within s)
 turned_step true call kept disks s p turns works left some whose serves =
-    let more = ap is_last works in
+    let more = ap last_of works in
     subst (λ (b : Bool). StandsServed (if b then None else (Some (record call { left = call.left - 1; passed = 0 }))) kept disks (Within s)) (sym more)
     (record { turns = suc turns; left = omega (arith, left, some); some = left_more call.left more some; whose = whose; serves = serves })
 turned_step false call kept disks s p turns works left some whose serves = absurd (cc)
@@ -161,7 +156,7 @@ last_step : (b : Bool) (call : Served) (kept : Kept) (disks : Option Disks) (s :
     → (if b then Work call.p (call.left == 1) else Passing) ≡ Work p true → turns + call.left ≡ call_turns s
     → Serves (told_images disks) kept s (one_more b turns) → Serves (told_images disks) kept s (call_turns s)
 last_step true call kept disks s p turns works left serves =
-    let one = one_left call.left (ap is_last works) in
+    let one = one_left call.left (ap last_of works) in
     subst (λ (j : ℕ). Serves (told_images disks) kept s j) (omega (arith, left, one)) serves
 last_step false call kept disks s p turns works left serves = absurd (cc)
 

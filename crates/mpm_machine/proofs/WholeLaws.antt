@@ -15,6 +15,7 @@ use Rattle.mpm_banks.specs.Actions.{memory_after, devices_after}
 use Rattle.mpm_gate.specs.Replies.{answered, returned}
 use Rattle.mpm_procs.specs.Table.{Table, lives, Lives, process_in, call_of, with_process, with_call}
 use Rattle.mpm_procs.specs.Opening.{blank}
+use Rattle.mpm_procs.specs.declared.process.Process.{Process}
 use Rattle.mpm_procs.proofs.MapLaws.{lives_below, lives_changed, process_changed, process_after, call_after, call_changed, lives_after}
 use Rattle.mpm_dispatcher.specs.Dispatch.{IsReady, with_procs}
 use Rattle.mpm_kernel.specs.Kernel.{Kernel, IsSound, CompletedLive, is_aborted, with_changed, dispatched, is_resident}
@@ -139,19 +140,26 @@ stays_as_served p old new stays = record {
   text = λ _. ap (λ (c : Taken). c.bytes) stays.call;
 }
 
+-- a process changes: its console, its printer, its multiple sector count, its procedure, its segment and whether its end is due stay
+pub whole_changed : (p : ℕ) (process : Process) (system : System) → IsWhole system → Lives system.kernel.dispatcher.procs p
+    → process.console ≡ (process_in system.kernel.dispatcher.procs p).console → process.printer ≡ (process_in system.kernel.dispatcher.procs p).printer
+    → process.multi ≡ (process_in system.kernel.dispatcher.procs p).multi → process.procedure ≡ (process_in system.kernel.dispatcher.procs p).procedure
+    → process.seg ≡ (process_in system.kernel.dispatcher.procs p).seg → process.abort_due ≡ (process_in system.kernel.dispatcher.procs p).abort_due
+    → StaysWhole p system (record system { kernel = with_changed system.kernel p process })
+whole_changed p process system w h console printer multi procedure seg due = record {
+  whole = whole_kernel system _ w
+      (sound_process system.kernel p process w.sound h console printer multi procedure)
+      (live_kept system.kernel (with_changed system.kernel p process) refl (λ q living. lives_changed system.kernel.dispatcher.procs p q process ∙ living) w.live)
+      (homes_changed system.kernel p process w.sound.slots h seg due);
+  lives = lives_changed system.kernel.dispatcher.procs p p process ∙ h;
+  call = call_after system.kernel.dispatcher.procs p p process;
+}
+
 -- the registers of a process change
 pub whole_regs : (p : ℕ) (regs : Regs) (system : System) → IsWhole system → Lives system.kernel.dispatcher.procs p
     → StaysWhole p system (record system { kernel = with_regs system.kernel p regs })
 whole_regs p regs system w h =
-    let process = record (process_in system.kernel.dispatcher.procs p) { regs = regs } in
-    record {
-      whole = whole_kernel system _ w
-          (sound_process system.kernel p process w.sound h refl refl refl refl)
-          (live_kept system.kernel (with_changed system.kernel p process) refl (λ q living. lives_changed system.kernel.dispatcher.procs p q process ∙ living) w.live)
-          (homes_changed system.kernel p process w.sound.slots h refl refl);
-      lives = lives_changed system.kernel.dispatcher.procs p p process ∙ h;
-      call = call_after system.kernel.dispatcher.procs p p process;
-    }
+    whole_changed p (record (process_in system.kernel.dispatcher.procs p) { regs = regs }) system w h refl refl refl refl refl refl
 
 -- bytes come to a console
 live_spoke : (kernel : Kernel) (console : ℕ) (bytes : List ℕ) → CompletedLive kernel → CompletedLive (spoke kernel console bytes)
@@ -279,15 +287,7 @@ whole_entered : (p : ℕ) (system : System) → IsWhole system → Lives system.
     → StaysWhole p system (record system { kernel = entered p system.kernel })
 unfolding entered entering
 whole_entered p system w h =
-    let process = entering (call_of system.kernel.dispatcher.procs p) (process_in system.kernel.dispatcher.procs p) in
-    record {
-      whole = whole_kernel system _ w
-          (sound_process system.kernel p process w.sound h refl refl refl refl)
-          (live_kept system.kernel (with_changed system.kernel p process) refl (λ q living. lives_changed system.kernel.dispatcher.procs p q process ∙ living) w.live)
-          (homes_changed system.kernel p process w.sound.slots h refl refl);
-      lives = lives_changed system.kernel.dispatcher.procs p p process ∙ h;
-      call = call_after system.kernel.dispatcher.procs p p process;
-    }
+    whole_changed p (entering (call_of system.kernel.dispatcher.procs p) (process_in system.kernel.dispatcher.procs p)) system w h refl refl refl refl refl refl
 
 pub whole_entry : (reply : Answer) (call : Taken) (p : ℕ) (system : System) → IsWhole system → Lives system.kernel.dispatcher.procs p
     → StaysWhole p system (with_entry reply call p system)

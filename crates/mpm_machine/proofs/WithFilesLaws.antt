@@ -1,6 +1,6 @@
 -- What a step begins with in which a process makes a file call: the call is made, it is done at once or waits, and the held calls that
 -- this completed are answered.
-use Rattle.std.proofs.Common.{◌≡◌, ◌∙◌, ℕ, ◌+◌, ◌*◌, ◌≤◌, ◌&&◌, true, false, List, [], Option, Some, None, IfSome, refl, sym, ap, subst, arith}
+use Rattle.std.proofs.Common.{◌≡◌, ◌∙◌, ℕ, ◌+◌, ◌*◌, ◌≤◌, ◌&&◌, true, false, List, [], Option, Some, None, refl, sym, ap, subst, arith}
 use Rattle.std.specs.Prelude.{is_some}
 use Rattle.mpm_port.specs.Disks.{Disks}
 use Rattle.mpm_procs.specs.Table.{Lives, process_in, call_of}
@@ -14,6 +14,7 @@ use Rattle.mpm_output.specs.Writing.{Wrote}
 use Rattle.mpm_bdos.specs.Direct.{Directly}
 use Rattle.mpm_requests.specs.Filing.{Filing, Situation}
 use Rattle.mpm_functions.specs.Functions.{function_of}
+use Rattle.mpm_kernel.proofs.AwaitingEnds.{if_some}
 use Rattle.mpm_bdos.specs.Serving.{Kept}
 use Rattle.mpm_machine.specs.declared.system.System.{System}
 use Rattle.mpm_machine.specs.declared.machine.StepFault.{StepFault}
@@ -41,14 +42,11 @@ use Rattle.mpm_machine.proofs.BegunLaws.{made_serves, called_serves, filed_calle
 
 -- who makes it lives, and is ready
 
-the_caller : (P : ℕ → Type 0) (caller : Option ℕ) (p : ℕ) → caller ≡ Some p → IfSome caller P → P p
-the_caller P caller p is so = subst (λ (o : Option ℕ). IfSome o P) is so
-
 pub lives_to_call : (p : ℕ) (system : System) → IsWhole system → file_caller system ≡ Some p → Lives system.kernel.dispatcher.procs p
-lives_to_call p system w is = the_caller (λ q. Lives system.kernel.dispatcher.procs q) (file_caller system) p is (caller_lives system w)
+lives_to_call p system w is = if_some (λ q. Lives system.kernel.dispatcher.procs q) (file_caller system) p (caller_lives system w) is
 
 pub ready_to_call : (p : ℕ) (system : System) → IsWhole system → file_caller system ≡ Some p → IsReady system.kernel.dispatcher p
-ready_to_call p system w is = the_caller (λ q. IsReady system.kernel.dispatcher q) (file_caller system) p is (caller_ready system w)
+ready_to_call p system w is = if_some (λ q. IsReady system.kernel.dispatcher q) (file_caller system) p (caller_ready system w) is
 
 pub made_so : (p : ℕ) (old made : System) → IsWhole old → file_caller old ≡ Some p → made ≡ call_made p old → Made p old made
 made_so p old made w caller is = subst (Made p old) (sym is) (makes p old w (lives_to_call p old w caller))

@@ -11,13 +11,12 @@ use Rattle.mpm_mount.specs.Directories.{Directory}
 use Rattle.mpm_requests.specs.Filing.{Filing, Situation}
 use Rattle.mpm_bdos.specs.Jobs.{call_turns}
 use Rattle.mpm_bdos.specs.Serving.{Kept, InService, Serves, directory_at}
-use Rattle.mpm_base.specs.Calls.{Taken}
+use Rattle.mpm_base.proofs.Options.{none_there}
 use Rattle.mpm_procs.specs.Table.{Table, call_of}
 use Rattle.mpm_kernel.specs.Kernel.{Kernel}
-use Rattle.mpm_functions.specs.declared.functions.FileFunction.{FileFunction}
-use Rattle.mpm_requests.specs.declared.caller.Caller.{Caller}
-use Rattle.mpm_bdos.specs.Answering.{IsEntered, HasEntered}
-use Rattle.mpm_bdos.specs.Turns.{FitsDrives, KeepsImages, StopsWithin, TurnKeeps, drive_served, has_work, labelled, told_images, without_work}
+use Rattle.mpm_bdos.specs.Turns.{FitsDrives, KeepsImages, StopsWithin, TurnKeeps, IsIdle, drive_served, has_work, labelled, told_images, without_work}
+use Rattle.mpm_bdos.proofs.Answerable.{still_entered}
+use Rattle.mpm_bdos.proofs.ServedLaws.{none_before}
 use Rattle.mpm_machine.specs.declared.system.System.{System}
 use Rattle.mpm_machine.specs.Files.{Files, Between, Within, turns_ended, StandsServed, StandsForFiles}
 use Rattle.mpm_machine.specs.Holding.{IsOwn, HoldsDrives}
@@ -54,13 +53,9 @@ pub served_by_some : (service : DiskService) (found : Option ℕ) (result : Bool
 unfolding served_process
 served_by_some service found result is e some = some_by service.served result (ap is_some (sym is) ∙ sym e) ∙ some
 
-none_by : (served : Option Served) → is_some served ≡ false → served ≡ None
-none_by None none = refl
-none_by (Some call) none = absurd (false≢true (sym none))
-
 pub unserved_by_some : (service : DiskService) (found : Option ℕ) (result : Bool) → found ≡ served_process service → result ≡ is_some found → result ≡ false → service.served ≡ None
 unfolding served_process
-unserved_by_some service found result is e none = none_by service.served (some_by service.served result (ap is_some (sym is) ∙ sym e) ∙ none)
+unserved_by_some service found result is e none = none_there service.served (some_by service.served result (ap is_some (sym is) ∙ sym e) ∙ none)
 
 pub not_both : (served : Option Served) → served ≡ None → is_some served ≡ true → ⊥
 not_both served none some = false≢true (sym (ap is_some none) ∙ some)
@@ -79,9 +74,6 @@ still_owed (Some call) owed some = refl
 pub unpaid : (system : System) → is_some system.kernel.disk.served ≡ true → system ≡ all_paid system
 unfolding all_paid
 unpaid system some = ap (λ (o : List Bool). record system { owed = o }) (still_owed system.kernel.disk.served system.owed some)
-
-pub no_steps : (n : ℕ) (found : Option ℕ) → found ≡ None → found ≡ Some n → ⊥
-no_steps n found none some = false≢true (sym (ap is_some none) ∙ ap is_some some)
 
 -- whether it has work, as it is asked
 
@@ -152,23 +144,6 @@ works_in system some = ap (λ b. b && is_work (turn_answer system.kernel.disk)) 
 
 -- what holds of drives does so as a turn's work is done
 
-to_rest : (caller : Caller) (function : FileFunction) (call : Taken) (s : InService) → IsEntered caller function call s → IsEntered caller function call (without_work s)
-to_rest caller function call s e = record { caller_is = e.caller_is; function_is = e.function_is; call_is = e.call_is; drive = e.drive; row = e.row }
-
-of_rest : (caller : Caller) (function : FileFunction) (call : Taken) (s : InService) → IsEntered caller function call (without_work s) → IsEntered caller function call s
-of_rest caller function call s e = record { caller_is = e.caller_is; function_is = e.function_is; call_is = e.call_is; drive = e.drive; row = e.row }
-
-same_rest : (one other : InService) → Some one ≡ Some other → other ≡ one
-same_rest one other same = cc
-
-pub entered_still : (caller : Caller) (function : FileFunction) (call : Taken) (old new : Option InService) → option_map without_work new ≡ option_map without_work old
-    → HasEntered caller function call old → HasEntered caller function call new
-entered_still caller function call None new is e = absurd e
-entered_still caller function call (Some old) None is e = absurd (false≢true (ap is_some is))
-entered_still caller function call (Some old) (Some new) is e =
-    of_rest caller function call new
-    (subst (IsEntered caller function call) (same_rest (without_work new) (without_work old) is) (to_rest caller function call old e))
-
 own_still : (served : Option Served) (procs : Table) (old new : Option InService) → option_map without_work new ≡ option_map without_work old
     → IfSome served (λ (call : Served). IsOwn procs call.p old) → IfSome served (λ (call : Served). IsOwn procs call.p new)
 own_still None procs old new is own = tt
@@ -177,12 +152,14 @@ own_still (Some call) procs old new is own = record {
   its = own.its;
   caller = own.caller;
   multi = own.multi;
-  entered = entered_still own.caller own.function (call_of procs call.p) old new is own.entered;
+  entered = still_entered own.caller own.function (call_of procs call.p) old new is own.entered;
 }
 
-pub nothing_there : (old new : Option Directory) → option_map labelled new ≡ option_map labelled old → new ≡ None → old ≡ None
-nothing_there None new is none = refl
-nothing_there (Some d) new is none = absurd (false≢true (ap is_some (sym (ap (option_map labelled) none) ∙ is)))
+-- a turn of a call that has no work changes nothing that is kept
+pub rests : {D : Type 0} (old new : Kept) (before behind : D) (steps later : ℕ) → TurnKeeps old new
+    → IsIdle old.service new.service old.mounted new.mounted old.cached new.cached before behind steps later → new ≡ old
+rests old new before behind steps later keeps idle =
+    keeps.rest ∙ (λ i. record old { mounted = idle.directories i; cached = idle.cache i; service = idle.call i })
 
 pub holds_worked : {D : Type 0} (attached : D → ℕ → Option ℕ) (disks : D → Option Disks) (kernel : Kernel) (old new : Kept) (before behind : D)
     → HoldsDrives attached disks kernel old before → TurnKeeps old new → has_work new.service ≡ has_work old.service
@@ -192,5 +169,5 @@ holds_worked attached disks kernel old new before behind holds keeps still fits 
   own = own_still kernel.disk.served kernel.dispatcher.procs old.service new.service keeps.service holds.own;
   begun = holds.begun;
   fits = fits;
-  workless = λ none. still ∙ holds.workless (λ number. nothing_there (directory_at old.mounted number) (directory_at new.mounted number) (keeps.labels number) (none number));
+  workless = λ none. still ∙ holds.workless (λ number. none_before (directory_at old.mounted number) (directory_at new.mounted number) (keeps.labels number) (none number));
 }

@@ -1,13 +1,17 @@
 -- One step, and n steps, of system, files and drives.
-use Rattle.std.specs.Prelude.{◌≡◌, ℕ, zero, suc, ◌+◌, ◌-◌, ◌<◌, ◌≤◌, Bool, true, List, ◌++◌, Option, Some, None, ⊤}
+use Rattle.std.specs.Prelude.{◌≡◌, ℕ, zero, suc, ◌+◌, ◌-◌, ◌<◌, ◌≤◌, Bool, true, false, List, ◌++◌, Option, Some, None, IsSome, ⊤}
 use Rattle.mpm_port.specs.Disks.{Disks}
 use Rattle.mpm_procs.specs.Table.{call_of}
+use Rattle.mpm_mount.specs.Drives.{Drive}
+use Rattle.mpm_service.specs.Disk.{turn_answer}
+use Rattle.mpm_service.specs.declared.service.Turn.TheVariants.{Starts}
 use Rattle.mpm_render.specs.Outputs.{Output, rendered}
 use Rattle.mpm_render.specs.Shown.{Kept, Shows}
 use Rattle.mpm_output.specs.Outside.{Outside}
 use Rattle.mpm_output.specs.Writing.{Wrote, Stopped}
 use Rattle.mpm_bdos.specs.Direct.{Directly}
-use Rattle.mpm_bdos.specs.Serving.{Kept as Filed}
+use Rattle.mpm_bdos.specs.Serving.{Kept as Filed, StandEach, Serves, filing_of}
+use Rattle.mpm_bdos.specs.Turns.{has_work}
 use Rattle.mpm_residents.specs.declared.native.Native.{Native}
 use Rattle.mpm_machine.specs.declared.system.System.{System}
 use Rattle.mpm_machine.specs.declared.machine.StepFault.{StepFault}
@@ -16,8 +20,9 @@ use Rattle.mpm_machine.specs.Files.{Files, Between, StandsWorked, StandsForFiles
 use Rattle.mpm_machine.specs.State.{State, Change, silent}
 use Rattle.mpm_machine.specs.Faults.{EndsBy, OnDiskFault}
 use Rattle.mpm_functions.specs.declared.functions.FileFunction.{FileFunction}
+use Rattle.mpm_functions.specs.Functions.{function_of}
 use Rattle.mpm_requests.specs.Filing.{Filing, Situation}
-use Rattle.mpm_machine.specs.FileCalls.{file_caller, call_made, situation_of, outcome_in, IsToldOf, IsToldAsKept, change_of}
+use Rattle.mpm_machine.specs.FileCalls.{file_caller, call_made, situation_of, outcome_in, IsToldOf, IsToldAsKept, EndsWithoutJob, change_of}
 use Rattle.mpm_machine.specs.DiskStep.{process_over, file_called, call_over, call_entered, disk_served, files_entered, told_of_call, turns_within}
 use Rattle.mpm_machine.specs.Stepping.{Telling, begun_as, is_instruction, rest_of, step_with, nothing_told, before_disk, files_begun, told_within, paid_after, entered_after, files_then, telling_then, files_rest, Stepped, stepped}
 use Rattle.mpm_machine.specs.Failing.{does_work}
@@ -66,10 +71,26 @@ abbrev pub IsToldIn : Option ℕ → Directly → System → Type 0
 IsToldIn None told system = ⊤
 IsToldIn (Some p) told system = IsToldOf p system told.answer told.extended
 
--- and one that no disk serves by what is kept
+-- and by what is kept, one that no disk serves or that has no job
 abbrev pub IsAsKept : Filed → Option ℕ → Directly → System → Type 0
 IsAsKept kept None told system = ⊤
 IsAsKept kept (Some p) told system = IsToldAsKept kept p system told.answer told.extended
+
+-- so is one that is over and has no job
+abbrev pub IsOverAsKept : Filed → Option ℕ → Directly → Type 0
+IsOverAsKept kept None told = ⊤
+IsOverAsKept kept (Some p) told = EndsWithoutJob kept told.answer told.extended
+
+-- a call enters service as the disk makes its step where none is in service: that of the first process that waits
+pub record EntersService (function : FileFunction) (p : ℕ) (system : System) : Type 0 where
+  pub idle : system.kernel.disk.served ≡ None
+  pub starts : turn_answer system.kernel.disk ≡ Starts p
+  pub calls : function_of (call_of system.kernel.dispatcher.procs p).function ≡ Some function
+
+-- by what is kept then, it is served in the situation of that moment, for whatever images and drives the directories stand for
+pub record ServesEntered (kept : Filed) (system : System) : Type 0 where
+  pub serves : (function : FileFunction) (p : ℕ) (images : ℕ → List ℕ) (drives : List (Option Drive)) → EntersService function p system
+      → StandEach images kept.mounted drives → Serves images kept (situation_of (filing_of kept drives) function p system) 0
 
 -- a file call is served by what it took: whatever bytes had stood in memory as it was made, it would come to the same, and might be
 -- answered so
@@ -126,11 +147,16 @@ pub record HasRun (n : ℕ) (before behind : Outside) (old new : System) : Type 
   pub steps : AreSteps n old (record { system = new; emitted = emitted })
   pub wrote : Wrote before behind emitted
 
--- one was, upon what was kept of file calls
-pub record HasStepped (kept : Filed) (before behind : Outside) (old new : System) : Type 0 where
+-- one was, upon what was kept of file calls and to what is kept then: the call that entered service is served by it, and one in service
+-- that has no work and isn't over leaves it as it was
+pub record HasStepped (kept kept' : Filed) (before behind : Outside) (old new : System) : Type 0 where
   pub emitted : List Output
   pub is : IsMade old (record { system = new; emitted = emitted })
   pub as_kept : IsAsKept kept (file_caller old) is.step.telling.at_gate (made_in (file_caller old) old)
+  pub over_as_kept : IsOverAsKept kept (process_over (begun_as is.step.telling.at_gate old).system) is.step.telling.at_disk
+  pub entered : ServesEntered kept' (paid_after is.step.telling.at_disk (begun_as is.step.telling.at_gate old).system)
+  pub stays : has_work kept.service ≡ false → IsSome old.kernel.disk.served → process_over (begun_as is.step.telling.at_gate old).system ≡ None
+      → kept' ≡ kept
   pub wrote : Wrote before behind emitted
 
 -- what a step begins with was done, which was an instruction or not, by what its file call may tell
@@ -149,12 +175,15 @@ pub record HasBegunTo (files : Files) (before behind : Outside) (old new : Syste
   pub wrote : Wrote before behind (before_disk old files).emitted
   pub stands : StandsWorked new.kernel.disk kept disks (files_begun old files)
 
--- the rest of a step was done, by what the call may tell that is over, and for the turns that the one may take that enters
-pub record HasEndedStep (instruction : Bool) (before behind : Outside) (old new : System) : Type 0 where
+-- the rest of a step was done, by what the call may tell that is over, upon what is kept, and for the turns that the one may take that
+-- enters, which is served by what is kept then
+pub record HasEndedStep (kept kept' : Filed) (instruction : Bool) (before behind : Outside) (old new : System) : Type 0 where
   pub telling : Telling
   pub turns : EntersFor telling.turns (paid_after telling.at_disk old)
   pub of_call : IsOfCall (process_over old) telling.at_disk old
   pub tells : IsToldIn (process_over old) telling.at_disk old
+  pub as_kept : IsOverAsKept kept (process_over old) telling.at_disk
+  pub entered : ServesEntered kept' (paid_after telling.at_disk old)
   pub system : new ≡ (rest_of instruction telling (silent old)).system
   pub wrote : Wrote before behind (rest_of instruction telling (silent old)).emitted
 
@@ -222,10 +251,11 @@ pub record HasServedTo (files : Files) (before behind : Outside) (old new : Syst
   pub wrote : Wrote before behind (disk_served (told_within files old) old).emitted
   pub stands : StandsForFiles new.kernel.disk kept disks (files_then old files)
 
-pub record HasPassed (before behind : Outside) (old new : System) : Type 0 where
+pub record HasPassed (kept : Filed) (before behind : Outside) (old new : System) : Type 0 where
   pub told : Directly
   pub of_call : IsOfCall (process_over old) told old
   pub tells : IsToldIn (process_over old) told old
+  pub as_kept : IsOverAsKept kept (process_over old) told
   pub system : new ≡ (disk_served told old).system
   pub wrote : Wrote before behind (disk_served told old).emitted
 
@@ -236,19 +266,22 @@ pub record HasStoppedServing (before behind : Outside) (old : System) : Type 0 w
   pub tells : IsToldIn (process_over old) told old
   pub stops : Stopped before behind (disk_served told old).emitted
 
-pub record HasServed (before behind : Outside) (old new : System) : Type 0 where
+pub record HasServed (kept kept' : Filed) (before behind : Outside) (old new : System) : Type 0 where
   pub telling : Telling
   pub turns : EntersFor telling.turns (paid_after telling.at_disk old)
   pub of_call : IsOfCall (process_over old) telling.at_disk old
   pub tells : IsToldIn (process_over old) telling.at_disk old
+  pub as_kept : IsOverAsKept kept (process_over old) telling.at_disk
+  pub entered : ServesEntered kept' (paid_after telling.at_disk old)
   pub system : new ≡ entered_after telling old
   pub wrote : Wrote before behind (disk_served telling.at_disk old).emitted
 
--- the call of a process was answered, whose turns were served
-pub record HasAnswered (p : ℕ) (before behind : Outside) (old new : System) : Type 0 where
+-- the call of a process was answered, whose turns were served, upon what was kept
+pub record HasAnswered (kept : Filed) (p : ℕ) (before behind : Outside) (old new : System) : Type 0 where
   pub told : Directly
   pub of_call : IsOfCall (Some p) told old
   pub tells : IsToldIn (Some p) told old
+  pub as_kept : IsOverAsKept kept (Some p) told
   pub system : new ≡ (call_over told p old).system
   pub wrote : Wrote before behind (call_over told p old).emitted
 
@@ -259,10 +292,11 @@ pub record HasStoppedAnswering (p : ℕ) (before behind : Outside) (old : System
   pub tells : IsToldIn (Some p) told old
   pub stops : Stopped before behind (call_over told p old).emitted
 
--- the first call that waited entered service, if one did, for the turns that it may take
-pub record HasEnteredCall (old new : System) : Type 0 where
+-- the first call that waited entered service, if one did, for the turns that it may take, and is served by what is kept then
+pub record HasEnteredCall (kept : Filed) (old new : System) : Type 0 where
   pub turns : ℕ
   pub its : EntersFor turns old
+  pub entered : ServesEntered kept old
   pub is : new ≡ call_entered turns old
 
 -- of what is kept of file calls, the rest of a step leaves the directories and what is cached

@@ -1,11 +1,12 @@
 -- File calls: which process makes one in a step, what it comes to, and how it is answered. (MP/M II Programmer's Guide, "BDOS
 -- Function Calls", "BDOS Error Handling"; functions 13, "Reset Disk System", and 14, "Select Disk".)
-use Rattle.std.specs.Prelude.{◌≡◌, ℕ, ◌%◌, Bool, false, not, Option, Some, None, ⊤, is_some, is_none, option_map, ◌==◌, ◌&&◌, ◌||◌, if◌then◌else◌}
+use Rattle.std.specs.Prelude.{◌≡◌, ℕ, ◌%◌, Bool, true, false, not, List, Option, Some, None, ⊤, is_some, is_none, option_map, ◌==◌, ◌&&◌, ◌||◌, if◌then◌else◌}
 use Rattle.z80_regs.specs.Words.{word_of}
 use Rattle.mpm_base.specs.Calls.{Taken, Answer, answering}
 use Rattle.mpm_base.specs.declared.functions.TheConstants.{RESET_DISK_SYSTEM, SELECT_DISK}
 use Rattle.mpm_banks.specs.Memory.{Memory, segment_of}
 use Rattle.mpm_procs.specs.Table.{process_in, call_of}
+use Rattle.mpm_mount.specs.Drives.{Drive}
 use Rattle.mpm_procs.specs.declared.process.Process.{Process}
 use Rattle.mpm_clock.specs.declared.moment.Moment.{Moment}
 use Rattle.mpm_clock.specs.Times.{moment_of}
@@ -24,7 +25,9 @@ use Rattle.mpm_functions.specs.Functions.{function_of, direct_of}
 use Rattle.mpm_requests.specs.Filing.{Filing, Situation}
 use Rattle.mpm_bdos.specs.Starting.{caller_of}
 use Rattle.mpm_bdos.specs.Outcomes.{CallerChange, Stays, Selects, Resets, Outcome, file_call}
-use Rattle.mpm_bdos.specs.Serving.{Kept, kind_at}
+use Rattle.mpm_bdos.specs.Jobs.{job_of}
+use Rattle.mpm_bdos.specs.Serving.{Kept, Serves, filing_of, kind_at}
+use Rattle.mpm_bdos.specs.AtOnce.{IsJobless}
 use Rattle.mpm_bdos.specs.Direct.{Directly, IsToldDirectly, ComesDirectly, direct, is_protected}
 use Rattle.mpm_bdos.specs.Answering.{MayAnswer}
 use Rattle.mpm_machine.specs.declared.system.System.{System}
@@ -143,9 +146,25 @@ IsToldOf p system answer extended =
     let number = (call_of system.kernel.dispatcher.procs p).function in
     MayTell (function_of number) (direct_of number) p system answer extended
 
--- one that no disk serves is answered as what is kept has it: by which drives are mounted, of which kinds, and which are protected
+-- one that is done at once and has no job, as one that is refused, comes to what its definition says, for whatever images and drives
+-- the directories stand for
+pub record ComesWithoutJob (function : FileFunction) (kept : Kept) (p : ℕ) (system : System) (answer : Answer) (extended : Option Extended) : Type 0 where
+  pub answer_is : (images : ℕ → List ℕ) (drives : List (Option Drive)) → IsJobless images kept.mounted (situation_of (filing_of kept drives) function p system)
+      → answer ≡ (file_call (situation_of (filing_of kept drives) function p system)).answer
+  pub extended_is : (images : ℕ → List ℕ) (drives : List (Option Drive)) → IsJobless images kept.mounted (situation_of (filing_of kept drives) function p system)
+      → extended ≡ (file_call (situation_of (filing_of kept drives) function p system)).extended
+
+-- so does one in service that is over and has no job, in the situation in which it entered, for whatever images and drives the
+-- directories stand for
+pub record EndsWithoutJob (kept : Kept) (answer : Answer) (extended : Option Extended) : Type 0 where
+  pub answer_is : (images : ℕ → List ℕ) (s : Situation) → Serves images kept s 0 → job_of s ≡ None → answer ≡ (file_call s).answer
+  pub extended_is : (images : ℕ → List ℕ) (s : Situation) → Serves images kept s 0 → job_of s ≡ None → extended ≡ (file_call s).extended
+
+-- a call is answered as what is kept has it: one that the disk serves, where calls are done at once and none is in service; and one that
+-- no disk serves, by which drives are mounted, of which kinds, and which are protected
 abbrev pub TellsAsKept : Option FileFunction → Option DirectFunction → Kept → ℕ → System → Answer → Option Extended → Type 0
-TellsAsKept (Some function) other kept p system answer extended = ⊤
+TellsAsKept (Some function) other kept p system answer extended =
+    (system.kernel.disk.turn_steps == 0) ≡ true → kept.service ≡ None → ComesWithoutJob function kept p system answer extended
 TellsAsKept None (Some function) kept p system answer extended =
     ComesDirectly (kind_at kept.mounted) (is_protected kept.protected) (process_in system.kernel.dispatcher.procs p).drive function (call_of system.kernel.dispatcher.procs p) answer extended
 TellsAsKept None None kept p system answer extended = ⊤

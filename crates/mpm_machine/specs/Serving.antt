@@ -5,6 +5,7 @@
 use Rattle.std.specs.Prelude.{ℕ, ◌≤◌, length, Bool, true, false, not, List, [], ◌∷◌, ◌++◌, Option, Some, None, ◌==◌, ◌&&◌, ◌||◌, nat_lt, drop, if◌then◌else◌}
 use Rattle.z80_regs.specs.declared.regs.Regs.{Regs}
 use Rattle.z80_regs.specs.Words.{word_of, onward}
+use Rattle.mpm_base.specs.Lists.{is_among}
 use Rattle.mpm_base.specs.Calls.{Taken, Answer, answering, byte_in, word_at}
 use Rattle.mpm_base.specs.declared.call.Outcome.{Outcome}
 use Rattle.mpm_base.specs.declared.call.Outcome.TheVariants.{Done, Held, Retry, Ended}
@@ -152,6 +153,13 @@ served_to_all call p system =
     else (if call.function == MEMORY_FREE then releasing call p system
     else (if call.function == SEND_CLI_COMMAND then served_by (sending (has_interpreter system) p system.kernel) system
     else (calling p system))))
+
+-- whether a call is served here, and not by the kernel alone
+abbrev pub is_for_system : ℕ → Bool
+is_for_system function =
+    is_among function
+    (CHAIN_TO_PROGRAM ∷ ABSOLUTE_MEMORY_REQUEST ∷ RELOCATABLE_MEMORY_REQUEST ∷ MEMORY_FREE ∷ CREATE_PROCESS ∷ SEND_CLI_COMMAND
+    ∷ PARSE_FILENAME ∷ SYSTEM_DATA_ADDRESS ∷ RETURN_PROCESS_DESCRIPTOR_ADDRESS ∷ ABORT_SPECIFIED_PROCESS ∷ [])
 
 -- the call is done
 unfoldable pub served : Taken → ℕ → System → Served

@@ -1,6 +1,6 @@
 -- The end of a run: the call in service is carried to its end without further steps, as if in the last one; who waits for the disk has
 -- no effect, and nobody enters service. (This project's own.)
-use Rattle.std.specs.Prelude.{◌≡◌, ℕ, ◌⊎◌, List, ◌++◌, Option, Some, None}
+use Rattle.std.specs.Prelude.{◌≡◌, ℕ, ◌<◌, ◌≤◌, ◌⊎◌, Bool, true, false, List, ◌++◌, Option, Some, None, IfSome}
 use Rattle.mpm_port.specs.Disks.{Disks}
 use Rattle.mpm_port.specs.Texts.{appended}
 use Rattle.mpm_mount.specs.Directories.{Directory}
@@ -13,7 +13,7 @@ use Rattle.mpm_kernel.specs.Disk.{with_disk}
 use Rattle.mpm_bdos.specs.Direct.{Directly}
 use Rattle.mpm_requests.specs.Filing.{Situation}
 use Rattle.mpm_bdos.specs.Outcomes.{file_call}
-use Rattle.mpm_bdos.specs.Serving.{Kept as Filed}
+use Rattle.mpm_bdos.specs.Serving.{Kept as Filed, directory_at}
 use Rattle.mpm_output.specs.Outside.{Outside}
 use Rattle.mpm_output.specs.Writing.{Wrote, Stopped}
 use Rattle.mpm_machine.specs.declared.system.System.{System}
@@ -150,3 +150,10 @@ pub record StopsClosing (before : Outside) (written : Option (List ℕ)) (old : 
 abbrev pub StopsSettling : StepFault → Outside → Outside → System → System → Type 0
 StopsSettling WriteFault before behind old new = StopsClosing before behind.written old
 StopsSettling DiskFault before behind old new = (behind ≡ before) ⊎ WritesEnd before behind old new
+
+-- where a drive failed, the mounted ones below a number are synced, none where it failed in the call in service; what was unsynced of
+-- the others stays so
+pub record SyncsBelow (mounted : List (Option Directory)) (before now : ℕ → Bool) : Type 0 where
+  pub drive : ℕ
+  pub front : (number : ℕ) → number < drive → IfSome (directory_at mounted number) (λ directory. now number ≡ false)
+  pub rest : (number : ℕ) → drive ≤ number → before number ≡ true → now number ≡ true

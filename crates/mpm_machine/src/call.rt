@@ -1,11 +1,11 @@
-ghost use Rattle.std.specs.Prelude.{◌∷◌, [], ◌≡◌, ◌≢◌, List, ◌<◌, ◌≤◌, ◌%◌, ℕ, Some, OnOk, length};
+ghost use Rattle.std.specs.Prelude.{true, ◌≡◌, ◌≢◌, List, ◌<◌, ◌≤◌, ◌%◌, ℕ, Some, OnOk, length};
 ghost use Rattle.mpm_base.specs.declared.call.Outcome.TheVariants.{Done};
 ghost use Rattle.mpm_base.specs.declared.functions.TheConstants.{PRINT_STRING};
 ghost use Rattle.mpm_procs.specs.Table.{Lives, process_in, call_of};
+ghost use Rattle.mpm_machine.specs.Serving.{is_for_system};
 ghost use Rattle.mpm_dispatcher.specs.Dispatch.{IsReady};
 ghost use Rattle.mpm_output.specs.Writing.{spoken, Writes};
 
-use crate::records::Record;
 use crate::system::System;
 use mpm_base::{FAILURE_CODE, Outcome, Pid, Reply, Seg, functions};
 use mpm_consoles::{AWAIT_KEY, echoes};
@@ -16,10 +16,32 @@ use mpm_render::{Render, Unit2};
 /// The attributes of a memory segment's descriptor: it is allocated.
 const ALLOCATED: u8 = 0x80;
 
+/// Whether the call of a function needs more than the kernel. No lower one does.
+#[inline(always)]
+fn is_for_system(function: u8) -> bool
+    ensures { result ≡ is_for_system function }
+{
+    functions::CHAIN_TO_PROGRAM <= function
+        && matches!(
+            function,
+            functions::CHAIN_TO_PROGRAM
+                | functions::ABSOLUTE_MEMORY_REQUEST
+                | functions::RELOCATABLE_MEMORY_REQUEST
+                | functions::MEMORY_FREE
+                | functions::CREATE_PROCESS
+                | functions::SEND_CLI_COMMAND
+                | functions::PARSE_FILENAME
+                | functions::SYSTEM_DATA_ADDRESS
+                | functions::RETURN_PROCESS_DESCRIPTOR_ADDRESS
+                | functions::ABORT_SPECIFIED_PROCESS
+        )
+}
+
 impl System {
     ghost use Rattle.mpm_banks.specs.Allocations.{released, is_reserved};
-    ghost use Rattle.mpm_machine.specs.State.{IsWhole, HasRoom};
-    ghost use Rattle.mpm_machine.specs.Serving.{asked, keeping, IsTaken, served, served_to_all, reserving, releasing, creating, telling_system, telling_descriptor, base_asked, string_of, said_by, echo_of, popped, replied, answering_call, fulfilling, completing, recorded, outcome_of, gate_step};
+    ghost use Rattle.mpm_base.specs.Calls.{Answer};
+    ghost use Rattle.mpm_machine.specs.State.{IsWhole, HasRoom, silent};
+    ghost use Rattle.mpm_machine.specs.Serving.{asked, keeping, IsTaken, served, served_to_all, reserving, releasing, creating, telling_system, telling_descriptor, base_asked, string_of, said_by, echo_of, popped, replied, answering_call, fulfilling, completing, recorded, after_echo, outcome_of, gate_step};
     ghost use Rattle.mpm_machine.specs.Ending.{ended};
 
     /// The gate step of a kernel call of a process of a segment.
@@ -41,11 +63,11 @@ impl System {
     {
         self.take_call(p, seg);
         let outcome = self.serve(p, reply);
-        self.put_echo(p, render, sink)?;
         self.conclude(outcome, p, seg, reply, render, sink)
     }
 
-    /// What the outcome of the call that a process keeps brings about.
+    /// What the kernel itself wrote in the call that a process keeps comes out, and what its outcome brings about: mostly it is done.
+    #[inline(always)]
     fn conclude<S: Sink>(
         &mut self,
         outcome: Outcome,
@@ -59,19 +81,67 @@ impl System {
         requires lives { Lives self.old.kernel.dispatcher.procs p }
         requires room { HasRoom self.old }
         ensures system { OnOk result (self.new ≡ (outcome_of outcome reply.old (call_of self.old.kernel.dispatcher.procs p) p seg self.old).system) }
-        ensures wrote { Writes S.written S.faults render.old sink.old render.new sink.new (outcome_of outcome reply.old (call_of self.old.kernel.dispatcher.procs p) p seg self.old).emitted result }
+        ensures wrote { Writes S.written S.faults render.old sink.old render.new sink.new (after_echo (call_of self.old.kernel.dispatcher.procs p) p self.old (outcome_of outcome reply.old (call_of self.old.kernel.dispatcher.procs p) p seg self.old)).emitted result }
+    {
+        if outcome == Outcome::Done {
+            return self.conclude_done(p, seg, reply, render, sink);
+        }
+        self.conclude_undone(outcome, p, seg, render, sink)
+    }
+
+    /// The same of a call that is done.
+    #[inline(always)]
+    fn conclude_done<S: Sink>(
+        &mut self,
+        p: Pid,
+        seg: Seg,
+        reply: &mut Reply,
+        render: &mut Render,
+        sink: &mut S,
+    ) -> Result<(), Failed>
+        requires whole { IsWhole self.old }
+        requires lives { Lives self.old.kernel.dispatcher.procs p }
+        requires room { HasRoom self.old }
+        ensures system { OnOk result (self.new ≡ (completing reply.old (call_of self.old.kernel.dispatcher.procs p) p seg self.old).system) }
+        ensures wrote { Writes S.written S.faults render.old sink.old render.new sink.new (after_echo (call_of self.old.kernel.dispatcher.procs p) p self.old (completing reply.old (call_of self.old.kernel.dispatcher.procs p) p seg self.old)).emitted result }
+    {
+        self.put_echo(p, render, sink)?;
+        self.complete(p, seg, reply, render, sink)
+    }
+
+    /// The same of a call that isn't done.
+    #[cold]
+    #[inline(never)]
+    fn conclude_undone<S: Sink>(
+        &mut self,
+        outcome: Outcome,
+        p: Pid,
+        seg: Seg,
+        render: &mut Render,
+        sink: &mut S,
+    ) -> Result<(), Failed>
+        requires whole { IsWhole self.old }
+        requires lives { Lives self.old.kernel.dispatcher.procs p }
+        requires undone { outcome ≢ Done }
+        ensures system { (reply : Answer) → OnOk result (self.new ≡ (outcome_of outcome reply (call_of self.old.kernel.dispatcher.procs p) p seg self.old).system) }
+        ensures wrote { (reply : Answer) → Writes S.written S.faults render.old sink.old render.new sink.new (after_echo (call_of self.old.kernel.dispatcher.procs p) p self.old (outcome_of outcome reply (call_of self.old.kernel.dispatcher.procs p) p seg self.old)).emitted result }
+    {
+        self.put_echo(p, render, sink)?;
+        self.bring_about(outcome, p, seg);
+        Ok(())
+    }
+
+    /// What the outcome of the call that a process keeps brings about, where it isn't done.
+    fn bring_about(&mut self, outcome: Outcome, p: Pid, seg: Seg)
+        requires whole { IsWhole self.old }
+        requires lives { Lives self.old.kernel.dispatcher.procs p }
+        requires undone { outcome ≢ Done }
+        ensures { (reply : Answer) → silent self.new ≡ outcome_of outcome reply (call_of self.old.kernel.dispatcher.procs p) p seg self.old }
     {
         match outcome {
-            Outcome::Done => self.complete(p, seg, reply, render, sink),
-            Outcome::Ended => {
-                self.end(p);
-                Ok(())
-            }
-            Outcome::Held => {
-                self.pop(p, seg);
-                Ok(())
-            }
-            Outcome::Retry => Ok(()),
+            Outcome::Ended => self.end(p),
+            Outcome::Held => self.pop(p, seg),
+            Outcome::Done | Outcome::Retry => {}
         }
     }
 
@@ -92,9 +162,9 @@ impl System {
         mpm_gate::call_of(&regs, &self.memory, seg, dma, multi, call);
     }
 
-    /// Does the call that a process keeps.
+    /// Does the call that a process keeps: mostly the kernel does it.
     #[inline(always)]
-    #[tactic(auto, using(crate::proofs::TakenLaws::few_descriptors, crate::proofs::TakenLaws::short_text), unfolding(crate::specs::Serving::served))]
+    #[tactic(auto, unfolding(crate::specs::Serving::served, crate::specs::Serving::served_to_all))]
     fn serve(&mut self, p: Pid, reply: &mut Reply) -> Outcome
         requires whole { IsWhole self.old }
         requires lives { Lives self.old.kernel.dispatcher.procs p }
@@ -104,15 +174,37 @@ impl System {
         ensures outcome { result ≡ (served (call_of self.old.kernel.dispatcher.procs p) p self.old).outcome }
         ensures reply { reply.new ≡ (served (call_of self.old.kernel.dispatcher.procs p) p self.old).reply }
     {
-        let function = self.kernel.kept_call(p).function;
-        match function {
+        if is_for_system(self.kernel.kept_call(p).function) {
+            return self.serve_here(p, reply);
+        }
+        self.kernel.call(p, reply)
+    }
+
+    /// Does the call that a process keeps, which isn't the kernel's alone.
+    #[cold]
+    #[inline(never)]
+    #[tactic(auto, using(crate::proofs::TakenLaws::few_descriptors, crate::proofs::TakenLaws::short_text), unfolding(crate::specs::Serving::served, crate::specs::Serving::served_to_all))]
+    fn serve_here(&mut self, p: Pid, reply: &mut Reply) -> Outcome
+        requires whole { IsWhole self.old }
+        requires lives { Lives self.old.kernel.dispatcher.procs p }
+        requires ready { IsReady self.old.kernel.dispatcher p }
+        requires here { is_for_system (call_of self.old.kernel.dispatcher.procs p).function ≡ true }
+        requires taken { IsTaken (call_of self.old.kernel.dispatcher.procs p) }
+        ensures system { self.new ≡ (served (call_of self.old.kernel.dispatcher.procs p) p self.old).system }
+        ensures outcome { result ≡ (served (call_of self.old.kernel.dispatcher.procs p) p self.old).outcome }
+        ensures reply { reply.new ≡ (served (call_of self.old.kernel.dispatcher.procs p) p self.old).reply }
+    {
+        match self.kernel.kept_call(p).function {
             functions::CREATE_PROCESS => self.create(p, reply),
             functions::ABORT_SPECIFIED_PROCESS => self.abort(p, reply),
             functions::PARSE_FILENAME => self.parse(p, reply),
             functions::SYSTEM_DATA_ADDRESS => self.tell_system(reply),
             functions::RETURN_PROCESS_DESCRIPTOR_ADDRESS => self.tell_descriptor(p, reply),
             functions::CHAIN_TO_PROGRAM => self.chain(p, reply),
-            _ => self.serve_to_all(p, reply),
+            functions::ABSOLUTE_MEMORY_REQUEST => self.reserve(p, true, reply),
+            functions::RELOCATABLE_MEMORY_REQUEST => self.reserve(p, false, reply),
+            functions::MEMORY_FREE => self.release(p, reply),
+            _ => self.send_command(p, reply),
         }
     }
 
@@ -228,6 +320,7 @@ impl System {
     }
 
     /// The call that a process keeps is done: its text comes out, its reply is placed, and its record joins the others.
+    #[inline(always)]
     #[tactic(auto, unfolding(crate::specs::Serving::completing))]
     fn complete<S: Sink>(
         &mut self,
@@ -297,6 +390,7 @@ impl System {
     }
 
     /// The same of a call whose number may be that of a function that writes.
+    #[cold]
     #[inline(never)]
     fn speak_some<S: Sink>(
         &mut self,
@@ -414,6 +508,7 @@ impl System {
     }
 
     /// The same of a call whose number may be that of a function that echoes.
+    #[cold]
     #[inline(never)]
     fn put_some_echo<S: Sink>(
         &self,
@@ -462,20 +557,14 @@ impl System {
         requires room { HasRoom self.old }
         ensures { self.new ≡ recorded (call_of self.old.kernel.dispatcher.procs p) p self.old }
     {
-        let regs = self.kernel.regs(p);
-        let record = Record {
-            step: self.steps,
-            process: p.0,
-            function: self.kernel.kept_call(p).function,
-            a: regs.a,
-            bc: u16::from_le_bytes([regs.c, regs.b]),
-            de: u16::from_le_bytes([regs.e, regs.d]),
-            hl: u16::from_le_bytes([regs.l, regs.h]),
-        };
-        self.records.put(record);
+        let function = self.kernel.kept_call(p).function;
+        self.records
+            .put(self.steps, p, function, self.kernel.regs(p));
     }
 
     /// A process ends, and gives back what it had.
+    #[cold]
+    #[inline(never)]
     #[tactic(auto, using(crate::proofs::WholeLaws::segment_is_there, crate::proofs::WholeLaws::slot_is_there), unfolding(crate::specs::Ending::ended))]
     pub fn end(&mut self, p: Pid)
         requires whole { IsWhole self.old }

@@ -51,6 +51,7 @@ impl System {
     }
 
     /// The processes whose end is due end, by slot. The held calls that an end completes are answered before the next.
+    #[cold]
     #[inline(never)]
     fn end_each_due<S: Sink>(
         &mut self,
@@ -123,6 +124,8 @@ impl System {
     }
 
     /// It is noted where no end by an abort is put off any more.
+    #[cold]
+    #[inline(never)]
     fn note(&mut self)
         ensures { self.new ≡ noted self.old }
     {

@@ -1,4 +1,4 @@
-ghost use Rattle.std.specs.Prelude.{◌≡◌, ◌<◌, ◌≤◌, ◌+◌, ◌*◌, ℕ, true, false, List, Option, Some, None, IsSome, IsOk, IfOk, OnOk, OnErr, if◌then◌else◌};
+ghost use Rattle.std.specs.Prelude.{◌≡◌, ◌<◌, ◌≤◌, ◌+◌, ◌*◌, ℕ, true, false, List, Option, Some, None, IsSome, IsOk, IfOk, OnOk, OnErr};
 ghost use Rattle.mpm_port.specs.Causes.{HasCause};
 ghost use Rattle.mpm_procs.specs.Table.{Lives, process_in, call_of};
 ghost use Rattle.mpm_port.specs.Disks.{Disks};
@@ -7,10 +7,10 @@ ghost use Rattle.mpm_functions.specs.declared.functions.FileFunction.{FileFuncti
 ghost use Rattle.mpm_functions.specs.Functions.{function_of};
 ghost use Rattle.mpm_requests.specs.Filing.{Filing, Situation};
 ghost use Rattle.mpm_bdos.specs.Jobs.{call_turns};
-ghost use Rattle.mpm_bdos.specs.Serving.{IsCaller, Serves, filing_of};
+ghost use Rattle.mpm_bdos.specs.Serving.{IsCaller, StandEach, Serves, filing_of};
 ghost use Rattle.mpm_bdos.specs.Starting.{caller_of};
 ghost use Rattle.mpm_bdos.specs.Answering.{HasEntered};
-ghost use Rattle.mpm_bdos.specs.Turns.{FitsDrives, TurnKeeps, has_work, told_images};
+ghost use Rattle.mpm_bdos.specs.Turns.{FitsDrives, TurnKeeps, has_work};
 ghost use Rattle.mpm_machine.specs.State.{IsWhole};
 ghost use Rattle.mpm_machine.specs.Files.{Files, StandsBetween, StandsForFiles, StandsWorked, all_left};
 ghost use Rattle.mpm_machine.specs.Holding.{HoldsDrives};
@@ -86,6 +86,7 @@ pub(crate) fn call_files<D: Drives, L: Ledger>(
     ensures fits { FitsDrives D.attached D.disks bdos.new.mounted bdos.new.cached drives.new }
     ensures names { D.failed_names drives.new ≡ D.failed_names drives.old }
     ensures attached { (number : ℕ) → D.attached drives.new number ≡ D.attached drives.old number }
+    ensures unsynced { (number : ℕ) → D.unsynced drives.old number ≡ true → D.unsynced drives.new number ≡ true }
     ensures bare { HasNoDrive bdos.old.mounted → HasNoDrive bdos.new.mounted }
     ensures none { HasNoDrive bdos.old.mounted → drives.new ≡ drives.old }
     ensures unfailing { HasNoDrive bdos.old.mounted → OnErr result ⊥ }
@@ -127,6 +128,7 @@ fn call_disk<D: Drives, L: Ledger>(
     ensures fits { FitsDrives D.attached D.disks bdos.new.mounted bdos.new.cached drives.new }
     ensures names { D.failed_names drives.new ≡ D.failed_names drives.old }
     ensures attached { (number : ℕ) → D.attached drives.new number ≡ D.attached drives.old number }
+    ensures unsynced { (number : ℕ) → D.unsynced drives.old number ≡ true → D.unsynced drives.new number ≡ true }
     ensures bare { HasNoDrive bdos.old.mounted → HasNoDrive bdos.new.mounted }
     ensures none { HasNoDrive bdos.old.mounted → drives.new ≡ drives.old }
     ensures unfailing { HasNoDrive bdos.old.mounted → OnErr result ⊥ }
@@ -162,6 +164,7 @@ fn call_directly(system: &System, bdos: &Bdos, p: Pid, reply: &mut Reply) -> Opt
 }
 
 /// The call of a process enters service, in the situation of this moment: how many turns it takes.
+#[cold]
 #[inline(never)]
 pub(crate) fn start_call(system: &System, bdos: &mut Bdos, p: Pid) -> u32
     requires whole { IsWhole system.now }
@@ -171,8 +174,8 @@ pub(crate) fn start_call(system: &System, bdos: &mut Bdos, p: Pid) -> u32
         → StandsBetween bdos.old disks filing → result ≡ call_turns (situation_of filing function p system.now) }
     ensures takes { (function : FileFunction) → function_of (call_of system.now.kernel.dispatcher.procs p).function ≡ Some function
         → (filing : Filing) × (result ≡ call_turns (situation_of filing function p system.now)) }
-    ensures serves { (disks : Option Disks) (filing : Filing) (function : FileFunction) → function_of (call_of system.now.kernel.dispatcher.procs p).function ≡ Some function
-        → StandsBetween bdos.old disks filing → Serves (told_images disks) bdos.new (situation_of filing function p system.now) 0 }
+    ensures serves { (images : ℕ → List ℕ) (drives : List (Option Drive)) (function : FileFunction) → function_of (call_of system.now.kernel.dispatcher.procs p).function ≡ Some function
+        → StandEach images bdos.old.mounted drives → Serves images bdos.new (situation_of (filing_of bdos.old drives) function p system.now) 0 }
     ensures entered { (function : FileFunction) → function_of (call_of system.now.kernel.dispatcher.procs p).function ≡ Some function
         → HasEntered (caller_of p (as_looked_at (process_in system.now.kernel.dispatcher.procs p))) function (call_of system.now.kernel.dispatcher.procs p) bdos.new.service }
     ensures some { 0 < result }
@@ -198,10 +201,12 @@ pub(crate) fn work<D: Drives, L: Ledger>(
     ensures keeps { KeepsMounted (D.disks drives.old) (D.disks drives.new) bdos.old.mounted bdos.new.mounted }
     ensures names { D.failed_names drives.new ≡ D.failed_names drives.old }
     ensures attached { (number : ℕ) → D.attached drives.new number ≡ D.attached drives.old number }
+    ensures unsynced { (number : ℕ) → D.unsynced drives.old number ≡ true → D.unsynced drives.new number ≡ true }
     ensures bare { HasNoDrive bdos.old.mounted → HasNoDrive bdos.new.mounted }
     ensures none { HasNoDrive bdos.old.mounted → drives.new ≡ drives.old }
     ensures holds { HoldsDrives D.attached D.disks system.now.kernel bdos.new drives.new }
     ensures kept { TurnKeeps bdos.old bdos.new }
+    ensures at_rest { has_work bdos.old.service ≡ false → bdos.new ≡ bdos.old }
     ensures unfailing { HasNoDrive bdos.old.mounted → IsOk result }
     ensures idle { works_in_turn system.now ≡ false → IsOk result × (drives.new ≡ drives.old) × (steps.new ≡ steps.old) × (bdos.new ≡ bdos.old) }
     ensures few { steps.new ≤ steps.old + 20 }

@@ -27,6 +27,7 @@ impl System {
     }
 
     /// The held calls that a step completed are answered: the first, and then the others.
+    #[cold]
     #[inline(never)]
     fn answer_each(&mut self, reply: &mut Reply)
         requires whole { IsWhole self.old }

@@ -17,6 +17,7 @@ impl System {
     ghost use Rattle.mpm_machine.specs.Step.{lets_in, coming, unhalted, interrupted_by, event_come, key_aborted, event_text};
 
     /// The event that is due in this step comes, if one is and it may; answers whether one did.
+    #[inline(always)]
     #[tactic(auto, unfolding(crate::specs::Step::interrupted))]
     pub fn interrupt<S: Sink>(&mut self, render: &mut Render, sink: &mut S) -> Result<bool, Failed>
         requires whole { IsWhole self.old }
@@ -38,6 +39,8 @@ impl System {
     }
 
     /// An event comes: who waits for it becomes ready, the kernel writes for a key what it does, and a key may abort a process.
+    #[cold]
+    #[inline(never)]
     #[tactic(auto, using(mpm_kernel::proofs::SoundLaws::may_come), unfolding(crate::specs::Step::event_come))]
     fn come<S: Sink>(
         &mut self,

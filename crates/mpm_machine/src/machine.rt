@@ -1,6 +1,5 @@
-ghost use Rattle.std.specs.Prelude.{◌≡◌, ℕ, ◌+◌, ◌-◌, ◌*◌, ◌<◌, ◌≤◌, ◌&&◌, false, List, [], Option, Some, None, IfOk, OnOk, IfErr, OnErr, MatchOption, length, option_map};
+ghost use Rattle.std.specs.Prelude.{◌≡◌, ℕ, ◌+◌, ◌-◌, ◌*◌, ◌<◌, ◌≤◌, true, false, List, [], Option, Some, None, IfOk, OnOk, IfErr, OnErr, MatchOption, length, option_map};
 ghost use Rattle.mpm_script.specs.declared.line.TheConstants.{GREATEST_STEP};
-ghost use Rattle.mpm_port.specs.Texts.{appended};
 
 use crate::filing::work;
 use crate::opening::{bdos_of, program_file};
@@ -283,8 +282,10 @@ impl Machine {
     }
 
     /// One step. After an error the machine isn't stepped again. A function on files is done in the step in which it is called where
-    /// turns have no steps; else it waits for the disk, which serves one at a time in turns, and is done behind its last one.
+    /// turns have no steps; else it waits for the disk, which serves one at a time in turns, and is done behind its last one. No
+    /// drive is synced.
     /// What the images hold is told by `ok`; the other clauses are so whether they are told or not.
+    #[inline(always)]
     pub fn step<D: Drives, S: Sink, L: Ledger>(
         &mut self,
         drives: &mut D,
@@ -304,7 +305,7 @@ impl Machine {
             → IfErr result (λ fault. ShowsBefore fault render.new (S.written sink.new) s first) }
         ensures images { (s : State) (first : Option (List ℕ)) → StandsWithDrives self.old render.old (S.written sink.old) (D.disks drives.old) s first
             → IfErr result (λ fault. StopsWithImages fault (D.disks drives.new) self.new.bdos.mounted s) }
-        ensures step { OnOk result (HasStepped self.old.bdos (seen S.written S.faults render.old sink.old) (seen S.written S.faults render.new sink.new) self.old.system self.new.system) }
+        ensures step { OnOk result (HasStepped self.old.bdos self.new.bdos (seen S.written S.faults render.old sink.old) (seen S.written S.faults render.new sink.new) self.old.system self.new.system) }
         ensures stops { IfErr result (λ fault. HasStopped fault (seen S.written S.faults render.old sink.old) (seen S.written S.faults render.new sink.new) self.old.system) }
         ensures due { OnOk result (NobodyDue self.new.system.kernel) }
         ensures interprets { Interprets self.old.system → OnOk result (Interprets self.new.system) }
@@ -318,6 +319,7 @@ impl Machine {
         ensures holds { OnOk result (HoldsDrives D.attached D.disks self.new.system.kernel self.new.bdos drives.new) }
         ensures names { D.failed_names drives.new ≡ D.failed_names drives.old }
         ensures attached { (number : ℕ) → D.attached drives.new number ≡ D.attached drives.old number }
+        ensures unsynced { (number : ℕ) → D.unsynced drives.old number ≡ true → D.unsynced drives.new number ≡ true }
         ensures bare { HasNoDrive self.old.bdos.mounted → HasNoDrive self.new.bdos.mounted }
         ensures none { HasNoDrive self.old.bdos.mounted → drives.new ≡ drives.old }
         ensures unfailing { HasNoDrive self.old.bdos.mounted → IfErr result (λ fault. fault ≡ StepFault.WriteFault) }
@@ -343,6 +345,7 @@ impl Machine {
     }
 
     /// One step: first what it does on drives, then all else, in which alone something is written.
+    #[inline(always)]
     fn take_step<D: Drives, S: Sink, L: Ledger>(
         &mut self,
         drives: &mut D,
@@ -360,7 +363,7 @@ impl Machine {
             → IfErr result (λ fault. StopsBy fault (seen S.written S.faults render.old sink.old) (seen S.written S.faults render.new sink.new) (stepped self.old.system files).change.emitted) }
         ensures images { (files : Files) → StandsForFiles self.old.system.kernel.disk self.old.bdos (D.disks drives.old) files
             → IfErr result (λ fault. HaveImagesOf (StopsOn fault self.old.system files) (D.disks drives.new) self.new.bdos.mounted) }
-        ensures step { OnOk result (HasStepped self.old.bdos (seen S.written S.faults render.old sink.old) (seen S.written S.faults render.new sink.new) self.old.system self.new.system) }
+        ensures step { OnOk result (HasStepped self.old.bdos self.new.bdos (seen S.written S.faults render.old sink.old) (seen S.written S.faults render.new sink.new) self.old.system self.new.system) }
         ensures stops { IfErr result (λ fault. HasStopped fault (seen S.written S.faults render.old sink.old) (seen S.written S.faults render.new sink.new) self.old.system) }
         ensures trace { render.new.trace ≡ render.old.trace }
         ensures cause { HaveCause itself (counts S.faults D.faults sink.old drives.old) (counts S.faults D.faults sink.new drives.new) result }
@@ -368,6 +371,7 @@ impl Machine {
         ensures holds { OnOk result (HoldsDrives D.attached D.disks self.new.system.kernel self.new.bdos drives.new) }
         ensures names { D.failed_names drives.new ≡ D.failed_names drives.old }
         ensures attached { (number : ℕ) → D.attached drives.new number ≡ D.attached drives.old number }
+        ensures unsynced { (number : ℕ) → D.unsynced drives.old number ≡ true → D.unsynced drives.new number ≡ true }
         ensures bare { HasNoDrive self.old.bdos.mounted → HasNoDrive self.new.bdos.mounted }
         ensures none { HasNoDrive self.old.bdos.mounted → drives.new ≡ drives.old }
         ensures unfailing { HasNoDrive self.old.bdos.mounted → IfErr result (λ fault. fault ≡ StepFault.WriteFault) }
@@ -429,6 +433,7 @@ impl Machine {
         ensures holds { OnOk result (HoldsDrives D.attached D.disks self.new.system.kernel self.new.bdos drives.new) }
         ensures names { D.failed_names drives.new ≡ D.failed_names drives.old }
         ensures attached { (number : ℕ) → D.attached drives.new number ≡ D.attached drives.old number }
+        ensures unsynced { (number : ℕ) → D.unsynced drives.old number ≡ true → D.unsynced drives.new number ≡ true }
         ensures bare { HasNoDrive self.old.bdos.mounted → HasNoDrive self.new.bdos.mounted }
         ensures still { n ≡ 0 → drives.new ≡ drives.old }
         ensures none { HasNoDrive self.old.bdos.mounted → drives.new ≡ drives.old }
@@ -437,10 +442,10 @@ impl Machine {
         // Where turns have steps, a step calls a drive at most 20 times.
         ensures few { 0 < self.old.system.kernel.disk.turn_steps → steps.new ≤ steps.old + 20 * n }
     {
-        let mut done = 0;
-        while done < n {
-            match self.advance(n - done, drives, render, sink, steps) {
-                Ok(more) => done += more,
+        let mut left = n;
+        while 0 < left {
+            match self.advance(left, drives, render, sink, steps) {
+                Ok(more) => left -= more,
                 Err(error) => return Err(error),
             }
         }
@@ -449,6 +454,7 @@ impl Machine {
     }
 
     /// At least one step and at most so many: instructions of the running process, and what comes after them.
+    #[inline(always)]
     fn advance<D: Drives, S: Sink, L: Ledger>(
         &mut self,
         most: u64,
@@ -484,6 +490,7 @@ impl Machine {
         ensures holds { OnOk result (HoldsDrives D.attached D.disks self.new.system.kernel self.new.bdos drives.new) }
         ensures names { D.failed_names drives.new ≡ D.failed_names drives.old }
         ensures attached { (number : ℕ) → D.attached drives.new number ≡ D.attached drives.old number }
+        ensures unsynced { (number : ℕ) → D.unsynced drives.old number ≡ true → D.unsynced drives.new number ≡ true }
         ensures bare { HasNoDrive self.old.bdos.mounted → HasNoDrive self.new.bdos.mounted }
         ensures none { HasNoDrive self.old.bdos.mounted → drives.new ≡ drives.old }
         ensures unfailing { HasNoDrive self.old.bdos.mounted → IfErr result (λ error. error.fault ≡ StepFault.WriteFault) }

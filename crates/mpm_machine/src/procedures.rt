@@ -26,6 +26,7 @@ impl System {
     }
 
     /// The same of a process that keeps a call 151.
+    #[cold]
     #[inline(never)]
     #[tactic(auto, unfolding(crate::specs::Serving::with_entry, crate::specs::Serving::reply_at_entry))]
     fn enter_if_answered(&mut self, p: Pid, reply: &mut Reply)
@@ -40,6 +41,7 @@ impl System {
     }
 
     /// A process enters the resident procedure whose message it got.
+    #[cold]
     #[inline(never)]
     #[tactic(auto, using(crate::proofs::WholeLaws::segment_is_there))]
     fn enter_procedure(&mut self, p: Pid, reply: &mut Reply)
@@ -60,6 +62,8 @@ impl System {
     }
 
     /// A process leaves the resident procedure that it is in.
+    #[cold]
+    #[inline(never)]
     #[tactic(auto, unfolding(crate::specs::Serving::returning))]
     pub fn leave_procedure(&mut self, p: Pid)
         requires whole { IsWhole self.old }

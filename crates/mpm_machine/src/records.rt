@@ -1,30 +1,32 @@
 ghost use Rattle.std.specs.Prelude.{◌≡◌, ◌<◌, [], ◌∷◌, ◌++◌, length};
 ghost use Rattle.mpm_output.specs.Writing.{Writes};
+ghost use Rattle.z80_regs.specs.Words.{word_of};
+ghost use Rattle.mpm_render.specs.Completions.{completion};
 ghost use Rattle.mpm_render.specs.Outputs.{Completed};
 ghost use Rattle.mpm_machine.specs.Step.{recorded_behind};
 
+use mpm_base::Pid;
 use mpm_port::{Failed, Sink};
 use mpm_render::Render;
 use std::marker::Model;
+use z80_regs::Regs;
 
 /// A completed call: the step, its process and its function, and the registers as its reply left them.
 #[derive(Default, Drop)]
-pub(crate) struct Record {
-    pub step: u64,
-    pub process: u8,
-    pub function: u8,
-    pub a: u8,
-    pub bc: u16,
-    pub de: u16,
-    pub hl: u16,
+struct Record {
+    step: u64,
+    process: u8,
+    function: u8,
+    regs: Regs,
 }
 
 impl Model for Record {
+    ghost use Rattle.z80_regs.specs.Words.{word_of};
     ghost use Rattle.mpm_render.specs.Completions.{Completion, completion};
 
     ghost Value = { Completion };
 
-    ghost view = { λ r. completion r.step r.process r.function r.a r.bc r.de r.hl };
+    ghost view = { λ r. completion r.step r.process r.function r.regs.a (word_of r.regs.c r.regs.b) (word_of r.regs.e r.regs.d) (word_of r.regs.l r.regs.h) };
 }
 
 impl Record {
@@ -32,14 +34,15 @@ impl Record {
     fn write<S: Sink>(&self, render: &mut Render, sink: &mut S) -> Result<(), Failed>
         ensures { Writes S.written S.faults render.old sink.old render.new sink.new (Completed self.now ∷ []) result }
     {
+        let regs = &self.regs;
         render.trace(
             self.step,
             self.process,
             self.function,
-            self.a,
-            self.bc,
-            self.de,
-            self.hl,
+            regs.a,
+            u16::from_le_bytes([regs.c, regs.b]),
+            u16::from_le_bytes([regs.e, regs.d]),
+            u16::from_le_bytes([regs.l, regs.h]),
             sink,
         )
     }
@@ -75,12 +78,18 @@ impl Records {
         }
     }
 
-    /// One more, behind the others.
-    pub fn put(&mut self, call: Record)
+    /// One more, behind the others: of a process's call of a function, in a step, which left these registers. It is filled in
+    /// where it stands.
+    #[inline(always)]
+    pub fn put(&mut self, step: u64, p: Pid, function: u8, regs: &Regs)
         requires { length self.old < 131 }
-        ensures { self.new ≡ self.old ++ call ∷ [] }
+        ensures { self.new ≡ self.old ++ completion step p function regs.now.a (word_of regs.now.c regs.now.b) (word_of regs.now.e regs.now.d) (word_of regs.now.l regs.now.h) ∷ [] }
     {
-        self.items[usize::from(self.count)] = call;
+        let record = &mut self.items[usize::from(self.count)];
+        record.step = step;
+        record.process = p.0;
+        record.function = function;
+        record.regs = *regs;
         self.count += 1;
     }
 

@@ -19,6 +19,8 @@ impl System {
     ghost use Rattle.mpm_machine.specs.Residing.{asked_by, resided, native_step, native_outcome, calling_step, tells as is_told, text_told, telling_step, handing_step};
 
     /// The step of a process that has no segment: that of the resident of its slot, if one acts there.
+    #[cold]
+    #[inline(never)]
     pub fn reside<S: Sink>(
         &mut self,
         p: Pid,

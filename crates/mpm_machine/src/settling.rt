@@ -1,5 +1,5 @@
 //! The end of a run: the call in service is carried to its end, the drives are synced, and unfinished lines are closed.
-ghost use Rattle.std.specs.Prelude.{◌≡◌, ℕ, ◌+◌, ◌*◌, ◌<◌, ◌≤◌, List, [], Option, Some, None, OnOk, OnErr, IfErr};
+ghost use Rattle.std.specs.Prelude.{◌≡◌, ℕ, ◌+◌, ◌*◌, ◌<◌, ◌≤◌, true, List, [], Option, Some, None, OnOk, OnErr, IfErr};
 ghost use Rattle.mpm_port.specs.Texts.{appended};
 
 use crate::machine::{Machine, StepFault};
@@ -22,7 +22,7 @@ impl Machine {
     ghost use Rattle.mpm_requests.specs.Filing.{Situation};
     ghost use Rattle.mpm_bdos.specs.Jobs.{call_turns};
     ghost use Rattle.mpm_bdos.specs.Serving.{Serves};
-    ghost use Rattle.mpm_bdos.specs.Syncing.{AreSynced, mounted_count};
+    ghost use Rattle.mpm_bdos.specs.Syncing.{AreSynced, StopsAtDrive, mounted_count};
     ghost use Rattle.mpm_bdos.specs.Turns.{FitsDrives, told_images};
     ghost use Rattle.mpm_machine.specs.declared.system.System.{System};
     ghost use Rattle.mpm_machine.specs.State.{State, StandsWithDrives, IsWhole, NoCompletions};
@@ -32,7 +32,7 @@ impl Machine {
     ghost use Rattle.mpm_machine.specs.Mounting.{HasNoDrive, KeepsMounted};
     ghost use Rattle.mpm_machine.specs.Failing.{HaveImages};
     ghost use Rattle.mpm_machine.specs.After.{EndKeeps};
-    ghost use Rattle.mpm_machine.specs.Settling.{carried, carried_out, turns_passed, HasCarried, StopsCarrying, StopsAtEnd, WritesEndOf, StopsEndOf, WritesEnd, StopsEnd, ClosesEnd, StopsSettling};
+    ghost use Rattle.mpm_machine.specs.Settling.{carried, carried_out, turns_passed, HasCarried, StopsCarrying, StopsAtEnd, WritesEndOf, StopsEndOf, WritesEnd, StopsEnd, ClosesEnd, StopsSettling, SyncsBelow};
 
     /// The end of a run: the call in service is carried to its end, each drive is synced, in order of the letters, and unfinished lines
     /// are closed. Where a drive fails nothing more is written, and the lines are left to `Render::finish`. Only `Render::finish` may
@@ -64,9 +64,10 @@ impl Machine {
         ensures cause { HaveCause itself (counts S.faults D.faults sink.old drives.old) (counts S.faults D.faults sink.new drives.new) result }
         ensures keeps { KeepsMounted (D.disks drives.old) (D.disks drives.new) self.old.bdos.mounted self.new.bdos.mounted }
 
-        // Behind a success each mounted drive is synced. Each turn that is left calls a drive at most 20 times, and each drive is synced
-        // by one call. Where no call is in service no image changes.
+        // Behind a success each mounted drive is synced; where a drive fails, those before some letter and no others. Each turn that is
+        // left calls a drive at most 20 times, and each drive is synced by one call. Where no call is in service no image changes.
         ensures synced { OnOk result (AreSynced (D.unsynced drives.new) self.new.bdos.mounted) }
+        ensures syncs { IfErr result (λ fault. OnDiskFault fault (SyncsBelow self.new.bdos.mounted (D.unsynced drives.old) (D.unsynced drives.new))) }
         ensures calls { steps.new ≤ steps.old + 20 * turns_left self.old.system.kernel.disk + mounted_count self.old.bdos.mounted }
         ensures all { self.old.system.kernel.disk.served ≡ None → OnOk result (steps.new ≡ steps.old + mounted_count self.old.bdos.mounted) }
         ensures idle { self.old.system.kernel.disk.served ≡ None → SameDrives D.attached D.disks D.failed_names drives.old drives.new }
@@ -103,6 +104,7 @@ impl Machine {
         ensures all_first { IfErr result (λ fault. OnWriteFault fault (steps.new ≡ steps.old + mounted_count self.now.bdos.mounted)) }
         ensures synced { OnOk result (AreSynced (D.unsynced drives.new) self.now.bdos.mounted) }
         ensures synced_first { IfErr result (λ fault. OnWriteFault fault (AreSynced (D.unsynced drives.new) self.now.bdos.mounted)) }
+        ensures syncs { IfErr result (λ fault. OnDiskFault fault (StopsAtDrive self.now.bdos.mounted (D.unsynced drives.old) (D.unsynced drives.new) steps.old steps.new)) }
         ensures drives { SameDrives D.attached D.disks D.failed_names drives.old drives.new }
         ensures none { mounted_count self.now.bdos.mounted ≡ 0 → drives.new ≡ drives.old }
     {
@@ -138,6 +140,7 @@ impl Machine {
         ensures keeps { KeepsMounted (D.disks drives.old) (D.disks drives.new) self.old.bdos.mounted self.new.bdos.mounted }
         ensures names { D.failed_names drives.new ≡ D.failed_names drives.old }
         ensures attached { (number : ℕ) → D.attached drives.new number ≡ D.attached drives.old number }
+        ensures unsynced { (number : ℕ) → D.unsynced drives.old number ≡ true → D.unsynced drives.new number ≡ true }
         ensures bare { HasNoDrive self.old.bdos.mounted → HasNoDrive self.new.bdos.mounted }
         ensures none { HasNoDrive self.old.bdos.mounted → drives.new ≡ drives.old }
         ensures unfailing { HasNoDrive self.old.bdos.mounted → IfErr result (λ fault. fault ≡ StepFault.WriteFault) }
@@ -177,6 +180,7 @@ impl Machine {
         ensures keeps { KeepsMounted (D.disks drives.old) (D.disks drives.new) self.old.bdos.mounted self.new.bdos.mounted }
         ensures names { D.failed_names drives.new ≡ D.failed_names drives.old }
         ensures attached { (number : ℕ) → D.attached drives.new number ≡ D.attached drives.old number }
+        ensures unsynced { (number : ℕ) → D.unsynced drives.old number ≡ true → D.unsynced drives.new number ≡ true }
         ensures bare { HasNoDrive self.old.bdos.mounted → HasNoDrive self.new.bdos.mounted }
         ensures none { HasNoDrive self.old.bdos.mounted → drives.new ≡ drives.old }
         ensures unfailing { HasNoDrive self.old.bdos.mounted → IfErr result (λ fault. fault ≡ StepFault.WriteFault) }

@@ -1,4 +1,4 @@
-ghost use Rattle.std.specs.Prelude.{◌≡◌, ℕ, ◌+◌, ◌-◌, ◌*◌, ◌<◌, ◌≤◌, ◌&&◌, true, false, List, [], Option, Some, None, IfOk, OnOk, IfErr, OnErr, IsOk, IfSome, IsSome, length, is_some};
+ghost use Rattle.std.specs.Prelude.{◌≡◌, ℕ, ◌+◌, ◌-◌, ◌*◌, ◌<◌, ◌≤◌, ◌&&◌, true, false, List, [], Option, Some, None, IfOk, OnOk, IfErr, OnErr, IsSome, length, is_some};
 ghost use Rattle.mpm_script.specs.declared.line.TheConstants.{GREATEST_STEP};
 
 use crate::filing::{call_files, give_back, start_call};
@@ -19,7 +19,7 @@ impl Machine {
     ghost use Rattle.mpm_machine.specs.State.{silent, IsWhole, NoCompletions, HasRoom, HasRoomForAll};
     ghost use Rattle.mpm_machine.specs.Files.{Files, Between, StandsBetween, StandsWorked, StandsForFiles, drives_in, filing_in, all_left};
     ghost use Rattle.mpm_machine.specs.Holding.{IsOwn, OwnsService, AreFiled, HoldsDrives};
-    ghost use Rattle.mpm_machine.specs.DiskStep.{is_done_at_once, file_called, files_called, told_at_gate, told_of_call, call_over, disk_served, files_served, all_paid, call_entered, files_entered, turns_within};
+    ghost use Rattle.mpm_machine.specs.DiskStep.{is_done_at_once, file_called, files_called, told_at_gate, told_of_call, process_over, call_over, disk_served, files_served, all_paid, call_entered, files_entered, turns_within};
     ghost use Rattle.mpm_machine.specs.Stepping.{rest_of, nothing_told, before_disk, files_begun, told_within, telling_then, files_rest};
     ghost use Rattle.mpm_service.specs.Disk.{HasBegun};
     ghost use Rattle.mpm_kernel.specs.Disk.{IsOver};
@@ -41,6 +41,7 @@ impl Machine {
 
     /// What a step begins with, and the held calls that this completed. Answers whether it was an instruction. A drive may fail only
     /// where a file call is done at once, before anything is written.
+    #[inline(always)]
     pub(crate) fn begin_step<D: Drives, S: Sink, L: Ledger>(
         &mut self,
         drives: &mut D,
@@ -70,6 +71,7 @@ impl Machine {
         ensures keeps { KeepsMounted (D.disks drives.old) (D.disks drives.new) self.old.bdos.mounted self.new.bdos.mounted }
         ensures names { D.failed_names drives.new ≡ D.failed_names drives.old }
         ensures attached { (number : ℕ) → D.attached drives.new number ≡ D.attached drives.old number }
+        ensures unsynced { (number : ℕ) → D.unsynced drives.old number ≡ true → D.unsynced drives.new number ≡ true }
         ensures bare { HasNoDrive self.old.bdos.mounted → HasNoDrive self.new.bdos.mounted }
         ensures none { HasNoDrive self.old.bdos.mounted → drives.new ≡ drives.old }
         ensures holds { OnOk result (HoldsDrives D.attached D.disks self.new.system.kernel self.new.bdos drives.new) }
@@ -77,6 +79,7 @@ impl Machine {
         ensures idle { works_at_once (file_caller self.old.system) self.old.system ≡ false
             → IfErr result (λ fault. fault ≡ StepFault.WriteFault) × (drives.new ≡ drives.old) × (steps.new ≡ steps.old) }
         ensures apart { IsSome self.old.system.kernel.disk.served → IfErr result (λ fault. fault ≡ StepFault.WriteFault) × (drives.new ≡ drives.old) × (steps.new ≡ steps.old) }
+        ensures kept { IsSome self.old.system.kernel.disk.served → self.new.bdos ≡ self.old.bdos }
         ensures calls { (files : Files) → StandsWorked self.old.system.kernel.disk self.old.bdos (D.disks drives.old) files
             → steps.new ≤ steps.old + 20 * turns_done (working_in self.old.system files) }
         ensures trace { render.new.trace ≡ render.old.trace }
@@ -95,6 +98,8 @@ impl Machine {
     }
 
     /// What a step begins with in which a process makes a file call, and the held calls that this completed.
+    #[cold]
+    #[inline(never)]
     fn begin_with_files<D: Drives, S: Sink, L: Ledger>(
         &mut self,
         p: Pid,
@@ -126,6 +131,7 @@ impl Machine {
         ensures keeps { KeepsMounted (D.disks drives.old) (D.disks drives.new) self.old.bdos.mounted self.new.bdos.mounted }
         ensures names { D.failed_names drives.new ≡ D.failed_names drives.old }
         ensures attached { (number : ℕ) → D.attached drives.new number ≡ D.attached drives.old number }
+        ensures unsynced { (number : ℕ) → D.unsynced drives.old number ≡ true → D.unsynced drives.new number ≡ true }
         ensures bare { HasNoDrive self.old.bdos.mounted → HasNoDrive self.new.bdos.mounted }
         ensures none { HasNoDrive self.old.bdos.mounted → drives.new ≡ drives.old }
         ensures holds { OnOk result (HoldsDrives D.attached D.disks self.new.system.kernel self.new.bdos drives.new) }
@@ -133,6 +139,7 @@ impl Machine {
         ensures idle { works_at_once (file_caller self.old.system) self.old.system ≡ false
             → IfErr result (λ fault. fault ≡ StepFault.WriteFault) × (drives.new ≡ drives.old) × (steps.new ≡ steps.old) }
         ensures apart { IsSome self.old.system.kernel.disk.served → IfErr result (λ fault. fault ≡ StepFault.WriteFault) × (drives.new ≡ drives.old) × (steps.new ≡ steps.old) }
+        ensures kept { IsSome self.old.system.kernel.disk.served → self.new.bdos ≡ self.old.bdos }
         ensures calls { (files : Files) → StandsWorked self.old.system.kernel.disk self.old.bdos (D.disks drives.old) files
             → steps.new ≤ steps.old + 20 * turns_done (working_in self.old.system files) }
         ensures trace { render.new.trace ≡ render.old.trace }
@@ -177,6 +184,7 @@ impl Machine {
         ensures keeps { KeepsMounted (D.disks drives.old) (D.disks drives.new) self.old.bdos.mounted self.new.bdos.mounted }
         ensures names { D.failed_names drives.new ≡ D.failed_names drives.old }
         ensures attached { (number : ℕ) → D.attached drives.new number ≡ D.attached drives.old number }
+        ensures unsynced { (number : ℕ) → D.unsynced drives.old number ≡ true → D.unsynced drives.new number ≡ true }
         ensures bare { HasNoDrive self.old.bdos.mounted → HasNoDrive self.new.bdos.mounted }
         ensures none { HasNoDrive self.old.bdos.mounted → drives.new ≡ drives.old }
         ensures holds { HoldsDrives D.attached D.disks self.old.system.kernel self.new.bdos drives.new }
@@ -184,6 +192,7 @@ impl Machine {
         ensures idle { (is_some (function_of (call_of self.old.system.kernel.dispatcher.procs p).function) && is_done_at_once p self.old.system) ≡ false
             → IfErr result (λ fault. fault ≡ StepFault.WriteFault) × (drives.new ≡ drives.old) × (steps.new ≡ steps.old) }
         ensures apart { IsSome self.old.system.kernel.disk.served → IfErr result (λ fault. fault ≡ StepFault.WriteFault) × (drives.new ≡ drives.old) × (steps.new ≡ steps.old) }
+        ensures kept { IsSome self.old.system.kernel.disk.served → self.new.bdos ≡ self.old.bdos }
         ensures calls { (filing : Filing) → StandsWorked self.old.system.kernel.disk self.old.bdos (D.disks drives.old) (Between filing)
             → steps.new ≤ steps.old + 20 * turns_done (working_if (is_done_at_once p self.old.system) filing p self.old.system) }
         ensures trace { render.new.trace ≡ render.old.trace }
@@ -233,6 +242,7 @@ impl Machine {
     }
 
     /// The rest of a step: the disk's, the ends that are due, the records, and who runs.
+    #[inline(always)]
     pub(crate) fn end_step<S: Sink>(
         &mut self,
         instruction: bool,
@@ -251,7 +261,7 @@ impl Machine {
             → OnErr result (Stopped (seen S.written S.faults render.old sink.old) (seen S.written S.faults render.new sink.new) (rest_of instruction (telling_then nothing_told self.old.system files) (silent self.old.system)).emitted) }
         ensures stands { (disks : Option Disks) (files : Files) → StandsWorked self.old.system.kernel.disk self.old.bdos disks files
             → OnErr result (HaveImages disks self.new.bdos.mounted (drives_in (rest_of instruction (telling_then nothing_told self.old.system files) (silent self.old.system)).system.kernel.disk.served (files_rest self.old.system files))) }
-        ensures step { OnOk result (HasEndedStep instruction (seen S.written S.faults render.old sink.old) (seen S.written S.faults render.new sink.new) self.old.system self.new.system) }
+        ensures step { OnOk result (HasEndedStep self.old.bdos self.new.bdos instruction (seen S.written S.faults render.old sink.old) (seen S.written S.faults render.new sink.new) self.old.system self.new.system) }
         ensures stops { OnErr result (HasEndedToStop instruction (seen S.written S.faults render.old sink.old) (seen S.written S.faults render.new sink.new) self.old.system) }
         ensures due { OnOk result (NobodyDue self.new.system.kernel) }
         ensures whole { OnOk result (IsWhole self.new.system) }
@@ -262,6 +272,7 @@ impl Machine {
         ensures own { OnOk result (OwnsService self.new.system.kernel self.new.bdos.service) }
         ensures turn_steps { OnOk result (self.new.system.kernel.disk.turn_steps ≡ self.old.system.kernel.disk.turn_steps) }
         ensures kept { EndKeeps self.old.bdos self.new.bdos }
+        ensures stays { IsSome self.old.system.kernel.disk.served → process_over self.old.system ≡ None → self.new.bdos ≡ self.old.bdos }
         ensures workless { HasNoDrive self.old.bdos.mounted → has_work self.old.bdos.service ≡ false → has_work self.new.bdos.service ≡ false }
         ensures trace { render.new.trace ≡ render.old.trace }
         ensures cause { HasCause (S.faults sink.old) (S.faults sink.new) result }
@@ -279,6 +290,7 @@ impl Machine {
 
     /// The disk's step: where the last turn of the call in service is over, it is answered; those who ended give back what they owe,
     /// and the next call enters service.
+    #[inline(always)]
     fn serve_disk<S: Sink>(&mut self, render: &mut Render, sink: &mut S) -> Result<(), Failed>
         requires whole { IsWhole self.old.system }
         requires completed { self.old.system.kernel.dispatcher.completed ≡ [] }
@@ -290,7 +302,7 @@ impl Machine {
             → OnOk result (HasServedTo files (seen S.written S.faults render.old sink.old) (seen S.written S.faults render.new sink.new) self.old.system self.new.system self.new.bdos disks) }
         ensures err { (disks : Option Disks) (files : Files) → StandsWorked self.old.system.kernel.disk self.old.bdos disks files
             → OnErr result (Stopped (seen S.written S.faults render.old sink.old) (seen S.written S.faults render.new sink.new) (disk_served (told_within files self.old.system) self.old.system).emitted) }
-        ensures step { OnOk result (HasServed (seen S.written S.faults render.old sink.old) (seen S.written S.faults render.new sink.new) self.old.system self.new.system) }
+        ensures step { OnOk result (HasServed self.old.bdos self.new.bdos (seen S.written S.faults render.old sink.old) (seen S.written S.faults render.new sink.new) self.old.system self.new.system) }
         ensures stops { OnErr result (HasStoppedServing (seen S.written S.faults render.old sink.old) (seen S.written S.faults render.new sink.new) self.old.system) }
         ensures begun { OnOk result (HasBegun self.new.system.kernel.disk) }
         ensures filed { OnOk result (AreFiled self.new.system.kernel) }
@@ -298,6 +310,7 @@ impl Machine {
         ensures whole { OnOk result (IsWhole self.new.system) }
         ensures completed { OnOk result (self.new.system.kernel.dispatcher.completed ≡ []) }
         ensures kept { EndKeeps self.old.bdos self.new.bdos }
+        ensures stays { IsSome self.old.system.kernel.disk.served → process_over self.old.system ≡ None → self.new.bdos ≡ self.old.bdos }
         ensures workless { HasNoDrive self.old.bdos.mounted → has_work self.old.bdos.service ≡ false → has_work self.new.bdos.service ≡ false }
         ensures trace { render.new.trace ≡ render.old.trace }
         ensures cause { HasCause (S.faults sink.old) (S.faults sink.new) result }
@@ -324,7 +337,7 @@ impl Machine {
             × StandsForFiles self.new.system.kernel.disk self.new.bdos disks (files_served self.old.system files)) }
         ensures err { (disks : Option Disks) (files : Files) → StandsWorked self.old.system.kernel.disk self.old.bdos disks files
             → OnErr result (Stopped (seen S.written S.faults render.old sink.old) (seen S.written S.faults render.new sink.new) (disk_served (told_within files self.old.system) self.old.system).emitted) }
-        ensures step { OnOk result (HasPassed (seen S.written S.faults render.old sink.old) (seen S.written S.faults render.new sink.new) self.old.system self.new.system) }
+        ensures step { OnOk result (HasPassed self.old.bdos (seen S.written S.faults render.old sink.old) (seen S.written S.faults render.new sink.new) self.old.system self.new.system) }
         ensures stops { OnErr result (HasStoppedServing (seen S.written S.faults render.old sink.old) (seen S.written S.faults render.new sink.new) self.old.system) }
         ensures begun { OnOk result (HasBegun self.new.system.kernel.disk) }
         ensures filed { OnOk result (AreFiled self.new.system.kernel) }
@@ -332,6 +345,7 @@ impl Machine {
         ensures whole { OnOk result (IsWhole self.new.system) }
         ensures completed { OnOk result (self.new.system.kernel.dispatcher.completed ≡ []) }
         ensures kept { EndKeeps self.old.bdos self.new.bdos }
+        ensures stays { IsSome self.old.system.kernel.disk.served → process_over self.old.system ≡ None → self.new.bdos ≡ self.old.bdos }
         ensures workless { HasNoDrive self.old.bdos.mounted → has_work self.old.bdos.service ≡ false → has_work self.new.bdos.service ≡ false }
         ensures trace { render.new.trace ≡ render.old.trace }
         ensures cause { HasCause (S.faults sink.old) (S.faults sink.new) result }
@@ -364,7 +378,7 @@ impl Machine {
             × StandsBetween self.new.bdos disks (file_call s).filing) }
         ensures err { (disks : Option Disks) (s : Situation) → Serves (told_images disks) self.old.bdos s (call_turns s) → s.caller.process ≡ p
             → OnErr result (Stopped (seen S.written S.faults render.old sink.old) (seen S.written S.faults render.new sink.new) (call_over (told_of_call s p self.old.system) p self.old.system).emitted) }
-        ensures told { OnOk result (HasAnswered p (seen S.written S.faults render.old sink.old) (seen S.written S.faults render.new sink.new) self.old.system self.new.system) }
+        ensures told { OnOk result (HasAnswered self.old.bdos p (seen S.written S.faults render.old sink.old) (seen S.written S.faults render.new sink.new) self.old.system self.new.system) }
         ensures stops { OnErr result (HasStoppedAnswering p (seen S.written S.faults render.old sink.old) (seen S.written S.faults render.new sink.new) self.old.system) }
         ensures idle { self.new.bdos.service ≡ None }
         ensures whole { OnOk result (IsWhole self.new.system) }
@@ -394,6 +408,7 @@ impl Machine {
     }
 
     /// The same where somebody may have ended.
+    #[cold]
     #[inline(never)]
     fn pay_back(&mut self)
         ensures system { self.new.system ≡ all_paid self.old.system }
@@ -419,7 +434,8 @@ impl Machine {
         ensures ok { (disks : Option Disks) (files : Files) → StandsForFiles self.old.system.kernel.disk self.old.bdos disks files
             → (self.new.system ≡ call_entered (turns_within (files_entered self.old.system files)) self.old.system)
             × StandsForFiles self.new.system.kernel.disk self.new.bdos disks (files_entered self.old.system files) }
-        ensures entered { HasEnteredCall self.old.system self.new.system }
+        ensures served { IsSome self.old.system.kernel.disk.served → self.new ≡ self.old }
+        ensures entered { HasEnteredCall self.new.bdos self.old.system self.new.system }
         ensures whole { IsWhole self.new.system }
         ensures begun { HasBegun self.new.system.kernel.disk }
         ensures own { OwnsService self.new.system.kernel self.new.bdos.service }

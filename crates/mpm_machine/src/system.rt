@@ -1,4 +1,4 @@
-ghost use Rattle.std.specs.Prelude.{◌≡◌, ◌<◌, ◌≤◌, ◌+◌, ℕ, true, List, [], Option, Some, None, is_some, IfSome, IfOk, OnOk, length};
+ghost use Rattle.std.specs.Prelude.{◌≡◌, ◌<◌, ◌≤◌, ◌+◌, ℕ, true, Option, Some, None, is_some, IfSome, IfOk, OnOk, length};
 ghost use Rattle.mpm_script.specs.declared.line.TheConstants.{GREATEST_STEP};
 ghost use Rattle.mpm_procs.specs.Table.{Lives, process_in};
 ghost use Rattle.mpm_dispatcher.specs.Dispatch.{IsReady};
@@ -87,15 +87,18 @@ impl System {
     /// So many steps, at most, in which no interrupt is due and the disk's only pass.
     #[tactic(auto, using(crate::proofs::PassingLaws::fewer_can))]
     fn quiet_for(&self, most: u64) -> u64
+        requires { self.now.steps + most ≤ GREATEST_STEP }
         ensures few { result ≤ most }
         ensures short { result ≤ 4294967295 }
         ensures quiet { (step : ℕ) → step ≤ self.now.steps + result → self.now.steps < step → due step self.now.interrupts ≡ None }
         ensures passing { CanPass result self.now.kernel.disk }
     {
-        most.min(self.quiet()).min(u64::from(self.disk_quiet()))
+        self.disk_quiet(most.min(self.quiet()))
     }
 
     /// Steps in which nothing is done, at most so many: where no process runs and none is ready. Answers how many.
+    #[cold]
+    #[inline(never)]
     #[tactic(auto, using(crate::proofs::PassedLaws::later_none))]
     fn idle(&mut self, most: u64) -> u64
         requires sound { IsSound self.old.kernel }
@@ -113,13 +116,14 @@ impl System {
         most
     }
 
-    /// So many steps at least in which the disk's only pass.
-    fn disk_quiet(&self) -> u32
-        ensures { (n : ℕ) → n ≤ result → CanPass n self.now.kernel.disk }
+    /// So many of these steps, at most, in which the disk's only pass.
+    fn disk_quiet(&self, most: u64) -> u64
+        ensures few { result ≤ most }
+        ensures passing { CanPass result self.now.kernel.disk }
     {
         match self.kernel.disk().quiet() {
-            Some(steps) => steps,
-            None => u32::MAX,
+            Some(steps) => most.min(u64::from(steps)),
+            None => most,
         }
     }
 
@@ -179,6 +183,7 @@ impl System {
 
     /// What a step begins with in which no process makes a file call: an event, or what the running process does; and the held calls
     /// that this completed. Answers whether that was an instruction.
+    #[inline(always)]
     pub fn begin_alone<S: Sink>(
         &mut self,
         reply: &mut Reply,
@@ -223,6 +228,7 @@ impl System {
     }
 
     /// What the running process does in a step; answers whether that was an instruction.
+    #[inline(always)]
     #[tactic(auto, using(mpm_kernel::proofs::SoundLaws::runner_lives), unfolding(crate::specs::Step::acted, crate::specs::Step::at_instruction))]
     pub fn act<S: Sink>(
         &mut self,
@@ -249,6 +255,7 @@ impl System {
     }
 
     /// What a process of a segment does in a step; answers whether that was an instruction.
+    #[inline(always)]
     fn act_at<S: Sink>(
         &mut self,
         p: Pid,
@@ -299,6 +306,8 @@ impl System {
     }
 
     /// One instruction of a process of a segment, which is at no gate.
+    #[cold]
+    #[inline(never)]
     #[tactic(auto, using(crate::proofs::WholeLaws::ran_nothing), unfolding(crate::specs::Step::executed))]
     fn execute<S: Sink>(
         &mut self,
@@ -339,6 +348,8 @@ impl System {
     }
 
     /// A process comes to an unlisted opcode: a text on its console, and its end.
+    #[cold]
+    #[inline(never)]
     #[tactic(auto, using(mpm_output::proofs::KernelLaws::lives_after_text), unfolding(crate::specs::Step::illegal, crate::specs::State::speaking))]
     fn illegal<S: Sink>(&mut self, p: Pid, render: &mut Render, sink: &mut S) -> Result<(), Failed>
         requires whole { IsWhole self.old }

@@ -25,6 +25,7 @@ impl Segments {
         Segments { items }
     }
 
+    /// The segments, in the file's order.
     pub fn as_slice(&self) -> &[SegmentSpec]
         ensures { result.now ≡ self.now }
     {
@@ -37,7 +38,9 @@ impl Segments {
 pub struct DriveSpec {
     /// The letter as a character, `A` to `P`.
     pub letter: u8,
+    /// The kind of its disk.
     pub kind: Kind,
+    /// The name of its image, which isn't empty.
     pub image: Text,
 }
 
@@ -64,6 +67,7 @@ impl DriveSpecs {
         DriveSpecs { items }
     }
 
+    /// The drives, in the order of their letters.
     pub fn as_slice(&self) -> &[DriveSpec]
         ensures { result.now ≡ self.now }
     {
@@ -83,6 +87,8 @@ pub enum Resident {
 /// The processes of the system that a machine file asks for.
 #[derive(Clone, Copy, Debug, PartialEq, Eq)]
 pub struct Residents {
+    /// Whether it asks for the print spooler.
     pub spool: bool,
+    /// Whether it asks for the scheduler of commands.
     pub sched: bool,
 }

@@ -4,6 +4,7 @@ use Rattle.std.specs.Prelude.{nat_eq, nat_lt}
 use Rattle.std.proofs.lemmas.Bool.Decides.{nat_tests}
 use Rattle.std.proofs.Math.Path.{fun_ext}
 use Rattle.std.proofs.Math.Nat.{pow-le-pow_right, div-eq_of_lt}
+use Rattle.std.proofs.lemmas.Bool.{eqb-true}
 use Rattle.mpm_opens.specs.declared.kinds.FileKey.{FileKey}
 use Rattle.mpm_opens.specs.declared.kinds.Item.{Item}
 use Rattle.mpm_opens.specs.declared.kinds.RecordLock.{RecordLock}
@@ -66,9 +67,6 @@ no_drive_freed opens p mask =
 below_next : (d k : ℕ) → nat_lt d (k + 1) ≡ (nat_lt d k || nat_eq d k)
 below_next d k = grind (arith, nat_tests)
 
-same_drive : (d k : ℕ) → nat_eq d k ≡ true → d ≡ k
-same_drive d k e = grind (arith, nat_tests)
-
 with_bit : (below same bit : Bool) → (same ≡ true → bit ≡ true) → ((below && bit) || same) ≡ ((below || same) && bit)
 with_bit true true bit is = ap (λ b. b || true) (is refl) ∙ sym (is refl)
 with_bit true false true is = refl
@@ -86,11 +84,11 @@ drive_freed : (initial : OpenFiles) (p mask k : ℕ) (bit : Bool) → is_bit mas
 drive_freed initial p mask k true is =
     given_back_twice initial p (freed mask k) (is_on_drive k)
     ∙ given_alike initial p (λ key. freed mask k key || is_on_drive k key) (freed mask (k + 1)) (λ key.
-    with_bit (nat_lt key.drive k) (nat_eq key.drive k) (is_bit mask key.drive) (λ e. ap (is_bit mask) (same_drive key.drive k e) ∙ is)
+    with_bit (nat_lt key.drive k) (nat_eq key.drive k) (is_bit mask key.drive) (λ e. ap (is_bit mask) (eqb-true key.drive k e) ∙ is)
     ∙ ap (λ b. b && is_bit mask key.drive) (sym (below_next key.drive k)))
 drive_freed initial p mask k false is =
     given_alike initial p (freed mask k) (freed mask (k + 1)) (λ key.
-    without_bit (nat_lt key.drive k) (nat_eq key.drive k) (is_bit mask key.drive) (λ e. ap (is_bit mask) (same_drive key.drive k e) ∙ is)
+    without_bit (nat_lt key.drive k) (nat_eq key.drive k) (is_bit mask key.drive) (λ e. ap (is_bit mask) (eqb-true key.drive k e) ∙ is)
     ∙ ap (λ b. b && is_bit mask key.drive) (sym (below_next key.drive k)))
 
 pub one_drive_freed : (initial old new : OpenFiles) (p mask k : ℕ) → old ≡ given_back initial p (freed mask k)

@@ -1,14 +1,14 @@
 -- How many numbers below a bound pass a test, and how many items.
-use Rattle.std.proofs.Common.{◌≡◌, ℕ, zero, suc, ◌+◌, ◌<◌, ◌≤◌, ◌==◌, Bool, true, false, ◌||◌, not, inl, inr, List, [], ◌∷◌, length, map, refl, sym, ap, ◌∙◌, arith, eq-eqb, ne_eqb}
+use Rattle.std.proofs.Common.{◌≡◌, ℕ, zero, suc, ◌+◌, ◌<◌, ◌≤◌, ◌==◌, Bool, true, false, ◌||◌, not, inl, inr, List, [], ◌∷◌, length, map, refl, sym, ap, ◌∙◌, arith, eq-eqb, ne_eqb, add-zero, zero-add}
 use Rattle.std.specs.Prelude.{nat_lt, count_by}
 use Rattle.std.specs.List.{range_with_len, list_any}
 use Rattle.std.proofs.lemmas.Bool.{cases_eq, cases_lt, lt-ltb, le-ltb, or_parts}
 use Rattle.mpm_base.proofs.CountLaws.{one_if, count_cons, one_if_false, one_if_true}
-use Rattle.mpm_mount.proofs.Ranges.{or_none, plus_zero, plus_suc, zero_plus}
+use Rattle.mpm_mount.proofs.Ranges.{or_none, plus_suc}
 
 count_next : (t : ℕ → Bool) (a n : ℕ) → count_by t (range_with_len a (suc n)) ≡ count_by t (range_with_len a n) + one_if (t (a + n))
 count_next t a zero =
-    let same : one_if (t (a + 0)) ≡ one_if (t a) = ap (λ k. one_if (t k)) (plus_zero a) in
+    let same : one_if (t (a + 0)) ≡ one_if (t a) = ap (λ k. one_if (t k)) (add-zero a) in
     omega (arith, count_cons t a [], same)
 count_next t a (suc n) =
     let same : one_if (t (a + 1 + n)) ≡ one_if (t (a + suc n)) = ap (λ k. one_if (t k)) (plus_suc a n) in
@@ -16,7 +16,7 @@ count_next t a (suc n) =
 
 -- one number more
 pub count_more : (t : ℕ → Bool) (n : ℕ) → count_by t (range_with_len 0 (suc n)) ≡ count_by t (range_with_len 0 n) + one_if (t n)
-count_more t n = count_next t 0 n ∙ ap (λ k. count_by t (range_with_len 0 n) + one_if (t k)) (zero_plus n)
+count_more t n = count_next t 0 n ∙ ap (λ k. count_by t (range_with_len 0 n) + one_if (t k)) (zero-add n)
 
 pub count_alike : (s t : ℕ → Bool) (n : ℕ) → ((k : ℕ) → k < n → s k ≡ t k) → count_by s (range_with_len 0 n) ≡ count_by t (range_with_len 0 n)
 count_alike s t zero same = refl

@@ -1,5 +1,5 @@
 -- Directory entries, as they are read sector by sector.
-use Rattle.std.proofs.Common.{◌≡◌, ℕ, zero, suc, ◌+◌, ◌*◌, ◌/◌, ◌%◌, ◌<◌, Bool, List, [], ◌∷◌, ◌++◌, length, map, refl, sym, ap, subst, ◌∙◌, arith}
+use Rattle.std.proofs.Common.{◌≡◌, ℕ, zero, suc, ◌+◌, ◌*◌, ◌/◌, ◌%◌, ◌<◌, Bool, List, [], ◌∷◌, ◌++◌, length, map, refl, sym, ap, subst, ◌∙◌, arith, add-zero, zero-add, add-one}
 use Rattle.std.specs.Prelude.{Option, Some, None, IfSome}
 use Rattle.std.specs.List.{range_with_len}
 use Rattle.std.proofs.lemmas.List.{append-nil, append_assoc, length-append}
@@ -13,20 +13,20 @@ use Rattle.mpm_port.specs.Disks.{Disks, image_of, sector_of}
 use Rattle.mpm_dirent.specs.declared.kinds.Entry.{Entry}
 use Rattle.mpm_dirent.specs.Entries.{part, entry_of}
 use Rattle.mpm_mount.specs.Images.{slot_entry, entries_to, entries_in}
-use Rattle.mpm_mount.proofs.Ranges.{plus_zero, zero_plus, plus_one, map_same}
+use Rattle.mpm_mount.proofs.Ranges.{map_same}
 
 split : {X : Type 0} (f : ℕ → X) (m n : ℕ) → map f (range_with_len 0 (m + n)) ≡ map f (range_with_len 0 m) ++ map (λ k. f (m + k)) (range_with_len 0 n)
-split f m zero = ap (λ k. map f (range_with_len 0 k)) (plus_zero m) ∙ sym (append-nil (map f (range_with_len 0 m)))
+split f m zero = ap (λ k. map f (range_with_len 0 k)) (add-zero m) ∙ sym (append-nil (map f (range_with_len 0 m)))
 split f m (suc n) =
     let next : m + suc n ≡ m + n + 1 = omega arith in
     let front = map f (range_with_len 0 m) in
     let more = map (λ k. f (m + k)) (range_with_len 0 n) in
     ap (λ k. map f (range_with_len 0 k)) next
-    ∙ map-range_with_len_more f 0 (m + n) (m + n) (zero_plus (m + n))
+    ∙ map-range_with_len_more f 0 (m + n) (m + n) (zero-add (m + n))
     ∙ ap (λ xs. xs ++ (f (m + n) ∷ [])) (split f m n)
     ∙ append_assoc front more (f (m + n) ∷ [])
-    ∙ ap (λ xs. front ++ xs) (sym (map-range_with_len_more (λ k. f (m + k)) 0 n n (zero_plus n)))
-    ∙ ap (λ k. front ++ map (λ j. f (m + j)) (range_with_len 0 k)) (plus_one n)
+    ∙ ap (λ xs. front ++ xs) (sym (map-range_with_len_more (λ k. f (m + k)) 0 n n (zero-add n)))
+    ∙ ap (λ k. front ++ map (λ j. f (m + j)) (range_with_len 0 k)) (add-one n)
 
 -- an entry by its sector and its place there
 slot_at : (sectors : Sectors) (wide : Bool) (n k : ℕ) → k < 4 → slot_entry sectors wide (4 * n + k) ≡ entry_of (part (32 * k) 32 (sectors n)) wide
@@ -58,7 +58,7 @@ entries_in_more bytes wide k before mid now entry was pushed is =
     ∙ ap (λ xs. xs ++ (entry ∷ [])) was
     ∙ append_assoc before (map f (range_with_len 0 k)) (entry ∷ [])
     ∙ ap (λ e. before ++ (map f (range_with_len 0 k) ++ (e ∷ []))) is
-    ∙ ap (λ xs. before ++ xs) (sym (map-range_with_len_more f 0 k k (zero_plus k)))
+    ∙ ap (λ xs. before ++ xs) (sym (map-range_with_len_more f 0 k k (zero-add k)))
 
 pub told_none : (told : Option (List ℕ)) (kind : Kind) → IfSome told (λ image. [] ≡ entries_to (sectors_of image kind) (geometry_of kind).wide (4 * 0))
 unfolding entries_to

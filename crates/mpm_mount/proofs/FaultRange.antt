@@ -1,5 +1,5 @@
 -- Which causes the faults of a directory have, and in which slots they are.
-use Rattle.std.proofs.Common.{◌≡◌, ℕ, zero, suc, ◌+◌, ◌<◌, ◌≤◌, inl, inr, Bool, true, false, List, [], ◌∷◌, Option, Some, None, map, length, sym, ap, ◌∙◌, arith}
+use Rattle.std.proofs.Common.{◌≡◌, ℕ, zero, suc, ◌+◌, ◌<◌, ◌≤◌, inl, inr, Bool, true, false, List, [], ◌∷◌, Option, Some, None, map, length, sym, ap, ◌∙◌, arith, add-zero}
 use Rattle.std.specs.Prelude.{◌⊎◌, ◌||◌, option_map, nat_lt, slice_index_or, take, if◌then◌else◌}
 use Rattle.std.specs.List.{range_with_len, list_any}
 use Rattle.mpm_base.specs.declared.kind.Kind.{Kind}
@@ -11,7 +11,7 @@ use Rattle.mpm_dirent.specs.Names.{plain}
 use Rattle.mpm_mount.specs.declared.errors.ImageFault.{ImageFault}
 use Rattle.mpm_mount.specs.Faults.{is_outside, is_taken, some_place, is_named, name_of, is_label, is_xfcb, name_cause, file_cause, cause_of, cause_at, fault_at, first_some, first_fault}
 use Rattle.mpm_mount.specs.Mounting.{IsInRange}
-use Rattle.mpm_mount.proofs.Ranges.{plus_zero, plus_suc}
+use Rattle.mpm_mount.proofs.Ranges.{plus_suc}
 
 -- the first that is there is in some place
 here_or_later : {X : Type 0} (o : Option X) (items : List (Option X)) (x : X) → first_some (o ∷ items) ≡ Some x → (o ≡ Some x) ⊎ (first_some items ≡ Some x)
@@ -26,7 +26,7 @@ nothing_first x is = absurd (cc is)
 some_from : {X : Type 0} (g : ℕ → Option X) (a n : ℕ) (x : X) → first_some (map g (range_with_len a n)) ≡ Some x → (i : ℕ) × (i < n) × (g (a + i) ≡ Some x)
 some_from g a zero x is = absurd (nothing_first x is)
 some_from g a (suc n) x is = elim (here_or_later (g a) (map g (range_with_len (a + 1) n)) x is) [
-  | inl here ↦ (0, omega arith, ap g (plus_zero a) ∙ here)
+  | inl here ↦ (0, omega arith, ap g (add-zero a) ∙ here)
   | inr later ↦
       let rest = some_from g (a + 1) n x later in
       (suc rest.0, omega (arith, rest.1), ap g (sym (plus_suc a rest.0)) ∙ rest.2)

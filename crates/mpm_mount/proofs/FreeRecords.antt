@@ -1,5 +1,5 @@
 -- The free records of a directory's block map are those of the drive that it stands for: each block that an entry holds is one more that is used.
-use Rattle.std.proofs.Common.{◌≡◌, ◌≢◌, ℕ, zero, suc, ◌+◌, ◌-◌, ◌*◌, ◌<◌, ◌≤◌, ◌==◌, Bool, true, false, ◌&&◌, ◌||◌, not, inl, inr, List, [], ◌∷◌, length, get_or, map, take, refl, sym, ap, ◌∙◌, arith, eq-eqb, ne_eqb}
+use Rattle.std.proofs.Common.{◌≡◌, ◌≢◌, ℕ, zero, suc, ◌+◌, ◌-◌, ◌*◌, ◌<◌, ◌≤◌, ◌==◌, Bool, true, false, ◌&&◌, ◌||◌, not, inl, inr, List, [], ◌∷◌, length, get_or, map, take, refl, sym, ap, ◌∙◌, arith, eq-eqb, ne_eqb, add-zero, add-one}
 use Rattle.std.specs.Prelude.{Some, None, is_some, nat_lt, sum_by, count_by, if◌then◌else◌}
 use Rattle.std.specs.List.{range_with_len, list_any}
 use Rattle.std.specs.FinMap.{values}
@@ -19,7 +19,7 @@ use Rattle.mpm_mount.specs.Faults.{block_at, has_at, holds, first_fault}
 use Rattle.mpm_mount.specs.Images.{contents_of, extent_in, extent_from, collected, drive_of}
 use Rattle.mpm_mount.specs.Directories.{others, Directory, is_used, used_blocks, free_block, free_records_in, Stands}
 use Rattle.mpm_mount.specs.Using.{is_among}
-use Rattle.mpm_mount.proofs.Ranges.{or_none, or_regroup, plus_zero, plus_one, none_if}
+use Rattle.mpm_mount.proofs.Ranges.{or_none, or_regroup, none_if}
 use Rattle.mpm_mount.proofs.Tails.{EachWithRest, by_others}
 use Rattle.mpm_mount.proofs.Counts.{none_counted, count_more, count_alike, count_with, count_below, count_map, not_counted}
 use Rattle.mpm_mount.proofs.InAll.{weight, sum_collected}
@@ -76,14 +76,14 @@ each_own kind entries faultless = by_others (HoldsOwn kind) Free (own_less kind)
 
 -- one block more of an entry
 among_next : (f : FileEntry) (i block : ℕ) → block_at f i ≢ 0 → is_among f (suc i) block ≡ (is_among f i block || block_at f i == block)
-among_next f i block some = ap (λ (n : ℕ). is_among f n block) (sym (plus_one i)) ∙ elim (cases_eq (block_at f i) block) [
+among_next f i block some = ap (λ (n : ℕ). is_among f n block) (sym (add-one i)) ∙ elim (cases_eq (block_at f i) block) [
   | inl same ↦
       among_here f i block (λ none. some (same ∙ none)) same ∙ sym (or_last (is_among f i block)) ∙ ap (λ b. is_among f i block || b) (sym (eq-eqb (block_at f i) block same))
   | inr other ↦ among_other f i block other ∙ sym (or_none (is_among f i block)) ∙ ap (λ b. is_among f i block || b) (sym (ne_eqb (block_at f i) block other))
 ]
 
 among_same : (f : FileEntry) (i block : ℕ) → block_at f i ≡ 0 → is_among f (suc i) block ≡ is_among f i block
-among_same f i block none = ap (λ (n : ℕ). is_among f n block) (sym (plus_one i)) ∙ among_zero f i block none
+among_same f i block none = ap (λ (n : ℕ). is_among f n block) (sym (add-one i)) ∙ among_zero f i block none
 
 not_among : (f : FileEntry) (i : ℕ) → ((j : ℕ) → j < i → block_at f j ≢ block_at f i) → has_at f i (block_at f i) ≡ false
 unfolding has_at
@@ -109,7 +109,7 @@ used_to_place : (kind : Kind) (f : FileEntry) (rest : List Entry) (n : ℕ) → 
     ≡ count_by (is_used kind rest) (range_with_len 0 (last_block kind + 1)) + count_by (λ i. not (block_at f i == 0)) (range_with_len 0 n)
 used_to_place kind f rest zero own h =
     count_alike (λ b. is_used kind rest b || is_among f 0 b) (is_used kind rest) (last_block kind + 1) (λ b less. used_none kind f rest b)
-    ∙ sym (plus_zero (count_by (is_used kind rest) (range_with_len 0 (last_block kind + 1))))
+    ∙ sym (add-zero (count_by (is_used kind rest) (range_with_len 0 (last_block kind + 1))))
 used_to_place kind f rest (suc i) own h =
     let size : ℕ = last_block kind + 1 in
     let before = used_to_place kind f rest i own (omega arith) in
@@ -172,10 +172,10 @@ used_more sectors kind (File f) rest own =
     count_alike (is_used kind (File f ∷ rest)) (λ b. is_used kind rest b || is_among f (places kind) b) (last_block kind + 1) (λ b less. used_at_block kind f rest b)
     ∙ used_to_place kind f rest (places kind) own (omega arith)
     ∙ ap (λ (n : ℕ). count_by (is_used kind rest) (range_with_len 0 (last_block kind + 1)) + n) (held_counted sectors kind f)
-used_more sectors kind Free rest own = sym (plus_zero (count_by (is_used kind rest) (range_with_len 0 (last_block kind + 1))))
-used_more sectors kind (Xfcb x) rest own = sym (plus_zero (count_by (is_used kind rest) (range_with_len 0 (last_block kind + 1))))
-used_more sectors kind (Label l) rest own = sym (plus_zero (count_by (is_used kind rest) (range_with_len 0 (last_block kind + 1))))
-used_more sectors kind (Kept bytes) rest own = sym (plus_zero (count_by (is_used kind rest) (range_with_len 0 (last_block kind + 1))))
+used_more sectors kind Free rest own = sym (add-zero (count_by (is_used kind rest) (range_with_len 0 (last_block kind + 1))))
+used_more sectors kind (Xfcb x) rest own = sym (add-zero (count_by (is_used kind rest) (range_with_len 0 (last_block kind + 1))))
+used_more sectors kind (Label l) rest own = sym (add-zero (count_by (is_used kind rest) (range_with_len 0 (last_block kind + 1))))
+used_more sectors kind (Kept bytes) rest own = sym (add-zero (count_by (is_used kind rest) (range_with_len 0 (last_block kind + 1))))
 
 directory_small : (kind : Kind) → (geometry_of kind).directory_blocks ≤ last_block kind + 1
 directory_small Ibm3740 = omega arith
@@ -189,7 +189,7 @@ used_all : (sectors : Sectors) (kind : Kind) (entries : List Entry) → EachWith
     → count_by (is_used kind entries) (range_with_len 0 (last_block kind + 1))
     ≡ (geometry_of kind).directory_blocks + sum_by (weight held_blocks) (map (extent_from sectors kind) entries)
 used_all sectors kind [] own =
-    count_below (geometry_of kind).directory_blocks (last_block kind + 1) (directory_small kind) ∙ sym (plus_zero (geometry_of kind).directory_blocks)
+    count_below (geometry_of kind).directory_blocks (last_block kind + 1) (directory_small kind) ∙ sym (add-zero (geometry_of kind).directory_blocks)
 used_all sectors kind (e ∷ rest) own =
     one_entry_more (count_by (is_used kind (e ∷ rest)) (range_with_len 0 (last_block kind + 1))) (count_by (is_used kind rest) (range_with_len 0 (last_block kind + 1)))
     (weight held_blocks (extent_from sectors kind e)) (geometry_of kind).directory_blocks (sum_by (weight held_blocks) (map (extent_from sectors kind) rest))

@@ -5,7 +5,7 @@ use Rattle.std.specs.List.{list_any, position_or_len}
 use Rattle.std.specs.FinMap.{get}
 use Rattle.std.specs.Ordering.{eq_by_cmp, is_eq}
 use Rattle.std.specs.Cmp.{tied_itself}
-use Rattle.std.proofs.lemmas.Bool.{true≢false, ltb-false, or_parts}
+use Rattle.std.proofs.lemmas.Bool.{true≢false, ltb-false, or_parts, not-true}
 use Rattle.std.proofs.lemmas.List.{length-map, get_or-map}
 use Rattle.std.proofs.lemmas.List.Quantifiers.{position-Some}
 use Rattle.std.proofs.lemmas.List.Sums.{fails_before_first}
@@ -198,10 +198,6 @@ free_slot_found d slot found =
     (at.0, free_by (get_or d.entries slot Free) at.1)
 
 -- a free block
-unused : (b : Bool) → not b ≡ true → b ≡ false
-unused true free = sym free
-unused false free = refl
-
 used_in_map : (kind : Kind) (entries : List Entry) (block : ℕ) → block < last_block kind + 1 → get_or (used_blocks kind entries) block true ≡ is_used kind entries block
 unfolding used_blocks
 used_in_map kind entries block h = map_at (is_used kind entries) (last_block kind + 1) block true h
@@ -211,5 +207,5 @@ free_block_unheld d block found =
     let at = position-Some not (used_blocks d.kind d.entries) block true found in
     let h : block < last_block d.kind + 1 = omega (arith, at.0, used_size d.kind d.entries) in
     let free = or_parts (nat_lt block (geometry_of d.kind).directory_blocks) (list_any (holds d.kind block) d.entries)
-    (sym (used_in_map d.kind d.entries block h) ∙ unused (get_or (used_blocks d.kind d.entries) block true) at.1) in
+    (sym (used_in_map d.kind d.entries block h) ∙ not-true (get_or (used_blocks d.kind d.entries) block true) at.1) in
     record { low = ltb-false block (geometry_of d.kind).directory_blocks free.0; high = omega arith; unheld = free.1 }

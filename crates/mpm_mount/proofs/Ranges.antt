@@ -1,5 +1,5 @@
 -- Tests over the numbers below a bound, and lists that have a value for each of them.
-use Rattle.std.proofs.Common.{◌≡◌, ℕ, zero, suc, ◌+◌, ◌<◌, Bool, true, false, ◌||◌, List, [], ◌∷◌, length, get_or, map, refl, sym, ap, ◌∙◌, arith}
+use Rattle.std.proofs.Common.{◌≡◌, ℕ, zero, suc, ◌+◌, ◌<◌, Bool, true, false, ◌||◌, List, [], ◌∷◌, length, get_or, map, refl, sym, ap, ◌∙◌, arith, add-one, add-zero, zero-add}
 use Rattle.std.specs.List.{range_with_len, list_any}
 use Rattle.std.proofs.lemmas.Bool.{both_ways, false_from_ne_true}
 use Rattle.std.proofs.lemmas.List.FromFn.{length-range_with_len, get_or-range_with_len, length-map-range_with_len, get_or-map-range_with_len, fill_by_all}
@@ -13,20 +13,11 @@ pub or_regroup : (a b c : Bool) → (a || (b || c)) ≡ ((a || b) || c)
 or_regroup true b c = refl
 or_regroup false b c = refl
 
-pub plus_zero : (a : ℕ) → a + 0 ≡ a
-plus_zero a = omega arith
-
-pub zero_plus : (a : ℕ) → 0 + a ≡ a
-zero_plus a = omega arith
-
 pub plus_suc : (a k : ℕ) → a + 1 + k ≡ a + suc k
 plus_suc a k = omega arith
 
-pub plus_one : (a : ℕ) → a + 1 ≡ suc a
-plus_one a = omega arith
-
 any_next : (t : ℕ → Bool) (a n : ℕ) → list_any t (range_with_len a (suc n)) ≡ (list_any t (range_with_len a n) || t (a + n))
-any_next t a zero = or_none (t a) ∙ ap t (sym (plus_zero a))
+any_next t a zero = or_none (t a) ∙ ap t (sym (add-zero a))
 any_next t a (suc n) =
     let before : Bool = t a || list_any t (range_with_len (a + 1) n) in
     ap (λ b. t a || b) (any_next t (a + 1) n)
@@ -36,11 +27,11 @@ any_next t a (suc n) =
 -- one number more
 pub any_more : (t : ℕ → Bool) (n : ℕ) → list_any t (range_with_len 0 (n + 1)) ≡ (list_any t (range_with_len 0 n) || t n)
 any_more t n =
-    ap (λ m. list_any t (range_with_len 0 m)) (plus_one n) ∙ any_next t 0 n ∙ ap (λ k. list_any t (range_with_len 0 n) || t k) (zero_plus n)
+    ap (λ m. list_any t (range_with_len 0 m)) (add-one n) ∙ any_next t 0 n ∙ ap (λ k. list_any t (range_with_len 0 n) || t k) (zero-add n)
 
 pub any_at : (t : ℕ → Bool) (n k : ℕ) → k < n → t k ≡ true → list_any t (range_with_len 0 n) ≡ true
 any_at t n k h here =
-    list_any_at t (range_with_len 0 n) k 0 (omega (arith, length-range_with_len 0 n)) (ap t (get_or-range_with_len 0 n k 0 h ∙ zero_plus k) ∙ here)
+    list_any_at t (range_with_len 0 n) k 0 (omega (arith, length-range_with_len 0 n)) (ap t (get_or-range_with_len 0 n k 0 h ∙ zero-add k) ∙ here)
 
 pub none_at : (t : ℕ → Bool) (n k : ℕ) → list_any t (range_with_len 0 n) ≡ false → k < n → t k ≡ false
 none_at t n k nowhere h =
@@ -50,7 +41,7 @@ pub any_where : (t : ℕ → Bool) (n : ℕ) → list_any t (range_with_len 0 n)
 any_where t n found =
     let some = Any-from_list_any t (range_with_len 0 n) found in
     let h : some.0 < n = omega (arith, length-range_with_len 0 n) in
-    let same : some.1 ≡ some.0 = sym some.3 ∙ get_or-range_with_len 0 n some.0 some.1 h ∙ zero_plus some.0 in
+    let same : some.1 ≡ some.0 = sym some.3 ∙ get_or-range_with_len 0 n some.0 some.1 h ∙ zero-add some.0 in
     (some.0, h, ap t (sym same) ∙ some.4)
 
 pub none_if : (t : ℕ → Bool) (n : ℕ) → ((k : ℕ) → k < n → t k ≡ false) → list_any t (range_with_len 0 n) ≡ false

@@ -1,5 +1,5 @@
 -- The least of the entries that are sought.
-use Rattle.std.proofs.Common.{◌≡◌, ℕ, ◌+◌, ◌%◌, ◌<◌, ◌==◌, Bool, true, false, ◌&&◌, ◌||◌, List, [], ◌∷◌, ◌++◌, Option, Some, None, length, get_or, take, refl, sym, ap, subst, ◌∙◌, arith}
+use Rattle.std.proofs.Common.{◌≡◌, ℕ, ◌+◌, ◌<◌, ◌==◌, Bool, true, false, ◌&&◌, ◌||◌, List, [], ◌∷◌, ◌++◌, Option, Some, None, length, get_or, take, refl, sym, ap, subst, ◌∙◌, arith, add-one}
 use Rattle.std.specs.Prelude.{if◌then◌else◌}
 use Rattle.std.specs.List.{list_any}
 use Rattle.std.specs.declared.cmp.Ordering.{Ordering}
@@ -17,13 +17,13 @@ use Rattle.mpm_dirent.specs.declared.kinds.Entry.{Entry}
 use Rattle.mpm_dirent.specs.declared.kinds.Entry.TheVariants.{Free, File, Xfcb, Label, Kept}
 use Rattle.mpm_dirent.specs.declared.kinds.FileEntry.{FileEntry}
 use Rattle.mpm_dirent.specs.Names.{plain}
+use Rattle.mpm_dirent.proofs.PlainNames.{plain_twice}
 use Rattle.mpm_mount.specs.declared.searching.Found.{Found}
 use Rattle.mpm_mount.specs.declared.searching.Search.{Search}
 use Rattle.mpm_mount.specs.declared.slots.EntryName.{EntryName}
 use Rattle.mpm_mount.specs.Drives.{entry_cmp, entry_number}
 use Rattle.mpm_mount.specs.Faults.{extent_of, name_of}
 use Rattle.mpm_mount.specs.Searching.{found_name, is_above, is_sought, is_target, is_target_below, IsLeast, IsNext, is_lesser, lesser}
-use Rattle.mpm_mount.proofs.Ranges.{plus_one}
 use Rattle.mpm_mount.proofs.Orders.{entry_total, same_entry}
 use Rattle.mpm_mount.proofs.UsedBlocks.{and_last}
 
@@ -52,19 +52,11 @@ pub by_fields : (a b : EntryName) → length a.name ≡ length b.name
 unfolding entry_cmp
 by_fields a b same = ap (ordering_then (nat_cmp a.user b.user)) (cmp_push a.name b.name a.number b.number same)
 
--- a name that has lost bit 7 has it no more
-twice : (c : ℕ) → c % 128 % 128 ≡ c % 128
-twice c = omega arith
-
-plain_again : (name : List ℕ) → plain (plain name) ≡ plain name
-plain_again [] = refl
-plain_again (c ∷ cs) = ap (λ (b : ℕ). b ∷ plain (plain cs)) (twice c) ∙ ap (λ bs. c % 128 ∷ bs) (plain_again cs)
-
 -- what was found has the name of its entry
 found_is : (kind : Kind) (user : ℕ) (found : Found) (f : FileEntry) → user ≡ f.user → found.name ≡ plain f.name → found.extent ≡ extent_of f
     → found_name kind user found ≡ name_of kind f
 found_is kind user found f same name extent =
-    same_entry (found_name kind user found) (name_of kind f) same (ap plain name ∙ plain_again f.name) (ap (λ (e : ℕ). entry_number kind e) extent)
+    same_entry (found_name kind user found) (name_of kind f) same (ap plain name ∙ plain_twice f.name) (ap (λ (e : ℕ). entry_number kind e) extent)
 
 of_user : (search : Search) (name : EntryName) → is_sought search name ≡ true → name.user ≡ search.user
 of_user search name sought =
@@ -193,7 +185,7 @@ one_more kind search entries least slot (Kept bytes) so size = passed kind searc
 pub next_more : (kind : Kind) (search : Search) (entries : List Entry) (slot : ℕ) (least now : Option Found) → IsNext kind search (take slot entries) least → slot < length entries
     → now ≡ lesser kind search least slot (get_or entries slot Free) → IsNext kind search (take (slot + 1) entries) now
 next_more kind search entries slot least now so h is =
-    let longer : take (slot + 1) entries ≡ take slot entries ++ (get_or entries slot Free ∷ []) = ap (λ (n : ℕ). take n entries) (plus_one slot) ∙ take-suc entries slot Free h in
+    let longer : take (slot + 1) entries ≡ take slot entries ++ (get_or entries slot Free ∷ []) = ap (λ (n : ℕ). take n entries) (add-one slot) ∙ take-suc entries slot Free h in
     subst (λ (o : Option Found). IsNext kind search (take (slot + 1) entries) o) (sym is)
     (subst (λ (es : List Entry). IsNext kind search es (lesser kind search least slot (get_or entries slot Free))) (sym longer)
     (one_more kind search (take slot entries) least slot (get_or entries slot Free) so (length-take-le slot entries (omega arith))))

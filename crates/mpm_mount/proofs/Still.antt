@@ -41,7 +41,7 @@ weaker false true these has clear none = absurd (true≢false none)
 weaker false false these true clear none = absurd (true≢false none)
 weaker false false these false clear none = ap (λ b. b || false) (clear refl refl)
 
-nonzero : (b : ℕ) → (b == 0) ≡ false → b ≢ 0
+pub nonzero : (b : ℕ) → (b == 0) ≡ false → b ≢ 0
 nonzero b off none = both_ways (b == 0) off (eq-eqb b 0 none)
 
 file_still : (kind : Kind) (those these : List Entry) (f : FileEntry) → AsClear kind those these (File f) → IsSoundBehind kind those f → IsSoundBehind kind these f
@@ -120,7 +120,7 @@ file_in (Xfcb x) other = other
 file_in (Label l) other = other
 file_in (Kept bytes) other = other
 
-file_injective : (f g : FileEntry) → File f ≡ File g → f ≡ g
+pub file_injective : (f g : FileEntry) → File f ≡ File g → f ≡ g
 unfolding file_in
 file_injective f g same = ap (λ e. file_in e f) same
 

@@ -87,7 +87,7 @@ pub(crate) enum LockSet {
 }
 
 impl FileKey {
-    /// Whether two are one.
+    /// Whether two files are the same.
     pub(crate) fn is_same(&self, other: &FileKey) -> bool
         ensures { result ≡ is_same_file self.now other.now }
     {
@@ -96,7 +96,7 @@ impl FileKey {
 }
 
 impl Mode {
-    /// Whether two are one.
+    /// Whether two modes are the same.
     pub(crate) fn is_same(self, other: Mode) -> bool
         ensures { result ≡ is_same_mode self other }
     {
@@ -133,7 +133,7 @@ impl FileSet {
     }
 }
 
-/// Whether two numbers are one process's.
+/// Whether two numbers are those of one process.
 pub(crate) fn is_process(a: Pid, b: Pid) -> bool
     ensures { result ≡ (a == b) }
 {

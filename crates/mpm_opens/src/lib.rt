@@ -1,5 +1,5 @@
 //! Open files and record locks: which process has which file open, in which mode, and which records it has locked. (MP/M II
-//! Programmer's Guide, "Open File", "Record Locking".)
+//! Programmer's Guide, "Function 15: Open File", "Function 42: Lock Record".)
 #![tactic(auto)]
 
 mod items;

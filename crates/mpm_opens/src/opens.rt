@@ -73,7 +73,7 @@ impl Opens {
     /// The file of an item that a process names as a file control block does: by the item's number, `drive`, 0 to 15 for A to P,
     /// and `name`, without the attributes in bit 7. None where the number is none of its items, 64 and more among them, or the
     /// item's file is another. The user isn't looked at: the answer has that of the item. (MP/M II Programmer's Guide, "File
-    /// Control Block".)
+    /// Control Block Definition".)
     #[tactic(auto, using(crate::proofs::OpeningLaws::named_is_live, crate::proofs::FindingLaws::is_named_item))]
     pub fn named(&self, p: Pid, item: u8, drive: u8, name: &[u8; 11]) -> Option<FileKey>
         ensures file { result ≡ file_named self.now.items p item drive name.now }

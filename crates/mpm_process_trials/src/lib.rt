@@ -1,12 +1,9 @@
-//! Tests of processes and of what they wait for: their slots and lists, who runs, flags, the clock, queues, consoles, line input
-//! and the disk. They stand above the crates that they try, so that none of these is proved once more for its tests; each sees what
-//! any caller of them does.
+//! Tests of processes and of what they wait for: their slots and lists, who runs, flags, the clock, queues and the disk. They stand
+//! above the crates that they try, so that none of these is proved once more for its tests; each sees what any caller of them does.
 #![tactic(auto)]
 
 #[cfg(test)]
 mod clocks;
-#[cfg(test)]
-mod consoles;
 #[cfg(test)]
 mod flags;
 #[cfg(test)]
@@ -19,5 +16,3 @@ mod queues;
 mod service;
 #[cfg(test)]
 mod turns;
-#[cfg(test)]
-mod typing;

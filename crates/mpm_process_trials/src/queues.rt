@@ -1,5 +1,5 @@
 //! Messages between 32 processes, line by line: what is done with queues, and what is seen of them.
-ghost use Rattle.std.specs.Prelude.{◌≡◌, ℕ, ◌<◌, ◌≤◌, true, length};
+ghost use Rattle.std.specs.Prelude.{◌≡◌, ℕ, ◌<◌, true, length};
 ghost use Rattle.std.specs.Bool.{OnTrue};
 ghost use Rattle.mpm_procs.specs.Table.{Lives};
 ghost use Rattle.mpm_queues.specs.Queues.{IsMade, waits_at};

@@ -1,5 +1,5 @@
 -- Views after instructions, one after another.
-use Rattle.std.proofs.Common.{◌≡◌, ◌∙◌, ℕ, zero, suc, ◌+◌, ◌<◌, ◌≤◌, Bool, false, ◌==◌, List, Option, Some, None, IsSome, IsNone, is_some, inl, inr, refl, sym, ap, subst, arith, add-one}
+use Rattle.std.proofs.Common.{◌≡◌, ◌∙◌, ℕ, zero, suc, ◌+◌, ◌<◌, ◌≤◌, Bool, ◌==◌, List, Option, Some, None, IsSome, IsNone, is_some, inl, inr, refl, sym, ap, subst, arith, add-one}
 use Rattle.std.proofs.lemmas.Bool.{cases_eq}
 use Rattle.z80_regs.specs.Outcome.{Outcome}
 use Rattle.z80_ext.specs.Instruction.{registers_after, actions_of}
@@ -10,7 +10,6 @@ use Rattle.mpm_base.specs.declared.devices.Devices.{Devices}
 use Rattle.mpm_base.specs.declared.segment.SegmentSpec.{SegmentSpec}
 use Rattle.mpm_banks.specs.Sides.{alone}
 use Rattle.mpm_banks.specs.Actions.{memory_after, devices_after}
-use Rattle.mpm_processor.specs.declared.gate.Gate.{Gate}
 use Rattle.mpm_processor.specs.Gates.{gate_of}
 use Rattle.mpm_processor.specs.Moving.{View, view_of, instruction_in, moved, moves, CanMove, Moves}
 
@@ -131,10 +130,6 @@ moves_from inside n seg old first new m is =
     subst P is m
 
 -- a gate that isn't there is none, and where an instruction ran a listed one stands
-
-pub no_gate_at : (gate : Option Gate) → is_some gate ≡ false → gate ≡ None
-no_gate_at None e = refl
-no_gate_at (Some gate) e = absurd (cc)
 
 pub some_unless : (outcome : Option Outcome) → (IsNone outcome → ⊥) → IsSome outcome
 some_unless None not_none = absurd (not_none refl)

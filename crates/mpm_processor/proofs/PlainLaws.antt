@@ -1,12 +1,11 @@
 -- Plain instructions in a row, whose beginnings are put off.
 use Rattle.std.proofs.Common.{◌≡◌, ◌∙◌, ℕ, ◌+◌, ◌<◌, Bool, true, false, Option, Some, None, is_some, is_none, refl, ap, sym, subst, rules, arith}
 use Rattle.std.specs.Prelude.{◌↔◌, IsNone, IfSome, option_map}
-use Rattle.z80_regs.specs.Outcome.{Outcome}
+use Rattle.mpm_base.proofs.Options.{none_there}
 use Rattle.z80_regs.specs.declared.regs.Regs.{Regs}
 use Rattle.z80_ext.specs.Instruction.{begun_times, is_plain_at, unbegun, registers_after, actions_of, IsRareAt}
 use Rattle.z80_ext.proofs.Begun.{begun_none, unbegun_is}
-use Rattle.mpm_base.specs.declared.devices.Devices.{Devices}
-use Rattle.mpm_banks.specs.Memory.{Memory, byte_at}
+use Rattle.mpm_banks.specs.Memory.{byte_at}
 use Rattle.mpm_banks.specs.Ports.{port_byte}
 use Rattle.mpm_banks.specs.Actions.{memory_after, devices_after}
 use Rattle.z80_ext.specs.declared.stepped.Stepped.{Stepped}
@@ -14,7 +13,7 @@ use Rattle.z80_ext.specs.declared.stepped.Stepped.TheVariants.{Ran, Illegal}
 use Rattle.mpm_processor.specs.declared.gate.Gate.{Gate}
 use Rattle.mpm_processor.specs.Gates.{gate_of}
 use Rattle.mpm_processor.specs.Moving.{View, instruction_in, moved, Moves, IsPaused}
-use Rattle.mpm_processor.proofs.MovingLaws.{view_is, moves_none, moves_more, moves_to, unmoved, some_unless, ran_or_not, no_gate_at}
+use Rattle.mpm_processor.proofs.MovingLaws.{view_is, moves_none, moves_more, moves_to, unmoved, some_unless, ran_or_not}
 
 -- a view whose registers have so many beginnings behind them
 abbrev pub begun_view : ℕ → View → View
@@ -83,6 +82,6 @@ paused_halted opcode_of inside most (Some fetched) old new some is halted byte g
       moved = moves_none inside 0 old;
       stopped = λ none. absurd (cc none);
       below = λ one. some;
-      gate = λ one. no_gate_at (gate_of inside old.memory 0 old.regs.pc) (sym gate);
+      gate = λ one. none_there (gate_of inside old.memory 0 old.regs.pc) (sym gate);
       rare = rare_halted (opcode_of fetched) old.regs (byte_at old.memory 0) halted byte;
     })

@@ -28,10 +28,10 @@ pub fn page_of_gates(banks: &Banks, seg: Seg) -> u8
 pub fn gate_at(inside: bool, page: u8, address: u16) -> Option<Gate>
     ensures { result ≡ gate_in inside page address }
 {
-    if address == u16::from_le_bytes([END_GATE, page]) {
-        Some(Gate::End)
-    } else if address == u16::from_le_bytes([CALL_GATE, page]) {
+    if address == u16::from_le_bytes([CALL_GATE, page]) {
         Some(Gate::Call)
+    } else if address == u16::from_le_bytes([END_GATE, page]) {
+        Some(Gate::End)
     } else if inside && address == u16::from_le_bytes([RETURN_GATE, page]) {
         Some(Gate::Return)
     } else {
@@ -45,15 +45,11 @@ pub fn gate_at(inside: bool, page: u8, address: u16) -> Option<Gate>
 pub(crate) fn is_gate(inside: bool, page: u8, address: u16) -> bool
     ensures { result ≡ is_some (gate_in inside page address) }
 {
+    if address == u16::from_le_bytes([CALL_GATE, page]) {
+        return true;
+    }
     let [place, high] = address.to_le_bytes();
-    if high != page {
-        return false;
-    }
-    match place {
-        END_GATE | CALL_GATE => true,
-        RETURN_GATE => inside,
-        _ => false,
-    }
+    high == page && (place == END_GATE || inside && place == RETURN_GATE)
 }
 
 #[cfg(test)]

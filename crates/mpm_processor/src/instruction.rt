@@ -1,7 +1,7 @@
-ghost use Rattle.std.specs.Prelude.{◌≡◌, ◌↔◌, ◌<◌, ◌≤◌, ◌+◌, ◌-◌, ◌*◌, ◌||◌, ℕ, List, true, false, length, None, IsNone, IsSome, IfSome, MatchOption, is_none, is_some, option_map};
+ghost use Rattle.std.specs.Prelude.{◌≡◌, ◌↔◌, ◌<◌, ◌≤◌, ◌+◌, ◌-◌, ◌*◌, ℕ, List, true, false, length, None, IsNone, IsSome, IfSome, MatchOption, is_none, is_some, option_map};
 ghost use Rattle.z80_regs.specs.Words.{onward};
 ghost use Rattle.z80_regs.specs.declared.regs.Regs.{Regs};
-ghost use Rattle.z80_ext.specs.Instruction.{IsRareAt, IsIndexedAt, IsOtherAt, IsLoadUpAt, is_plain_at, is_behind_prefix, unbegun, instruction, registers_after, actions_of};
+ghost use Rattle.z80_ext.specs.Instruction.{IsRareAt, IsLoadUpAt, is_plain_at, unbegun, instruction, registers_after, actions_of};
 ghost use Rattle.mpm_banks.specs.Allocations.{FitsBelowCommon};
 ghost use Rattle.mpm_banks.specs.Memory.{byte_at};
 ghost use Rattle.mpm_banks.specs.Sides.{alone};
@@ -13,10 +13,7 @@ ghost use Rattle.mpm_processor.specs.Moving.{CanMove, Moves, IsPaused, view_of};
 use crate::gate::is_gate;
 use mpm_banks::{Banks, Burst, SliceBus, last_page};
 use mpm_base::{Devices, Seg, SegmentSpec};
-use z80_ext::{
-    Fetched, Stepped, begin_all, is_behind_prefix, is_indexed, step_indexed, step_load_up,
-    step_other, step_unbegun,
-};
+use z80_ext::{Fetched, Stepped, begin_all, step_load_up, step_other, step_unbegun};
 use z80_regs::{Bus, Regs};
 
 /// The opcode at an address of a segment below its last page, in which the gates are. Most instructions stand there, so that
@@ -63,7 +60,7 @@ fn fetch_below_gates(spec: SegmentSpec, address: u16, segment: &[u8]) -> Option<
 /// The opcode at an address and the two bytes behind it, None where a gate is for a process in a resident procedure (`inside`) or
 /// in none.
 #[inline(always)]
-#[tactic(auto, using(crate::proofs::GateLaws::none_below, crate::proofs::MovingLaws::no_gate_at))]
+#[tactic(auto, using(crate::proofs::GateLaws::none_below, mpm_base::proofs::Options::none_there))]
 fn fetch(
     inside: bool,
     spec: SegmentSpec,
@@ -100,8 +97,8 @@ fn fetch(
     })
 }
 
-/// Acts as the instruction at PC does, whose opcode and the two bytes behind it are fetched, but for how it begins. A prefix,
-/// HALT and EI are answered, and nothing has changed.
+/// Acts as the instruction at PC does, whose opcode and the two bytes behind it are fetched, but for how it begins. Where it
+/// isn't plain its opcode is answered, and nothing has changed.
 #[inline(always)]
 fn execute_unbegun(
     fetched: Fetched,
@@ -129,32 +126,7 @@ fn execute_unbegun(
     step_unbegun(fetched, regs, &mut bus)
 }
 
-/// One instruction of a process that stands at CBh, DDh or FDh: over a bus that stays in registers.
-#[inline(always)]
-fn execute_indexed(
-    prefix: u8,
-    spec: SegmentSpec,
-    regs: &mut Regs,
-    segment: &mut [u8],
-    common: &mut [u8],
-    devices: &mut Devices,
-) -> Stepped
-    requires { IsIndexedAt prefix regs.old (byte_at (alone spec segment.old common.old) 0) }
-    ensures illegal { (result ≡ Stepped.Illegal) ↔ IsNone (instruction regs.old (byte_at (alone spec segment.old common.old) 0) (port_byte devices.old)) }
-    ensures registers { regs.new ≡ registers_after (instruction regs.old (byte_at (alone spec segment.old common.old) 0) (port_byte devices.old)) regs.old }
-    ensures memory { alone spec segment.new common.new ≡ memory_after (actions_of (instruction regs.old (byte_at (alone spec segment.old common.old) 0) (port_byte devices.old))) 0 (alone spec segment.old common.old) }
-    ensures devices { devices.new ≡ devices_after (actions_of (instruction regs.old (byte_at (alone spec segment.old common.old) 0) (port_byte devices.old))) devices.old }
-{
-    let mut bus = SliceBus {
-        spec,
-        segment,
-        common,
-        devices,
-    };
-    step_indexed(prefix, regs, &mut bus)
-}
-
-/// One instruction of a process whose processor stands in a HALT, or is at EDh, HALT or EI.
+/// One instruction of a process whose processor stands in a HALT, or is at one that isn't plain.
 #[inline(always)]
 fn execute_other(
     opcode: u8,
@@ -164,7 +136,7 @@ fn execute_other(
     common: &mut [u8],
     devices: &mut Devices,
 ) -> Stepped
-    requires { IsOtherAt opcode regs.old (byte_at (alone spec segment.old common.old) 0) }
+    requires { IsRareAt opcode regs.old (byte_at (alone spec segment.old common.old) 0) }
     ensures illegal { (result ≡ Stepped.Illegal) ↔ IsNone (instruction regs.old (byte_at (alone spec segment.old common.old) 0) (port_byte devices.old)) }
     ensures registers { regs.new ≡ registers_after (instruction regs.old (byte_at (alone spec segment.old common.old) 0) (port_byte devices.old)) regs.old }
     ensures memory { alone spec segment.new common.new ≡ memory_after (actions_of (instruction regs.old (byte_at (alone spec segment.old common.old) 0) (port_byte devices.old))) 0 (alone spec segment.old common.old) }
@@ -249,46 +221,10 @@ fn execute_loads(
     most
 }
 
-/// One instruction of a process whose processor stands in a HALT, or is at EDh, HALT or EI, and what LDIR at PC does more, at
-/// most so many in all. None is done exactly where the opcode isn't listed. It is code of its own, over a bus in memory.
+/// One instruction of a process whose processor stands in a HALT, or is at one that isn't plain, and what LDIR at PC does
+/// more, at most so many in all. None is done exactly where the opcode isn't listed. It is code of its own, over a bus in memory.
 #[inline(never)]
 fn execute_others(
-    opcode: u8,
-    inside: bool,
-    most: u64,
-    spec: SegmentSpec,
-    regs: &mut Regs,
-    segment: &mut [u8],
-    common: &mut [u8],
-    devices: &mut Devices,
-) -> u64
-    requires fits { FitsBelowCommon spec }
-    requires some { 0 < most }
-    requires rare { IsOtherAt opcode regs.old (byte_at (alone spec segment.old common.old) 0) }
-    requires gate { gate_of inside (alone spec segment.old common.old) 0 regs.old.pc ≡ None }
-    ensures count { result ≤ most }
-    ensures moved { Moves inside result 0 (view_of spec regs.old segment.old common.old devices.old)
-        (view_of spec regs.new segment.new common.new devices.new) }
-    ensures stopped { result ≡ 0 → CanMove inside 0 (view_of spec regs.new segment.new common.new devices.new) → ⊥ }
-    ensures segment { length segment.new ≡ length segment.old }
-    ensures common { length common.new ≡ length common.old }
-{
-    let pc = regs.pc;
-    match execute_other(opcode, spec, regs, segment, common, devices) {
-        Stepped::Ran => {}
-        Stepped::Illegal => return 0,
-    }
-    // What is at PC once more may be LDIR.
-    if regs.pc != pc {
-        return 1;
-    }
-    1 + execute_loads(inside, most - 1, spec, regs, segment, common, devices)
-}
-
-/// The instruction that isn't plain at this opcode, and what LDIR does more, at most so many in all. None is done exactly
-/// where the opcode isn't listed.
-#[inline(always)]
-fn execute_rare(
     opcode: u8,
     inside: bool,
     most: u64,
@@ -309,81 +245,16 @@ fn execute_rare(
     ensures segment { length segment.new ≡ length segment.old }
     ensures common { length common.new ≡ length common.old }
 {
-    if regs.halted || !is_indexed(opcode) {
-        return execute_others(opcode, inside, most, spec, regs, segment, common, devices);
+    let pc = regs.pc;
+    match execute_other(opcode, spec, regs, segment, common, devices) {
+        Stepped::Ran => {}
+        Stepped::Illegal => return 0,
     }
-    match execute_indexed(opcode, spec, regs, segment, common, devices) {
-        Stepped::Ran => 1,
-        Stepped::Illegal => 0,
+    // What is at PC once more may be LDIR.
+    if regs.pc != pc {
+        return 1;
     }
-}
-
-/// Whether what stands at an opcode isn't plain: the processor stands in a HALT, or it is a prefix.
-#[inline(always)]
-#[tactic(auto, using(crate::proofs::PlainLaws::rare_halted))]
-fn is_rare(opcode: u8, regs: &Regs) -> bool
-    ensures rarely { result ≡ (regs.now.halted || is_behind_prefix opcode) }
-    ensures rare { (memory : ℕ → ℕ) → opcode ≡ memory regs.now.pc → result ≡ true → IsRareAt opcode regs.now memory }
-{
-    if regs.halted {
-        return true;
-    }
-    is_behind_prefix(opcode)
-}
-
-/// The opcode at PC below the gates, where it is a prefix, or the processor stands in a HALT.
-#[inline(always)]
-fn rare_below_gates(spec: SegmentSpec, regs: &Regs, segment: &[u8]) -> Option<u8>
-    requires { FitsBelowCommon spec }
-    ensures rare { (common : List ℕ) → IfSome result (λ opcode. IsRareAt opcode regs.now (byte_at (alone spec segment.now common) 0)) }
-    ensures below { IsSome result → regs.now.pc < 256 * (spec.base + spec.pages - 1) }
-{
-    match opcode_below_gates(spec, regs.pc, segment) {
-        Some(opcode) if is_rare(opcode, regs) => Some(opcode),
-        _ => None,
-    }
-}
-
-/// Instructions in a row that aren't plain, the first of which stands at this opcode: at most so many, as long as a prefix is
-/// at PC, or the processor stands in a HALT. None is done exactly where the first isn't listed. It is in line,
-/// since what goes in and out of it is paid once a row.
-#[inline(always)]
-fn execute_prefixed(
-    first: u8,
-    inside: bool,
-    most: u64,
-    spec: SegmentSpec,
-    regs: &mut Regs,
-    segment: &mut [u8],
-    common: &mut [u8],
-    devices: &mut Devices,
-) -> u64
-    requires fits { FitsBelowCommon spec }
-    requires some { 0 < most }
-    requires rare { IsRareAt first regs.old (byte_at (alone spec segment.old common.old) 0) }
-    requires gate { gate_of inside (alone spec segment.old common.old) 0 regs.old.pc ≡ None }
-    ensures count { result ≤ most }
-    ensures moved { Moves inside result 0 (view_of spec regs.old segment.old common.old devices.old)
-        (view_of spec regs.new segment.new common.new devices.new) }
-    ensures stopped { result ≡ 0 → CanMove inside 0 (view_of spec regs.new segment.new common.new devices.new) → ⊥ }
-    ensures segment { length segment.new ≡ length segment.old }
-    ensures common { length common.new ≡ length common.old }
-{
-    let mut opcode = first;
-    let mut done = 0;
-    while done < most {
-        let left = most - done;
-        let more = execute_rare(opcode, inside, left, spec, regs, segment, common, devices);
-        if more == 0 {
-            return done;
-        }
-        done += more;
-        match rare_below_gates(spec, regs, segment) {
-            Some(next) => opcode = next,
-            None => return done,
-        }
-    }
-    done
+    1 + execute_loads(inside, most - 1, spec, regs, segment, common, devices)
 }
 
 /// What plain instructions in a row came to.
@@ -491,7 +362,7 @@ impl Burst for Instructions {
                 Some(opcode) => opcode,
             };
             let left = most - done;
-            let more = execute_prefixed(opcode, inside, left, spec, regs, segment, common, devices);
+            let more = execute_others(opcode, inside, left, spec, regs, segment, common, devices);
             if more == 0 {
                 return done;
             }

@@ -1,5 +1,5 @@
--- What a process sets for itself. (MP/M II Programmer's Guide, functions 32, "Set/Get User Code", and 44, "Set Multi-Sector
--- Count".)
+-- What a process sets for itself. (MP/M II Programmer's Guide, "Function 32: Set/Get User Code", "Function 44: Set
+-- Multi-Sector Count".)
 use Rattle.std.specs.Prelude.{ℕ, ◌%◌, Bool, ◌&&◌, ◌==◌, nat_le, if◌then◌else◌}
 use Rattle.mpm_base.specs.declared.call.TheConstants.{FAILURE_CODE}
 use Rattle.mpm_procs.specs.declared.process.Process.{Process}

@@ -7,6 +7,7 @@ use z80_regs::Regs;
 /// A process. (MP/M II Programmer's Guide, "Process Descriptor".)
 #[derive(Clone, Copy)]
 pub struct Process {
+    /// Its name.
     pub name: Name8,
     /// 0 is best, 255 worst.
     pub priority: u8,
@@ -18,6 +19,7 @@ pub struct Process {
     pub user: u8,
     /// The current drive, 0 for A to 15 for P.
     pub drive: u8,
+    /// The registers of the processor, as they are while it doesn't run too.
     pub regs: Regs,
     /// The number of its printer.
     pub printer: u8,
@@ -46,14 +48,23 @@ pub struct Process {
 /// What a new process begins with.
 #[derive(Clone, Copy, Default)]
 pub struct NewProcess {
+    /// Its name.
     pub name: Name8,
+    /// 0 is best, 255 worst.
     pub priority: u8,
+    /// The number of its console.
     pub console: u8,
+    /// The memory segment that it lives in; a resident process has none.
     pub seg: Option<Seg>,
+    /// The address at which it begins.
     pub pc: u16,
+    /// The stack pointer with which it begins.
     pub sp: u16,
+    /// The DMA address.
     pub dma: u16,
+    /// The user, 0 to 15.
     pub user: u8,
+    /// The current drive, 0 for A to 15 for P.
     pub drive: u8,
 }
 

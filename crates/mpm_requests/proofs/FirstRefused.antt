@@ -2,6 +2,7 @@
 use Rattle.std.proofs.Common.{◌≡◌, ◌∙◌, Bool, true, false, ◌||◌, cond, List, [], ◌∷◌, ◌++◌, Option, Some, None, sym, refl, ap}
 use Rattle.std.specs.Prelude.{find, option_map}
 use Rattle.std.specs.List.{list_any}
+use Rattle.std.proofs.lemmas.Option.{same_Some}
 use Rattle.mpm_functions.specs.declared.refusals.Refusal.{Refusal}
 use Rattle.mpm_requests.specs.Filing.{Situation}
 use Rattle.mpm_requests.specs.Refusals.{Test, tests_of, does_apply, refusal_of}
@@ -14,16 +15,13 @@ pub record IsFirst {X : Type 0} (passes : X → Bool) (xs : List X) (x : X) : Ty
   pub passed : passes x ≡ true
   pub none : list_any passes before ≡ false
 
-one_same : {X : Type 0} (x y : X) → Some x ≡ Some y → x ≡ y
-one_same x y e = ap (λ o. elim o [ None ↦ x | Some z ↦ z ]) e
-
 first_step : {X : Type 0} (passes : X → Bool) (y x : X) (ys : List X) (b : Bool) → passes y ≡ b → cond b (Some y) (find passes ys) ≡ Some x
     → (find passes ys ≡ Some x → IsFirst passes ys x) → IsFirst passes (y ∷ ys) x
 first_step passes y x ys true e h rest = record {
   before = [];
   after = ys;
-  parts = ap (λ z. z ∷ ys) (one_same y x h);
-  passed = ap passes (sym (one_same y x h)) ∙ e;
+  parts = ap (λ z. z ∷ ys) (same_Some y x h);
+  passed = ap passes (sym (same_Some y x h)) ∙ e;
   none = refl;
 }
 first_step passes y x ys false e h rest =
@@ -50,7 +48,7 @@ refused_by : (s : Situation) (refusal : Refusal) (found : Option Test) → find 
     → IsRefused s refusal
 refused_by s refusal None e h = absurd (cc)
 refused_by s refusal (Some test) e h =
-    record { test = test; is = one_same test.refusal refusal h; first = found_first (does_apply s) (tests_of s) test e }
+    record { test = test; is = same_Some test.refusal refusal h; first = found_first (does_apply s) (tests_of s) test e }
 
 pub refused_first : (s : Situation) (refusal : Refusal) → refusal_of s ≡ Some refusal → IsRefused s refusal
 unfolding refusal_of

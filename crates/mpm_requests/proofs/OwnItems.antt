@@ -4,7 +4,6 @@ use Rattle.std.specs.Prelude.{bytes_eq, unwrap_or}
 use Rattle.std.proofs.lemmas.Option.{same_Some}
 use Rattle.std.proofs.lemmas.Slice.Eq.{bytes_eq-Decides}
 use Rattle.mpm_dirent.specs.Names.{plain}
-use Rattle.mpm_dirent.proofs.PlainNames.{plain_twice}
 use Rattle.mpm_opens.specs.declared.kinds.FileKey.{FileKey}
 use Rattle.mpm_opens.specs.declared.kinds.Item.{Item}
 use Rattle.mpm_opens.specs.declared.kinds.Mode.{Mode}
@@ -35,9 +34,6 @@ unfolding file_named
 own_named opens p number drive name key mode plainly is =
     let named : key.name ≡ name = name_where p drive name key (place_at opens.items number) is in
     record { its = is_named_item opens p number drive name key is; named = ap plain named ∙ plainly ∙ sym named }
-
-pub plain_still : (name : List ℕ) → plain (plain name) ≡ plain name
-plain_still name = plain_twice name
 
 -- what stands at a place
 abbrev pub HasUser : Option Item → Type 0

@@ -10,7 +10,7 @@ ghost use Rattle.mpm_requests.specs.Looking as spec;
 
 use mpm_dirent::{Entry, FileEntry, LabelEntry, XfcbEntry};
 use mpm_guard::admits;
-use mpm_mount::{Mounted, lowest_entry};
+use mpm_mount::{Mounted, last_extent, lowest_entry};
 
 /// The label in an entry.
 fn label_at(entry: &Entry) -> Option<LabelEntry>
@@ -90,7 +90,7 @@ pub fn xfcb(mounted: &Mounted, user: u8, name: &[u8; 11]) -> Option<XfcbEntry>
 fn count_in_file(file: &FileEntry, extent: u16) -> Option<u8>
     ensures { result ≡ spec.count_in_file extent file.now }
 {
-    let last = 32 * u16::from(file.s2) + u16::from(file.ex);
+    let last = last_extent(file);
     if extent > last {
         None
     } else if extent == last {

@@ -74,7 +74,7 @@ pub fn item_number(word: u16, block: &ControlBlock, function: FileFunction) -> O
 }
 
 /// The open file that a process names by a number, on a drive and by a name, if it has that open.
-#[tactic(auto, using(crate::proofs::OwnItems::plain_still))]
+#[tactic(auto, using(mpm_dirent::proofs::PlainNames::plain_twice))]
 pub(crate) fn open_item(
     opens: &Opens,
     p: Pid,

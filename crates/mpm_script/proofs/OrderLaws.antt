@@ -155,6 +155,3 @@ unfolding script_of
 script_is text events e =
     let all = lines_continue 1 [] (lines text) events (record { each = tt; order = tt }) e in
     record { each = All-from_recursion IsTimed events all.each; order = increase_from_follow 0 events all.order }
-
-pub no_script : IsScript []
-no_script = record { each = All-from_recursion IsTimed [] tt; order = increase_from_follow 0 [] tt }

@@ -11,9 +11,11 @@ pub enum Event {
     Int { flag: u8 },
 }
 
-/// An event, and the number of the step from which on it is due, at most 4,000,000,000.
+/// An event, and when it is due.
 #[derive(Clone, Copy, Debug, PartialEq, Eq)]
 pub struct Timed {
+    /// The number of the step from which on it is due, at most 4,000,000,000.
     pub step: u64,
+    /// The event.
     pub event: Event,
 }

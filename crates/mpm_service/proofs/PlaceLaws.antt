@@ -3,13 +3,13 @@ use Rattle.std.proofs.Common.{◌≡◌, ◌≢◌, ◌∙◌, ℕ, ◌+◌, ◌
 use Rattle.std.proofs.lemmas.Bool.{eq-eqb, ne_eqb, eqb-true}
 use Rattle.mpm_base.proofs.CountLaws.{one_if, one_if_true, one_if_false}
 use Rattle.mpm_ready.specs.Order.{Member, put_in, without_slot, in_list, first_of}
-use Rattle.mpm_ready.proofs.OrderLaws.{in_list_put_in, in_list_without_slot, without_slot_absent}
+use Rattle.mpm_ready.proofs.OrderLaws.{in_list_put_in, in_list_without_slot, without_slot_absent, without_slot_gone}
 use Rattle.mpm_service.specs.declared.service.Served.{Served}
 use Rattle.mpm_service.specs.declared.service.Turn.TheVariants.{Passing, Work}
 use Rattle.mpm_service.specs.Disk.{DiskService, no_service, entered, served_process, waiting_after, served_after, turned, answer_by, turn_answer, with_turns, begun, after_step, step_answer, IsSound}
 use Rattle.mpm_service.specs.Ahead.{passed_by, passed_on, unserved}
 use Rattle.mpm_service.specs.Places.{is_call_of, at_disk, served_without, without_call}
-use Rattle.mpm_service.proofs.SoundLaws.{gone, sound_left}
+use Rattle.mpm_service.proofs.SoundLaws.{sound_left}
 
 -- nobody is at a disk that serves nobody
 pub at_none : (turn_steps p : ℕ) → at_disk (no_service turn_steps) p ≡ 0
@@ -61,12 +61,12 @@ stepped true true call q = omega arith
 stepped true false call q = omega arith
 stepped false c call q = omega arith
 
-starts : (p q : ℕ) (waiting : List Member) (b : Bool) → first_of waiting ≡ Some p → eqb p q ≡ b → one_if (in_list q (without_slot p waiting)) + one_if b ≤ one_if (in_list q waiting)
+starts : (p q : ℕ) (waiting : List Member) (b : Bool) → first_of waiting ≡ Some p → eqb p q ≡ b → one_if (in_list q (without_slot p waiting)) + one_if b ≡ one_if (in_list q waiting)
 unfolding first_of in_list
 starts p q [] b first same = absurd (cc)
 starts p q (m ∷ ms) true first same =
     let here : in_list q (m ∷ ms) ≡ true = ap (λ k. eqb k q || in_list q ms) slot ∙ ap (λ x. x || in_list q ms) same in
-    let none : in_list q (without_slot p (m ∷ ms)) ≡ false = subst (λ k. in_list k (without_slot p (m ∷ ms)) ≡ false) (eqb-true p q same) (gone p (m ∷ ms)) in
+    let none : in_list q (without_slot p (m ∷ ms)) ≡ false = subst (λ k. in_list k (without_slot p (m ∷ ms)) ≡ false) (eqb-true p q same) (without_slot_gone p (m ∷ ms)) in
     omega (arith, one_if_true _ here, one_if_false _ none)
   where
     slot : m.slot ≡ p
@@ -84,6 +84,25 @@ turn_by turn_steps q waiting None (Some p) is = omega (arith, starts p q waiting
 pub at_turned : (service : DiskService) (q : ℕ) → at_disk (turned service) q ≤ at_disk service q
 unfolding at_disk turned
 at_turned service q = turn_by service.turn_steps q service.waiting service.served (first_of service.waiting) refl
+
+-- whose last turn doesn't end stands at as many places of the disk as before
+stepped_still : (b c : Bool) (call : Served) (q : ℕ) → (cond b (Work call.p c) Passing ≡ Work q true → ⊥)
+    → one_if (is_call_of q (cond b (cond c None (Some (record call { left = call.left - 1; passed = 0 }))) (Some (record call { passed = call.passed + 1 })))) ≡ one_if (is_call_of q (Some call))
+stepped_still true true call q last = sym (one_if_false (call.p == q) (ne_eqb call.p q (λ same. last (ap (λ p. Work p true) same))))
+stepped_still true false call q last = refl
+stepped_still false c call q last = refl
+
+turn_still : (turn_steps q : ℕ) (waiting : List Member) (served : Option Served) (first : Option ℕ) → first_of waiting ≡ first → (answer_by turn_steps served first ≡ Work q true → ⊥)
+    → one_if (in_list q (waiting_after served first waiting)) + one_if (is_call_of q (served_after turn_steps served first)) ≡ one_if (in_list q waiting) + one_if (is_call_of q served)
+unfolding after_step step_answer
+turn_still turn_steps q waiting (Some call) first is last =
+    ap (λ n. one_if (in_list q waiting) + n) (stepped_still (call.passed + 1 == turn_steps) (call.left == 1) call q last)
+turn_still turn_steps q waiting None None is last = refl
+turn_still turn_steps q waiting None (Some p) is last = omega (arith, starts p q waiting (eqb p q) is refl)
+
+pub at_turned_still : (service : DiskService) (q : ℕ) → (turn_answer service ≡ Work q true → ⊥) → at_disk (turned service) q ≡ at_disk service q
+unfolding at_disk turned turn_answer
+at_turned_still service q last = turn_still service.turn_steps q service.waiting service.served (first_of service.waiting) refl last
 
 last_step : (b c : Bool) (call : Served) (p : ℕ) → cond b (Work call.p c) Passing ≡ Work p true
     → one_if (is_call_of p (cond b (cond c None (Some (record call { left = call.left - 1; passed = 0 }))) (Some (record call { passed = call.passed + 1 })))) + 1 ≡ one_if (is_call_of p (Some call))
@@ -153,7 +172,7 @@ call_stays (Some call) p q other = by_test (call.p == p) refl
 
 pub at_without : (service : DiskService) (p : ℕ) → at_disk (without_call service p) p ≡ 0
 unfolding at_disk without_call
-at_without service p = omega (arith, one_if_false _ (gone p service.waiting), one_if_false _ (call_gone service.served p))
+at_without service p = omega (arith, one_if_false _ (without_slot_gone p service.waiting), one_if_false _ (call_gone service.served p))
 
 pub at_without_other : (service : DiskService) (p q : ℕ) → q ≢ p → at_disk (without_call service p) q ≡ at_disk service q
 unfolding at_disk without_call

@@ -1,10 +1,10 @@
 -- Disk service stays sound.
-use Rattle.std.proofs.Common.{◌≡◌, ◌≢◌, ℕ, ◌+◌, ◌-◌, ◌<◌, ◌==◌, ◌||◌, ◌&&◌, Bool, true, false, not, cond, eqb, List, [], ◌∷◌, Option, Some, None, IfSome, refl, sym, ap, subst, ◌∙◌, arith}
+use Rattle.std.proofs.Common.{◌≡◌, ◌≢◌, ℕ, ◌+◌, ◌-◌, ◌<◌, ◌==◌, ◌||◌, Bool, true, false, not, cond, eqb, List, [], ◌∷◌, Option, Some, None, IfSome, refl, sym, ap, subst, ◌∙◌, arith}
 use Rattle.std.specs.List.{AllByRecursion}
-use Rattle.std.proofs.lemmas.Bool.{eq-eqb, ne_eqb, and_right}
+use Rattle.std.proofs.lemmas.Bool.{ne_eqb, and_right}
 use Rattle.std.proofs.lemmas.Bool.Decides.{nat_tests}
 use Rattle.mpm_ready.specs.Order.{Member, put_in, without_slot, in_list, first_of}
-use Rattle.mpm_ready.proofs.OrderLaws.{in_list_put_in, all_put_in, in_list_without_slot, all_without_slot, without_slot_absent}
+use Rattle.mpm_ready.proofs.OrderLaws.{in_list_put_in, all_put_in, in_list_without_slot, all_without_slot, without_slot_absent, without_slot_gone}
 use Rattle.mpm_service.specs.declared.service.Served.{Served}
 use Rattle.mpm_service.specs.declared.service.Turn.{Turn}
 use Rattle.mpm_service.specs.declared.service.Turn.TheVariants.{Idle, Passing, Work, Starts}
@@ -49,19 +49,12 @@ unfolding first_of
 some_steps turn_steps p [] first all = absurd (cc)
 some_steps turn_steps p (m ∷ ms) first all = all.0
 
-pub gone : (p : ℕ) (ms : List Member) → in_list p (without_slot p ms) ≡ false
-gone p ms = in_list_without_slot ms p p ∙ none (eqb p p) (in_list p ms) (eq-eqb p p refl)
-  where
-    none : (a b : Bool) → a ≡ true → (not a && b) ≡ false
-    none true b h = refl
-    none false b h = absurd (cc)
-
 pub sound_starting : (service : DiskService) (p : ℕ) (waiting : List Member) → IsSound service → first_of service.waiting ≡ Some p → waiting ≡ without_slot p service.waiting
     → IsSound (record { turn_steps = service.turn_steps; waiting = waiting; served = Some (starting p) })
 sound_starting service p waiting sound first is =
     let P : List Member → Type 0 = λ ms. IsSound (record { turn_steps = service.turn_steps; waiting = ms; served = Some (starting p) }) in
     subst P (sym is) (record {
-      apart = gone p service.waiting;
+      apart = without_slot_gone p service.waiting;
       within = some_steps service.turn_steps p service.waiting first sound.steps;
       steps = all_without_slot (λ m. 0 < service.turn_steps) service.waiting p sound.steps;
     })
@@ -124,7 +117,7 @@ pub has_begun : (service : DiskService) (call : Served) → HasBegun service →
 has_begun service call begun at = subst (λ (o : Option Served). IfSome o (λ now. 0 < now.left)) at begun
 
 -- the last turn ends the service
-last_of : Turn → Bool
+abbrev pub last_of : Turn → Bool
 last_of Idle = false
 last_of Passing = false
 last_of (Work p last) = last

@@ -145,8 +145,9 @@ impl Service {
         }
     }
 
-    /// Drops the call of a process that waits; false, and nothing changes, exactly where it doesn't wait, as who is served.
-    #[tactic(auto, using(crate::proofs::SoundLaws::gone, crate::proofs::SoundLaws::nothing_left, crate::proofs::SoundLaws::served_stays, crate::proofs::SoundLaws::stays_begun), unfolding(crate::specs::Disk::left_by))]
+    /// Drops the call of a process that waits; false, and nothing changes, exactly where it doesn't wait: the one that is served
+    /// doesn't.
+    #[tactic(auto, using(mpm_ready::proofs::OrderLaws::without_slot_gone, crate::proofs::SoundLaws::nothing_left, crate::proofs::SoundLaws::served_stays, crate::proofs::SoundLaws::stays_begun), unfolding(crate::specs::Disk::left_by))]
     pub fn leave(&mut self, p: Pid) -> bool
         ensures service { self.new ≡ left_by self.old p }
         ensures answer { result ≡ in_list p self.old.waiting }

@@ -1,6 +1,6 @@
-//! Tests of what a machine is made of before it is booted: machine files, drives that are mounted, what a seed makes, the events
-//! that are due, and a sink that counts lines. They stand above the crates that they try, so that none of these is proved once
-//! more for its tests; each sees what any caller of them does.
+//! Tests of what a machine is made of before it is booted: machine files, scripts, drives that are mounted, what a seed makes, the
+//! events that are due, and a sink that counts lines. They stand above the crates that they try, so that none of these is proved
+//! once more for its tests; each sees what any caller of them does.
 #![tactic(auto)]
 
 #[cfg(test)]
@@ -11,5 +11,7 @@ mod drives;
 mod events;
 #[cfg(test)]
 mod machine_files;
+#[cfg(test)]
+mod scripts;
 #[cfg(test)]
 mod seeds;

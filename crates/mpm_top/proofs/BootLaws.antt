@@ -146,14 +146,6 @@ pub ends_unmounted : (host : Host) (bytes : List ℕ) (file : MachineFile) (even
 ends_unmounted host bytes file events old new error status same is scripted stops =
     subst (λ (s : Status). EndsAfter host Run (λ content. content ≡ bytes) old new s) (sym same) (ends_by host bytes file events old new error is scripted stops)
 
-early_error : (error : BootError) → IsEarly (status_of error)
-early_error (Image drive cause place) = tt
-early_error DriveFailed = refl
-early_error NoMemory = tt
-
-pub early : (error : BootError) (status : Status) → status ≡ status_of error → IsEarly status
-early error status same = subst IsEarly (sym same) (early_error error)
-
 -- where an image has a fault, no drive failed
 first_same : (images : Images) (specs : List DriveSpec) (old new : Failures) (drive cause place : ℕ)
     → IsFirst images (λ spec. StopsAt images spec old new (Image drive cause place)) specs → new ≡ old

@@ -1,5 +1,5 @@
 -- The records that are summed, by the directory in memory and the image that stand for the drive.
-use Rattle.std.proofs.Common.{◌≡◌, ◌≢◌, ◌∙◌, ℕ, ◌+◌, ◌*◌, ◌/◌, ◌%◌, ◌<◌, ◌≤◌, ◌==◌, ◌&&◌, Bool, true, false, not, List, [], Option, Some, None, length, map, take, get_or, refl, sym, ap, subst, arith}
+use Rattle.std.proofs.Common.{◌≡◌, ◌≢◌, ◌∙◌, ℕ, ◌+◌, ◌*◌, ◌/◌, ◌%◌, ◌<◌, ◌≤◌, ◌==◌, ◌&&◌, Bool, true, false, not, List, [], Option, Some, None, length, map, take, get_or, refl, sym, ap, subst, arith, zero-add}
 use Rattle.std.specs.Prelude.{IfSome, nat_lt, nat_le, option_map, option_and_then, slice_index_or, sum_by, if◌then◌else◌}
 use Rattle.std.specs.List.{range_with_len}
 use Rattle.std.specs.Option.{option_map_or}
@@ -9,37 +9,40 @@ use Rattle.std.proofs.lemmas.Bool.Decides.{nat_tests}
 use Rattle.std.proofs.lemmas.List.Quantifiers.{position-Some}
 use Rattle.std.proofs.lemmas.List.Sums.{sum_by_more}
 use Rattle.std.proofs.lemmas.List.FromFn.{length-range_with_len, get_or-range_with_len}
+use Rattle.std.proofs.lemmas.Option.{none-some}
 use Rattle.mpm_base.specs.declared.kind.Kind.TheVariants.{Hd4}
 use Rattle.mpm_port.specs.Disks.{Disks, sector_of}
 use Rattle.mpm_blocks.specs.Geometries.{geometry_of}
 use Rattle.mpm_blocks.specs.Sectors.{Sectors, sectors_of}
 use Rattle.mpm_dirent.specs.declared.kinds.Entry.{Entry}
-use Rattle.mpm_dirent.specs.declared.kinds.Entry.TheVariants.{Free, File, Xfcb, Label, Kept}
+use Rattle.mpm_dirent.specs.declared.kinds.Entry.TheVariants.{Free, File}
 use Rattle.mpm_dirent.specs.declared.kinds.FileEntry.{FileEntry}
-use Rattle.mpm_mount.specs.Drives.{FileName, PhysicalExtent, Drive, entry_name, entry_number, with_extent_there, extent_at, count_in, record_in, visible_in, visible_of}
+use Rattle.mpm_mount.specs.Drives.{PhysicalExtent, Drive, entry_name, entry_number, with_extent_there, extent_at, count_in, record_in, visible_in, visible_of}
 use Rattle.mpm_mount.specs.Faults.{extent_of, block_at, holds, is_named, first_fault}
 use Rattle.mpm_mount.specs.Images.{contents_of, extent_in, drive_of}
 use Rattle.mpm_mount.specs.Directories.{Directory, entry_in, extent_slot, Stands}
+use Rattle.mpm_mount.specs.Files.{is_file}
 use Rattle.mpm_mount.proofs.LookedUp.{extent_found, extent_missing}
-use Rattle.mpm_mount.proofs.Ranges.{map_at, zero_plus}
+use Rattle.mpm_mount.proofs.Ranges.{map_at}
 use Rattle.mpm_mount.proofs.Sound.{block_within}
-use Rattle.mpm_mount.proofs.Still.{has_own}
+use Rattle.mpm_mount.proofs.Still.{has_own, file_injective}
 use Rattle.mpm_requests.specs.Asking.{StandsWhere}
 use Rattle.mpm_bdos.specs.Serving.{StandEach, directory_at}
 use Rattle.mpm_bdos.specs.Turns.{labelled, told_images}
+use Rattle.mpm_bdos.proofs.NextTurns.{image_told}
 use Rattle.mpm_top.specs.Data.{data_file, data_of, data_on, sector_in, HasDriveA}
-use Rattle.mpm_top.proofs.Naming.{none_some, told_there, kind_labelled}
+use Rattle.mpm_top.proofs.Naming.{kind_labelled}
 
 -- drive A behind a run
 
 drive_by_directory : (x : Option Disks) (drives : List (Option Drive)) (directory : Option Directory) (drive : Option Drive) → option_map labelled directory ≡ Some (0, Hd4)
     → StandsWhere 0 (told_images x 0) directory drive → slice_index_or drives 0 None ≡ drive → HasDriveA x directory drives
-drive_by_directory x drives None drive label stands here = absurd (none_some label)
+drive_by_directory x drives None drive label stands here = absurd (none-some _ label)
 drive_by_directory x drives (Some d) None label stands here = absurd stands
 drive_by_directory x drives (Some d) (Some files) label stands here = record {
   image = told_images x 0;
   files = files;
-  told = told_there x 0 d.kind stands.stands.size;
+  told = image_told x 0 d.kind stands.stands.size;
   stands = stands.stands;
   here = here;
 }
@@ -53,7 +56,7 @@ pub kind_there : (directory : Option Directory) (d : Directory) → Some d ≡ d
 kind_there directory d is label = kind_labelled d 0 Hd4 (ap (option_map labelled) is ∙ label)
 
 pub none_there : (directory : Option Directory) → None ≡ directory → option_map labelled directory ≡ Some (0, Hd4) → ⊥
-none_there directory is label = none_some (ap (option_map labelled) is ∙ label)
+none_there directory is label = none-some _ (ap (option_map labelled) is ∙ label)
 
 -- what its records sum to
 pub summed_on : (on : List (Option Drive)) (files : Drive) → slice_index_or on 0 None ≡ Some files → data_of files ≡ data_on on
@@ -64,15 +67,7 @@ summed_on on files here = ap (λ (drive : Option Drive). option_map_or data_of d
 pub sum_more : (f : ℕ → ℕ) (place : ℕ) → place < 32 → sum_by f (take (place + 1) (range_with_len 0 32)) ≡ sum_by f (take place (range_with_len 0 32)) + f place
 sum_more f place less =
     sum_by_more f (range_with_len 0 32) place 0 (omega (arith, less, length-range_with_len 0 32))
-    ∙ ap (λ n. sum_by f (take place (range_with_len 0 32)) + f n) (get_or-range_with_len 0 32 place 0 less ∙ zero_plus place)
-
--- the slot of the file's extent 0
-
-pub slot_within : (d : Directory) (file : FileName) (extent slot : ℕ) → length d.entries ≡ (geometry_of d.kind).drm + 1 → extent_slot d file extent ≡ Some slot
-    → slot ≤ (geometry_of d.kind).drm
-slot_within d file extent slot full found =
-    let at = position-Some (is_named d.kind (entry_name d.kind file extent)) d.entries slot Free found in
-    omega (arith, at.0, full)
+    ∙ ap (λ n. sum_by f (take place (range_with_len 0 32)) + f n) (get_or-range_with_len 0 32 place 0 less ∙ zero-add place)
 
 as_hd4 : (d : Directory) → d.kind ≡ Hd4 → d ≡ record d { kind = Hd4 }
 as_hd4 d is i = record d { kind = is i }
@@ -136,9 +131,6 @@ visible_by image number entries files place less stands =
     ap (λ k. option_and_then (visible_in k place) (option_and_then (with_extent_there (place / 128)) (get files.extents (entry_name k data_file (place / 128))))) kind
     ∙ ap (λ n. option_and_then (visible_in Hd4 place) (option_and_then (with_extent_there (place / 128)) (get files.extents (entry_name Hd4 data_file n)))) zero_extent
 
-same_entry : (f g : FileEntry) → File f ≡ File g → f ≡ g
-same_entry f g is = cc
-
 record_found : (image : List ℕ) (number : ℕ) (entries : List Entry) (files : Drive) (place slot : ℕ) (f : FileEntry) → place < 32
     → Stands image (record { drive = number; kind = Hd4; entries = entries }) files → extent_slot (record { drive = number; kind = Hd4; entries = entries }) data_file 0 ≡ Some slot
     → get_or entries slot Free ≡ File f → visible_of files data_file place ≡ option_map (sector_of image) (sector_in place f)
@@ -146,7 +138,7 @@ unfolding sectors_of
 record_found image number entries files place slot f less stands found is =
     let d : Directory = record { drive = number; kind = Hd4; entries = entries } in
     let there = extent_found image d files data_file 0 slot stands found in
-    let same : there.file ≡ f = same_entry there.file f (sym there.entry ∙ is) in
+    let same : there.file ≡ f = file_injective there.file f (sym there.entry ∙ is) in
     let numbered : entry_number Hd4 (extent_of there.file) ≡ entry_number Hd4 0 = ap (λ name. name.number) there.name_is in
     let first : extent_of f ≡ 0 = omega (arith, numbered, ap (λ (g : FileEntry). extent_of g) same) in
     visible_by image number entries files place less stands
@@ -162,14 +154,6 @@ visible_found image d files place slot f kind less stands found is =
     (subst (λ (x : Directory). extent_slot x data_file 0 ≡ Some slot) same found) is
 
 -- what is found is a part of a file
-
-abbrev pub is_file : Entry → Bool
-is_file (File f) = true
-is_file Free = false
-is_file (Xfcb x) = false
-is_file (Label l) = false
-is_file (Kept bytes) = false
-
 pub file_found : (image : List ℕ) (d : Directory) (files : Drive) (slot : ℕ) (e : Entry) → Stands image d files → extent_slot d data_file 0 ≡ Some slot → entry_in d slot ≡ e
     → is_file e ≡ true
 file_found image d files slot e stands found is =

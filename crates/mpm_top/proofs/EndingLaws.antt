@@ -1,8 +1,10 @@
 -- Where files are told, a command ends as they say.
-use Rattle.std.proofs.Common.{◌≡◌, ◌∙◌, ℕ, ◌<◌, ◌≤◌, Bool, true, false, List, [], ◌∷◌, ◌++◌, Option, Some, None, IsSome, MatchOption, length, option_map, option_and_then, nat_lt, if◌then◌else◌, inl, inr, refl, sym, ap, subst, arith}
+use Rattle.std.proofs.Common.{◌≡◌, ◌∙◌, ℕ, ◌<◌, ◌≤◌, true, false, List, [], ◌∷◌, ◌++◌, Option, Some, None, IsSome, MatchOption, length, option_map, option_and_then, nat_lt, inl, inr, refl, sym, ap, subst, arith}
 use Rattle.std.specs.Prelude.{⊤, Result, Ok, Err, IsOk}
 use Rattle.std.proofs.lemmas.Bool.Decides.{nat_tests}
 use Rattle.std.proofs.lemmas.List.{length-append}
+use Rattle.std.proofs.lemmas.Option.{same_Some}
+use Rattle.std.proofs.lemmas.Bool.{cond-true, cond-false}
 use Rattle.mpm_script.specs.declared.event.Timed.{Timed}
 use Rattle.mpm_script.specs.Scripts.{script_of}
 use Rattle.mpm_machine_file.specs.MachineFiles.{machine_of_text}
@@ -36,18 +38,7 @@ known_contents : (told : Option (List ℕ)) (bytes file : List ℕ) → told ≡
 known_contents None bytes file e h = absurd (cc)
 known_contents (Some other) bytes file e h = h ∙ (cc)
 
-some_is : (one other : Status) → Some one ≡ Some other → one ≡ other
-some_is one other e = cc
-
--- a branch by a test
-when_true : {A : Type 0} (b : Bool) (one other : A) → b ≡ true → (if b then one else other) ≡ one
-when_true true one other e = refl
-when_true false one other e = absurd (cc)
-
-when_false : {A : Type 0} (b : Bool) (one other : A) → b ≡ false → (if b then one else other) ≡ other
-when_false true one other e = absurd (cc)
-when_false false one other e = refl
-
+-- a size against the room for it
 within : (room size : ℕ) → size ≤ room → nat_lt room size ≡ false
 within room size h = grind (arith, nat_tests)
 
@@ -60,14 +51,14 @@ ending_fits : (host : Host) (form : Form) (name bytes : List ℕ) → host.conte
 unfolding ending
 ending_fits host form name bytes told fits =
     ap (option_and_then (ending_by_contents host form)) told
-    ∙ when_false (nat_lt (room_for (input_of form)) (length bytes)) _ _ (within (room_for (input_of form)) (length bytes) fits)
+    ∙ cond-false (nat_lt (room_for (input_of form)) (length bytes)) _ _ (within (room_for (input_of form)) (length bytes) fits)
 
 ending_long : (host : Host) (form : Form) (name bytes : List ℕ) → host.contents name ≡ Some bytes → room_for (input_of form) < length bytes
     → ending host form name ≡ Some (TooLong (input_of form))
 unfolding ending
 ending_long host form name bytes told long =
     ap (option_and_then (ending_by_contents host form)) told
-    ∙ when_true (nat_lt (room_for (input_of form)) (length bytes)) _ _ (beyond (room_for (input_of form)) (length bytes) long)
+    ∙ cond-true (nat_lt (room_for (input_of form)) (length bytes)) _ _ (beyond (room_for (input_of form)) (length bytes) long)
 
 -- where a command begins, or its file names a script, its file stands for a system
 
@@ -101,13 +92,13 @@ script_fits : (contents : Contents) (drives : Option Status) (script text : List
     → ending_scripted contents drives (Some script) ≡ ending_read drives (script_of text)
 script_fits contents drives script text told fits =
     ap (option_and_then (ending_told drives)) told
-    ∙ when_false (nat_lt (room_for ScriptText) (length text)) (Some (TooLong ScriptText)) (ending_read drives (script_of text)) (within (room_for ScriptText) (length text) fits)
+    ∙ cond-false (nat_lt (room_for ScriptText) (length text)) (Some (TooLong ScriptText)) (ending_read drives (script_of text)) (within (room_for ScriptText) (length text) fits)
 
 script_long : (contents : Contents) (drives : Option Status) (script text : List ℕ) → contents script ≡ Some text → room_for ScriptText < length text
     → ending_scripted contents drives (Some script) ≡ Some (TooLong ScriptText)
 script_long contents drives script text told long =
     ap (option_and_then (ending_told drives)) told
-    ∙ when_true (nat_lt (room_for ScriptText) (length text)) (Some (TooLong ScriptText)) (ending_read drives (script_of text)) (beyond (room_for ScriptText) (length text) long)
+    ∙ cond-true (nat_lt (room_for ScriptText) (length text)) (Some (TooLong ScriptText)) (ending_read drives (script_of text)) (beyond (room_for ScriptText) (length text) long)
 
 some_given : {A : Type 0} (found : Option A) → IsSome found → (a : A) × (found ≡ Some a)
 some_given None some = absurd (cc)
@@ -144,7 +135,7 @@ attached_run spec (Bytes bytes) files rest status has e = sym (ap (λ (r : Resul
 drives_run : (images : Images) (specs : List DriveSpec) (drives : List NumberedDrive) (status : Status) → AreDrivesOf images specs drives
     → ending_drives images specs ≡ Some status → status ≡ Ran
 unfolding ending_drives
-drives_run images [] [] status are e = some_is status Ran (sym e)
+drives_run images [] [] status are e = same_Some status Ran (sym e)
 drives_run images [] (d ∷ drives) status are e = absurd are
 drives_run images (spec ∷ specs) [] status are e = absurd are
 drives_run images (spec ∷ specs) (d ∷ drives) status are e =
@@ -166,7 +157,7 @@ attached_fault : (spec : DriveSpec) (image : ToldImage) (fault : FaultOfImage) (
 attached_fault spec Untold fault rest status has e = absurd (cc)
 attached_fault spec Missing fault rest status has e = absurd has
 attached_fault spec (Bytes bytes) fault rest status has e =
-    some_is (ImageFault (number_of spec) fault.cause fault.place) status (sym (ap (λ (r : Result Drive FaultOfImage). ending_mounted spec r rest) has) ∙ e)
+    same_Some (ImageFault (number_of spec) fault.cause fault.place) status (sym (ap (λ (r : Result Drive FaultOfImage). ending_mounted spec r rest) has) ∙ e)
 
 first_fault_is : (images : Images) (specs : List DriveSpec) (old new : Failures) (drive cause place : ℕ) (status : Status)
     → IsFirst images (λ spec. StopsAt images spec old new (Image drive cause place)) specs → ending_drives images specs ≡ Some status
@@ -204,12 +195,12 @@ unread_says contents drives script old new status (ScriptFault line) unread e sa
     let fits : length found.0 ≤ room_for ScriptText = subst (λ (t : List ℕ). length t ≤ room_for ScriptText) is unread.contents_are.fits in
     let read : ending_read drives (script_of found.0) ≡ Some (ScriptFault line) =
     ap (λ t. ending_read drives (script_of t)) (sym is) ∙ ap (ending_read drives) unread.bad in
-    inl (some_is (ScriptFault line) status (sym read ∙ sym (script_fits contents drives script found.0 found.1 fits) ∙ e))
+    inl (same_Some (ScriptFault line) status (sym read ∙ sym (script_fits contents drives script found.0 found.1 fits) ∙ e))
 unread_says contents drives script old new status (ImageFault drive cause place) unread e same = absurd unread
 unread_says contents drives script old new status (TooLong what) unread e same =
     let found = some_given (contents script) (script_told contents drives script status e) in
     let long : room_for ScriptText < length found.0 = subst (λ (told : Option (List ℕ)). MatchOption told ⊤ (λ file. room_for ScriptText < length file)) found.1 unread.1 in
-    inl (some_is (TooLong what) status (ap (λ w. Some (TooLong w)) unread.0 ∙ sym (script_long contents drives script found.0 found.1 long) ∙ e))
+    inl (same_Some (TooLong what) status (ap (λ w. Some (TooLong w)) unread.0 ∙ sym (script_long contents drives script found.0 found.1 long) ∙ e))
 unread_says contents drives script old new status ReadFault unread e same = absurd (nothing_joins old script (sym same ∙ unread))
 unread_says contents drives script old new status (DiskFault step) unread e same = absurd unread
 unread_says contents drives script old new status (WriteFault step) unread e same = absurd unread
@@ -261,7 +252,7 @@ no_machine_says host form name file status fails told e =
     let fits : length file ≤ room_for (input_of form) = subst (λ (b : List ℕ). length b ≤ room_for (input_of form)) is fails.contents_are.fits in
     let none : system_of form file [] ≡ None = ap (λ b. system_of form b []) (sym is) ∙ fails.none in
     let drives = ending_drives host.images (drives_listed form file) in
-    some_is status MachineFault
+    same_Some status MachineFault
     (sym e ∙ ending_fits host form name file told fits ∙ ap (ending_stood host.contents drives (script_name form file)) none)
 
 file_told : (host : Host) (form : Form) (name : List ℕ) (status : Status) → ending host form name ≡ Some status → IsSome (host.contents name)
@@ -295,7 +286,7 @@ told_ending host form name old new status (TooLong what) (inl long) e same disk 
     let found = some_given (host.contents name) (file_told host form name status e) in
     let beyond : room_for (input_of form) < length found.0 =
     subst (λ (told : Option (List ℕ)). MatchOption told ⊤ (λ file. room_for (input_of form) < length file)) found.1 long.1 in
-    inl (some_is (TooLong what) status (ap (λ w. Some (TooLong w)) long.0 ∙ sym (ending_long host form name found.0 found.1 beyond) ∙ e))
+    inl (same_Some (TooLong what) status (ap (λ w. Some (TooLong w)) long.0 ∙ sym (ending_long host form name found.0 found.1 beyond) ∙ e))
 told_ending host form name old new status (TooLong what) (inr lacks) e same disk write =
     let found = some_given (host.contents name) (file_told host form name status e) in
     lacks_says host form name found.0 old.files new.files status (TooLong what) lacks found.1 e same

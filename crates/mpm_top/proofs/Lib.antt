@@ -1,5 +1,6 @@
 pub mod CommandLaws
 pub mod RunLaws
+pub mod StatusLaws
 pub mod Examples
 pub mod EndingLaws
 pub mod Naming

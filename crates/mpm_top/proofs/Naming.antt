@@ -1,12 +1,11 @@
 -- The images by the names that a machine file lists, and what they stand for.
-use Rattle.std.proofs.Common.{◌≡◌, ◌≢◌, ◌∙◌, ◌<◌, ℕ, true, List, [], ◌∷◌, Option, Some, None, length, inl, inr, refl, sym, ap, subst, arith}
+use Rattle.std.proofs.Common.{◌≡◌, ◌≢◌, ◌∙◌, ℕ, true, List, [], ◌∷◌, Option, Some, None, inl, inr, refl, sym, ap, subst}
 use Rattle.std.specs.Prelude.{◌⊎◌, Ok, is_some, option_map, option_and_then, slice_index_or, unwrap_or}
 use Rattle.std.specs.List.{AllByRecursion}
 use Rattle.std.proofs.lemmas.Bool.{false≢true, cases_eq}
+use Rattle.std.proofs.lemmas.Option.{same_Some, none-some}
 use Rattle.mpm_base.specs.declared.kind.Kind.{Kind}
-use Rattle.mpm_base.specs.declared.kind.Kind.TheVariants.{Ibm3740, Hd4, Hd8}
 use Rattle.mpm_port.specs.Disks.{Disks}
-use Rattle.mpm_blocks.specs.Geometries.{geometry_of}
 use Rattle.mpm_blocks.specs.Sectors.{told_image}
 use Rattle.mpm_machine_file.specs.declared.lists.DriveSpec.{DriveSpec}
 use Rattle.mpm_mount.specs.Drives.{Drive}
@@ -18,42 +17,25 @@ use Rattle.mpm_drives.specs.Mounted.{NumberedDrive, IsNamed, IsDriveOf, AreDrive
 use Rattle.mpm_requests.specs.Asking.{StandsWhere}
 use Rattle.mpm_bdos.specs.Serving.{directory_at}
 use Rattle.mpm_bdos.specs.Turns.{has_directory, labelled, told_images}
+use Rattle.mpm_bdos.proofs.NextTurns.{image_told}
 use Rattle.mpm_machine.specs.Mounting.{IsInPlace, HasDrives, KeepsMounted}
 use Rattle.mpm_machine.specs.Failing.{HaveImages}
 use Rattle.mpm_machine.proofs.FilingLaws.{label_none}
 use Rattle.mpm_machine.proofs.DriveLaws.{keeps_both, still_has_drives}
 use Rattle.mpm_top.specs.Runs.{StandFor, KeepsOthers}
 
-pub none_some : {X : Type 0} {x : X} → None ≡ Some x → ⊥
-none_some e = absurd (cc)
-
--- an image on which a directory stands is told
-
-some_bytes : (kind : Kind) → 0 < (geometry_of kind).bytes
-some_bytes Ibm3740 = omega arith
-some_bytes Hd4 = omega arith
-some_bytes Hd8 = omega arith
-
-told_by_size : (image : Option (List ℕ)) (bytes : ℕ) → length (unwrap_or image []) ≡ bytes → 0 < bytes → image ≡ Some (unwrap_or image [])
-told_by_size None bytes size some = absurd (omega (arith, size, some))
-told_by_size (Some image) bytes size some = refl
-
-pub told_there : (x : Option Disks) (number : ℕ) (kind : Kind) → length (told_images x number) ≡ (geometry_of kind).bytes → told_image x number ≡ Some (told_images x number)
-unfolding told_images
-told_there x number kind size = told_by_size (told_image x number) (geometry_of kind).bytes size (some_bytes kind)
-
 -- it is the one of the name by which its drive was attached
 
 named_image : (x : Option Disks) (number : ℕ) (name image : List ℕ) → IsNamed x number name → told_image x number ≡ Some image → image_named x name ≡ Bytes image
 unfolding IsNamed told_image image_named
-named_image None number name image named told = absurd (none_some told)
+named_image None number name image named told = absurd (none-some _ told)
 named_image (Some disks) number name image named told = ap found (sym (ap (option_and_then disks.image) named) ∙ told)
 
 files_named : (x : Option Disks) (number : ℕ) (name : List ℕ) (kind : Kind) (d : Directory) (files : Drive) → d.kind ≡ kind → IsNamed x number name → Stands (told_images x number) d files
     → HasFiles (image_named x name) kind files
 files_named x number name kind d files same named stands =
     subst (λ image. HasFiles image kind files)
-    (sym (named_image x number name (told_images x number) named (told_there x number d.kind stands.size)))
+    (sym (named_image x number name (told_images x number) named (image_told x number d.kind stands.size)))
     (subst (λ k. files_of (told_images x number) k ≡ Ok files) same (mounts (told_images x number) d files stands))
 
 -- a drive of a machine file
@@ -69,7 +51,7 @@ kind_labelled d number kind same = ap (λ (label : Option (ℕ × Kind)). (unwra
 named_by : (x : Option Disks) (drives : List (Option Drive)) (spec : DriveSpec) (directory : Option Directory) (drive : Option Drive)
     → option_map labelled directory ≡ Some (number_of spec, spec.kind) → IsNamed x (number_of spec) spec.image
     → StandsWhere (number_of spec) (told_images x (number_of spec)) directory drive → slice_index_or drives (number_of spec) None ≡ drive → Named x drives spec
-named_by x drives spec None drive label named stands at = absurd (none_some label)
+named_by x drives spec None drive label named stands at = absurd (none-some _ label)
 named_by x drives spec (Some d) None label named stands at = absurd stands
 named_by x drives spec (Some d) (Some files) label named stands at = record {
   drive = record { number = number_of spec; files = files };
@@ -107,7 +89,7 @@ all_named x mounted drives images (spec ∷ specs) each =
 none_stands : (number : ℕ) (image : List ℕ) (directory : Option Directory) (drive : Option Drive) → directory ≡ None → StandsWhere number image directory drive → drive ≡ None
 none_stands number image None None none stands = refl
 none_stands number image None (Some drive) none stands = absurd stands
-none_stands number image (Some d) drive none stands = absurd (none_some (sym none))
+none_stands number image (Some d) drive none stands = absurd (none-some _ (sym none))
 
 pub stand_by_name : (x : Option Disks) (specs : List DriveSpec) (mounted : List (Option Directory)) (drives : List (Option Drive)) → HasDrives x specs mounted → HaveImages x mounted drives
     → StandFor (image_named x) specs drives
@@ -136,9 +118,6 @@ stand_settled x y z one other last specs drives has keeps settled images =
 
 -- an image that the machine file doesn't list is as it was
 
-one_name : (a b : List ℕ) → Some a ≡ Some b → a ≡ b
-one_name a b e = cc
-
 either_apart : (disks : Disks) (mounted : List (Option Directory)) (specs : List DriveSpec) (number : ℕ) (name : List ℕ) → AllByRecursion (IsInPlace (Some disks) mounted) specs
     → AllByRecursion (λ spec. spec.image ≢ name) specs → (disks.name_of number ≢ Some name) ⊎ AllByRecursion (λ spec. number_of spec ≢ number) specs
 unfolding IsNamed
@@ -148,7 +127,7 @@ either_apart disks mounted (spec ∷ specs) number name each apart =
   where
     by_number : (number_of spec ≡ number) ⊎ (number_of spec ≢ number) → (disks.name_of number ≢ Some name) ⊎ AllByRecursion (λ s. number_of s ≢ number) specs
         → (disks.name_of number ≢ Some name) ⊎ AllByRecursion (λ s. number_of s ≢ number) (spec ∷ specs)
-    by_number (inl same) rest = inl (λ named. apart.0 (one_name spec.image name (sym (ap disks.name_of (sym same) ∙ each.0.name) ∙ named)))
+    by_number (inl same) rest = inl (λ named. apart.0 (same_Some spec.image name (sym (ap disks.name_of (sym same) ∙ each.0.name) ∙ named)))
     by_number (inr differs) (inl named) = inl named
     by_number (inr differs) (inr all) = inr (differs, all)
 

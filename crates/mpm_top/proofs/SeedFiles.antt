@@ -2,7 +2,7 @@
 use Rattle.std.proofs.Common.{◌≡◌, ◌≢◌, ◌∙◌, ℕ, zero, suc, ◌+◌, ◌<◌, ◌≤◌, ◌==◌, ◌&&◌, ◌||◌, ◌⊎◌, Bool, true, false, not, List, [], ◌∷◌, Some, None, length, map, take, get_or, refl, sym, ap, inl, inr, arith, ne_eqb, le-ltb}
 use Rattle.std.specs.Prelude.{Option, nat_lt, if◌then◌else◌}
 use Rattle.std.specs.List.{range_with_len, list_any}
-use Rattle.std.proofs.lemmas.Bool.{cases_lt}
+use Rattle.std.proofs.lemmas.Bool.{cases_lt, and_right}
 use Rattle.std.proofs.lemmas.Bool.Decides.{nat_tests}
 use Rattle.std.proofs.lemmas.List.FromFn.{length-map-range_with_len, get_or-map-range_with_len}
 use Rattle.mpm_base.specs.declared.kind.Kind.TheVariants.{Hd4}
@@ -44,15 +44,11 @@ number_is first count place = elim (cases_lt place count) [
   | inr beyond ↦ inl (none_behind first count place beyond)
 ]
 
-and_false : (b : Bool) → (b && false) ≡ false
-and_false true = refl
-and_false false = refl
-
 inside_by : (block : ℕ) → 8 ≤ block → block ≤ 2047 → (not (block == 0) && (nat_lt block 8 || nat_lt 2047 block)) ≡ false
 inside_by block low high =
     ap (λ (b : Bool). not (block == 0) && (b || nat_lt 2047 block)) (le-ltb block 8 low)
     ∙ ap (λ (b : Bool). not (block == 0) && b) (le-ltb 2047 block high)
-    ∙ and_false (not (block == 0))
+    ∙ and_right (not (block == 0)) false refl
 
 none_outside : (name : List ℕ) (first count place : ℕ) → 8 ≤ first → first ≤ 18 → count ≤ 9344 → place < 8 → is_outside Hd4 (file_for name first count) place ≡ false
 none_outside name first count place low high few less =
@@ -97,7 +93,7 @@ none_taken name first count place earlier some less apart =
           ap test there.1
           ∙ ap (λ (b : Bool). not (first + place == 0) && (b || has_at f place (first + place))) (apart (first + place) (omega arith))
           ∙ ap (λ (b : Bool). not (first + place == 0) && b) (none_before name first count place some less)
-          ∙ and_false (not (first + place == 0))
+          ∙ and_right (not (first + place == 0)) false refl
     ])
 
 -- it is at no fault behind others

@@ -65,9 +65,6 @@ unless_read_always OutOfMemory P p = p
 
 -- what a sink counted that was told the closed text of some steps
 
-pub same_some : (xs ys : List ℕ) → Some xs ≡ Some ys → xs ≡ ys
-same_some xs ys e = cc
-
 pub are_found : (seed steps : ℕ) (system : System) (begins_files : Drive) {E : Type 0} (result : Result Found E) → files_of (image_of seed) Hd4 ≡ Ok begins_files
     → system ≡ opened machine script → IfOk result (λ found. AreOf steps (begun system (drive_a begins_files)) found) → IfOk result (λ found. AreFound seed steps found)
 are_found seed steps system files (Err error) are is of = tt

@@ -3,6 +3,7 @@ use Rattle.std.proofs.Common.{◌≡◌, ◌≢◌, ◌∙◌, ℕ, false, Bool,
 use Rattle.std.specs.Prelude.{◌⊎◌, option_map}
 use Rattle.std.specs.List.{AllByRecursion}
 use Rattle.std.proofs.lemmas.List.Elements.{All-from_recursion}
+use Rattle.std.proofs.lemmas.Option.{none-some}
 use Rattle.mpm_base.specs.declared.kind.Kind.{Kind}
 use Rattle.mpm_port.specs.Disks.{Disks}
 use Rattle.mpm_machine_file.specs.declared.lists.DriveSpec.{DriveSpec}
@@ -14,7 +15,6 @@ use Rattle.mpm_bdos.specs.Turns.{labelled}
 use Rattle.mpm_machine.specs.declared.machine.Machine.{Machine}
 use Rattle.mpm_machine.specs.Mounting.{IsInPlace, HasDrives}
 use Rattle.mpm_top.specs.Runs.{AttachesMounted, AreSyncedOf, SyncsAttached}
-use Rattle.mpm_top.proofs.Naming.{none_some}
 
 -- what isn't mounted the machine file doesn't list, so that it is attached as it was
 
@@ -22,7 +22,7 @@ unlisted : (disks : Option Disks) (mounted : List (Option Directory)) (specs : L
     → directory_at mounted number ≡ None → AllByRecursion (λ spec. number_of spec ≢ number) specs
 unlisted disks mounted [] number each free = tt
 unlisted disks mounted (spec ∷ specs) number each free = (
-  (λ same. none_some (sym (ap (option_map labelled) (ap (directory_at mounted) same ∙ free)) ∙ each.0.label)),
+  (λ same. none-some _ (sym (ap (option_map labelled) (ap (directory_at mounted) same ∙ free)) ∙ each.0.label)),
   unlisted disks mounted specs number each.1 free,
 )
 
@@ -35,7 +35,7 @@ attaches_mounted specs before behind disks now mounted beside has number free =
 
 if_there : (old new : Option Directory) (P : Type 0) → option_map labelled new ≡ option_map labelled old → IfSome new (λ d. P) → IfSome old (λ d. P)
 if_there None new P same p = tt
-if_there (Some d) None P same p = absurd (none_some same)
+if_there (Some d) None P same p = absurd (none-some _ same)
 if_there (Some d) (Some e) P same p = p
 
 pub synced_before : (unsynced : ℕ → Bool) (old new : List (Option Directory)) → ((number : ℕ) → option_map labelled (directory_at new number) ≡ option_map labelled (directory_at old number))
@@ -46,7 +46,7 @@ synced_before unsynced old new labels synced number =
 -- so each that the machine file lists is synced
 
 where_labelled : (directory : Option Directory) (label : ℕ × Kind) (P : Type 0) → option_map labelled directory ≡ Some label → IfSome directory (λ d. P) → P
-where_labelled None label P is p = absurd (none_some is)
+where_labelled None label P is p = absurd (none-some _ is)
 where_labelled (Some d) label P is p = p
 
 pub listed_synced : (disks : Option Disks) (mounted : List (Option Directory)) (unsynced : ℕ → Bool) (specs : List DriveSpec) → AllByRecursion (IsInPlace disks mounted) specs

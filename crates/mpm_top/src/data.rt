@@ -79,7 +79,7 @@ fn first_byte(mounted: &Mounted, place: u8, drives: &mut SteadyDrives) -> u8
 }
 
 /// The sector of a record that is there.
-#[tactic(auto, using(crate::proofs::DataLaws::slot_within))]
+#[tactic(auto, using(mpm_mount::proofs::Positions::slot_within))]
 fn sector_of(mounted: &Mounted, place: u8) -> Option<u32>
     requires kind { mounted.now.kind ≡ Hd4 }
     requires place { place < 32 }

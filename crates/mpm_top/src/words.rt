@@ -1,5 +1,4 @@
-ghost use Rattle.std.specs.Prelude.{◌≡◌, ◌∷◌, [], ◌<◌, ◌≤◌, ℕ, List, Option, Some, None, MatchOption, IfSome, string_bytes, slice_index_or, if◌then◌else◌, ◌&&◌, nat_le, length, Bool, true, false};
-ghost use Rattle.std.specs.List.{list_all};
+ghost use Rattle.std.specs.Prelude.{◌≡◌, ◌<◌, ◌≤◌, Option, Some, None, MatchOption, IfSome, true, false};
 ghost use Rattle.mpm_top.specs.Words.{texts, steps_of as number_of, form_of as form_said, command_with, command_of, IsAsked, AreAsking};
 
 use mpm_script::GREATEST_STEP;

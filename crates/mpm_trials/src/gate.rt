@@ -1,5 +1,4 @@
 //! What a kernel call reads as it is taken, and its reply as it is placed.
-ghost use Rattle.std.specs.Prelude.{All};
 ghost use Rattle.mpm_banks.specs.Allocations.{FitsBelowCommon};
 
 use mpm_banks::{Banks, OutOfMemory};

@@ -1,6 +1,5 @@
-//! Tests of what calls and runs are made of: values, devices in memory, scripts, what is rendered, the memory of a machine, and
-//! the gate. They stand above the crates that they try, so that none of these is proved once more for its tests; each sees what
-//! any caller of them does.
+//! Tests of what calls are made of: values, devices in memory, the memory of a machine, and the gate. They stand above the crates that
+//! they try, so that none of these is proved once more for its tests; each sees what any caller of them does.
 #![tactic(auto)]
 
 #[cfg(test)]
@@ -8,10 +7,6 @@ mod devices;
 #[cfg(test)]
 mod gate;
 #[cfg(test)]
-mod lines;
-#[cfg(test)]
 mod memory;
-#[cfg(test)]
-mod scripts;
 #[cfg(test)]
 mod values;

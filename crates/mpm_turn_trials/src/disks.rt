@@ -6,7 +6,7 @@ ghost use Rattle.mpm_blocks.specs.Geometries.{geometry_of};
 
 use mpm_base::Kind;
 use mpm_blocks::geometry;
-use mpm_images::{Entry, layout_of, place};
+use mpm_images::{Entry, directory_sector, entry_in, layout_of, place, record_at};
 use mpm_port::{Drives, MemoryDrives};
 use std::alloc::Global;
 use std::test::Fail;
@@ -47,17 +47,6 @@ fn empty_block(drives: &mut MemoryDrives, kind: Kind, block: u16)
     }
 }
 
-/// The bytes of the directory's sector with the entries from a slot on.
-fn directory_sector(entries: &[Entry], slot: usize) -> [u8; 128] {
-    let mut sector = [0xE5; 128];
-    for (byte, value) in sector.iter_mut().enumerate() {
-        if let Some(entry) = entries.get(slot.saturating_add(byte / 32)) {
-            *value = entry[byte % 32];
-        }
-    }
-    sector
-}
-
 /// Puts the first eight slots of drive 0 as they were, and the first three blocks of files and the last.
 pub(crate) fn restore(drives: &mut MemoryDrives, kind: Kind, entries: &[Entry])
     requires { size_of drives.old 0 ≡ Some (geometry_of kind).bytes }
@@ -70,17 +59,6 @@ pub(crate) fn restore(drives: &mut MemoryDrives, kind: Kind, entries: &[Entry])
     empty_block(drives, kind, layout.first.saturating_add(1));
     empty_block(drives, kind, layout.first.saturating_add(2));
     empty_block(drives, kind, layout.last);
-}
-
-/// One of the four entries of a sector.
-fn entry_in(sector: &[u8; 128], index: usize) -> Entry {
-    let mut entry = [0; 32];
-    for (byte, value) in entry.iter_mut().enumerate() {
-        if let Some(found) = sector.get((index % 4 * 32).saturating_add(byte)) {
-            *value = *found;
-        }
-    }
-    entry
 }
 
 /// The entries of the first eight slots of drive 0.
@@ -97,44 +75,26 @@ pub(crate) fn entries(drives: &mut MemoryDrives, kind: Kind) -> [Entry; 8]
     entries
 }
 
-/// The number of a block at a place of an entry.
-fn block_at(kind: Kind, entry: &Entry, index: u32) -> u32 {
-    if layout_of(kind).is_wide {
-        let at = (index % 8 * 2) as usize;
-        u32::from(u16::from_le_bytes([entry[16 + at], entry[17 + at]]))
-    } else {
-        u32::from(entry[16 + (index % 16) as usize])
-    }
-}
-
 /// Where behind the system's tracks the record of a number is, if the entry is of the file of user 0 with that letter and has it.
-fn record_at(kind: Kind, entry: &Entry, letter: u8, number: u32) -> Option<u32> {
-    let layout = layout_of(kind);
+fn record_of(kind: Kind, entry: &Entry, letter: u8, number: u32) -> Option<u32> {
+    let covered = layout_of(kind).entry;
     let last = 32 * u32::from(entry[14]) + u32::from(entry[12]);
     if entry[0] != 0 || entry[1] % 128 != letter {
         return None;
     }
-    if last * 128 / layout.entry != number / layout.entry {
+    if last * 128 / covered != number / covered {
         return None;
     }
     if number >= last * 128 + u32::from(entry[15]) {
         return None;
     }
-    let block = block_at(kind, entry, number % layout.entry / layout.block);
-    if block == 0 {
-        return None;
-    }
-    Some(
-        block
-            .saturating_mul(layout.block)
-            .saturating_add(number % layout.block),
-    )
+    record_at(kind, entry, number)
 }
 
 /// The same, if one of the entries has it.
 fn record_among(kind: Kind, entries: &[Entry; 8], letter: u8, number: u32) -> Option<u32> {
     for entry in entries {
-        if let Some(at) = record_at(kind, entry, letter, number) {
+        if let Some(at) = record_of(kind, entry, letter, number) {
             return Some(at);
         }
     }

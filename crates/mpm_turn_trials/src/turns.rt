@@ -1,5 +1,5 @@
 //! Jobs by their turns on drive 0 in memory, where a call of the drive fails, and what is then seen of the disk.
-ghost use Rattle.std.specs.Prelude.{◌≡◌, ◌<◌, Some, IsSome, IsTrue, IfOk};
+ghost use Rattle.std.specs.Prelude.{◌≡◌, ◌<◌, Some, IsSome, IfOk};
 ghost use Rattle.mpm_port.specs.MemoryDisks.{size_of, disks_of};
 ghost use Rattle.mpm_blocks.specs.Geometries.{geometry_of};
 ghost use Rattle.mpm_cache.specs.Coherent.{IsCoherent, HasNoAlias};

@@ -1,5 +1,5 @@
 -- Descriptors of segments: none yet, and one more. Where copies of descriptors stand.
-use Rattle.std.proofs.Common.{◌≡◌, ℕ, suc, ◌+◌, ◌<◌, ◌≤◌, [], ◌++◌, refl, arith, ap, sym}
+use Rattle.std.proofs.Common.{◌≡◌, ℕ, ◌+◌, ◌<◌, ◌≤◌, [], ◌++◌, refl, arith, ap, sym, add-one}
 use Rattle.mpm_banks.specs.Memory.{Memory}
 use Rattle.mpm_xdos.specs.Aborting.{copy_address}
 use Rattle.mpm_xdos.specs.Copies.{segment_descriptor, segment_descriptors}
@@ -8,12 +8,9 @@ pub no_descriptor : (memory : Memory) → [] ≡ segment_descriptors 0 memory
 unfolding segment_descriptors
 no_descriptor memory = refl
 
-one_more : (n : ℕ) → n + 1 ≡ suc n
-one_more n = omega arith
-
 pub descriptors_more : (n : ℕ) (memory : Memory) → segment_descriptors n memory ++ segment_descriptor memory n ≡ segment_descriptors (n + 1) memory
 unfolding segment_descriptors
-descriptors_more n memory = sym (ap (λ m. segment_descriptors m memory) (one_more n))
+descriptors_more n memory = sym (ap (λ m. segment_descriptors m memory) (add-one n))
 
 -- the copies of the descriptors of 32 slots stand in common memory, below the copy of the system data page, and apart
 pub copy_within : (p : ℕ) → p < 32 → (49152 ≤ copy_address p) × (copy_address p + 52 ≤ 65280)

@@ -1,5 +1,5 @@
 -- What an end of a process gives back of memory: what it reserved, and its own segment where nobody else lives there.
--- (MP/M II Programmer's Guide, functions 0, "System Reset", and 143, "Terminate Process".)
+-- (MP/M II Programmer's Guide, "Function 0: System Reset", "Function 143: Terminate Process".)
 use Rattle.std.specs.Prelude.{ℕ, Bool, false, Option, Some, None, ◌&&◌, ◌==◌, if◌then◌else◌}
 use Rattle.std.specs.List.{list_any, range_with_len}
 use Rattle.mpm_banks.specs.Memory.{Memory}

@@ -13,10 +13,10 @@ ghost use Rattle.z80_alu.specs.Bits.{
   rotated_a_flags,
 };
 
-use crate::flags::{Flags, one_if};
+use crate::flags::{Flags, one_if, sign_zero_parity_bits};
 use crate::kinds::{Logic, Rotate};
 
-#[inline]
+#[inline(always)]
 fn combine(kind: Logic, a: u8, b: u8) -> u8
     ensures { result ≡ combined kind a b }
 {
@@ -28,7 +28,7 @@ fn combine(kind: Logic, a: u8, b: u8) -> u8
 }
 
 /// AND sets H.
-#[inline]
+#[inline(always)]
 fn is_and_kind(kind: Logic) -> bool
     ensures { result ≡ is_and kind }
 {
@@ -41,23 +41,24 @@ fn is_and_kind(kind: Logic) -> bool
 
 /// AND, OR and XOR: the result, and the new F (UM0080, "8-Bit Arithmetic Group").
 #[inline(always)]
-#[tactic(auto, unfolding(crate::specs::Bits::logic_flags))]
+#[tactic(auto, unfolding(crate::specs::Bits::logic_flags, crate::specs::Flags::byte_of))]
 pub fn logic(kind: Logic, a: u8, b: u8, f: u8) -> (u8, u8)
     ensures value { result.0 ≡ combined kind a b }
     ensures flags { result.1 ≡ logic_flags kind a b f }
 {
     let value = combine(kind, a, b);
-    let flags = Flags {
-        half_carry: is_and_kind(kind),
-        subtract: false,
-        carry: false,
-        ..Flags::of(f).sign_zero_parity(value)
-    };
-    (value, flags.byte())
+    let flags = Flags::of(f);
+    (
+        value,
+        sign_zero_parity_bits(value)
+            + 32 * one_if(flags.five)
+            + 16 * one_if(is_and_kind(kind))
+            + 8 * one_if(flags.three),
+    )
 }
 
 /// One to the left, with the bit that comes in as bit 0.
-#[inline]
+#[inline(always)]
 fn to_left(incoming: bool, value: u8) -> u8
     ensures { result ≡ left_with incoming value }
 {
@@ -65,7 +66,7 @@ fn to_left(incoming: bool, value: u8) -> u8
 }
 
 /// One to the right, with the bit that comes in as bit 7.
-#[inline]
+#[inline(always)]
 fn to_right(incoming: bool, value: u8) -> u8
     ensures { result ≡ right_with incoming value }
 {
@@ -73,7 +74,7 @@ fn to_right(incoming: bool, value: u8) -> u8
 }
 
 /// The value rotated or shifted by one, with the carry before.
-#[inline]
+#[inline(always)]
 fn rotate_by_one(kind: Rotate, value: u8, carry: bool) -> u8
     ensures { result ≡ rotated kind value carry }
 {
@@ -90,7 +91,7 @@ fn rotate_by_one(kind: Rotate, value: u8, carry: bool) -> u8
 }
 
 /// The bit that moves out.
-#[inline]
+#[inline(always)]
 fn bit_moved_out(kind: Rotate, value: u8) -> bool
     ensures { result ≡ moved_out kind value }
 {
@@ -101,7 +102,7 @@ fn bit_moved_out(kind: Rotate, value: u8) -> bool
 }
 
 /// The flags with the bit that moves out.
-#[inline]
+#[inline(always)]
 fn set_moved_out(kind: Rotate, value: u8, flags: Flags) -> Flags
     ensures { result ≡ with_moved_out kind value flags }
 {
@@ -115,8 +116,8 @@ fn set_moved_out(kind: Rotate, value: u8, flags: Flags) -> Flags
 
 /// RLC, RRC, RL, RR, SLA, SRA, SRL and SLL: the result, and the new F (UM0080, "Rotate and Shift Group"; SLL has the flags
 /// of SLA).
-#[inline]
-#[tactic(auto, unfolding(crate::specs::Bits::rotated_flags))]
+#[inline(always)]
+#[tactic(auto, unfolding(crate::specs::Bits::rotated_flags, crate::specs::Flags::byte_of))]
 pub fn rotate(kind: Rotate, value: u8, f: u8) -> (u8, u8)
     ensures value { result.0 ≡ rotated kind value (has f 1) }
     ensures flags { result.1 ≡ rotated_flags kind value f }
@@ -125,7 +126,10 @@ pub fn rotate(kind: Rotate, value: u8, f: u8) -> (u8, u8)
     let turned = rotate_by_one(kind, value, flags.carry);
     (
         turned,
-        set_moved_out(kind, value, flags.sign_zero_parity(turned)).byte(),
+        sign_zero_parity_bits(turned)
+            + 32 * one_if(flags.five)
+            + 8 * one_if(flags.three)
+            + one_if(bit_moved_out(kind, value)),
     )
 }
 

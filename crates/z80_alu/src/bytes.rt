@@ -15,7 +15,7 @@ ghost use Rattle.z80_alu.specs.Bytes.{
 use crate::flags::{Flags, one_if};
 
 /// Whether the low nibbles of a + b + carry are over 15.
-#[inline]
+#[inline(always)]
 fn is_sum_half_carry(a: u8, b: u8, carry: bool) -> bool
     ensures { result ≡ sum_half_carries a b carry }
 {
@@ -23,7 +23,7 @@ fn is_sum_half_carry(a: u8, b: u8, carry: bool) -> bool
 }
 
 /// Whether a + b + carry as signed numbers is outside -128 to 127.
-#[inline]
+#[inline(always)]
 fn is_sum_overflow(a: u8, b: u8, carry: bool) -> bool
     ensures { result ≡ sum_overflows a b carry }
 {
@@ -34,7 +34,7 @@ fn is_sum_overflow(a: u8, b: u8, carry: bool) -> bool
 }
 
 /// Whether the low nibble of a is below that of b and the carry.
-#[inline]
+#[inline(always)]
 pub fn is_half_borrow(a: u8, b: u8, carry: bool) -> bool
     ensures { result ≡ difference_half_borrows a b carry }
 {
@@ -42,7 +42,7 @@ pub fn is_half_borrow(a: u8, b: u8, carry: bool) -> bool
 }
 
 /// Whether a - b - carry as signed numbers is outside -128 to 127.
-#[inline]
+#[inline(always)]
 fn is_sub_overflow(a: u8, b: u8, carry: bool) -> bool
     ensures { result ≡ difference_overflows a b carry }
 {

@@ -1,5 +1,5 @@
-ghost use Rattle.std.specs.Prelude.{◌≡◌, ◌<◌};
-ghost use Rattle.z80_alu.specs.Flags.{bit, flags_of, byte_of, with_sign_zero, with_byte};
+ghost use Rattle.std.specs.Prelude.{◌≡◌, ◌<◌, ◌+◌, ◌*◌, ◌==◌};
+ghost use Rattle.z80_alu.specs.Flags.{bit, is_negative, has_even_parity, flags_of, byte_of, with_sign_zero, with_byte};
 
 /// The flags (UM0080, "Z80 Status Indicator Flags"); their byte F holds them from bit 7 down.
 #[derive(Clone, Copy, Debug, PartialEq, Eq)]
@@ -24,7 +24,7 @@ pub struct Flags {
 
 impl Flags {
     /// The flags of a byte.
-    #[inline]
+    #[inline(always)]
     pub fn of(f: u8) -> Flags
         ensures { result ≡ flags_of f }
     {
@@ -41,7 +41,7 @@ impl Flags {
     }
 
     /// The byte of the flags.
-    #[inline]
+    #[inline(always)]
     #[tactic(auto, unfolding(crate::specs::Flags::byte_of))]
     pub fn byte(self) -> u8
         ensures { result ≡ byte_of self }
@@ -57,7 +57,7 @@ impl Flags {
     }
 
     /// The flags with S and Z of a byte.
-    #[inline]
+    #[inline(always)]
     pub fn sign_zero(self, value: u8) -> Flags
         ensures { result ≡ with_sign_zero value self }
     {
@@ -69,7 +69,7 @@ impl Flags {
     }
 
     /// The flags with S, Z and parity of a byte.
-    #[inline]
+    #[inline(always)]
     pub fn sign_zero_parity(self, value: u8) -> Flags
         ensures { result ≡ with_byte value self }
     {
@@ -81,10 +81,34 @@ impl Flags {
 }
 
 /// A fact as a bit: 1 where it holds.
-#[inline]
+#[inline(always)]
 pub fn one_if(fact: bool) -> u8
     ensures value { result ≡ bit fact }
     ensures below_two { result < 2 }
 {
     if fact { 1 } else { 0 }
+}
+
+/// S, Z and parity of each byte, as bits of F.
+const SIGN_ZERO_PARITY: [u8; 256] = [
+    68, 0, 0, 4, 0, 4, 4, 0, 0, 4, 4, 0, 4, 0, 0, 4, 0, 4, 4, 0, 4, 0, 0, 4, 4, 0, 0, 4, 0, 4, 4,
+    0, 0, 4, 4, 0, 4, 0, 0, 4, 4, 0, 0, 4, 0, 4, 4, 0, 4, 0, 0, 4, 0, 4, 4, 0, 0, 4, 4, 0, 4, 0, 0,
+    4, 0, 4, 4, 0, 4, 0, 0, 4, 4, 0, 0, 4, 0, 4, 4, 0, 4, 0, 0, 4, 0, 4, 4, 0, 0, 4, 4, 0, 4, 0, 0,
+    4, 4, 0, 0, 4, 0, 4, 4, 0, 0, 4, 4, 0, 4, 0, 0, 4, 0, 4, 4, 0, 4, 0, 0, 4, 4, 0, 0, 4, 0, 4, 4,
+    0, 128, 132, 132, 128, 132, 128, 128, 132, 132, 128, 128, 132, 128, 132, 132, 128, 132, 128,
+    128, 132, 128, 132, 132, 128, 128, 132, 132, 128, 132, 128, 128, 132, 132, 128, 128, 132, 128,
+    132, 132, 128, 128, 132, 132, 128, 132, 128, 128, 132, 128, 132, 132, 128, 132, 128, 128, 132,
+    132, 128, 128, 132, 128, 132, 132, 128, 132, 128, 128, 132, 128, 132, 132, 128, 128, 132, 132,
+    128, 132, 128, 128, 132, 128, 132, 132, 128, 132, 128, 128, 132, 132, 128, 128, 132, 128, 132,
+    132, 128, 128, 132, 132, 128, 132, 128, 128, 132, 132, 128, 128, 132, 128, 132, 132, 128, 132,
+    128, 128, 132, 128, 132, 132, 128, 128, 132, 132, 128, 132, 128, 128, 132,
+];
+
+/// S, Z and parity of a byte, as bits of F.
+#[inline(always)]
+#[tactic(auto, using(crate::proofs::FlagTable::flags_at))]
+pub fn sign_zero_parity_bits(value: u8) -> u8
+    ensures { result ≡ 128 * bit (is_negative value) + 64 * bit (value == 0) + 4 * bit (has_even_parity value) }
+{
+    SIGN_ZERO_PARITY[usize::from(value)]
 }

@@ -16,7 +16,7 @@ ghost use Rattle.z80_alu.specs.Pairs.{
 use crate::flags::{Flags, one_if};
 
 /// The flags with S and Z of a word.
-#[inline]
+#[inline(always)]
 fn set_word(flags: Flags, value: u16) -> Flags
     ensures { result ≡ with_word value flags }
 {
@@ -28,7 +28,7 @@ fn set_word(flags: Flags, value: u16) -> Flags
 }
 
 /// Whether a + b + carry carries from bit 11.
-#[inline]
+#[inline(always)]
 fn is_word_half_carry(a: u16, b: u16, carry: bool) -> bool
     ensures { result ≡ word_sum_half_carries a b carry }
 {
@@ -36,7 +36,7 @@ fn is_word_half_carry(a: u16, b: u16, carry: bool) -> bool
 }
 
 /// Whether a + b + carry as signed numbers is outside -32,768 to 32,767.
-#[inline]
+#[inline(always)]
 fn is_word_sum_overflow(a: u16, b: u16, carry: bool) -> bool
     ensures { result ≡ word_sum_overflows a b carry }
 {
@@ -47,7 +47,7 @@ fn is_word_sum_overflow(a: u16, b: u16, carry: bool) -> bool
 }
 
 /// Whether a - b - carry borrows at bit 11.
-#[inline]
+#[inline(always)]
 fn is_word_half_borrow(a: u16, b: u16, carry: bool) -> bool
     ensures { result ≡ word_difference_half_borrows a b carry }
 {
@@ -55,7 +55,7 @@ fn is_word_half_borrow(a: u16, b: u16, carry: bool) -> bool
 }
 
 /// Whether a - b - carry as signed numbers is outside -32,768 to 32,767.
-#[inline]
+#[inline(always)]
 fn is_word_sub_overflow(a: u16, b: u16, carry: bool) -> bool
     ensures { result ≡ word_difference_overflows a b carry }
 {
@@ -65,7 +65,7 @@ fn is_word_sub_overflow(a: u16, b: u16, carry: bool) -> bool
 }
 
 /// ADD HL, ADD IX and ADD IY: a + b, and the new F (UM0080, "16-Bit Arithmetic Group").
-#[inline]
+#[inline(always)]
 #[tactic(auto, unfolding(crate::specs::Pairs::word_add_flags))]
 pub fn add16(a: u16, b: u16, f: u8) -> (u16, u8)
     ensures sum { result.0 ≡ word_sum_of a b false }
@@ -81,7 +81,7 @@ pub fn add16(a: u16, b: u16, f: u8) -> (u16, u8)
 }
 
 /// ADC HL: a + b + C, and the new F (UM0080, "16-Bit Arithmetic Group").
-#[inline]
+#[inline(always)]
 #[tactic(auto, unfolding(crate::specs::Pairs::word_sum_flags))]
 pub fn adc16(a: u16, b: u16, f: u8) -> (u16, u8)
     ensures sum { result.0 ≡ word_sum_of a b (has f 1) }
@@ -101,7 +101,7 @@ pub fn adc16(a: u16, b: u16, f: u8) -> (u16, u8)
 }
 
 /// SBC HL: a - b - C, and the new F (UM0080, "16-Bit Arithmetic Group").
-#[inline]
+#[inline(always)]
 #[tactic(auto, unfolding(crate::specs::Pairs::word_difference_flags))]
 pub fn sbc16(a: u16, b: u16, f: u8) -> (u16, u8)
     ensures difference { result.0 ≡ word_difference_of a b (has f 1) }

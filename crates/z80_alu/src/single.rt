@@ -15,7 +15,7 @@ use crate::bytes::is_half_borrow;
 use crate::flags::Flags;
 
 /// The new F of CPL.
-#[inline]
+#[inline(always)]
 #[tactic(auto, unfolding(crate::specs::Single::complement_flags_of))]
 pub fn complement_flags(f: u8) -> u8
     ensures { result ≡ complement_flags_of f }
@@ -29,7 +29,7 @@ pub fn complement_flags(f: u8) -> u8
 }
 
 /// The new F of SCF.
-#[inline]
+#[inline(always)]
 #[tactic(auto, unfolding(crate::specs::Single::carry_set_flags))]
 pub fn set_carry_flags(f: u8) -> u8
     ensures { result ≡ carry_set_flags f }
@@ -44,7 +44,7 @@ pub fn set_carry_flags(f: u8) -> u8
 }
 
 /// The new F of CCF: H is the C before.
-#[inline]
+#[inline(always)]
 #[tactic(auto, unfolding(crate::specs::Single::carry_complemented_flags))]
 pub fn complement_carry_flags(f: u8) -> u8
     ensures { result ≡ carry_complemented_flags f }
@@ -60,7 +60,7 @@ pub fn complement_carry_flags(f: u8) -> u8
 }
 
 /// The new F of BIT, by whether the bit is 0.
-#[inline]
+#[inline(always)]
 #[tactic(auto, unfolding(crate::specs::Single::bit_test_flags))]
 pub fn bit_flags(bit_is_zero: bool, f: u8) -> u8
     ensures { result ≡ bit_test_flags bit_is_zero f }
@@ -75,7 +75,7 @@ pub fn bit_flags(bit_is_zero: bool, f: u8) -> u8
 }
 
 /// The new F of LD A,I and LD A,R, by the value and IFF2.
-#[inline]
+#[inline(always)]
 #[tactic(auto, unfolding(crate::specs::Single::interrupt_load_flags))]
 pub fn load_flags(value: u8, iff2: bool, f: u8) -> u8
     ensures { result ≡ interrupt_load_flags value iff2 f }
@@ -90,7 +90,7 @@ pub fn load_flags(value: u8, iff2: bool, f: u8) -> u8
 }
 
 /// The new F of IN r,(C), by the value, and of RLD and RRD, by the new A.
-#[inline]
+#[inline(always)]
 #[tactic(auto, unfolding(crate::specs::Single::byte_flags))]
 pub fn value_flags(value: u8, f: u8) -> u8
     ensures { result ≡ byte_flags value f }
@@ -104,7 +104,7 @@ pub fn value_flags(value: u8, f: u8) -> u8
 }
 
 /// The new F of LDI, LDD, LDIR and LDDR, by whether the new BC isn't 0.
-#[inline]
+#[inline(always)]
 #[tactic(auto, unfolding(crate::specs::Single::block_load_flags_of))]
 pub fn block_load_flags(more: bool, f: u8) -> u8
     ensures { result ≡ block_load_flags_of more f }
@@ -119,7 +119,7 @@ pub fn block_load_flags(more: bool, f: u8) -> u8
 }
 
 /// The new F of CPI, CPD, CPIR and CPDR, by A, the byte that it is compared with, and whether the new BC isn't 0.
-#[inline]
+#[inline(always)]
 #[tactic(auto, unfolding(crate::specs::Single::block_compare_flags_of))]
 pub fn block_compare_flags(a: u8, b: u8, more: bool, f: u8) -> u8
     ensures { result ≡ block_compare_flags_of a b more f }
@@ -135,7 +135,7 @@ pub fn block_compare_flags(a: u8, b: u8, more: bool, f: u8) -> u8
 }
 
 /// The new F of INI, IND, OUTI, OUTD and their repeats, by whether the new B is 0.
-#[inline]
+#[inline(always)]
 #[tactic(auto, unfolding(crate::specs::Single::block_port_flags_of))]
 pub fn block_port_flags(is_done: bool, f: u8) -> u8
     ensures { result ≡ block_port_flags_of is_done f }

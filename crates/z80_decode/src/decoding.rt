@@ -40,7 +40,7 @@ pub fn extended_tail(form: ExtendedForm) -> Tail
 
 /// What stands behind the opcode in a form behind DDh and FDh.
 #[inline]
-pub fn index_tail(form: IndexForm) -> Tail
+fn index_tail(form: IndexForm) -> Tail
     ensures { result ≡ index_tail_of form }
 {
     match form {
@@ -86,6 +86,18 @@ pub fn main_length(form: Form) -> u8
         Tail::Nothing => 1,
         Tail::Byte | Tail::Displacement => 2,
         Tail::Word | Tail::DisplacementByte => 3,
+    }
+}
+
+/// How many bytes an instruction of a form behind DDh or FDh has, by itself: whatever its page and its bytes are.
+#[inline(always)]
+pub fn index_length(form: IndexForm) -> u8
+    ensures { (page : Page) (opcode first second : ℕ) → result ≡ (instr_with (index_tail_of form) page 2 opcode first second).length }
+{
+    match index_tail(form) {
+        Tail::Nothing => 2,
+        Tail::Byte | Tail::Displacement => 3,
+        Tail::Word | Tail::DisplacementByte => 4,
     }
 }
 

@@ -4,7 +4,7 @@ ghost use Rattle.z80_decode.specs.Fields.{operand_of};
 use crate::forms::Operand;
 
 /// The operand that three bits name.
-#[inline]
+#[inline(always)]
 #[tactic(auto, unfolding(crate::specs::Fields::operand_of))]
 pub fn operand_at(y: u8) -> Operand
     ensures { result ≡ operand_of y }

@@ -1,19 +1,7 @@
-ghost use Rattle.std.specs.Prelude.{◌≡◌, ◌↔◌, true, IsNone};
+ghost use Rattle.std.specs.Prelude.{◌≡◌};
 ghost use Rattle.z80_decode.specs.Opcodes.{form_of};
 
 use crate::forms::{Condition, Form, Math, Operand, Pair, Rotation, StackPair};
-
-/// Whether an opcode is a prefix, behind which an opcode of another page stands: CBh, DDh, EDh or FDh.
-#[inline(always)]
-#[tactic(auto, unfolding(crate::specs::Opcodes::form_of, crate::specs::Opcodes::high_quarter))]
-pub fn is_prefix(opcode: u8) -> bool
-    ensures { (result ≡ true) ↔ IsNone (form_of opcode) }
-{
-    match opcode {
-        0xcb | 0xdd | 0xed | 0xfd => true,
-        _ => false,
-    }
-}
 
 /// The form of an opcode without prefix, or None where it is a prefix. With a row for each opcode, whose operands are
 /// constants, the `match` becomes the one jump of a step; the last row is FFh, so that the jump needs no test of its

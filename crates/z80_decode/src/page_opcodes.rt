@@ -14,6 +14,7 @@ use crate::opcodes::main_form;
 use crate::page_forms::{BitChange, BitForm, Direction, ExtendedForm, IndexForm, Shift, Transfer};
 
 /// The rotation or shift that three bits name.
+#[inline(always)]
 #[tactic(auto, unfolding(crate::specs::PageOpcodes::shift_of))]
 fn shift_at(y: u8) -> Shift
     ensures { result ≡ shift_of y }
@@ -31,6 +32,7 @@ fn shift_at(y: u8) -> Shift
 }
 
 /// The weight of a bit.
+#[inline(always)]
 fn weight_at(y: u8) -> u8
     requires { y < 8 }
     ensures { result ≡ 2 ^ y }
@@ -39,6 +41,7 @@ fn weight_at(y: u8) -> u8
 }
 
 /// The form of an opcode behind CBh: each has one.
+#[inline(always)]
 #[tactic(auto, unfolding(crate::specs::PageOpcodes::bit_form_of))]
 pub fn bit_form(opcode: u8) -> BitForm
     ensures { result ≡ bit_form_of opcode }
@@ -54,6 +57,7 @@ pub fn bit_form(opcode: u8) -> BitForm
 
 /// The form of an opcode behind DDh CBh or FDh CBh, or None where it doesn't name (HL), and at 36h: SLL (IX+d) isn't
 /// listed.
+#[inline(always)]
 #[tactic(auto, unfolding(crate::specs::PageOpcodes::indexed_bit_form_of))]
 pub fn indexed_bit_form(opcode: u8) -> Option<BitForm>
     ensures { result ≡ indexed_bit_form_of opcode }
@@ -67,6 +71,7 @@ pub fn indexed_bit_form(opcode: u8) -> Option<BitForm>
 
 /// The form of an opcode behind EDh, or None where it isn't listed: a row for each, so that the `match` becomes one jump or
 /// a table.
+#[inline(always)]
 #[tactic(auto, unfolding(crate::specs::PageOpcodes::extended_form_of, crate::specs::PageOpcodes::second_quarter, crate::specs::PageOpcodes::third_quarter, crate::specs::PageOpcodes::transfer_of, crate::specs::Fields::pair_of, crate::specs::Fields::operand_of))]
 pub fn extended_form(opcode: u8) -> Option<ExtendedForm>
     ensures { result ≡ extended_form_of opcode }
@@ -146,6 +151,7 @@ fn is_indexed(operand: Operand) -> bool
 }
 
 /// What a form becomes where IX or IY stands for HL.
+#[inline(always)]
 fn index_form_from(form: Form) -> Option<IndexForm>
     ensures { result ≡ indexed form }
 {
@@ -177,6 +183,7 @@ fn index_form_from(form: Form) -> Option<IndexForm>
 }
 
 /// The form of an opcode behind DDh or FDh, or None where it isn't listed.
+#[inline(always)]
 #[tactic(auto, unfolding(crate::specs::PageOpcodes::index_form_of))]
 pub fn index_form(opcode: u8) -> Option<IndexForm>
     ensures { result ≡ index_form_of opcode }

@@ -3,7 +3,6 @@ use Rattle.std.proofs.Common.{◌≡◌, ◌∙◌, ℕ, Bool, true, false, Opti
 use Rattle.z80_regs.specs.Outcome.{Outcome}
 use Rattle.z80_regs.specs.declared.regs.Regs.{Regs}
 use Rattle.z80_decode.specs.declared.instr.Instr.{Instr}
-use Rattle.z80_decode.specs.declared.instr.Page.TheVariants.{Main}
 use Rattle.z80_decode.specs.declared.forms.Form.{Form}
 use Rattle.z80_decode.specs.declared.forms.Form.TheVariants.{Nop, ExchangeAf, DecrementJump, JumpRelative, JumpRelativeIf, LoadPair, AddPair, StoreAAt, LoadAFrom, StoreHl, LoadHl, StoreA, LoadA, IncrementPair, DecrementPair, Increment, Decrement, LoadNumber, Rotate, DecimalAdjust, Complement, SetCarry, ComplementCarry, Load, Halt, Calculate, CalculateNumber, ReturnIf, Pop, Return, Exchange, JumpHl, LoadSpHl, JumpIf, Jump, Output, Input, ExchangeStack, ExchangeDe, DisableInterrupts, EnableInterrupts, CallIf, Push, Call, Restart}
 use Rattle.z80_decode.specs.declared.forms.Operand.{Operand}
@@ -14,7 +13,6 @@ use Rattle.z80_decode.specs.declared.forms.StackPair.{StackPair}
 use Rattle.z80_decode.specs.declared.forms.StackPair.TheVariants as stack
 use Rattle.z80_decode.specs.declared.forms.Math.{Math}
 use Rattle.z80_decode.specs.declared.forms.Math.TheVariants as math
-use Rattle.z80_decode.specs.Decoding.{tail_of, instr_with}
 use Rattle.z80_regs.specs.Words.{onward, back}
 use Rattle.z80_alu.specs.Bytes.{increment_flags, decrement_flags}
 use Rattle.z80_exec.specs.Operands.{quiet, stored, pair_word, with_pair, operand_byte, with_operand}
@@ -22,7 +20,7 @@ use Rattle.z80_exec.specs.Loads.{pair_pushed, pair_popped}
 use Rattle.z80_exec.specs.Calculations.{calculated, incremented, decremented, pair_added}
 use Rattle.z80_exec.specs.Conditions.{holds}
 use Rattle.z80_exec.specs.Flow.{relative, jumped_if, counted_down, called_if, returned_if}
-use Rattle.z80_exec.specs.Performing.{behind, number, performed, next_by, is_plain}
+use Rattle.z80_exec.specs.Performing.{behind, number, performed, outcome_by, is_plain}
 
 -- registers with another R, shadow and HALT, and an outcome with them
 abbrev pub beside : ℕ → Bool → Bool → Regs → Regs
@@ -31,7 +29,7 @@ beside x s h regs = record regs { r = x; shadow = s; halted = h }
 abbrev pub outcome_beside : ℕ → Bool → Bool → Outcome → Outcome
 outcome_beside x s h outcome = record outcome { registers = beside x s h outcome.registers }
 
-byte_beside : (operand : Operand) (x : ℕ) (s h : Bool) (regs : Regs) (memory : ℕ → ℕ) → operand_byte operand (beside x s h regs) memory ≡ operand_byte operand regs memory
+pub byte_beside : (operand : Operand) (x : ℕ) (s h : Bool) (regs : Regs) (memory : ℕ → ℕ) → operand_byte operand (beside x s h regs) memory ≡ operand_byte operand regs memory
 byte_beside B x s h regs memory = refl
 byte_beside C x s h regs memory = refl
 byte_beside D x s h regs memory = refl
@@ -41,7 +39,7 @@ byte_beside L x s h regs memory = refl
 byte_beside Memory x s h regs memory = refl
 byte_beside A x s h regs memory = refl
 
-set_beside : (operand : Operand) (byte x : ℕ) (s h : Bool) (regs : Regs) → with_operand operand byte (beside x s h regs) ≡ outcome_beside x s h (with_operand operand byte regs)
+pub set_beside : (operand : Operand) (byte x : ℕ) (s h : Bool) (regs : Regs) → with_operand operand byte (beside x s h regs) ≡ outcome_beside x s h (with_operand operand byte regs)
 set_beside B byte x s h regs = refl
 set_beside C byte x s h regs = refl
 set_beside D byte x s h regs = refl
@@ -51,13 +49,13 @@ set_beside L byte x s h regs = refl
 set_beside Memory byte x s h regs = refl
 set_beside A byte x s h regs = refl
 
-word_beside : (p : Pair) (x : ℕ) (s h : Bool) (regs : Regs) → pair_word p (beside x s h regs) ≡ pair_word p regs
+pub word_beside : (p : Pair) (x : ℕ) (s h : Bool) (regs : Regs) → pair_word p (beside x s h regs) ≡ pair_word p regs
 word_beside pair.BC x s h regs = refl
 word_beside pair.DE x s h regs = refl
 word_beside pair.HL x s h regs = refl
 word_beside pair.SP x s h regs = refl
 
-pair_beside : (p : Pair) (word x : ℕ) (s h : Bool) (regs : Regs) → with_pair p word (beside x s h regs) ≡ beside x s h (with_pair p word regs)
+pub pair_beside : (p : Pair) (word x : ℕ) (s h : Bool) (regs : Regs) → with_pair p word (beside x s h regs) ≡ beside x s h (with_pair p word regs)
 pair_beside pair.BC word x s h regs = refl
 pair_beside pair.DE word x s h regs = refl
 pair_beside pair.HL word x s h regs = refl
@@ -75,7 +73,7 @@ pop_beside stack.DE x s h regs memory = refl
 pop_beside stack.HL x s h regs memory = refl
 pop_beside stack.AF x s h regs memory = refl
 
-calculated_beside : (m : Math) (byte x : ℕ) (s h : Bool) (regs : Regs) → quiet (calculated m byte (beside x s h regs)) ≡ outcome_beside x s h (quiet (calculated m byte regs))
+pub calculated_beside : (m : Math) (byte x : ℕ) (s h : Bool) (regs : Regs) → quiet (calculated m byte (beside x s h regs)) ≡ outcome_beside x s h (quiet (calculated m byte regs))
 calculated_beside math.Add byte x s h regs = refl
 calculated_beside math.AddCarry byte x s h regs = refl
 calculated_beside math.Subtract byte x s h regs = refl
@@ -160,10 +158,8 @@ performed_beside (Push p) instr x s h regs memory ports plain = push_beside p x 
 performed_beside Call instr x s h regs memory ports plain = refl
 performed_beside (Restart address) instr x s h regs memory ports plain = refl
 
--- and of the opcode at PC
-pub next_beside : (form : Option Form) (opcode x : ℕ) (s h : Bool) (regs : Regs) (memory ports : ℕ → ℕ) → is_plain form ≡ true
-    → next_by form opcode (beside x s h regs) memory ports ≡ outcome_beside x s h (next_by form opcode regs memory ports)
-next_beside None opcode x s h regs memory ports plain = refl
-next_beside (Some form) opcode x s h regs memory ports plain =
-    let instr = instr_with (tail_of form) Main 1 opcode (memory (onward regs.pc 1)) (memory (onward regs.pc 2)) in
-    performed_beside form instr x s h (behind instr.length regs) memory ports plain
+-- and one by its form
+pub main_beside : (form : Option Form) (instr : Instr) (x : ℕ) (s h : Bool) (regs : Regs) (memory ports : ℕ → ℕ) → is_plain form ≡ true
+    → outcome_by form instr (beside x s h regs) memory ports ≡ outcome_beside x s h (outcome_by form instr regs memory ports)
+main_beside None instr x s h regs memory ports plain = refl
+main_beside (Some form) instr x s h regs memory ports plain = performed_beside form instr x s h (behind instr.length regs) memory ports plain

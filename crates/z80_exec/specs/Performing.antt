@@ -93,17 +93,11 @@ outcome_by (Some form) instr regs memory ports = performed form instr (behind in
 unfoldable pub main_outcome : Instr → Regs → (ℕ → ℕ) → (ℕ → ℕ) → Outcome
 main_outcome instr regs memory ports = outcome_by (form_of instr.opcode) instr regs memory ports
 
--- the same by the form of the opcode at PC, and by the two bytes behind it
-abbrev pub next_with : Option Form → ℕ → ℕ → ℕ → Regs → (ℕ → ℕ) → (ℕ → ℕ) → Outcome
-next_with None opcode first second regs memory ports = quiet regs
-next_with (Some form) opcode first second regs memory ports =
+-- the same of a form, by the opcode and the two bytes behind it
+abbrev pub next_with : Form → ℕ → ℕ → ℕ → Regs → (ℕ → ℕ) → (ℕ → ℕ) → Outcome
+next_with form opcode first second regs memory ports =
     let instr = instr_with (tail_of form) Main 1 opcode first second in
     performed form instr (behind instr.length regs) memory ports
-
--- the same by what stands there in memory
-abbrev pub next_by : Option Form → ℕ → Regs → (ℕ → ℕ) → (ℕ → ℕ) → Outcome
-next_by form opcode regs memory ports =
-    next_with form opcode (memory (onward regs.pc 1)) (memory (onward regs.pc 2)) regs memory ports
 
 -- a listed instruction without prefix that neither halts the processor nor casts a shadow
 abbrev pub is_plain : Option Form → Bool

@@ -12,7 +12,7 @@ ghost use Rattle.z80_exec.specs.Calculations.{
   complemented,
 };
 
-use crate::operands::{hl, operand, pair_at, set_operand, set_pair};
+use crate::operands::{hl, operand, pair_at, set_pair};
 use z80_alu::{Logic, Rotate};
 use z80_decode::{Math, Operand, Pair, Rotation};
 use z80_regs::{Bus, Regs};
@@ -54,26 +54,52 @@ pub fn calculate_operand<B: Bus>(math: Math, from: Operand, regs: &mut Regs, bus
     }
 }
 
-/// INC r and INC (HL), of an operand whose byte is known.
+/// INC r and INC (HL). Each row reads and sets its operand by itself, so that both are known by one jump.
 #[inline(always)]
-pub fn increment<B: Bus>(operand: Operand, byte: u8, regs: &mut Regs, bus: &mut B)
-    ensures registers { regs.new ≡ (incremented operand byte regs.old).registers }
-    ensures bus { Leaves B.wrote B.took (incremented operand byte regs.old).actions bus.old bus.new }
+#[tactic(auto, unfolding(z80_regs::specs::Outcome::Leaves))]
+pub fn increment<B: Bus>(operand: Operand, regs: &mut Regs, bus: &mut B)
+    ensures registers { regs.new ≡ (incremented operand (operand_byte operand regs.old (B.byte bus.old)) regs.old).registers }
+    ensures bus { Leaves B.wrote B.took (incremented operand (operand_byte operand regs.old (B.byte bus.old)) regs.old).actions bus.old bus.new }
 {
-    let (value, flags) = z80_alu::inc8(byte, regs.f);
-    regs.f = flags;
-    set_operand(operand, value, regs, bus);
+    match operand {
+        Operand::B => (regs.b, regs.f) = z80_alu::inc8(regs.b, regs.f),
+        Operand::C => (regs.c, regs.f) = z80_alu::inc8(regs.c, regs.f),
+        Operand::D => (regs.d, regs.f) = z80_alu::inc8(regs.d, regs.f),
+        Operand::E => (regs.e, regs.f) = z80_alu::inc8(regs.e, regs.f),
+        Operand::H => (regs.h, regs.f) = z80_alu::inc8(regs.h, regs.f),
+        Operand::L => (regs.l, regs.f) = z80_alu::inc8(regs.l, regs.f),
+        Operand::Memory => {
+            let address = hl(regs);
+            let (value, flags) = z80_alu::inc8(bus.read(address), regs.f);
+            bus.write(address, value);
+            regs.f = flags;
+        }
+        Operand::A => (regs.a, regs.f) = z80_alu::inc8(regs.a, regs.f),
+    }
 }
 
-/// DEC r and DEC (HL), of an operand whose byte is known.
+/// DEC r and DEC (HL), likewise.
 #[inline(always)]
-pub fn decrement<B: Bus>(operand: Operand, byte: u8, regs: &mut Regs, bus: &mut B)
-    ensures registers { regs.new ≡ (decremented operand byte regs.old).registers }
-    ensures bus { Leaves B.wrote B.took (decremented operand byte regs.old).actions bus.old bus.new }
+#[tactic(auto, unfolding(z80_regs::specs::Outcome::Leaves))]
+pub fn decrement<B: Bus>(operand: Operand, regs: &mut Regs, bus: &mut B)
+    ensures registers { regs.new ≡ (decremented operand (operand_byte operand regs.old (B.byte bus.old)) regs.old).registers }
+    ensures bus { Leaves B.wrote B.took (decremented operand (operand_byte operand regs.old (B.byte bus.old)) regs.old).actions bus.old bus.new }
 {
-    let (value, flags) = z80_alu::dec8(byte, regs.f);
-    regs.f = flags;
-    set_operand(operand, value, regs, bus);
+    match operand {
+        Operand::B => (regs.b, regs.f) = z80_alu::dec8(regs.b, regs.f),
+        Operand::C => (regs.c, regs.f) = z80_alu::dec8(regs.c, regs.f),
+        Operand::D => (regs.d, regs.f) = z80_alu::dec8(regs.d, regs.f),
+        Operand::E => (regs.e, regs.f) = z80_alu::dec8(regs.e, regs.f),
+        Operand::H => (regs.h, regs.f) = z80_alu::dec8(regs.h, regs.f),
+        Operand::L => (regs.l, regs.f) = z80_alu::dec8(regs.l, regs.f),
+        Operand::Memory => {
+            let address = hl(regs);
+            let (value, flags) = z80_alu::dec8(bus.read(address), regs.f);
+            bus.write(address, value);
+            regs.f = flags;
+        }
+        Operand::A => (regs.a, regs.f) = z80_alu::dec8(regs.a, regs.f),
+    }
 }
 
 /// ADD HL,ss.

@@ -46,6 +46,24 @@ pub fn call<B: Bus>(target: u16, regs: &mut Regs, bus: &mut B)
     regs.pc = target;
 }
 
+/// RST p. Each row calls by itself, so that nothing is set for those that join before a step jumps by its opcode.
+#[inline(always)]
+pub fn restart<B: Bus>(address: u8, regs: &mut Regs, bus: &mut B)
+    ensures registers { regs.new ≡ (called address regs.old).registers }
+    ensures bus { Leaves B.wrote B.took (called address regs.old).actions bus.old bus.new }
+{
+    match address {
+        0x00 => call(0x00, regs, bus),
+        0x08 => call(0x08, regs, bus),
+        0x10 => call(0x10, regs, bus),
+        0x18 => call(0x18, regs, bus),
+        0x20 => call(0x20, regs, bus),
+        0x28 => call(0x28, regs, bus),
+        0x30 => call(0x30, regs, bus),
+        _ => call(u16::from(address), regs, bus),
+    }
+}
+
 /// A return: PC is popped.
 #[inline(always)]
 pub fn return_to_caller<B: Bus>(regs: &mut Regs, bus: &B)

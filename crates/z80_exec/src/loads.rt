@@ -1,7 +1,7 @@
 ghost use Rattle.std.specs.Prelude.{◌≡◌};
 ghost use Rattle.z80_regs.specs.Words.{back, word_from};
 ghost use Rattle.z80_regs.specs.Outcome.{Leaves};
-ghost use Rattle.z80_exec.specs.Operands.{operand_byte, with_operand};
+ghost use Rattle.z80_exec.specs.Operands.{stored, operand_byte, with_operand};
 ghost use Rattle.z80_exec.specs.StackPairs.{pushed};
 ghost use Rattle.z80_exec.specs.Loads.{
   word_written,
@@ -30,6 +30,28 @@ pub fn store_word<B: Bus>(address: u16, word: u16, bus: &mut B)
     bus.write(address.wrapping_add(1), high);
 }
 
+/// An operand's byte goes to an address: LD (HL),r and LD (IX+d),r. Each row writes by itself, so that it is known where a
+/// step has jumped by its opcode.
+#[inline(always)]
+#[tactic(auto, unfolding(z80_regs::specs::Outcome::Leaves))]
+pub fn store_operand<B: Bus>(from: Operand, address: u16, regs: &Regs, bus: &mut B)
+    ensures { Leaves B.wrote B.took (stored address (operand_byte from regs.now (B.byte bus.old)) regs.now).actions bus.old bus.new }
+{
+    match from {
+        Operand::B => bus.write(address, regs.b),
+        Operand::C => bus.write(address, regs.c),
+        Operand::D => bus.write(address, regs.d),
+        Operand::E => bus.write(address, regs.e),
+        Operand::H => bus.write(address, regs.h),
+        Operand::L => bus.write(address, regs.l),
+        Operand::Memory => {
+            let byte = bus.read(hl(regs));
+            bus.write(address, byte);
+        }
+        Operand::A => bus.write(address, regs.a),
+    }
+}
+
 /// LD r,r', LD r,(HL) and LD (HL),r. Each operand that is set reads the other by itself, so that both are known where a
 /// step has jumped by its opcode.
 #[inline(always)]
@@ -46,10 +68,7 @@ pub fn load<B: Bus>(to: Operand, from: Operand, regs: &mut Regs, bus: &mut B)
         Operand::E => regs.e = operand(from, regs, bus),
         Operand::H => regs.h = operand(from, regs, bus),
         Operand::L => regs.l = operand(from, regs, bus),
-        Operand::Memory => {
-            let value = operand(from, regs, bus);
-            bus.write(hl(regs), value);
-        }
+        Operand::Memory => store_operand(from, hl(regs), regs, bus),
         Operand::A => regs.a = operand(from, regs, bus),
     }
 }
@@ -132,14 +151,27 @@ pub fn push_pair<B: Bus>(pair: StackPair, regs: &mut Regs, bus: &mut B)
     push(stack_pair_at(regs, pair), regs, bus);
 }
 
-/// POP qq.
+/// A word is popped to a pair.
 #[inline(always)]
-pub fn pop_pair<B: Bus>(pair: StackPair, regs: &mut Regs, bus: &B)
+fn pop_word<B: Bus>(pair: StackPair, regs: &mut Regs, bus: &B)
     ensures { regs.new ≡ pair_popped pair regs.old (B.byte bus.now) }
 {
     let word = word_at(bus, regs.sp);
     regs.sp = regs.sp.wrapping_add(2);
     set_stack_pair(regs, pair, word);
+}
+
+/// POP qq. Each row reads its word by itself, so that its pair is known where a step has jumped by its opcode.
+#[inline(always)]
+pub fn pop_pair<B: Bus>(pair: StackPair, regs: &mut Regs, bus: &B)
+    ensures { regs.new ≡ pair_popped pair regs.old (B.byte bus.now) }
+{
+    match pair {
+        StackPair::BC => pop_word(StackPair::BC, regs, bus),
+        StackPair::DE => pop_word(StackPair::DE, regs, bus),
+        StackPair::HL => pop_word(StackPair::HL, regs, bus),
+        StackPair::AF => pop_word(StackPair::AF, regs, bus),
+    }
 }
 
 /// IN A,(n).

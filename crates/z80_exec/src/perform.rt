@@ -1,30 +1,21 @@
 ghost use Rattle.std.specs.Prelude.{◌≡◌, true, false, Some};
 ghost use Rattle.std.specs.Bool.{OnTrue, OnFalse};
 ghost use Rattle.z80_regs.specs.Outcome.{Leaves};
-ghost use Rattle.z80_decode.specs.Opcodes.{form_of};
-ghost use Rattle.z80_exec.specs.Performing.{number, performed, main_outcome, next_with, is_plain};
+ghost use Rattle.z80_exec.specs.Performing.{performed, main_outcome, next_with, is_plain};
 
 use crate::calculations::{
     add_pair, calculate, calculate_operand, complement, decimal_adjust, decrement, increment,
     rotate,
 };
-use crate::flow::{call, decrement_jump, relative_to, return_if, return_to_caller};
+use crate::flow::{call, decrement_jump, relative_to, restart, return_if, return_to_caller};
 use crate::loads::{
     exchange_af, exchange_de, exchange_set, exchange_stack, input_a, load, pop_pair, push_pair,
     store_word,
 };
-use crate::operands::{hl, is_met, operand, pair_at, set_operand, set_pair, word_at};
+use crate::operands::{hl, is_met, pair_at, set_operand, set_pair, word_at};
 use crate::source::{Fetched, Source};
 use z80_decode::{Form, Instr, Page, Pair, main_form, main_length};
 use z80_regs::{Bus, Regs};
-
-/// The byte n of an instruction.
-#[inline]
-pub fn number_at(instr: &Instr) -> u8
-    ensures { result ≡ number instr.now }
-{
-    (instr.operand % 256) as u8
-}
 
 /// Acts as a form's instruction, which PC is behind.
 #[inline(always)]
@@ -57,8 +48,8 @@ fn perform<S: Source, B: Bus>(form: Form, source: &S, regs: &mut Regs, bus: &mut
         Form::Pop(pair) => pop_pair(pair, regs, bus),
         Form::Calculate(math, from) => calculate_operand(math, from, regs, bus),
         Form::CalculateNumber(math) => calculate(math, source.byte(form), regs),
-        Form::Increment(at) => increment(at, operand(at, regs, bus), regs, bus),
-        Form::Decrement(at) => decrement(at, operand(at, regs, bus), regs, bus),
+        Form::Increment(at) => increment(at, regs, bus),
+        Form::Decrement(at) => decrement(at, regs, bus),
         Form::IncrementPair(pair) => set_pair(regs, pair, pair_at(regs, pair).wrapping_add(1)),
         Form::DecrementPair(pair) => set_pair(regs, pair, pair_at(regs, pair).wrapping_sub(1)),
         Form::AddPair(pair) => add_pair(pair, regs),
@@ -80,7 +71,7 @@ fn perform<S: Source, B: Bus>(form: Form, source: &S, regs: &mut Regs, bus: &mut
         Form::Call => call(source.word(form), regs, bus),
         Form::CallIf(condition) if is_met(condition, regs.f) => call(source.word(form), regs, bus),
         Form::CallIf(_) => {}
-        Form::Restart(address) => call(u16::from(address), regs, bus),
+        Form::Restart(address) => restart(address, regs, bus),
         Form::Return => return_to_caller(regs, bus),
         Form::ReturnIf(condition) => return_if(is_met(condition, regs.f), regs, bus),
         Form::Input => input_a(source.byte(form), regs, bus),
@@ -118,25 +109,22 @@ fn is_plain_form(form: Form) -> bool
     }
 }
 
-/// Acts as the plain instruction whose opcode and the two bytes behind it were fetched at PC. Where the opcode is a prefix, HALT
-/// or EI the answer is false, and nothing changes. (UM0080, "Z80 Instruction Description".)
+/// Acts as the instruction of a form whose opcode and the two bytes behind it were fetched at PC, where it is plain. Where it is
+/// HALT or EI the answer is false, and nothing changes. (UM0080, "Z80 Instruction Description".)
 #[inline(always)]
 #[tactic(auto, unfolding(z80_regs::specs::Outcome::Leaves))]
-pub fn main_next<B: Bus>(fetched: Fetched, regs: &mut Regs, bus: &mut B) -> bool
-    ensures plain { result ≡ is_plain (form_of fetched.opcode) }
-    ensures registers { OnTrue result (regs.new ≡ (next_with (form_of fetched.opcode) fetched.opcode fetched.first fetched.second regs.old (B.byte bus.old) (B.port_byte bus.old)).registers) }
+pub fn plain_next<B: Bus>(form: Form, fetched: Fetched, regs: &mut Regs, bus: &mut B) -> bool
+    ensures plain { result ≡ is_plain (Some form) }
+    ensures registers { OnTrue result (regs.new ≡ (next_with form fetched.opcode fetched.first fetched.second regs.old (B.byte bus.old) (B.port_byte bus.old)).registers) }
     ensures bus { OnTrue result (Leaves B.wrote B.took
-        (next_with (form_of fetched.opcode) fetched.opcode fetched.first fetched.second regs.old (B.byte bus.old) (B.port_byte bus.old)).actions bus.old bus.new) }
+        (next_with form fetched.opcode fetched.first fetched.second regs.old (B.byte bus.old) (B.port_byte bus.old)).actions bus.old bus.new) }
     ensures registers_stay { OnFalse result (regs.new ≡ regs.old) }
     ensures bus_stays { OnFalse result (bus.new ≡ bus.old) }
 {
-    match main_form(fetched.opcode) {
-        None => false,
-        Some(form) if is_plain_form(form) => {
-            regs.pc = regs.pc.wrapping_add(u16::from(main_length(form)));
-            perform(form, &fetched, regs, bus);
-            true
-        }
-        Some(_) => false,
+    if !is_plain_form(form) {
+        return false;
     }
+    regs.pc = regs.pc.wrapping_add(u16::from(main_length(form)));
+    perform(form, &fetched, regs, bus);
+    true
 }

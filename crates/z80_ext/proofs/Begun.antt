@@ -1,18 +1,15 @@
 -- Instructions that begin one after another, and plain ones whose beginnings are put off to the last of them.
-use Rattle.std.proofs.Common.{◌≡◌, ◌∙◌, ℕ, ◌+◌, ◌*◌, ◌/◌, ◌%◌, ◌==◌, ◌&&◌, Bool, true, false, Option, Some, None, if◌then◌else◌, refl, sym, ap, arith}
-use Rattle.std.specs.Prelude.{◌↔◌, IsNone, is_none}
-use Rattle.std.proofs.lemmas.Bool.{eqb-true, false_from_ne_true, false≢true, true≢false}
+use Rattle.std.proofs.Common.{◌≡◌, ◌∙◌, ℕ, ◌+◌, ◌*◌, ◌/◌, ◌%◌, ◌==◌, ◌&&◌, true, false, Option, None, Some, if◌then◌else◌, refl, sym, ap, arith}
+use Rattle.std.proofs.lemmas.Bool.{eqb-true, false_from_ne_true}
 use Rattle.z80_regs.specs.Words.{refreshed}
 use Rattle.z80_regs.specs.Outcome.{Outcome}
 use Rattle.z80_regs.specs.declared.regs.Regs.{Regs}
-use Rattle.z80_decode.specs.declared.forms.Form.{Form}
-use Rattle.z80_decode.specs.Opcodes.{form_of}
+use Rattle.z80_decode.specs.declared.instr.Instr.{Instr}
 use Rattle.z80_decode.specs.Decoding.{instr_of}
 use Rattle.z80_exec.specs.Operands.{quiet}
-use Rattle.z80_exec.specs.Performing.{next_by, is_plain}
-use Rattle.z80_exec.proofs.Beside.{outcome_beside, next_beside}
-use Rattle.z80_ext.specs.Instruction.{refreshed_times, risen, begun, begun_times, is_plain_at, is_behind_prefix, IsRareAt, four_from, outcome_of, instruction, unbegun}
-use Rattle.z80_ext.proofs.Next.{listed}
+use Rattle.z80_exec.proofs.Beside.{outcome_beside}
+use Rattle.z80_ext.specs.Instruction.{refreshed_times, risen, begun, begun_times, is_plain_instr, is_plain_at, four_from, outcome_of, instruction, unbegun_of, unbegun}
+use Rattle.z80_ext.proofs.Beside.{plain_beside}
 
 no_zero : (n : ℕ) → (n ≡ 0 → ⊥) → (n == 0) ≡ false
 no_zero n other = false_from_ne_true (n == 0) (λ same. other (eqb-true n 0 same))
@@ -37,15 +34,11 @@ begun_more n regs =
     ap (λ x. record regs { r = x; shadow = (n + 1 == 0) && regs.shadow }) rises
     ∙ ap (λ b. record regs { r = refreshed (refreshed_times n regs.r); shadow = b && regs.shadow }) (no_zero (n + 1) (λ e. absurd (omega (arith, e))))
 
-never_none : (form : Option Form) → is_plain form ≡ true → IsNone form → ⊥
-never_none None plain none = absurd (cc)
-never_none (Some form) plain none = absurd (cc)
-
 -- what a plain instruction leaves of R, the shadow and HALT
 stays : (regs : Regs) (memory ports : ℕ → ℕ) → is_plain_at regs memory ≡ true
     → unbegun regs memory ports ≡ outcome_beside regs.r regs.shadow regs.halted (unbegun regs memory ports)
 stays regs memory ports plain =
-    next_beside (form_of (memory regs.pc)) (memory regs.pc) regs.r regs.shadow regs.halted regs memory ports plain
+    plain_beside (instr_of (four_from memory regs.pc)) regs.r regs.shadow regs.halted regs memory ports plain
 
 pub unbegun_runs : (regs : Regs) (memory ports : ℕ → ℕ) → is_plain_at regs memory ≡ true
     → (unbegun regs memory ports).registers.halted ≡ regs.halted
@@ -53,15 +46,20 @@ unbegun_runs regs memory ports plain = ap (λ (o : Outcome). o.registers.halted)
 
 -- other beginnings before it are other beginnings behind it
 begins_behind : (n : ℕ) (regs : Regs) (memory ports : ℕ → ℕ) → is_plain_at regs memory ≡ true
-    → next_by (form_of (memory regs.pc)) (memory regs.pc) (begun_times n regs) memory ports
+    → unbegun_of (instr_of (four_from memory regs.pc)) (begun_times n regs) memory ports
     ≡ record (unbegun regs memory ports) { registers = begun_times n (unbegun regs memory ports).registers }
 begins_behind n regs memory ports plain =
     let left : Outcome = unbegun regs memory ports in
     let same = stays regs memory ports plain in
-    next_beside (form_of (memory regs.pc)) (memory regs.pc) (refreshed_times n regs.r) ((n == 0) && regs.shadow) regs.halted regs memory ports plain
+    plain_beside (instr_of (four_from memory regs.pc)) (refreshed_times n regs.r) ((n == 0) && regs.shadow) regs.halted regs memory ports plain
     ∙ ap (λ x. outcome_beside (refreshed_times n x) ((n == 0) && regs.shadow) regs.halted left) (sym (ap (λ (o : Outcome). o.registers.r) same))
     ∙ ap (λ s. outcome_beside (refreshed_times n left.registers.r) ((n == 0) && s) regs.halted left) (sym (ap (λ (o : Outcome). o.registers.shadow) same))
     ∙ ap (λ h. outcome_beside (refreshed_times n left.registers.r) ((n == 0) && left.registers.shadow) h left) (sym (ap (λ (o : Outcome). o.registers.halted) same))
+
+begins : (instr : Option Instr) (regs : Regs) (memory ports : ℕ → ℕ) → is_plain_instr instr ≡ true
+    → outcome_of instr regs memory ports ≡ Some (unbegun_of instr (begun regs) memory ports)
+begins None regs memory ports plain = absurd (cc)
+begins (Some instr) regs memory ports plain = refl
 
 -- a plain instruction behind n others, of all of which the beginnings are put off
 pub unbegun_is : (n : ℕ) (regs : Regs) (memory ports : ℕ → ℕ) → regs.halted ≡ false → is_plain_at regs memory ≡ true
@@ -70,9 +68,10 @@ pub unbegun_is : (n : ℕ) (regs : Regs) (memory ports : ℕ → ℕ) → regs.h
 unfolding instruction
 unbegun_is n regs memory ports runs plain =
     let now : Regs = begun_times n regs in
-    ap (λ halted. if halted then Some (quiet (risen now)) else (outcome_of (instr_of (four_from memory regs.pc)) now memory ports)) runs
-    ∙ listed now memory ports (never_none (form_of (memory regs.pc)) plain)
-    ∙ ap (λ r. Some (next_by (form_of (memory regs.pc)) (memory regs.pc) r memory ports)) (sym (begun_more n regs))
+    let here : Option Instr = instr_of (four_from memory regs.pc) in
+    ap (λ halted. if halted then Some (quiet (risen now)) else (outcome_of here now memory ports)) runs
+    ∙ begins here now memory ports plain
+    ∙ ap (λ r. Some (unbegun_of here r memory ports)) (sym (begun_more n regs))
     ∙ ap Some (begins_behind (n + 1) regs memory ports plain)
 
 -- one by itself
@@ -81,20 +80,3 @@ pub unbegun_once : (regs : Regs) (memory ports : ℕ → ℕ) → regs.halted �
     ≡ Some (record (unbegun regs memory ports) { registers = begun_times 1 (unbegun regs memory ports).registers })
 unbegun_once regs memory ports runs plain =
     ap (λ r. instruction r memory ports) (sym (begun_none 0 regs refl)) ∙ unbegun_is 0 regs memory ports runs plain
-
--- a prefix is no plain instruction
-by_form : (form : Option Form) → IsNone form → is_plain form ≡ false
-by_form None none = refl
-by_form (Some form) none = absurd (cc)
-
-pub prefix_is_rare : (opcode : ℕ) (regs : Regs) (memory : ℕ → ℕ) → IsNone (form_of opcode) → opcode ≡ memory regs.pc → IsRareAt opcode regs memory
-prefix_is_rare opcode regs memory none here = record { here = here; rare = λ runs. by_form (form_of opcode) none }
-
-none_told : (form : Option Form) (told : Bool) → ((told ≡ true) ↔ IsNone form) → told ≡ is_none form
-none_told None true same = refl
-none_told None false same = absurd (false≢true (same.1 refl))
-none_told (Some form) true same = absurd (true≢false (same.0 refl))
-none_told (Some form) false same = refl
-
-pub prefix_told : (opcode : ℕ) (told : Bool) → ((told ≡ true) ↔ IsNone (form_of opcode)) → told ≡ is_behind_prefix opcode
-prefix_told opcode told same = none_told (form_of opcode) told same

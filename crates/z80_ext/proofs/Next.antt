@@ -1,26 +1,24 @@
 -- The step that reads by the opcode does the instruction that four bytes begin with.
-use Rattle.std.proofs.Common.{◌≡◌, ℕ, Bool, true, false, List, Option, None, Some, if◌then◌else◌, ap, refl, rules}
+use Rattle.std.proofs.Common.{◌≡◌, ℕ, Bool, true, false, Option, None, Some, if◌then◌else◌, ◌∙◌, ap, refl, rules}
 use Rattle.std.specs.Prelude.{IsNone, ◌↔◌}
 use Rattle.std.proofs.lemmas.Grind.{common_steps}
 use Rattle.z80_regs.specs.Words.{onward}
 use Rattle.z80_regs.specs.Outcome.{Outcome}
 use Rattle.z80_regs.specs.declared.regs.Regs.{Regs}
 use Rattle.z80_decode.specs.declared.instr.Instr.{Instr}
+use Rattle.z80_decode.specs.declared.instr.Page.{Page}
 use Rattle.z80_decode.specs.declared.instr.Page.TheVariants.{Main}
 use Rattle.z80_decode.specs.declared.forms.Form.{Form}
-use Rattle.z80_decode.specs.declared.page_forms.BitForm.{BitForm}
-use Rattle.z80_decode.specs.declared.page_forms.BitForm.TheVariants.{Test, Change}
-use Rattle.z80_ext.specs.Bits.{memory_bits}
 use Rattle.z80_decode.specs.declared.forms.Tail.{Tail}
 use Rattle.z80_decode.specs.declared.forms.Tail.TheVariants.{Nothing, Byte, Word, Displacement, DisplacementByte}
 use Rattle.z80_decode.specs.Opcodes.{form_of}
 use Rattle.z80_decode.specs.Decoding.{tail_of, instr_with, main_instr_by, main_instr_of, main_or_prefixed, instr_of}
-use Rattle.z80_exec.specs.Performing.{behind, performed, next_by, main_outcome}
+use Rattle.z80_exec.specs.Performing.{behind, performed, next_with, main_outcome, is_plain}
 use Rattle.z80_exec.specs.Operands.{quiet}
 use Rattle.z80_ext.specs.declared.index.IndexRegister.{IndexRegister}
 use Rattle.z80_ext.specs.declared.index.IndexRegister.TheVariants.{Ix, Iy}
 use Rattle.z80_ext.specs.Index.{page_of, bits_page_of, index_outcome, index_bits_outcome}
-use Rattle.z80_ext.specs.Instruction.{risen, begun, four_from, page_outcome, outcome_of, instruction, registers_after}
+use Rattle.z80_ext.specs.Instruction.{risen, four_from, page_outcome, outcome_of, unbegun_of, unbegun, is_plain_on, is_plain_instr, is_plain_at, instruction, registers_after}
 
 -- the pages of the index registers
 pub index_page : (index : IndexRegister) (instr : Instr) (regs : Regs) (memory ports : ℕ → ℕ) →
@@ -33,13 +31,23 @@ pub index_bits_page : (index : IndexRegister) (instr : Instr) (regs : Regs) (mem
 index_bits_page Ix instr regs memory ports = refl
 index_bits_page Iy instr regs memory ports = refl
 
--- what acts on the byte at an address looks at neither R nor PC
-pub bits_behind : (form : BitForm) (address byte : ℕ) (regs : Regs) →
-    memory_bits form address byte (behind 4 (begun regs)) ≡ record (memory_bits form address byte regs) {
-      registers = behind 4 (begun (memory_bits form address byte regs).registers);
-    }
-bits_behind (Test weight) address byte regs = refl
-bits_behind (Change change) address byte regs = refl
+-- are plain
+pub page_plain : (index : IndexRegister) (opcode : ℕ) → is_plain_on (page_of index) opcode ≡ true
+page_plain Ix opcode = refl
+page_plain Iy opcode = refl
+
+pub bits_page_plain : (index : IndexRegister) (opcode : ℕ) → is_plain_on (bits_page_of index) opcode ≡ true
+bits_page_plain Ix opcode = refl
+bits_page_plain Iy opcode = refl
+
+-- whether an instruction is plain, whatever stands behind its opcode
+pub tail_plain : (tail : Tail) (page : Page) (place opcode first second : ℕ) →
+    is_plain_instr (Some (instr_with tail page place opcode first second)) ≡ is_plain_on page opcode
+tail_plain Nothing page place opcode first second = refl
+tail_plain Byte page place opcode first second = refl
+tail_plain Word page place opcode first second = refl
+tail_plain Displacement page place opcode first second = refl
+tail_plain DisplacementByte page place opcode first second = refl
 
 -- an instruction without prefix, by what stands behind its opcode
 by_tail : (tail : Tail) (form : Form) (opcode first second : ℕ) (regs : Regs) (memory ports : ℕ → ℕ) →
@@ -53,20 +61,24 @@ by_tail Word form opcode first second regs memory ports known = search (rules, c
 by_tail Displacement form opcode first second regs memory ports known = search (rules, common_steps)
 by_tail DisplacementByte form opcode first second regs memory ports known = search (rules, common_steps)
 
-by_some : (form : Option Form) (opcode : ℕ) (bytes : List ℕ) (regs : Regs) (memory ports : ℕ → ℕ) →
-    form_of opcode ≡ form → (IsNone form → ⊥) →
-    outcome_of (main_or_prefixed (main_instr_by form opcode (memory (onward regs.pc 1)) (memory (onward regs.pc 2))) bytes)
-    regs memory ports ≡ Some (next_by form opcode (begun regs) memory ports)
-by_some None opcode bytes regs memory ports known some = search rules
-by_some (Some form) opcode bytes regs memory ports known some =
-    ap Some (by_tail (tail_of form) form opcode _ _ (begun regs) memory ports known)
-
-pub listed : (regs : Regs) (memory ports : ℕ → ℕ) → (IsNone (form_of (memory regs.pc)) → ⊥) →
-    outcome_of (instr_of (four_from memory regs.pc)) regs memory ports
-    ≡ Some (next_by (form_of (memory regs.pc)) (memory regs.pc) (begun regs) memory ports)
+main_is : (form : Form) (regs : Regs) (memory : ℕ → ℕ) → form_of (memory regs.pc) ≡ Some form →
+    instr_of (four_from memory regs.pc)
+    ≡ Some (instr_with (tail_of form) Main 1 (memory regs.pc) (memory (onward regs.pc 1)) (memory (onward regs.pc 2)))
 unfolding instr_of main_instr_of
-listed regs memory ports some =
-    by_some (form_of (memory regs.pc)) (memory regs.pc) (four_from memory regs.pc) regs memory ports refl some
+main_is form regs memory known =
+    ap (λ f. main_or_prefixed (main_instr_by f (memory regs.pc) (memory (onward regs.pc 1)) (memory (onward regs.pc 2))) (four_from memory regs.pc)) known
+
+pub main_plain : (form : Form) (regs : Regs) (memory : ℕ → ℕ) → form_of (memory regs.pc) ≡ Some form → is_plain_at regs memory ≡ is_plain (Some form)
+main_plain form regs memory known =
+    ap is_plain_instr (main_is form regs memory known)
+    ∙ tail_plain (tail_of form) Main 1 (memory regs.pc) (memory (onward regs.pc 1)) (memory (onward regs.pc 2))
+    ∙ ap is_plain known
+
+pub main_does : (form : Form) (regs : Regs) (memory ports : ℕ → ℕ) → form_of (memory regs.pc) ≡ Some form →
+    unbegun regs memory ports ≡ next_with form (memory regs.pc) (memory (onward regs.pc 1)) (memory (onward regs.pc 2)) regs memory ports
+main_does form regs memory ports known =
+    ap (λ instr. unbegun_of instr regs memory ports) (main_is form regs memory known)
+    ∙ by_tail (tail_of form) form (memory regs.pc) (memory (onward regs.pc 1)) (memory (onward regs.pc 2)) regs memory ports known
 
 -- no listed instruction is done exactly where none is at PC and the processor doesn't stand in a HALT
 

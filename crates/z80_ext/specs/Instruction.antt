@@ -1,16 +1,19 @@
 -- One step of the processor: the instruction at PC, or R alone where it stands in a HALT. (UM0080, "Z80 Instruction
 -- Description" and "HALT".)
-use Rattle.std.specs.Prelude.{◌≡◌, ◌==◌, ◌&&◌, ◌||◌, ◌+◌, ◌*◌, ◌/◌, ◌%◌, ℕ, Bool, List, [], ◌∷◌, Option, None, Some, true, false, is_none, if◌then◌else◌}
+use Rattle.std.specs.Prelude.{◌≡◌, ◌==◌, ◌&&◌, ◌+◌, ◌*◌, ◌/◌, ◌%◌, ℕ, Bool, List, [], ◌∷◌, Option, None, Some, true, false, if◌then◌else◌}
 use Rattle.z80_regs.specs.Words.{onward, refreshed}
 use Rattle.z80_regs.specs.Outcome.{Action, Outcome}
 use Rattle.z80_regs.specs.declared.regs.Regs.{Regs}
 use Rattle.z80_decode.specs.declared.instr.Instr.{Instr}
 use Rattle.z80_decode.specs.declared.instr.Page.{Page}
 use Rattle.z80_decode.specs.declared.instr.Page.TheVariants.{Main, Cb, Ed, Ix, Iy, IxCb, IyCb}
+use Rattle.z80_decode.specs.declared.page_forms.ExtendedForm.{ExtendedForm}
+use Rattle.z80_decode.specs.declared.page_forms.ExtendedForm.TheVariants.{AddPair, SubtractPair, StorePair, LoadPair}
 use Rattle.z80_decode.specs.Opcodes.{form_of}
+use Rattle.z80_decode.specs.PageOpcodes.{extended_form_of}
 use Rattle.z80_decode.specs.Decoding.{instr_of}
 use Rattle.z80_exec.specs.Operands.{quiet}
-use Rattle.z80_exec.specs.Performing.{behind, main_outcome, next_by, is_plain}
+use Rattle.z80_exec.specs.Performing.{behind, main_outcome, is_plain}
 use Rattle.z80_ext.specs.declared.index.IndexRegister.TheVariants as index
 use Rattle.z80_ext.specs.Bits.{bits_outcome}
 use Rattle.z80_ext.specs.Extended.{extended_outcome}
@@ -59,13 +62,37 @@ instruction regs memory ports =
     if regs.halted then Some (quiet (risen regs))
     else (outcome_of (instr_of (four_from memory regs.pc)) regs memory ports)
 
--- a plain instruction is at PC: no prefix, HALT or EI
-abbrev pub is_plain_at : Regs → (ℕ → ℕ) → Bool
-is_plain_at regs memory = is_plain (form_of (memory regs.pc))
+-- what an instruction does, but for how it begins; nothing where there is none
+abbrev pub unbegun_of : Option Instr → Regs → (ℕ → ℕ) → (ℕ → ℕ) → Outcome
+unbegun_of None regs memory ports = quiet regs
+unbegun_of (Some instr) regs memory ports = page_outcome instr.page instr regs memory ports
 
--- what the instruction without prefix at PC does, but for how it begins
+-- what the instruction at PC does, but for how it begins
 abbrev pub unbegun : Regs → (ℕ → ℕ) → (ℕ → ℕ) → Outcome
-unbegun regs memory ports = next_by (form_of (memory regs.pc)) (memory regs.pc) regs memory ports
+unbegun regs memory ports = unbegun_of (instr_of (four_from memory regs.pc)) regs memory ports
+
+-- behind EDh, ADC HL,ss, SBC HL,ss, LD (nn),dd and LD dd,(nn)
+abbrev pub is_of_pair : Option ExtendedForm → Bool
+is_of_pair (Some (AddPair pair)) = true
+is_of_pair (Some (SubtractPair pair)) = true
+is_of_pair (Some (StorePair pair)) = true
+is_of_pair (Some (LoadPair pair)) = true
+is_of_pair other = false
+
+-- an opcode of a page is plain: neither HALT nor EI, and of a pair behind EDh
+abbrev pub is_plain_on : Page → ℕ → Bool
+is_plain_on Main opcode = is_plain (form_of opcode)
+is_plain_on Ed opcode = is_of_pair (extended_form_of opcode)
+is_plain_on other opcode = true
+
+-- a listed instruction that is plain
+abbrev pub is_plain_instr : Option Instr → Bool
+is_plain_instr None = false
+is_plain_instr (Some instr) = is_plain_on instr.page instr.opcode
+
+-- a plain instruction is at PC
+abbrev pub is_plain_at : Regs → (ℕ → ℕ) → Bool
+is_plain_at regs memory = is_plain_instr (instr_of (four_from memory regs.pc))
 
 -- the registers after a step: as they were where it had no outcome
 abbrev pub registers_after : Option Outcome → Regs → Regs
@@ -77,35 +104,16 @@ abbrev pub actions_of : Option Outcome → List Action
 actions_of None = []
 actions_of (Some outcome) = outcome.actions
 
--- the processor stands in a HALT, or is about to do HALT, EI or an instruction behind a prefix
+-- the processor stands in a HALT, or what it is about to do isn't plain
 pub record IsRareAt (opcode : ℕ) (regs : Regs) (memory : ℕ → ℕ) : Type 0 where
   pub here : opcode ≡ memory regs.pc
-  pub rare : regs.halted ≡ false → is_plain (form_of opcode) ≡ false
+  pub rare : regs.halted ≡ false → is_plain_at regs memory ≡ false
 
 -- the registers after HALT, 76h, and after EI
 abbrev pub halted_or_enabled : ℕ → Regs → Regs
 halted_or_enabled opcode regs =
     if opcode == 118 then record (behind 1 (begun regs)) { halted = true }
     else (record (behind 1 (begun regs)) { iff1 = true; iff2 = true; shadow = true })
-
--- an opcode is a prefix, behind which the opcode of another page stands
-abbrev pub is_behind_prefix : ℕ → Bool
-is_behind_prefix opcode = is_none (form_of opcode)
-
--- CBh, DDh and FDh, the prefixes of rotations, single bits and the index registers
-abbrev pub is_indexed : ℕ → Bool
-is_indexed opcode = (opcode == 203) || ((opcode == 221) || (opcode == 253))
-
--- the processor is about to do an instruction behind one of these
-pub record IsIndexedAt (prefix : ℕ) (regs : Regs) (memory : ℕ → ℕ) : Type 0 where
-  pub runs : regs.halted ≡ false
-  pub here : prefix ≡ memory regs.pc
-  pub indexed : is_indexed prefix ≡ true
-
--- the processor stands in a HALT, or is about to do HALT, EI or an instruction behind EDh
-pub record IsOtherAt (opcode : ℕ) (regs : Regs) (memory : ℕ → ℕ) : Type 0 where
-  pub rare : IsRareAt opcode regs memory
-  pub other : regs.halted ≡ false → is_indexed opcode ≡ false
 
 -- the processor is about to do LDIR, EDh B0h
 pub record IsLoadUpAt (regs : Regs) (memory : ℕ → ℕ) : Type 0 where

@@ -1,14 +1,14 @@
 ghost use Rattle.std.specs.Prelude.{◌≡◌};
-ghost use Rattle.z80_regs.specs.Words.{onward};
 ghost use Rattle.z80_regs.specs.Outcome.{Leaves};
 ghost use Rattle.z80_decode.specs.Decoding.{bit_instr_of};
-ghost use Rattle.z80_ext.specs.Instruction.{begun};
+ghost use Rattle.z80_decode.specs.declared.page_forms.BitChange.TheVariants as changes;
+ghost use Rattle.z80_decode.specs.declared.page_forms.BitForm.TheVariants.{Change};
+ghost use Rattle.z80_exec.specs.Operands.{operand_byte};
 ghost use Rattle.z80_ext.specs.Bits.{kind_of, changed_byte, changed_flags, bit_tested, operand_bits, memory_bits, bits_outcome};
 
-use crate::stepped::begin_behind;
 use z80_alu::Rotate;
 use z80_decode::{BitChange, BitForm, Operand, Shift, bit_form, operand_at};
-use z80_exec::{operand, set_operand};
+use z80_exec::hl;
 use z80_regs::{Bus, Regs};
 
 /// Which rotation or shift of a byte a form names.
@@ -49,53 +49,184 @@ fn test_bit(weight: u8, byte: u8, regs: &mut Regs)
     regs.f = z80_alu::bit_flags(byte & weight == 0, regs.f);
 }
 
-/// Acts on an operand whose byte is known.
+/// A change of an operand. Each row reads and sets its operand by itself, so that both are known by one jump.
 #[inline(always)]
 #[tactic(auto, unfolding(z80_regs::specs::Outcome::Leaves))]
-fn act_on_operand<B: Bus>(form: BitForm, at: Operand, byte: u8, regs: &mut Regs, bus: &mut B)
-    ensures registers { regs.new ≡ (operand_bits form at byte regs.old).registers }
-    ensures bus { Leaves B.wrote B.took (operand_bits form at byte regs.old).actions bus.old bus.new }
+fn change_operand<B: Bus>(change: BitChange, at: Operand, regs: &mut Regs, bus: &mut B)
+    ensures registers { regs.new ≡ (operand_bits (Change change) at (operand_byte at regs.old (B.byte bus.old)) regs.old).registers }
+    ensures bus { Leaves B.wrote B.took (operand_bits (Change change) at (operand_byte at regs.old (B.byte bus.old)) regs.old).actions bus.old bus.new }
 {
-    match form {
-        BitForm::Test(weight) => test_bit(weight, byte, regs),
-        BitForm::Change(change) => {
-            let (value, flags) = changed(change, byte, regs.f);
-            regs.f = flags;
-            set_operand(at, value, regs, bus);
-        }
+    match at {
+        Operand::B => (regs.b, regs.f) = changed(change, regs.b, regs.f),
+        Operand::C => (regs.c, regs.f) = changed(change, regs.c, regs.f),
+        Operand::D => (regs.d, regs.f) = changed(change, regs.d, regs.f),
+        Operand::E => (regs.e, regs.f) = changed(change, regs.e, regs.f),
+        Operand::H => (regs.h, regs.f) = changed(change, regs.h, regs.f),
+        Operand::L => (regs.l, regs.f) = changed(change, regs.l, regs.f),
+        Operand::Memory => change_memory(change, hl(regs), regs, bus),
+        Operand::A => (regs.a, regs.f) = changed(change, regs.a, regs.f),
     }
 }
 
-/// Acts on the byte at an address, which is known. Memory comes before the registers, so that what was read before it and
-/// this write look up where memory lies once.
+/// A change of the byte at an address.
 #[inline(always)]
 #[tactic(auto, unfolding(z80_regs::specs::Outcome::Leaves))]
-pub fn act_on_memory<B: Bus>(form: BitForm, address: u16, byte: u8, regs: &mut Regs, bus: &mut B)
-    ensures registers { regs.new ≡ (memory_bits form address byte regs.old).registers }
-    ensures bus { Leaves B.wrote B.took (memory_bits form address byte regs.old).actions bus.old bus.new }
+fn change_memory<B: Bus>(change: BitChange, address: u16, regs: &mut Regs, bus: &mut B)
+    ensures registers { regs.new ≡ (memory_bits (Change change) address (B.byte bus.old address) regs.old).registers }
+    ensures bus { Leaves B.wrote B.took (memory_bits (Change change) address (B.byte bus.old address) regs.old).actions bus.old bus.new }
 {
-    match form {
-        BitForm::Test(weight) => test_bit(weight, byte, regs),
-        BitForm::Change(change) => {
-            let (value, flags) = changed(change, byte, regs.f);
-            bus.write(address, value);
-            regs.f = flags;
-        }
+    let (value, flags) = changed(change, bus.read(address), regs.f);
+    bus.write(address, value);
+    regs.f = flags;
+}
+
+/// A rotation or a shift of an operand: a row for each, so that it is known where a step has jumped by its opcode.
+#[inline(always)]
+#[tactic(auto, unfolding(z80_regs::specs::Outcome::Leaves))]
+fn rotate_operand<B: Bus>(shift: Shift, at: Operand, regs: &mut Regs, bus: &mut B)
+    ensures registers { regs.new ≡ (operand_bits (Change (changes.Rotate shift)) at (operand_byte at regs.old (B.byte bus.old)) regs.old).registers }
+    ensures bus { Leaves B.wrote B.took (operand_bits (Change (changes.Rotate shift)) at (operand_byte at regs.old (B.byte bus.old)) regs.old).actions bus.old bus.new }
+{
+    match shift {
+        Shift::LeftCircular => change_operand(
+            BitChange::Rotate(Shift::LeftCircular),
+            at,
+            regs,
+            bus,
+        ),
+        Shift::RightCircular => change_operand(
+            BitChange::Rotate(Shift::RightCircular),
+            at,
+            regs,
+            bus,
+        ),
+        Shift::Left => change_operand(BitChange::Rotate(Shift::Left), at, regs, bus),
+        Shift::Right => change_operand(BitChange::Rotate(Shift::Right), at, regs, bus),
+        Shift::LeftArithmetic => change_operand(
+            BitChange::Rotate(Shift::LeftArithmetic),
+            at,
+            regs,
+            bus,
+        ),
+        Shift::RightArithmetic => change_operand(
+            BitChange::Rotate(Shift::RightArithmetic),
+            at,
+            regs,
+            bus,
+        ),
+        Shift::LeftLogical => change_operand(BitChange::Rotate(Shift::LeftLogical), at, regs, bus),
+        Shift::RightLogical => change_operand(
+            BitChange::Rotate(Shift::RightLogical),
+            at,
+            regs,
+            bus,
+        ),
     }
 }
 
-/// One step where CBh is at PC. (UM0080, "Rotate and Shift Group", "Bit Set, Reset, and Test Group".)
+/// The same of the byte at an address.
+#[inline(always)]
+#[tactic(auto, unfolding(z80_regs::specs::Outcome::Leaves))]
+fn rotate_memory<B: Bus>(shift: Shift, address: u16, regs: &mut Regs, bus: &mut B)
+    ensures registers { regs.new ≡ (memory_bits (Change (changes.Rotate shift)) address (B.byte bus.old address) regs.old).registers }
+    ensures bus { Leaves B.wrote B.took (memory_bits (Change (changes.Rotate shift)) address (B.byte bus.old address) regs.old).actions bus.old bus.new }
+{
+    match shift {
+        Shift::LeftCircular => change_memory(
+            BitChange::Rotate(Shift::LeftCircular),
+            address,
+            regs,
+            bus,
+        ),
+        Shift::RightCircular => change_memory(
+            BitChange::Rotate(Shift::RightCircular),
+            address,
+            regs,
+            bus,
+        ),
+        Shift::Left => change_memory(BitChange::Rotate(Shift::Left), address, regs, bus),
+        Shift::Right => change_memory(BitChange::Rotate(Shift::Right), address, regs, bus),
+        Shift::LeftArithmetic => change_memory(
+            BitChange::Rotate(Shift::LeftArithmetic),
+            address,
+            regs,
+            bus,
+        ),
+        Shift::RightArithmetic => change_memory(
+            BitChange::Rotate(Shift::RightArithmetic),
+            address,
+            regs,
+            bus,
+        ),
+        Shift::LeftLogical => change_memory(
+            BitChange::Rotate(Shift::LeftLogical),
+            address,
+            regs,
+            bus,
+        ),
+        Shift::RightLogical => change_memory(
+            BitChange::Rotate(Shift::RightLogical),
+            address,
+            regs,
+            bus,
+        ),
+    }
+}
+
+/// BIT of an operand, likewise.
+#[inline(always)]
+fn test_operand<B: Bus>(weight: u8, at: Operand, regs: &mut Regs, bus: &B)
+    ensures { regs.new ≡ bit_tested weight (operand_byte at regs.old (B.byte bus.now)) regs.old }
+{
+    match at {
+        Operand::B => test_bit(weight, regs.b, regs),
+        Operand::C => test_bit(weight, regs.c, regs),
+        Operand::D => test_bit(weight, regs.d, regs),
+        Operand::E => test_bit(weight, regs.e, regs),
+        Operand::H => test_bit(weight, regs.h, regs),
+        Operand::L => test_bit(weight, regs.l, regs),
+        Operand::Memory => test_bit(weight, bus.read(hl(regs)), regs),
+        Operand::A => test_bit(weight, regs.a, regs),
+    }
+}
+
+/// Acts on an operand.
+#[inline(always)]
+#[tactic(auto, unfolding(z80_regs::specs::Outcome::Leaves))]
+fn act_on_operand<B: Bus>(form: BitForm, at: Operand, regs: &mut Regs, bus: &mut B)
+    ensures registers { regs.new ≡ (operand_bits form at (operand_byte at regs.old (B.byte bus.old)) regs.old).registers }
+    ensures bus { Leaves B.wrote B.took (operand_bits form at (operand_byte at regs.old (B.byte bus.old)) regs.old).actions bus.old bus.new }
+{
+    match (at, form) {
+        (Operand::Memory, form) => act_on_memory(form, hl(regs), regs, bus),
+        (at, BitForm::Test(weight)) => test_operand(weight, at, regs, bus),
+        (at, BitForm::Change(BitChange::Rotate(shift))) => rotate_operand(shift, at, regs, bus),
+        (at, BitForm::Change(change)) => change_operand(change, at, regs, bus),
+    }
+}
+
+/// Acts on the byte at an address.
+#[inline(always)]
+#[tactic(auto, unfolding(z80_regs::specs::Outcome::Leaves))]
+pub fn act_on_memory<B: Bus>(form: BitForm, address: u16, regs: &mut Regs, bus: &mut B)
+    ensures registers { regs.new ≡ (memory_bits form address (B.byte bus.old address) regs.old).registers }
+    ensures bus { Leaves B.wrote B.took (memory_bits form address (B.byte bus.old address) regs.old).actions bus.old bus.new }
+{
+    match form {
+        BitForm::Test(weight) => test_bit(weight, bus.read(address), regs),
+        BitForm::Change(BitChange::Rotate(shift)) => rotate_memory(shift, address, regs, bus),
+        BitForm::Change(change) => change_memory(change, address, regs, bus),
+    }
+}
+
+/// What an instruction behind CBh does, but for how it begins. (UM0080, "Rotate and Shift Group", "Bit Set, Reset, and Test
+/// Group".)
 #[inline(always)]
 #[tactic(auto, unfolding(crate::specs::Bits::bits_outcome, z80_regs::specs::Outcome::Leaves))]
-pub fn step_bits<B: Bus>(regs: &mut Regs, bus: &mut B)
-    ensures registers { regs.new ≡
-        (bits_outcome (bit_instr_of (B.byte bus.old (onward regs.old.pc 1))) (begun regs.old) (B.byte bus.old)).registers }
-    ensures bus { Leaves B.wrote B.took
-        (bits_outcome (bit_instr_of (B.byte bus.old (onward regs.old.pc 1))) (begun regs.old) (B.byte bus.old)).actions
-        bus.old bus.new }
+pub fn step_bits<B: Bus>(opcode: u8, regs: &mut Regs, bus: &mut B)
+    ensures registers { regs.new ≡ (bits_outcome (bit_instr_of opcode) regs.old (B.byte bus.old)).registers }
+    ensures bus { Leaves B.wrote B.took (bits_outcome (bit_instr_of opcode) regs.old (B.byte bus.old)).actions bus.old bus.new }
 {
-    let opcode = bus.read(regs.pc.wrapping_add(1));
-    begin_behind(2, regs);
-    let at = operand_at(opcode % 8);
-    act_on_operand(bit_form(opcode), at, operand(at, regs, bus), regs, bus);
+    regs.pc = regs.pc.wrapping_add(2);
+    act_on_operand(bit_form(opcode), operand_at(opcode % 8), regs, bus);
 }

@@ -1,9 +1,10 @@
-ghost use Rattle.std.specs.Prelude.{◌≡◌, ◌↔◌, IsNone};
+ghost use Rattle.std.specs.Prelude.{◌≡◌, ◌↔◌, true, false, IsNone};
+ghost use Rattle.std.specs.Bool.{OnTrue, OnFalse};
 ghost use Rattle.z80_regs.specs.Words.{onward};
 ghost use Rattle.z80_regs.specs.Outcome.{Leaves};
 ghost use Rattle.z80_decode.specs.PageOpcodes.{extended_form_of};
 ghost use Rattle.z80_decode.specs.Decoding.{extended_instr_by};
-ghost use Rattle.z80_ext.specs.Instruction.{outcome_of, registers_after, actions_of};
+ghost use Rattle.z80_ext.specs.Instruction.{outcome_of, unbegun_of, is_plain_instr, registers_after, actions_of};
 ghost use Rattle.z80_exec.specs.Operands.{hl_of};
 ghost use Rattle.z80_ext.specs.Extended.{
   operand_input,
@@ -18,7 +19,7 @@ ghost use Rattle.z80_ext.specs.Extended.{
 };
 
 use crate::block::transfer;
-use crate::stepped::{Stepped, begin_behind};
+use crate::stepped::{Stepped, begin_behind, fourth_byte};
 use z80_decode::{
     ExtendedForm, Instr, Operand, Page, Pair, extended_form, extended_tail, read_instr,
 };
@@ -39,6 +40,7 @@ fn input_operand<B: Bus>(to: Operand, regs: &mut Regs, bus: &mut B)
 }
 
 /// ADC HL,ss.
+#[inline(always)]
 fn add_pair_with_carry(pair: Pair, regs: &mut Regs)
     ensures { regs.new ≡ pair_added_with_carry pair regs.old }
 {
@@ -48,6 +50,7 @@ fn add_pair_with_carry(pair: Pair, regs: &mut Regs)
 }
 
 /// SBC HL,ss.
+#[inline(always)]
 fn subtract_pair(pair: Pair, regs: &mut Regs)
     ensures { regs.new ≡ pair_subtracted pair regs.old }
 {
@@ -111,6 +114,45 @@ fn output_operand<B: Bus>(from: Operand, regs: &Regs, bus: &mut B)
 {
     let value = operand(from, regs, bus);
     bus.output(regs.c, value);
+}
+
+/// What ADC HL,ss, SBC HL,ss, LD (nn),dd and LD dd,(nn) do, but for how they begin. The byte behind the opcode is known, the
+/// last is read where it belongs to the instruction. False comes of all else behind EDh, and then nothing changes. (UM0080,
+/// "16-Bit Arithmetic Group", "16-Bit Load Group".)
+#[inline(always)]
+#[tactic(auto, unfolding(crate::specs::Extended::extended_performed, crate::specs::Extended::extended_outcome, z80_regs::specs::Outcome::Leaves))]
+pub fn step_pair<B: Bus>(opcode: u8, third: u8, regs: &mut Regs, bus: &mut B) -> bool
+    ensures plain { result ≡ is_plain_instr (extended_instr_by (extended_form_of opcode) opcode third (B.byte bus.old (onward regs.old.pc 3))) }
+    ensures registers { OnTrue result (regs.new ≡ (unbegun_of (extended_instr_by (extended_form_of opcode) opcode third (B.byte bus.old (onward regs.old.pc 3))) regs.old (B.byte bus.old) (B.port_byte bus.old)).registers) }
+    ensures bus { OnTrue result (Leaves B.wrote B.took (unbegun_of (extended_instr_by (extended_form_of opcode) opcode third (B.byte bus.old (onward regs.old.pc 3))) regs.old (B.byte bus.old) (B.port_byte bus.old)).actions bus.old bus.new) }
+    ensures registers_stay { OnFalse result (regs.new ≡ regs.old) }
+    ensures bus_stays { OnFalse result (bus.new ≡ bus.old) }
+{
+    match extended_form(opcode) {
+        Some(ExtendedForm::AddPair(pair)) => {
+            regs.pc = regs.pc.wrapping_add(2);
+            add_pair_with_carry(pair, regs);
+            true
+        }
+        Some(ExtendedForm::SubtractPair(pair)) => {
+            regs.pc = regs.pc.wrapping_add(2);
+            subtract_pair(pair, regs);
+            true
+        }
+        Some(ExtendedForm::StorePair(pair)) => {
+            let to = u16::from_le_bytes([third, fourth_byte(regs.pc, bus)]);
+            regs.pc = regs.pc.wrapping_add(4);
+            store_word(to, pair_at(regs, pair), bus);
+            true
+        }
+        Some(ExtendedForm::LoadPair(pair)) => {
+            let from = u16::from_le_bytes([third, fourth_byte(regs.pc, bus)]);
+            regs.pc = regs.pc.wrapping_add(4);
+            set_pair(regs, pair, word_at(bus, from));
+            true
+        }
+        _ => false,
+    }
 }
 
 /// Acts as a form's instruction, which PC is behind.

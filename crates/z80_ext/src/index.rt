@@ -1,14 +1,17 @@
-ghost use Rattle.std.specs.Prelude.{◌≡◌, ◌↔◌, IsNone};
+ghost use Rattle.std.specs.Prelude.{◌≡◌, true, false};
+ghost use Rattle.std.specs.Bool.{OnTrue, OnFalse};
 ghost use Rattle.z80_regs.specs.Words.{onward};
 ghost use Rattle.z80_regs.specs.Outcome.{Leaves};
 ghost use Rattle.z80_decode.specs.PageOpcodes.{indexed_bit_form_of};
-ghost use Rattle.z80_decode.specs.Decoding.{index_bit_instr_by, index_instr_of};
-ghost use Rattle.z80_ext.specs.Instruction.{outcome_of, registers_after, actions_of};
+ghost use Rattle.z80_decode.specs.Decoding.{index_tail_of, instr_with, index_bit_instr_by, index_instr_of};
+ghost use Rattle.z80_exec.specs.Operands.{with_operand};
+ghost use Rattle.z80_exec.specs.Calculations.{calculated};
+ghost use Rattle.z80_exec.specs.Flow.{relative};
+ghost use Rattle.z80_ext.specs.Instruction.{unbegun_of, is_plain_instr};
 ghost use Rattle.z80_ext.specs.Index.{
   index_word,
   with_index,
   index_pair_word,
-  indexed_address,
   index_byte,
   with_index_byte,
   index_added,
@@ -23,12 +26,10 @@ ghost use Rattle.z80_ext.specs.Index.{
 };
 
 use crate::bits::act_on_memory;
-use crate::stepped::{Stepped, begin_behind};
-use z80_decode::{
-    IndexForm, Instr, Operand, Page, Pair, index_form, index_tail, indexed_bit_form, read_instr,
-};
+use crate::stepped::fourth_byte;
+use z80_decode::{IndexForm, Math, Operand, Pair, index_form, index_length, indexed_bit_form};
 use z80_exec::{
-    calculate, number_at, operand, pair_at, push, relative_to, replace_top, set_operand,
+    calculate, operand, pair_at, push, relative_to, replace_top, set_operand, store_operand,
     store_word, word_at,
 };
 use z80_regs::{Bus, Regs};
@@ -77,10 +78,10 @@ fn index_pair_at(regs: &Regs, index: IndexRegister, pair: Pair) -> u16
 
 /// IX+d or IY+d.
 #[inline(always)]
-fn address_at(index: IndexRegister, instr: &Instr, regs: &Regs) -> u16
-    ensures { result ≡ indexed_address index instr.now regs.now }
+fn address_at(index: IndexRegister, displacement: u8, regs: &Regs) -> u16
+    ensures { result ≡ relative (index_word index regs.now) displacement }
 {
-    relative_to(index_at(regs, index), instr.displacement)
+    relative_to(index_at(regs, index), displacement)
 }
 
 /// ADD IX,pp.
@@ -193,123 +194,194 @@ fn pop_index<B: Bus>(index: IndexRegister, regs: &mut Regs, bus: &B)
     set_index(regs, index, word);
 }
 
-/// Acts as a form's instruction, which PC is behind.
+/// LD r,(IX+d). Each operand that is set reads memory by itself, so that it is known where a step has jumped by its opcode.
+#[inline(always)]
+#[tactic(auto, unfolding(z80_regs::specs::Outcome::Leaves))]
+fn load_from<B: Bus>(to: Operand, address: u16, regs: &mut Regs, bus: &mut B)
+    ensures registers { regs.new ≡ (with_operand to (B.byte bus.old address) regs.old).registers }
+    ensures bus { Leaves B.wrote B.took (with_operand to (B.byte bus.old address) regs.old).actions bus.old bus.new }
+{
+    match to {
+        Operand::B => regs.b = bus.read(address),
+        Operand::C => regs.c = bus.read(address),
+        Operand::D => regs.d = bus.read(address),
+        Operand::E => regs.e = bus.read(address),
+        Operand::H => regs.h = bus.read(address),
+        Operand::L => regs.l = bus.read(address),
+        Operand::Memory => {
+            let byte = bus.read(address);
+            set_operand(Operand::Memory, byte, regs, bus);
+        }
+        Operand::A => regs.a = bus.read(address),
+    }
+}
+
+/// ADD A,(IX+d) and its kin, likewise.
+#[inline(always)]
+fn calculate_from<B: Bus>(math: Math, address: u16, regs: &mut Regs, bus: &B)
+    ensures { regs.new ≡ calculated math (B.byte bus.now address) regs.old }
+{
+    match math {
+        Math::Add => calculate(Math::Add, bus.read(address), regs),
+        Math::AddCarry => calculate(Math::AddCarry, bus.read(address), regs),
+        Math::Subtract => calculate(Math::Subtract, bus.read(address), regs),
+        Math::SubtractCarry => calculate(Math::SubtractCarry, bus.read(address), regs),
+        Math::And => calculate(Math::And, bus.read(address), regs),
+        Math::Xor => calculate(Math::Xor, bus.read(address), regs),
+        Math::Or => calculate(Math::Or, bus.read(address), regs),
+        Math::Compare => calculate(Math::Compare, bus.read(address), regs),
+    }
+}
+
+/// Acts as a form's instruction, which PC is behind. Its third byte is known, the fourth is read where it belongs to it.
 #[inline(always)]
 #[tactic(auto, unfolding(crate::specs::Index::index_performed, z80_regs::specs::Outcome::Leaves))]
 fn perform<B: Bus>(
     form: IndexForm,
     index: IndexRegister,
-    instr: &Instr,
+    opcode: u8,
+    third: u8,
+    address: u16,
     regs: &mut Regs,
     bus: &mut B,
 )
-    ensures registers { regs.new ≡ (index_performed form index instr.now regs.old (B.byte bus.old)).registers }
-    ensures bus { Leaves B.wrote B.took (index_performed form index instr.now regs.old (B.byte bus.old)).actions
+    ensures registers { regs.new ≡ (index_performed form index (instr_with (index_tail_of form) (page_of index) 2 opcode third (B.byte bus.old (onward address 3))) regs.old (B.byte bus.old)).registers }
+    ensures bus { Leaves B.wrote B.took (index_performed form index (instr_with (index_tail_of form) (page_of index) 2 opcode third (B.byte bus.old (onward address 3))) regs.old (B.byte bus.old)).actions
         bus.old bus.new }
 {
-    let word = index_at(regs, index);
-    let address = address_at(index, instr, regs);
     match form {
         IndexForm::AddPair(pair) => add_pair(index, pair, regs),
-        IndexForm::LoadNumber => set_index(regs, index, instr.operand),
-        IndexForm::Store => store_word(instr.operand, word, bus),
-        IndexForm::Load => set_index(regs, index, word_at(bus, instr.operand)),
-        IndexForm::Increment => set_index(regs, index, word.wrapping_add(1)),
-        IndexForm::Decrement => set_index(regs, index, word.wrapping_sub(1)),
-        IndexForm::IncrementByte(at) => increment(index, at, address, regs, bus),
-        IndexForm::DecrementByte(at) => decrement(index, at, address, regs, bus),
-        IndexForm::LoadByte(to) => set_byte(index, to, address, number_at(instr), regs, bus),
+        IndexForm::LoadNumber => set_index(
+            regs,
+            index,
+            u16::from_le_bytes([third, fourth_byte(address, bus)]),
+        ),
+        IndexForm::Store => {
+            let to = u16::from_le_bytes([third, fourth_byte(address, bus)]);
+            store_word(to, index_at(regs, index), bus);
+        }
+        IndexForm::Load => {
+            let from = u16::from_le_bytes([third, fourth_byte(address, bus)]);
+            set_index(regs, index, word_at(bus, from));
+        }
+        IndexForm::Increment => set_index(regs, index, index_at(regs, index).wrapping_add(1)),
+        IndexForm::Decrement => set_index(regs, index, index_at(regs, index).wrapping_sub(1)),
+        IndexForm::IncrementByte(Operand::Memory) => {
+            increment(
+                index,
+                Operand::Memory,
+                address_at(index, third, regs),
+                regs,
+                bus,
+            );
+        }
+        IndexForm::IncrementByte(at) => increment(
+            index,
+            at,
+            address_at(index, third, regs),
+            regs,
+            bus,
+        ),
+        IndexForm::DecrementByte(Operand::Memory) => {
+            decrement(
+                index,
+                Operand::Memory,
+                address_at(index, third, regs),
+                regs,
+                bus,
+            );
+        }
+        IndexForm::DecrementByte(at) => decrement(
+            index,
+            at,
+            address_at(index, third, regs),
+            regs,
+            bus,
+        ),
+        IndexForm::LoadByte(Operand::Memory) => {
+            let byte = fourth_byte(address, bus);
+            bus.write(address_at(index, third, regs), byte);
+        }
+        IndexForm::LoadByte(to) => set_byte(index, to, 0, third, regs, bus),
         IndexForm::LoadHalf(to, from) => {
-            let byte = byte_at(index, from, address, regs, bus);
-            set_byte(index, to, address, byte, regs, bus);
+            let at = address_at(index, 0, regs);
+            let byte = byte_at(index, from, at, regs, bus);
+            set_byte(index, to, at, byte, regs, bus);
         }
-        IndexForm::LoadFrom(to) => set_operand(to, bus.read(address), regs, bus),
-        IndexForm::StoreTo(from) => {
-            let value = operand(from, regs, bus);
-            bus.write(address, value);
-        }
-        IndexForm::Calculate(math, from) => {
-            calculate(math, byte_at(index, from, address, regs, bus), regs);
-        }
+        IndexForm::LoadFrom(to) => load_from(to, address_at(index, third, regs), regs, bus),
+        IndexForm::StoreTo(from) => store_operand(from, address_at(index, third, regs), regs, bus),
+        IndexForm::Calculate(math, Operand::Memory) => calculate_from(
+            math,
+            address_at(index, third, regs),
+            regs,
+            bus,
+        ),
+        IndexForm::Calculate(math, from) => calculate(
+            math,
+            byte_at(index, from, 0, regs, bus),
+            regs,
+        ),
         IndexForm::Pop => pop_index(index, regs, bus),
         IndexForm::ExchangeStack => exchange_stack(index, regs, bus),
         IndexForm::Push => push_index(index, regs, bus),
-        IndexForm::Jump => regs.pc = word,
-        IndexForm::LoadSp => regs.sp = word,
+        IndexForm::Jump => regs.pc = index_at(regs, index),
+        IndexForm::LoadSp => regs.sp = index_at(regs, index),
     }
 }
 
-/// The page that the register's prefix opens.
+/// What an instruction behind DDh CBh or FDh CBh does, but for how it begins. Its displacement is known. False comes where it
+/// isn't listed, and then nothing changes. (UM0080, "Rotate and Shift Group", "Bit Set, Reset, and Test Group".)
 #[inline(always)]
-fn page(index: IndexRegister) -> Page
-    ensures { result ≡ page_of index }
+#[tactic(auto, using(crate::proofs::Next::index_bits_page, crate::proofs::Next::bits_page_plain), unfolding(crate::specs::Index::index_bits_outcome, z80_regs::specs::Outcome::Leaves))]
+fn step_index_bits<B: Bus>(
+    index: IndexRegister,
+    displacement: u8,
+    regs: &mut Regs,
+    bus: &mut B,
+) -> bool
+    ensures plain { result ≡ is_plain_instr (index_bit_instr_by (indexed_bit_form_of (B.byte bus.old (onward regs.old.pc 3))) (bits_page_of index) displacement (B.byte bus.old (onward regs.old.pc 3))) }
+    ensures registers { OnTrue result (regs.new ≡ (unbegun_of (index_bit_instr_by (indexed_bit_form_of (B.byte bus.old (onward regs.old.pc 3))) (bits_page_of index) displacement (B.byte bus.old (onward regs.old.pc 3))) regs.old (B.byte bus.old) (B.port_byte bus.old)).registers) }
+    ensures bus { OnTrue result (Leaves B.wrote B.took (unbegun_of (index_bit_instr_by (indexed_bit_form_of (B.byte bus.old (onward regs.old.pc 3))) (bits_page_of index) displacement (B.byte bus.old (onward regs.old.pc 3))) regs.old (B.byte bus.old) (B.port_byte bus.old)).actions bus.old bus.new) }
+    ensures registers_stay { OnFalse result (regs.new ≡ regs.old) }
+    ensures bus_stays { OnFalse result (bus.new ≡ bus.old) }
 {
-    match index {
-        IndexRegister::Ix => Page::Ix,
-        IndexRegister::Iy => Page::Iy,
-    }
-}
-
-/// The page that CBh behind it opens.
-#[inline(always)]
-fn bits_page(index: IndexRegister) -> Page
-    ensures { result ≡ bits_page_of index }
-{
-    match index {
-        IndexRegister::Ix => Page::IxCb,
-        IndexRegister::Iy => Page::IyCb,
-    }
-}
-
-/// One step where DDh CBh or FDh CBh is at PC. (UM0080, "Rotate and Shift Group", "Bit Set, Reset, and Test Group".)
-#[inline(always)]
-#[tactic(auto, using(crate::proofs::Next::index_bits_page, crate::proofs::Next::bits_behind), unfolding(crate::specs::Index::index_bits_outcome, z80_regs::specs::Outcome::Leaves))]
-fn step_index_bits<B: Bus>(index: IndexRegister, regs: &mut Regs, bus: &mut B) -> Stepped
-    ensures illegal { let opcode = B.byte bus.old (onward regs.old.pc 3) in (result ≡ Stepped.Illegal) ↔ IsNone
-        (outcome_of (index_bit_instr_by (indexed_bit_form_of opcode) (bits_page_of index) (B.byte bus.old (onward regs.old.pc 2)) opcode) regs.old (B.byte bus.old) (B.port_byte bus.old)) }
-    ensures registers { let opcode = B.byte bus.old (onward regs.old.pc 3) in regs.new ≡ registers_after
-        (outcome_of (index_bit_instr_by (indexed_bit_form_of opcode) (bits_page_of index) (B.byte bus.old (onward regs.old.pc 2)) opcode) regs.old (B.byte bus.old) (B.port_byte bus.old)) regs.old }
-    ensures bus { let opcode = B.byte bus.old (onward regs.old.pc 3) in Leaves B.wrote B.took
-        (actions_of (outcome_of (index_bit_instr_by (indexed_bit_form_of opcode) (bits_page_of index) (B.byte bus.old (onward regs.old.pc 2)) opcode) regs.old (B.byte bus.old) (B.port_byte bus.old)))
-        bus.old bus.new }
-{
-    let opcode = bus.read(regs.pc.wrapping_add(3));
-    match indexed_bit_form(opcode) {
-        None => Stepped::Illegal,
+    match indexed_bit_form(fourth_byte(regs.pc, bus)) {
+        None => false,
         Some(form) => {
-            let displacement = bus.read(regs.pc.wrapping_add(2));
-            let address = relative_to(index_at(regs, index), displacement);
-            let byte = bus.read(address);
-            act_on_memory(form, address, byte, regs, bus);
-            begin_behind(4, regs);
-            Stepped::Ran
+            regs.pc = regs.pc.wrapping_add(4);
+            act_on_memory(form, address_at(index, displacement, regs), regs, bus);
+            true
         }
     }
 }
 
-/// One step where DDh or FDh is at PC. (UM0080, "Z80 Instruction Description".)
+/// What an instruction behind DDh or FDh does, but for how it begins. Its opcode and the byte behind that are known. False
+/// comes where it isn't listed, and then nothing changes. (UM0080, "Z80 Instruction Description".)
 #[inline(always)]
-#[tactic(auto, using(crate::proofs::Next::index_page), unfolding(z80_decode::specs::Decoding::index_instr_of, crate::specs::Index::index_outcome, z80_regs::specs::Outcome::Leaves))]
-pub fn step_index<B: Bus>(index: IndexRegister, regs: &mut Regs, bus: &mut B) -> Stepped
-    ensures illegal { (result ≡ Stepped.Illegal) ↔ IsNone
-        (outcome_of (index_instr_of (page_of index) (bits_page_of index) (B.byte bus.old (onward regs.old.pc 1)) (B.byte bus.old (onward regs.old.pc 2)) (B.byte bus.old (onward regs.old.pc 3))) regs.old (B.byte bus.old) (B.port_byte bus.old)) }
-    ensures registers { regs.new ≡ registers_after
-        (outcome_of (index_instr_of (page_of index) (bits_page_of index) (B.byte bus.old (onward regs.old.pc 1)) (B.byte bus.old (onward regs.old.pc 2)) (B.byte bus.old (onward regs.old.pc 3))) regs.old (B.byte bus.old) (B.port_byte bus.old)) regs.old }
-    ensures bus { Leaves B.wrote B.took
-        (actions_of (outcome_of (index_instr_of (page_of index) (bits_page_of index) (B.byte bus.old (onward regs.old.pc 1)) (B.byte bus.old (onward regs.old.pc 2)) (B.byte bus.old (onward regs.old.pc 3))) regs.old (B.byte bus.old) (B.port_byte bus.old)))
-        bus.old bus.new }
+#[tactic(auto, using(crate::proofs::Next::index_page, crate::proofs::Next::page_plain), unfolding(z80_decode::specs::Decoding::index_instr_of, crate::specs::Index::index_outcome, z80_regs::specs::Outcome::Leaves))]
+pub fn step_index<B: Bus>(
+    index: IndexRegister,
+    opcode: u8,
+    third: u8,
+    regs: &mut Regs,
+    bus: &mut B,
+) -> bool
+    ensures plain { result ≡ is_plain_instr (index_instr_of (page_of index) (bits_page_of index) opcode third (B.byte bus.old (onward regs.old.pc 3))) }
+    ensures registers { OnTrue result (regs.new ≡ (unbegun_of (index_instr_of (page_of index) (bits_page_of index) opcode third (B.byte bus.old (onward regs.old.pc 3))) regs.old (B.byte bus.old) (B.port_byte bus.old)).registers) }
+    ensures bus { OnTrue result (Leaves B.wrote B.took (unbegun_of (index_instr_of (page_of index) (bits_page_of index) opcode third (B.byte bus.old (onward regs.old.pc 3))) regs.old (B.byte bus.old) (B.port_byte bus.old)).actions bus.old bus.new) }
+    ensures registers_stay { OnFalse result (regs.new ≡ regs.old) }
+    ensures bus_stays { OnFalse result (bus.new ≡ bus.old) }
 {
-    let opcode = bus.read(regs.pc.wrapping_add(1));
     if opcode == 0xcb {
-        return step_index_bits(index, regs, bus);
+        return step_index_bits(index, third, regs, bus);
     }
     match index_form(opcode) {
-        None => Stepped::Illegal,
+        None => false,
         Some(form) => {
-            let instr = read_instr(index_tail(form), page(index), 2, opcode, regs.pc, bus);
-            begin_behind(instr.length, regs);
-            perform(form, index, &instr, regs, bus);
-            Stepped::Ran
+            let address = regs.pc;
+            regs.pc = address.wrapping_add(u16::from(index_length(form)));
+            perform(form, index, opcode, third, address, regs, bus);
+            true
         }
     }
 }

@@ -7,27 +7,76 @@ mod extended;
 mod index;
 mod stepped;
 
-ghost use Rattle.std.specs.Prelude.{◌≡◌, ◌↔◌, ℕ, true, false, IsNone, IsSome, IfSome, MatchOption, is_none};
+ghost use Rattle.std.specs.Prelude.{◌≡◌, ◌↔◌, true, false, IsNone, IsSome, IfSome, MatchOption, is_none};
+ghost use Rattle.std.specs.Bool.{OnTrue, OnFalse};
 ghost use Rattle.z80_regs.specs.Outcome.{Leaves};
 ghost use Rattle.z80_regs.specs.Words.{onward};
 ghost use Rattle.z80_regs.specs.declared.regs.Regs.{Regs};
+ghost use Rattle.z80_decode.specs.Opcodes.{form_of};
 ghost use Rattle.z80_decode.specs.Decoding.{instr_of};
-ghost use Rattle.z80_ext.specs.Instruction.{IsRareAt, IsIndexedAt, IsOtherAt, IsLoadUpAt, is_plain_at, is_behind_prefix, is_indexed, halted_or_enabled, unbegun, risen, four_from, outcome_of, instruction, registers_after, actions_of};
+ghost use Rattle.z80_ext.specs.Instruction.{IsRareAt, IsLoadUpAt, is_plain_at, halted_or_enabled, unbegun, risen, four_from, instruction, registers_after, actions_of};
 
 use crate::bits::step_bits;
 use crate::block::load_block;
-use crate::extended::step_extended;
+use crate::extended::{step_extended, step_pair};
 use crate::index::{IndexRegister, step_index};
 use crate::stepped::{begin_behind, refresh};
 pub use stepped::{Stepped, begin_all};
-use z80_decode::{Direction, is_prefix};
+use z80_decode::{Direction, main_form};
 pub use z80_exec::Fetched;
-use z80_exec::main_next;
+use z80_exec::plain_next;
 use z80_regs::{Bus, Regs};
 
+/// Acts as the instruction at PC does, which stands behind a prefix and whose first three bytes are fetched, but for how it
+/// begins. False comes where it isn't plain, and then nothing changes.
+#[inline(always)]
+#[tactic(auto, using(crate::proofs::Rare::bits_is, crate::proofs::Rare::ix_is, crate::proofs::Rare::iy_is, crate::proofs::Rare::extended_is, crate::proofs::Rare::prefix_rare), unfolding(z80_regs::specs::Outcome::Leaves))]
+fn act_behind<B: Bus>(fetched: Fetched, regs: &mut Regs, bus: &mut B) -> bool
+    requires opcode { fetched.opcode ≡ B.byte bus.old regs.old.pc }
+    requires first { fetched.first ≡ B.byte bus.old (onward regs.old.pc 1) }
+    requires second { fetched.second ≡ B.byte bus.old (onward regs.old.pc 2) }
+    requires prefix { IsNone (form_of fetched.opcode) }
+    ensures plain { result ≡ is_plain_at regs.old (B.byte bus.old) }
+    ensures registers { OnTrue result (regs.new ≡ (unbegun regs.old (B.byte bus.old) (B.port_byte bus.old)).registers) }
+    ensures bus { OnTrue result (Leaves B.wrote B.took (unbegun regs.old (B.byte bus.old) (B.port_byte bus.old)).actions bus.old bus.new) }
+    ensures registers_stay { OnFalse result (regs.new ≡ regs.old) }
+    ensures bus_stays { OnFalse result (bus.new ≡ bus.old) }
+{
+    match fetched.opcode {
+        0xcb => {
+            step_bits(fetched.first, regs, bus);
+            true
+        }
+        0xdd => step_index(IndexRegister::Ix, fetched.first, fetched.second, regs, bus),
+        0xfd => step_index(IndexRegister::Iy, fetched.first, fetched.second, regs, bus),
+        0xed => step_pair(fetched.first, fetched.second, regs, bus),
+        _ => false,
+    }
+}
+
+/// Acts as the instruction at PC does, whose first three bytes are fetched, but for how it begins. False comes where it isn't
+/// plain, and then nothing changes.
+#[inline(always)]
+#[tactic(auto, using(crate::proofs::Next::main_plain, crate::proofs::Next::main_does))]
+fn act<B: Bus>(fetched: Fetched, regs: &mut Regs, bus: &mut B) -> bool
+    requires opcode { fetched.opcode ≡ B.byte bus.old regs.old.pc }
+    requires first { fetched.first ≡ B.byte bus.old (onward regs.old.pc 1) }
+    requires second { fetched.second ≡ B.byte bus.old (onward regs.old.pc 2) }
+    ensures plain { result ≡ is_plain_at regs.old (B.byte bus.old) }
+    ensures registers { OnTrue result (regs.new ≡ (unbegun regs.old (B.byte bus.old) (B.port_byte bus.old)).registers) }
+    ensures bus { OnTrue result (Leaves B.wrote B.took (unbegun regs.old (B.byte bus.old) (B.port_byte bus.old)).actions bus.old bus.new) }
+    ensures registers_stay { OnFalse result (regs.new ≡ regs.old) }
+    ensures bus_stays { OnFalse result (bus.new ≡ bus.old) }
+{
+    match main_form(fetched.opcode) {
+        None => act_behind(fetched, regs, bus),
+        Some(form) => plain_next(form, fetched, regs, bus),
+    }
+}
+
 /// Acts as the instruction at PC does, whose opcode and the two bytes behind it are fetched, but for how it begins: R and the
-/// shadow of an EI before it stay as they are, so that `begin_all` may change them once for many instructions. A prefix, HALT
-/// and EI are answered, and nothing has changed.
+/// shadow of an EI before it stay as they are, so that `begin_all` may change them once for many instructions. Where it isn't
+/// plain its opcode is answered, and nothing has changed: HALT, EI, most of what stands behind EDh, and what isn't listed.
 #[inline(always)]
 pub fn step_unbegun<B: Bus>(fetched: Fetched, regs: &mut Regs, bus: &mut B) -> Option<u8>
     requires opcode { fetched.opcode ≡ B.byte bus.old regs.old.pc }
@@ -42,48 +91,10 @@ pub fn step_unbegun<B: Bus>(fetched: Fetched, regs: &mut Regs, bus: &mut B) -> O
         (Leaves B.wrote B.took (unbegun regs.old (B.byte bus.old) (B.port_byte bus.old)).actions bus.old bus.new)
         (λ rare. bus.new ≡ bus.old) }
 {
-    if main_next(fetched, regs, bus) {
+    if act(fetched, regs, bus) {
         None
     } else {
         Some(fetched.opcode)
-    }
-}
-
-/// Whether an opcode is a prefix, behind which the instruction isn't plain.
-#[inline(always)]
-#[tactic(auto, using(crate::proofs::Begun::prefix_is_rare, crate::proofs::Begun::prefix_told))]
-pub fn is_behind_prefix(opcode: u8) -> bool
-    ensures prefix { result ≡ is_behind_prefix opcode }
-    ensures rare { (regs : Regs) (memory : ℕ → ℕ) → opcode ≡ memory regs.pc → result ≡ true → IsRareAt opcode regs memory }
-{
-    is_prefix(opcode)
-}
-
-/// Whether an opcode is one of the prefixes that compiled programs live behind: CBh, DDh or FDh.
-#[inline(always)]
-pub fn is_indexed(opcode: u8) -> bool
-    ensures { result ≡ is_indexed opcode }
-{
-    opcode == 0xcb || opcode == 0xdd || opcode == 0xfd
-}
-
-/// One step where CBh, DDh or FDh is at PC. It is in line, so that a caller's bus stays in registers.
-#[inline(always)]
-#[tactic(auto, using(crate::proofs::Rare::bits_at, crate::proofs::Rare::ix_at, crate::proofs::Rare::iy_at))]
-pub fn step_indexed<B: Bus>(prefix: u8, regs: &mut Regs, bus: &mut B) -> Stepped
-    requires { IsIndexedAt prefix regs.old (B.byte bus.old) }
-    ensures illegal { (result ≡ Stepped.Illegal) ↔ IsNone (instruction regs.old (B.byte bus.old) (B.port_byte bus.old)) }
-    ensures registers { regs.new ≡ registers_after (instruction regs.old (B.byte bus.old) (B.port_byte bus.old)) regs.old }
-    ensures bus { Leaves B.wrote B.took (actions_of (instruction regs.old (B.byte bus.old) (B.port_byte bus.old)))
-        bus.old bus.new }
-{
-    match prefix {
-        0xcb => {
-            step_bits(regs, bus);
-            Stepped::Ran
-        }
-        0xdd => step_index(IndexRegister::Ix, regs, bus),
-        _ => step_index(IndexRegister::Iy, regs, bus),
     }
 }
 
@@ -100,11 +111,11 @@ fn halt_or_enable(opcode: u8, regs: &mut Regs)
     }
 }
 
-/// One step where the processor stands in a HALT, or EDh, HALT or EI is at PC.
+/// One step where the processor stands in a HALT, or what is at PC isn't plain.
 #[inline(never)]
-#[tactic(auto, using(crate::proofs::Rare::extended_at, crate::proofs::Rare::halt_or_enable_at, crate::proofs::Rare::rests_at), unfolding(z80_regs::specs::Outcome::Leaves))]
+#[tactic(auto, using(crate::proofs::Rare::extended_at, crate::proofs::Rare::halt_or_enable_at, crate::proofs::Rare::unlisted_at, crate::proofs::Rare::rests_at), unfolding(z80_regs::specs::Outcome::Leaves))]
 pub fn step_other<B: Bus>(opcode: u8, regs: &mut Regs, bus: &mut B) -> Stepped
-    requires { IsOtherAt opcode regs.old (B.byte bus.old) }
+    requires { IsRareAt opcode regs.old (B.byte bus.old) }
     ensures illegal { (result ≡ Stepped.Illegal) ↔ IsNone (instruction regs.old (B.byte bus.old) (B.port_byte bus.old)) }
     ensures registers { regs.new ≡ registers_after (instruction regs.old (B.byte bus.old) (B.port_byte bus.old)) regs.old }
     ensures bus { Leaves B.wrote B.took (actions_of (instruction regs.old (B.byte bus.old) (B.port_byte bus.old)))
@@ -117,23 +128,11 @@ pub fn step_other<B: Bus>(opcode: u8, regs: &mut Regs, bus: &mut B) -> Stepped
     if opcode == 0xed {
         return step_extended(regs, bus);
     }
-    halt_or_enable(opcode, regs);
-    Stepped::Ran
-}
-
-/// One step where the processor stands in a HALT, or a prefix, HALT or EI is at PC.
-#[inline(always)]
-fn step_rare<B: Bus>(opcode: u8, regs: &mut Regs, bus: &mut B) -> Stepped
-    requires { IsRareAt opcode regs.old (B.byte bus.old) }
-    ensures illegal { (result ≡ Stepped.Illegal) ↔ IsNone (instruction regs.old (B.byte bus.old) (B.port_byte bus.old)) }
-    ensures registers { regs.new ≡ registers_after (instruction regs.old (B.byte bus.old) (B.port_byte bus.old)) regs.old }
-    ensures bus { Leaves B.wrote B.took (actions_of (instruction regs.old (B.byte bus.old) (B.port_byte bus.old)))
-        bus.old bus.new }
-{
-    if !regs.halted && is_indexed(opcode) {
-        return step_indexed(opcode, regs, bus);
+    if opcode == 0x76 || opcode == 0xfb {
+        halt_or_enable(opcode, regs);
+        return Stepped::Ran;
     }
-    step_other(opcode, regs, bus)
+    Stepped::Illegal
 }
 
 /// One step where LDIR is at PC: what compiled programs copy with has code of its own.
@@ -162,14 +161,14 @@ fn step_fetched<B: Bus>(fetched: Fetched, regs: &mut Regs, bus: &mut B) -> Stepp
         bus.old bus.new }
 {
     if regs.halted {
-        return step_rare(fetched.opcode, regs, bus);
+        return step_other(fetched.opcode, regs, bus);
     }
     match step_unbegun(fetched, regs, bus) {
         None => {
             begin_all(1, regs);
             Stepped::Ran
         }
-        Some(rare) => step_rare(rare, regs, bus),
+        Some(rare) => step_other(rare, regs, bus),
     }
 }
 

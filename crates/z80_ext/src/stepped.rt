@@ -1,8 +1,9 @@
 ghost use Rattle.std.specs.Prelude.{◌≡◌, false};
+ghost use Rattle.z80_regs.specs.Words.{onward};
 ghost use Rattle.z80_exec.specs.Performing.{behind};
 ghost use Rattle.z80_ext.specs.Instruction.{risen, begun, begun_times};
 
-use z80_regs::Regs;
+use z80_regs::{Bus, Regs};
 
 /// What a step met.
 #[derive(Clone, Copy, Debug, PartialEq, Eq)]
@@ -49,4 +50,12 @@ pub fn begin_all(count: u64, regs: &mut Regs)
         regs.r = regs.r / 128 * 128 + (regs.r % 128 + (count % 128) as u8) % 128;
         regs.shadow = false;
     }
+}
+
+/// The last byte of an instruction of four bytes at an address.
+#[inline(always)]
+pub fn fourth_byte<B: Bus>(address: u16, bus: &B) -> u8
+    ensures { result ≡ B.byte bus.now (onward address 3) }
+{
+    bus.read(address.wrapping_add(3))
 }

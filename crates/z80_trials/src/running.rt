@@ -2,7 +2,7 @@
 mod cases;
 mod page_cases;
 
-ghost use Rattle.std.specs.Prelude.{◌≡◌, ◌<◌, ℕ, set, slice_index, nat_lt, if◌then◌else◌, vec_len};
+ghost use Rattle.std.specs.Prelude.{◌≡◌, ◌<◌, set, slice_index, nat_lt, if◌then◌else◌, vec_len};
 ghost use Rattle.std.proofs.Common.{rules};
 ghost use Rattle.std.proofs.lemmas.Grind.{common_steps};
 

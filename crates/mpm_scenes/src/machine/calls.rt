@@ -1,7 +1,7 @@
 //! What no whole run shows: the registers after a call, who lives, and the bytes that addresses name.
 use super::scene::Register::{A, B, Hl, Pc, Sp};
 use super::scene::Sight::{Byte, Has, Lives};
-use super::scene::{Behind, Scene, traced};
+use super::scene::{Behind, Scene, alone, traced};
 use std::test::Fail;
 
 /// The machine of a program: LD C,F0h; CALL 0005h; RST 00h.
@@ -88,24 +88,13 @@ fn without_an_interpreter_a_command_is_refused_and_a_chain_only_ends_its_process
     )
 }
 
-/// The machine of a program: LD DE,0110h; LD C,98h; CALL 0005h; HALT. At 0110h stand the addresses of a text and of a file
-/// control block, and at 0120h the text.
-fn parsing(first: &[u8]) -> Scene<'_> {
-    Scene {
-        machine: b"",
-        script: b"",
-        first,
-        second: b"",
-        trace: false,
-        disk: None,
-    }
-}
-
+/// Its program is LD DE,0110h; LD C,98h; CALL 0005h; HALT, as is that of the next two. At 0110h stand the addresses of a text and of a
+/// file control block, and at 0120h the text.
 #[test]
 fn a_name_is_parsed_into_a_file_control_block(rt: HostRuntime) -> Result<(), Fail> {
     let program = b"\x11\x10\x01\x0E\x98\xCD\x05\x00\x76\0\0\0\0\0\0\0\
 \x20\x01\x00\x02\0\0\0\0\0\0\0\0\0\0\0\0b:letter.txt now\0";
-    parsing(program).shows(
+    alone(program, false).shows(
         rt.alloc(),
         &[Behind(
             5,
@@ -131,7 +120,7 @@ fn a_name_is_parsed_into_a_file_control_block(rt: HostRuntime) -> Result<(), Fai
 fn a_password_is_parsed_behind_the_name(rt: HostRuntime) -> Result<(), Fail> {
     let program = b"\x11\x10\x01\x0E\x98\xCD\x05\x00\x76\0\0\0\0\0\0\0\
 \x20\x01\x00\x02\0\0\0\0\0\0\0\0\0\0\0\0x;secret\0";
-    parsing(program).shows(
+    alone(program, false).shows(
         rt.alloc(),
         &[Behind(
             5,
@@ -157,7 +146,7 @@ fn a_password_is_parsed_behind_the_name(rt: HostRuntime) -> Result<(), Fail> {
 fn what_is_no_name_leaves_the_block(rt: HostRuntime) -> Result<(), Fail> {
     let program = b"\x11\x10\x01\x0E\x98\xCD\x05\x00\x76\0\0\0\0\0\0\0\
 \x20\x01\x20\x01\0\0\0\0\0\0\0\0\0\0\0\0a..b\0";
-    parsing(program).shows(
+    alone(program, false).shows(
         rt.alloc(),
         &[Behind(
             5,

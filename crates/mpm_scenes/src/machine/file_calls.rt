@@ -3,7 +3,7 @@
 use super::scene::Sight::{Byte, Lives, Word};
 use super::scene::{Behind, Scene, Sight};
 use mpm_base::Kind;
-use mpm_images::{Entry, file, held, named, xfcb};
+use mpm_images::{Entry, file, guard, held, named, with};
 use std::test::Fail;
 
 /// A machine file of two segments of the pages 40h to 4Fh, in banks of their own, and drive A, a floppy disk.
@@ -22,7 +22,7 @@ image = \"a.img\"
 ";
 
 /// The same, whose disk serves file calls in turns.
-pub(super) const IN_TURNS: &[u8] = b"version = 1
+const IN_TURNS: &[u8] = b"version = 1
 consoles = 1
 disk_turn = 20
 [[segment]]
@@ -165,14 +165,10 @@ fn on_a_disk<'a>(first: &'a [u8], second: &'a [u8], disk: &'a [Entry]) -> Scene<
 }
 
 /// The same where the disk serves calls in turns.
-fn in_turns<'a>(first: &'a [u8], disk: &'a [Entry]) -> Scene<'a> {
+pub(super) fn in_turns<'a>(first: &'a [u8], second: &'a [u8], disk: &'a [Entry]) -> Scene<'a> {
     Scene {
         machine: IN_TURNS,
-        script: b"",
-        first,
-        second: b"",
-        trace: false,
-        disk: Some(disk),
+        ..on_a_disk(first, second, disk)
     }
 }
 
@@ -214,7 +210,7 @@ fn plays_in_turns(
     steps: u64,
     sights: &[Sight],
 ) -> Result<(), Fail> {
-    in_turns(first, disk).shows(rt.alloc(), &[Behind(steps, b"", sights)])
+    in_turns(first, b"", disk).shows(rt.alloc(), &[Behind(steps, b"", sights)])
 }
 
 /// The same of a program in a segment of all pages below common memory, on a drive without files.
@@ -241,13 +237,6 @@ fn plays_below(
 /// The entry of a file of one record.
 pub(super) fn one_record(letter: u8) -> Entry {
     held(Kind::Ibm3740, file(letter, 0, 1), 0, 2)
-}
-
-/// An entry with a byte changed.
-fn with(entry: Entry, place: usize, byte: u8) -> Entry {
-    let mut entry = entry;
-    entry[place % 32] = byte;
-    entry
 }
 
 #[test]
@@ -469,9 +458,8 @@ fn a_password_opens_a_file(rt: HostRuntime) -> Result<(), Fail> {
         Data(0x0300, b"SECRET  "),
     ];
     let label = with(named(32, b'L'), 12, 0x81);
-    let mut guard = with(with(xfcb(b'A'), 12, 0x80), 13, 6);
-    guard[16..24].copy_from_slice(b"&&RCTECU");
-    plays(&rt, &[file(b'A', 0, 0), label, guard], &acts, &data, &[])
+    let disk = [file(b'A', 0, 0), label, guard(16, b'A', 0x80)];
+    plays(&rt, &disk, &acts, &data, &[])
 }
 
 /// A refused opening (15) is met by the error mode of its process (45) so, with that answer where it lives on.

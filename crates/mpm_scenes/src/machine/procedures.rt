@@ -1,7 +1,7 @@
 //! Resident procedures: what programs see of them.
 use super::scene::Register::{A, B, C, De, Hl, Pc, Sp};
 use super::scene::Sight::{Has, Lives};
-use super::scene::{Behind, Scene, traced};
+use super::scene::{Behind, alone, traced};
 use std::test::Fail;
 
 /// Makes the queue `PROC    ` (function 134, its block at 013Ah), opens it (135, its block at 0148h), writes the message 0200h
@@ -75,21 +75,9 @@ t 25 0 151 00 0097 1234 0000
 t 34 0 138 00 008A 0148 0000
 ";
 
-/// A program alone.
-fn alone(program: &[u8]) -> Scene {
-    Scene {
-        machine: b"",
-        script: b"",
-        first: program,
-        second: b"",
-        trace: true,
-        disk: None,
-    }
-}
-
 #[test]
 fn a_procedure_comes_back_with_its_result(rt: HostRuntime) -> Result<(), Fail> {
-    alone(CALLING).shows(
+    alone(CALLING, true).shows(
         rt.alloc(),
         &[
             Behind(
@@ -124,7 +112,7 @@ fn a_procedure_comes_back_with_its_result(rt: HostRuntime) -> Result<(), Fail> {
 
 #[test]
 fn a_procedure_gives_its_message_back(rt: HostRuntime) -> Result<(), Fail> {
-    alone(CALLING).shows(
+    alone(CALLING, true).shows(
         rt.alloc(),
         &[Behind(35, UP_TO_THE_READ, &[Has(0, Hl, 0x0200)])],
     )
@@ -132,7 +120,7 @@ fn a_procedure_gives_its_message_back(rt: HostRuntime) -> Result<(), Fail> {
 
 #[test]
 fn nobody_else_has_the_gate_of_a_procedure(rt: HostRuntime) -> Result<(), Fail> {
-    alone(AT_NO_GATE).shows(
+    alone(AT_NO_GATE, true).shows(
         rt.alloc(),
         &[Behind(4, b"", &[Has(0, Pc, 0xBF0A), Has(0, C, 1)])],
     )

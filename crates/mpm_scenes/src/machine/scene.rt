@@ -1,5 +1,5 @@
 //! Scenes: runs of one or two programs, and what is seen of the machine after so many steps.
-ghost use Rattle.std.specs.Prelude.{ℕ, ◌≡◌, ◌<◌, ◌≤◌, ◌+◌, ◌*◌, [], Some, OnOk, length, get_or};
+ghost use Rattle.std.specs.Prelude.{ℕ, ◌≡◌, ◌<◌, ◌≤◌, ◌+◌, ◌*◌, Some, OnOk, length, get_or};
 ghost use Rattle.std.specs.Bool.{OnTrue};
 ghost use Rattle.mpm_machine_file.specs.MachineFiles.{IsMachine};
 ghost use Rattle.mpm_port.specs.MemoryDisks.{size_of, disks_of};
@@ -8,10 +8,10 @@ ghost use Rattle.mpm_machine.specs.Holding.{HoldsDrives};
 ghost use Rattle.mpm_machine.specs.Opening.{IsBare, MayPlace};
 
 use mpm_base::{Kind, Name8, Pid, Seg, Steps};
-use mpm_images::{Entry, image, place};
+use mpm_images::{Entry, UNUSED, entry_in, image, read_record, record_at};
 use mpm_machine::Machine;
 use mpm_machine_file::{MachineFile, read_machine};
-use mpm_port::{Drives, MemoryDrives, MemorySink};
+use mpm_port::{MemoryDrives, MemorySink};
 use mpm_render::Render;
 use mpm_script::read_script;
 use std::alloc::Global;
@@ -92,6 +92,18 @@ pub(super) fn traced<'a>(first: &'a [u8], second: &'a [u8]) -> Scene<'a> {
         first,
         second,
         trace: true,
+        disk: None,
+    }
+}
+
+/// A program alone, in the machine of one program.
+pub(super) fn alone(first: &[u8], trace: bool) -> Scene<'_> {
+    Scene {
+        machine: b"",
+        script: b"",
+        first,
+        second: b"",
+        trace,
         disk: None,
     }
 }
@@ -334,47 +346,22 @@ fn leaves(machine: &Machine, drives: &mut MemoryDrives, sight: Sight) -> bool {
     }
 }
 
-/// A sector of the floppy disk, counted behind the system's tracks.
-fn sector(drives: &mut MemoryDrives, number: u32) -> [u8; 128] {
-    let mut bytes = [0; 128];
-    if is_read(drives, place(Kind::Ibm3740, number), &mut bytes) {
-        bytes
-    } else {
-        [0xE5; 128]
-    }
-}
-
-/// Reads a sector of the floppy disk's image: whether it has that sector.
-fn is_read(drives: &mut MemoryDrives, place: u32, bytes: &mut [u8; 128]) -> bool {
-    if drives.attach(0, "a.img") != Ok(()) {
-        return false;
-    }
-    let Ok(size) = drives.size(0) else {
-        return false;
-    };
-    if size < 128 * u64::from(place) + 128 {
-        return false;
-    }
-    drives.read(0, place, bytes) == Ok(())
-}
-
-/// The entry of a slot.
+/// The entry of a slot of the floppy disk.
 fn entry_of(drives: &mut MemoryDrives, slot: u8) -> Entry {
-    let entries = sector(drives, u32::from(slot / 4));
-    let mut entry = [0; 32];
-    let first = usize::from(slot % 4) * 32;
-    entry.copy_from_slice(&entries[first..first + 32]);
-    entry
+    match read_record(drives, Kind::Ibm3740, u32::from(slot / 4)) {
+        Some(entries) => entry_in(&entries, usize::from(slot)),
+        None => UNUSED,
+    }
 }
 
 /// With which byte a record begins of the file of a slot, if it has that record.
-fn first_byte(drives: &mut MemoryDrives, slot: u8, record: u8) -> Option<u8> {
+fn first_byte(drives: &mut MemoryDrives, slot: u8, number: u8) -> Option<u8> {
     let entry = entry_of(drives, slot);
-    let block = entry[16 + usize::from(record / 8 % 16)];
-    if entry[0] == 0xE5 || entry[15] <= record || block == 0 {
+    if entry[0] == 0xE5 || entry[15] <= number {
         return None;
     }
-    let bytes = sector(drives, u32::from(block) * 8 + u32::from(record % 8));
+    let at = record_at(Kind::Ibm3740, &entry, u32::from(number))?;
+    let bytes = read_record(drives, Kind::Ibm3740, at)?;
     Some(bytes[0])
 }
 

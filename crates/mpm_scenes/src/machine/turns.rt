@@ -3,7 +3,7 @@
 //! A call of the form of `Act::Calls` comes to its gate in its fifth step. Where it enters service in step e and takes t turns, it is
 //! over in step e + 20 t, and what it answered is kept in the step behind that, as its program has the better priority.
 use super::file_calls::Act::Calls;
-use super::file_calls::{Act, Data, IN_TURNS, Program, one_record, program};
+use super::file_calls::{Act, Data, Program, in_turns, one_record, program};
 use super::scene::Register::Hl;
 use super::scene::Sight::{Byte, Entry, Has, Lives, Record, Word};
 use super::scene::{Behind, Scene, Sight};
@@ -56,27 +56,12 @@ fn writer(acts: &[Act]) -> Program {
     )
 }
 
-/// A program alone on a disk with these entries, whose calls are traced.
-fn traced_on<'a>(first: &'a [u8], disk: &'a [mpm_images::Entry]) -> Scene<'a> {
-    Scene {
-        machine: IN_TURNS,
-        script: b"",
-        first,
-        second: b"",
-        trace: true,
-        disk: Some(disk),
-    }
-}
-
-/// That and another program, with a script.
+/// Two programs on a disk without files, with a script.
 fn beside<'a>(script: &'a [u8], first: &'a [u8], second: &'a [u8], trace: bool) -> Scene<'a> {
     Scene {
-        machine: IN_TURNS,
         script,
-        first,
-        second,
         trace,
-        disk: Some(&[]),
+        ..in_turns(first, second, &[])
     }
 }
 
@@ -391,7 +376,11 @@ fn a_record_is_read_twice(rt: HostRuntime) -> Result<(), Fail> {
     ];
     let first = program(0x40, &acts, &[Data(0x0200, b"\0A       TXT")]);
     let disk = [one_record(b'A')];
-    traced_on(&first, &disk).shows(
+    let scene = Scene {
+        trace: true,
+        ..in_turns(&first, b"", &disk)
+    };
+    scene.shows(
         rt.alloc(),
         &[Behind(
             84,

@@ -1,7 +1,7 @@
 use Rattle.std.proofs.Common.{◌≤◌, sym, subst}
 use Rattle.mpm_procs.specs.declared.process.Process.{Process}
-use Rattle.mpm_machine.proofs.FilingLaws.{disk_is, at_once_idle, bare_still}
-use Rattle.mpm_machine.proofs.ToldLaws.{disk_told, ok_as_kept}
+use Rattle.mpm_machine.proofs.FilingLaws.{disk_is, disk_as_kept, at_once_idle, at_once_owed, bare_still}
+use Rattle.mpm_machine.proofs.ToldLaws.{disk_told}
 use Rattle.mpm_machine.proofs.FailingLaws.{disk_fails, disk_calls}
 use Rattle.mpm_machine.proofs.filing.call_disk.Goals as goal
 
@@ -43,4 +43,12 @@ pub returns-clause-service : goal.returns-clause-service
 returns-clause-service g c = at_once_idle _ _ c.kept_call.ensures c.requires.function c.call_at_once.ensures.service
 
 pub returns-clause-as_kept : goal.returns-clause-as_kept
-returns-clause-as_kept g c = ok_as_kept c.args.bdos.now c.args.p c.args.system.now c.call_at_once.new.reply c.call_at_once.result c.requires.function
+returns-clause-as_kept g c =
+    disk_as_kept c.args.p c.args.system.now c.args.bdos.now c.call_at_once.new.self c.looked_at-caller.result c.living.result.now c.kept_call.result.now c.now-now.result
+    c.call_at_once.new.reply c.call_at_once.result c.looked_at-caller.ensures.process c.living.ensures c.kept_call.ensures c.now-now.ensures.moment c.requires.function
+    c.call_at_once.ensures.jobless
+
+pub returns-clause-unsynced : goal.returns-clause-unsynced
+returns-clause-unsynced g c =
+    at_once_owed c.kept_call.result.now _ _ (g.D.Drives.unsynced c.args.drives.now) (g.D.Drives.unsynced c.call_at_once.new.drives) c.kept_call.ensures c.requires.function
+    c.call_at_once.ensures.unsynced

@@ -31,9 +31,9 @@ returns-clause-takes c function is =
     )
 
 pub returns-clause-serves : goal.returns-clause-serves
-returns-clause-serves c disks filing function is stands =
-    serves_at_entry disks filing c.args.p c.args.system.now c.args.bdos.now c.start.new.self function c.looked_at-caller.result c.living.result.now c.kept_call.result.now c.now.result
-    c.looked_at-caller.ensures.process c.living.ensures c.kept_call.ensures c.now.ensures.moment is stands c.start.ensures.serves
+returns-clause-serves c images drives function is stand =
+    serves_at_entry images drives c.args.p c.args.system.now c.args.bdos.now c.start.new.self function c.looked_at-caller.result c.living.result.now c.kept_call.result.now c.now.result
+    c.looked_at-caller.ensures.process c.living.ensures c.kept_call.ensures c.now.ensures.moment is stand c.start.ensures.serves
 
 pub returns-clause-entered : goal.returns-clause-entered
 returns-clause-entered c function is =

@@ -1,4 +1,4 @@
-use Rattle.std.proofs.Common.{◌∙◌, refl, arith}
+use Rattle.std.proofs.Common.{◌∙◌, refl}
 use Rattle.mpm_banks.proofs.SideLaws.{lengths_stay}
 use Rattle.z80_ext.specs.Instruction.{actions_of}
 use Rattle.mpm_processor.specs.Moving.{View, view_of, instruction_in, moved}

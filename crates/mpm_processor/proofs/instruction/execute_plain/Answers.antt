@@ -1,10 +1,11 @@
 use Rattle.std.proofs.Common.{◌∙◌, ℕ, Option, ap, sym, refl, subst, rules}
+use Rattle.mpm_base.proofs.Options.{none_there}
 use Rattle.z80_regs.specs.declared.regs.Regs.{Regs}
 use Rattle.z80_ext.proofs.Begun.{unbegun_runs}
 use Rattle.mpm_banks.specs.Memory.{byte_at}
 use Rattle.mpm_banks.specs.Ports.{port_byte}
 use Rattle.mpm_processor.specs.Moving.{View, view_of, IsPaused}
-use Rattle.mpm_processor.proofs.MovingLaws.{moves_to, no_gate_at, same_view}
+use Rattle.mpm_processor.proofs.MovingLaws.{moves_to, same_view}
 use Rattle.mpm_processor.proofs.PlainLaws.{begun_view, plain_none, plain_more, paused_halted}
 use Rattle.mpm_processor.proofs.instruction.execute_plain.Goals as goal
 
@@ -30,7 +31,7 @@ loop-done-preserved c =
     record {
       moved = plain_more c.args.inside c.loop-done.done _ now new
           (moves_to c.args.inside c.loop-done.done 0 _ (begun_view c.loop-done.done before) (begun_view c.loop-done.done now) c.loop-done.invariant.moved (ap (begun_view c.loop-done.done) fetched))
-          (no_gate_at _ (sym c.in-Some.ensures.gate)) c.loop-done.invariant.runs (sym left.plain) left.registers left.memory left.devices;
+          (none_there _ (sym c.in-Some.ensures.gate)) c.loop-done.invariant.runs (sym left.plain) left.registers left.memory left.devices;
       runs = ap (λ (r : Regs). r.halted) left.registers
           ∙ unbegun_runs c.loop-done.regs (byte_at now.memory 0) (port_byte now.devices) (sym left.plain) ∙ c.loop-done.invariant.runs;
       segment = search rules;

@@ -1,4 +1,5 @@
 use Rattle.std.proofs.Common.{◌≡◌, ◌∙◌, ◌++◌, ℕ, Bool, List, Option, Some, subst}
+use Rattle.std.proofs.lemmas.Option.{same_Some}
 use Rattle.mpm_port.specs.MemoryDisks.{disks_of}
 use Rattle.mpm_render.specs.Outputs.{closed}
 use Rattle.mpm_machine.specs.After.{after}
@@ -7,7 +8,7 @@ use Rattle.mpm_machine.proofs.SettlingLaws.{settled_stand}
 use Rattle.mpm_top.specs.Runs.{begun, drives_left}
 use Rattle.mpm_top.proofs.RunLaws.{stands_begun}
 use Rattle.mpm_top.proofs.DataLaws.{has_drive_a}
-use Rattle.mpm_top.proofs.SeedLaws.{none_failed, same_some}
+use Rattle.mpm_top.proofs.SeedLaws.{none_failed}
 use Rattle.mpm_top.proofs.seeded.run_counted.Goals as goal
 
 pub unreachable-requires : goal.unreachable-requires
@@ -24,7 +25,7 @@ returns-clause-text g c on stand =
     let there = after c.args.steps s in
     let traces = c.in-Ok.ensures.trace ∙ c.new-render.ensures.trace in
     let P : Bool → Type 0 = λ trace. Some c.settle.new.sink ≡ Some (c.args.counts.now ++ closed trace (carried there).outputs) in
-    same_some _ _ (subst P traces (c.in-Ok-settle.ensures.ok there first (c.in-Ok.ensures.ok s first stands)))
+    same_Some _ _ (subst P traces (c.in-Ok-settle.ensures.ok there first (c.in-Ok.ensures.ok s first stands)))
 
 pub returns-clause-drive : goal.returns-clause-drive
 returns-clause-drive g c = c.in-Ok-settle.ensures.keeps.labels 0 ∙ c.in-Ok.ensures.keeps.labels 0 ∙ c.requires.drive

@@ -1,12 +1,13 @@
-use Rattle.std.proofs.Common.{rules, ◌≡◌, ◌∙◌, ◌+◌, ◌++◌, ◌∷◌, [], List, take, drop, sym, subst, arith}
+use Rattle.std.proofs.Common.{rules, ◌≡◌, ◌∙◌, ◌+◌, ◌++◌, ◌∷◌, [], List, take, drop, sym, ap, subst, arith}
 use Rattle.std.proofs.lemmas.Grind.{common_steps}
 use Rattle.std.proofs.lemmas.List.Elements.{recursion_from_All}
 use Rattle.mpm_machine_file.specs.declared.lists.DriveSpec.{DriveSpec}
 use Rattle.mpm_machine_file.specs.MachineFiles.{IsDrive}
 use Rattle.mpm_mount.specs.Directories.{Directory}
 use Rattle.mpm_drives.specs.Images.{image_named}
-use Rattle.mpm_drives.specs.Mounted.{number_of, AreMounted}
-use Rattle.mpm_drives.proofs.Mounting.{beside_more, others_differ, mounted_kept, mounted_more, mounted_by, stops_from, stops_at, failures_same, taken_more, parted}
+use Rattle.mpm_drives.specs.Mounted.{number_of, AreMounted, AreSynced}
+use Rattle.mpm_drives.proofs.Syncing.{stays, synced_more}
+use Rattle.mpm_drives.proofs.Mounting.{beside_more, not_listed, others_differ, mounted_kept, mounted_more, mounted_by, stops_from, stops_at, failures_same, taken_more, parted}
 use Rattle.mpm_drives.proofs.mounted.MountedDrives.mount.Goals as goal
 
 pub returns-in-Err-clause-err : goal.returns-in-Err-clause-err
@@ -19,6 +20,14 @@ returns-in-Err-clause-err g c =
     (stops_from (image_named (g.D.Drives.disks c.loop-spec.drives)) (image_named (g.D.Drives.disks c.args.drives.now)) spec _ _ _ c.in-Err.error (c.loop-spec.invariant.images spec.image)
     (failures_same _ _ _ _ c.loop-spec.invariant.count c.loop-spec.invariant.names) c.in-Err.ensures.err)
 
+pub returns-in-Err-clause-unsynced : goal.returns-in-Err-clause-unsynced
+returns-in-Err-clause-unsynced g c number apart =
+    let i = c.loop-spec.spec-index in
+    let specs = c.args.specs.now in
+    let spec = c.spec-item.result in
+    c.in-Err.ensures.unsynced number (not_listed specs (take i specs) spec (drop (i + 1) specs) (parted specs i spec (omega arith) c.spec-item.is) number apart)
+    ∙ c.loop-spec.invariant.unsynced number apart
+
 pub loop-spec-preserved : goal.loop-spec-preserved
 loop-spec-preserved g c =
     let i = c.loop-spec.spec-index in
@@ -27,6 +36,8 @@ loop-spec-preserved g c =
     let items = c.loop-spec.items.items in
     let a = g.D.Drives.attached c.mount_drive.new.drives in
     let x = g.D.Drives.disks c.mount_drive.new.drives in
+    let before_it = g.D.Drives.unsynced c.loop-spec.drives in
+    let now = g.D.Drives.unsynced c.mount_drive.new.drives in
     let images = image_named (g.D.Drives.disks c.args.drives.now) in
     let parts = parted specs i spec (omega arith) c.spec-item.is in
     let apart = others_differ specs (take i specs) spec (drop (i + 1) specs) parts (recursion_from_All IsDrive specs c.requires.each) c.requires.apart in
@@ -38,6 +49,11 @@ loop-spec-preserved g c =
     record {
       beside = beside_more specs (take i specs) spec (drop (i + 1) specs) _ _ a _ _ x parts c.loop-spec.invariant.beside c.in-Ok.ensures.only;
       mounted = subst P (sym (taken_more specs i spec (omega arith) c.spec-item.is)) (subst Q (sym pushed) (mounted_more a x images (take i specs) items spec c.in-Ok.mounted before here));
+      fresh = subst (AreSynced now) (sym pushed)
+          (synced_more items c.in-Ok.mounted before_it now c.loop-spec.invariant.fresh (stays before_it now (number_of spec) c.in-Ok.ensures.fresh c.in-Ok.ensures.unsynced)
+          (ap now c.in-Ok.ensures.mounted.number ∙ c.in-Ok.ensures.fresh));
+      unsynced = λ number apart.
+          c.in-Ok.ensures.unsynced number (not_listed specs (take i specs) spec (drop (i + 1) specs) parts number apart) ∙ c.loop-spec.invariant.unsynced number apart;
       none = λ nothing. absurd (omega (arith, nothing));
       count = c.in-Ok.ensures.count ∙ c.loop-spec.invariant.count;
       names = c.in-Ok.ensures.names ∙ c.loop-spec.invariant.names;

@@ -1,4 +1,4 @@
-use Rattle.std.proofs.Common.{◌≡◌, ◌+◌, ℕ, false, take}
+use Rattle.std.proofs.Common.{◌≡◌, ◌≢◌, ◌+◌, ℕ, false, All, take}
 use Rattle.mpm_mount.specs.Mounting.{SameDrives}
 use Rattle.mpm_drives.specs.Mounted.{AreSynced}
 use Rattle.mpm_drives.proofs.mounted.MountedDrives.sync.Given as goal
@@ -11,4 +11,5 @@ invariant-loop-mounted g l = record {
   calls : l.steps ≡ l.initial.steps + l.mounted-index;
   synced : AreSynced (g.D.Drives.unsynced l.drives) (take l.mounted-index l.self);
   stay : (number : ℕ) → g.D.Drives.unsynced l.initial.drives number ≡ false → g.D.Drives.unsynced l.drives number ≡ false;
+  rest : (number : ℕ) → All (λ d. d.drive ≢ number) (take l.mounted-index l.self) → g.D.Drives.unsynced l.drives number ≡ g.D.Drives.unsynced l.initial.drives number;
 }

@@ -3,6 +3,7 @@ use Rattle.mpm_procs.specs.Table.{call_of}
 use Rattle.mpm_bdos.specs.Serving.{Kept}
 use Rattle.mpm_bdos.specs.Turns.{told_images}
 use Rattle.mpm_machine.specs.FileCalls.{told_of}
+use Rattle.mpm_machine.proofs.ToldLaws.{ends_as_kept}
 use Rattle.mpm_machine.proofs.ServeLaws.{answered_ok, answered_err, answered_told, answered_stops, answered_whole, answered_nobody, emits_cause}
 use Rattle.mpm_machine.proofs.machine.Machine.answer_call.Goals as goal
 
@@ -19,7 +20,9 @@ returns-clause-err g c disks s serves whose =
 pub returns-clause-told : goal.returns-clause-told
 returns-clause-told g c =
     answered_told c.end_file_call.result c.args.p c.args.self.now.system c.end_file_call.new.self _ _ c.args.self.now.bdos c.reply-extended.new.reply c.reply-extended.result
-    c.requires.own c.reply-extended.ensures.may c.end_file_call.ensures.system c.end_file_call.ensures.wrote.ok
+    c.requires.own c.reply-extended.ensures.may
+    (ends_as_kept c.args.self.now.bdos c.reply-extended.new.self c.reply-extended.new.reply c.reply-extended.result c.reply-extended.ensures.comes)
+    c.end_file_call.ensures.system c.end_file_call.ensures.wrote.ok
 
 pub returns-clause-stops : goal.returns-clause-stops
 returns-clause-stops g c =

@@ -13,71 +13,135 @@ use Rattle.mpm_machine.proofs.machine.Machine.begin_step.Goals as goal
 pub begin_with_files-requires-clause-caller : goal.begin_with_files-requires-clause-caller
 begin_with_files-requires-clause-caller g c = sym c.file_caller.ensures.caller ∙ c.in-Some.is
 
-pub returns-in-Ok-begin_alone-clause-ok : goal.returns-in-Ok-begin_alone-clause-ok
-returns-in-Ok-begin_alone-clause-ok g c files stands =
+-- a process made a file call
+
+pub returns-in-Ok : goal.returns-in-Ok
+returns-in-Ok g c = record {
+  ok = c.in-Ok.ensures.ok;
+  err = λ files stands. tt;
+  images = λ files stands. tt;
+  stands = λ files stands. tt;
+  step = c.in-Ok.ensures.step;
+  stops = tt;
+  served = c.in-Ok.ensures.served;
+  turn_steps = c.in-Ok.ensures.turn_steps;
+  whole = c.in-Ok.ensures.whole;
+  completed = c.in-Ok.ensures.completed;
+  room = c.in-Ok.ensures.room;
+  keeps = c.in-Ok.ensures.keeps;
+  names = c.in-Ok.ensures.names;
+  attached = c.in-Ok.ensures.attached;
+  unsynced = c.in-Ok.ensures.unsynced;
+  bare = c.in-Ok.ensures.bare;
+  none = c.in-Ok.ensures.none;
+  holds = c.in-Ok.ensures.holds;
+  unfailing = λ none. tt;
+  idle = λ off. let i = c.in-Ok.ensures.idle off in (tt, i.1, i.2);
+  apart = λ some. let a = c.in-Ok.ensures.apart some in (tt, a.1, a.2);
+  kept = c.in-Ok.ensures.kept;
+  calls = c.in-Ok.ensures.calls;
+  trace = c.in-Ok.ensures.trace;
+  cause = record { stays = c.in-Ok.ensures.cause.stays; failed = tt };
+}
+
+pub returns-in-Err : goal.returns-in-Err
+returns-in-Err g c = record {
+  ok = λ files stands. tt;
+  err = c.in-Err.ensures.err;
+  images = c.in-Err.ensures.images;
+  stands = c.in-Err.ensures.stands;
+  step = tt;
+  stops = c.in-Err.ensures.stops;
+  served = tt;
+  turn_steps = tt;
+  whole = tt;
+  completed = tt;
+  room = tt;
+  keeps = c.in-Err.ensures.keeps;
+  names = c.in-Err.ensures.names;
+  attached = c.in-Err.ensures.attached;
+  unsynced = c.in-Err.ensures.unsynced;
+  bare = c.in-Err.ensures.bare;
+  none = c.in-Err.ensures.none;
+  holds = tt;
+  unfailing = c.in-Err.ensures.unfailing;
+  idle = c.in-Err.ensures.idle;
+  apart = c.in-Err.ensures.apart;
+  kept = c.in-Err.ensures.kept;
+  calls = c.in-Err.ensures.calls;
+  trace = c.in-Err.ensures.trace;
+  cause = record { stays = tt; failed = c.in-Err.ensures.cause.failed };
+}
+
+-- nobody did
+
+pub returns-in-Ok-begin_alone : goal.returns-in-Ok-begin_alone
+returns-in-Ok-begin_alone g c =
     let old = c.args.self.now.system in
     let new = c.begin_alone.new.self in
-    alone_begun_to files _ _ old new c.args.self.now.bdos (g.D.Drives.disks c.args.drives.now) (sym c.file_caller.ensures.caller ∙ c.in-None.is)
-    (keeps_alone old new c.requires.whole c.requires.holds.filed c.in-Ok-begin_alone.ensures.system).serves c.in-Ok-begin_alone.ensures.system c.in-Ok-begin_alone.ensures.wrote.ok stands
+    let nobody = sym c.file_caller.ensures.caller ∙ c.in-None.is in
+    let kept = keeps_alone old new c.requires.whole c.requires.holds.filed c.in-Ok-begin_alone.ensures.system in
+    record {
+      ok = λ files stands. alone_begun_to files _ _ old new c.args.self.now.bdos (g.D.Drives.disks c.args.drives.now) nobody
+          kept.serves c.in-Ok-begin_alone.ensures.system c.in-Ok-begin_alone.ensures.wrote.ok stands;
+      err = λ files stands. tt;
+      images = λ files stands. tt;
+      stands = λ files stands. tt;
+      step = alone_begun c.in-Ok-begin_alone.instruction _ _ old new nobody
+          c.in-Ok-begin_alone.ensures.instruction c.in-Ok-begin_alone.ensures.system c.in-Ok-begin_alone.ensures.wrote.ok;
+      stops = tt;
+      served = kept.serves.served;
+      turn_steps = kept.serves.steps;
+      whole = whole_all_answered (begun_alone old).system new
+          (whole_after_begun (counted old) (begun_alone old).system (whole_counted old c.requires.whole) refl) c.in-Ok-begin_alone.ensures.system;
+      completed = ap (λ (s : System). s.kernel.dispatcher.completed) c.in-Ok-begin_alone.ensures.system ∙ no_completions_answered (begun_alone old).system;
+      room = c.in-Ok-begin_alone.ensures.room;
+      keeps = keeps_still _ _ _ refl;
+      names = refl;
+      attached = λ number. refl;
+      unsynced = λ number was. was;
+      bare = λ none. none;
+      none = λ none. refl;
+      holds = holds_kept g.D.Drives.attached g.D.Drives.disks old new c.args.self.now.bdos c.args.drives.now kept c.requires.holds;
+      unfailing = λ none. tt;
+      idle = λ off. (tt, refl, refl);
+      apart = λ some. (tt, refl, refl);
+      kept = λ some. refl;
+      calls = λ files stands. omega arith;
+      trace = c.in-Ok-begin_alone.ensures.wrote.ok.trace;
+      cause = alone_done c.in-Ok-begin_alone.instruction (seen g.S.Sink.written g.S.Sink.faults c.args.render.now c.args.sink.now)
+          (seen g.S.Sink.written g.S.Sink.faults c.begin_alone.new.render c.begin_alone.new.sink) _ _ c.in-Ok-begin_alone.ensures.wrote.ok;
+    }
 
-pub returns-in-Ok-begin_alone-clause-step : goal.returns-in-Ok-begin_alone-clause-step
-returns-in-Ok-begin_alone-clause-step g c =
-    alone_begun c.in-Ok-begin_alone.instruction _ _ c.args.self.now.system c.begin_alone.new.self (sym c.file_caller.ensures.caller ∙ c.in-None.is)
-    c.in-Ok-begin_alone.ensures.instruction c.in-Ok-begin_alone.ensures.system c.in-Ok-begin_alone.ensures.wrote.ok
-
-pub returns-in-Ok-begin_alone-clause-served : goal.returns-in-Ok-begin_alone-clause-served
-returns-in-Ok-begin_alone-clause-served g c =
-    (keeps_alone c.args.self.now.system c.begin_alone.new.self c.requires.whole c.requires.holds.filed c.in-Ok-begin_alone.ensures.system).serves.served
-
-pub returns-in-Ok-begin_alone-clause-turn_steps : goal.returns-in-Ok-begin_alone-clause-turn_steps
-returns-in-Ok-begin_alone-clause-turn_steps g c =
-    (keeps_alone c.args.self.now.system c.begin_alone.new.self c.requires.whole c.requires.holds.filed c.in-Ok-begin_alone.ensures.system).serves.steps
-
-pub returns-in-Ok-begin_alone-clause-whole : goal.returns-in-Ok-begin_alone-clause-whole
-returns-in-Ok-begin_alone-clause-whole g c =
+pub returns-in-Err-begin_alone : goal.returns-in-Err-begin_alone
+returns-in-Err-begin_alone g c =
     let old = c.args.self.now.system in
-    whole_all_answered (begun_alone old).system c.begin_alone.new.self
-    (whole_after_begun (counted old) (begun_alone old).system (whole_counted old c.requires.whole) refl) c.in-Ok-begin_alone.ensures.system
-
-pub returns-in-Ok-begin_alone-clause-completed : goal.returns-in-Ok-begin_alone-clause-completed
-returns-in-Ok-begin_alone-clause-completed g c =
-    ap (λ (s : System). s.kernel.dispatcher.completed) c.in-Ok-begin_alone.ensures.system ∙ no_completions_answered (begun_alone c.args.self.now.system).system
-
-pub returns-in-Ok-begin_alone-clause-keeps : goal.returns-in-Ok-begin_alone-clause-keeps
-returns-in-Ok-begin_alone-clause-keeps g c = keeps_still _ _ _ refl
-
-pub returns-in-Ok-begin_alone-clause-holds : goal.returns-in-Ok-begin_alone-clause-holds
-returns-in-Ok-begin_alone-clause-holds g c =
-    holds_kept g.D.Drives.attached g.D.Drives.disks c.args.self.now.system c.begin_alone.new.self c.args.self.now.bdos c.args.drives.now
-    (keeps_alone c.args.self.now.system c.begin_alone.new.self c.requires.whole c.requires.holds.filed c.in-Ok-begin_alone.ensures.system) c.requires.holds
-
-pub returns-in-Ok-begin_alone-clause-calls : goal.returns-in-Ok-begin_alone-clause-calls
-returns-in-Ok-begin_alone-clause-calls g c files stands = omega arith
-
-pub returns-in-Ok-begin_alone-clause-cause : goal.returns-in-Ok-begin_alone-clause-cause
-returns-in-Ok-begin_alone-clause-cause g c =
-    alone_done c.in-Ok-begin_alone.instruction (seen g.S.Sink.written g.S.Sink.faults c.args.render.now c.args.sink.now)
-    (seen g.S.Sink.written g.S.Sink.faults c.begin_alone.new.render c.begin_alone.new.sink) _ _ c.in-Ok-begin_alone.ensures.wrote.ok
-
-pub returns-in-Err-begin_alone-clause-err : goal.returns-in-Err-begin_alone-clause-err
-returns-in-Err-begin_alone-clause-err g c files stands =
-    alone_err files _ _ c.args.self.now.system (sym c.file_caller.ensures.caller ∙ c.in-None.is) c.in-Err-begin_alone.ensures.wrote.err
-
-pub returns-in-Err-begin_alone-clause-stands : goal.returns-in-Err-begin_alone-clause-stands
-returns-in-Err-begin_alone-clause-stands g c files stands =
-    alone_still c.args.self.now.system c.args.self.now.bdos (g.D.Drives.disks c.args.drives.now) files (sym c.file_caller.ensures.caller ∙ c.in-None.is) stands
-
-pub returns-in-Err-begin_alone-clause-stops : goal.returns-in-Err-begin_alone-clause-stops
-returns-in-Err-begin_alone-clause-stops g c =
-    alone_stops _ _ c.args.self.now.system (sym c.file_caller.ensures.caller ∙ c.in-None.is) c.in-Err-begin_alone.ensures.wrote.err
-
-pub returns-in-Err-begin_alone-clause-keeps : goal.returns-in-Err-begin_alone-clause-keeps
-returns-in-Err-begin_alone-clause-keeps g c = keeps_still _ _ _ refl
-
-pub returns-in-Err-begin_alone-clause-calls : goal.returns-in-Err-begin_alone-clause-calls
-returns-in-Err-begin_alone-clause-calls g c files stands = omega arith
-
-pub returns-in-Err-begin_alone-clause-cause : goal.returns-in-Err-begin_alone-clause-cause
-returns-in-Err-begin_alone-clause-cause g c =
-    alone_failed (seen g.S.Sink.written g.S.Sink.faults c.args.render.now c.args.sink.now)
-    (seen g.S.Sink.written g.S.Sink.faults c.begin_alone.new.render c.begin_alone.new.sink) _ _ c.in-Err-begin_alone.ensures.wrote.err
+    let nobody = sym c.file_caller.ensures.caller ∙ c.in-None.is in
+    record {
+      ok = λ files stands. tt;
+      err = λ files stands. alone_err files _ _ old nobody c.in-Err-begin_alone.ensures.wrote.err;
+      images = λ files stands. tt;
+      stands = λ files stands. alone_still old c.args.self.now.bdos (g.D.Drives.disks c.args.drives.now) files nobody stands;
+      step = tt;
+      stops = alone_stops _ _ old nobody c.in-Err-begin_alone.ensures.wrote.err;
+      served = tt;
+      turn_steps = tt;
+      whole = tt;
+      completed = tt;
+      room = tt;
+      keeps = keeps_still _ _ _ refl;
+      names = refl;
+      attached = λ number. refl;
+      unsynced = λ number was. was;
+      bare = λ none. none;
+      none = λ none. refl;
+      holds = tt;
+      unfailing = λ none. refl;
+      idle = λ off. (refl, refl, refl);
+      apart = λ some. (refl, refl, refl);
+      kept = λ some. refl;
+      calls = λ files stands. omega arith;
+      trace = c.in-Err-begin_alone.ensures.wrote.err.trace;
+      cause = alone_failed (seen g.S.Sink.written g.S.Sink.faults c.args.render.now c.args.sink.now)
+          (seen g.S.Sink.written g.S.Sink.faults c.begin_alone.new.render c.begin_alone.new.sink) _ _ c.in-Err-begin_alone.ensures.wrote.err;
+    }

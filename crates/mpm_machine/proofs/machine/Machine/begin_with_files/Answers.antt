@@ -120,6 +120,9 @@ pub returns-in-Ok-clause-apart : goal.returns-in-Ok-clause-apart
 returns-in-Ok-clause-apart g c some =
     let same = c.call_or_wait.ensures.apart (gate_apart c.args.p c.args.self.now.system c.make_file_call.new.self c.make_file_call.ensures some) in (tt, same.1, same.2)
 
+pub returns-in-Ok-clause-kept : goal.returns-in-Ok-clause-kept
+returns-in-Ok-clause-kept g c some = c.call_or_wait.ensures.kept (gate_apart c.args.p c.args.self.now.system c.make_file_call.new.self c.make_file_call.ensures some)
+
 pub returns-in-Ok-clause-calls : goal.returns-in-Ok-clause-calls
 returns-in-Ok-clause-calls g c files stands =
     gate_calls c.args.p c.args.self.now.system c.make_file_call.new.self c.args.self.now.bdos (g.D.Drives.disks c.args.drives.now) files _ _ c.requires.caller c.make_file_call.ensures stands
@@ -152,6 +155,9 @@ returns-in-Err-clause-idle g c off = c.in-Err.ensures.idle (gate_idle c.args.p c
 
 pub returns-in-Err-clause-apart : goal.returns-in-Err-clause-apart
 returns-in-Err-clause-apart g c some = c.in-Err.ensures.apart (gate_apart c.args.p c.args.self.now.system c.make_file_call.new.self c.make_file_call.ensures some)
+
+pub returns-in-Err-clause-kept : goal.returns-in-Err-clause-kept
+returns-in-Err-clause-kept g c some = c.call_or_wait.ensures.kept (gate_apart c.args.p c.args.self.now.system c.make_file_call.new.self c.make_file_call.ensures some)
 
 pub returns-in-Err-clause-calls : goal.returns-in-Err-clause-calls
 returns-in-Err-clause-calls g c files stands =

@@ -121,6 +121,9 @@ returns-in-Ok-clause-apart g c some =
       d.3,
     )
 
+pub returns-in-Ok-clause-kept : goal.returns-in-Ok-clause-kept
+returns-in-Ok-clause-kept g c some = c.conclude.ensures.bdos ∙ (c.call_files.ensures.direct (c.is_done_at_once.ensures.apart c.if-not-is_done_at_once.false some)).1
+
 pub returns-in-Ok-clause-calls : goal.returns-in-Ok-clause-calls
 returns-in-Ok-clause-calls g c filing stands =
     once_calls c.args.p c.args.self.now.system filing _ _ (sym c.is_done_at_once.ensures.done ∙ c.if-not-is_done_at_once.false)
@@ -164,6 +167,9 @@ returns-in-Err-clause-idle g c off =
 pub returns-in-Err-clause-apart : goal.returns-in-Err-clause-apart
 returns-in-Err-clause-apart g c some =
     absurd (false≢true (c.in-Err.ensures.direct (c.is_done_at_once.ensures.apart c.if-not-is_done_at_once.false some)).0)
+
+pub returns-in-Err-clause-kept : goal.returns-in-Err-clause-kept
+returns-in-Err-clause-kept g c some = (c.call_files.ensures.direct (c.is_done_at_once.ensures.apart c.if-not-is_done_at_once.false some)).1
 
 pub returns-in-Err-clause-calls : goal.returns-in-Err-clause-calls
 returns-in-Err-clause-calls g c filing stands =

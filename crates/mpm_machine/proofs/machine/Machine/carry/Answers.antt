@@ -4,22 +4,51 @@ use Rattle.mpm_machine.proofs.DriveLaws.{keeps_still}
 use Rattle.mpm_machine.proofs.SettlingLaws.{nothing_carried, nothing_ends, somebody_served}
 use Rattle.mpm_machine.proofs.machine.Machine.carry.Goals as goal
 
-pub returns-in-Some-clause-idle : goal.returns-in-Some-clause-idle
-returns-in-Some-clause-idle g c none =
-    somebody_served c.args.self.now.system c.in-Some.p _ (ap served_process (sym c.disk.ensures) ∙ sym c.serving.ensures.served ∙ c.in-Some.is) none
+pub returns-in-Some : goal.returns-in-Some
+returns-in-Some g c =
+    let carried = c.carry_call.ensures in
+    let serves = ap served_process (sym c.disk.ensures) ∙ sym c.serving.ensures.served ∙ c.in-Some.is in
+    record {
+      ok = carried.ok;
+      err = carried.err;
+      whole = carried.whole;
+      end = carried.end;
+      stops = carried.stops;
+      trace = carried.trace;
+      cause = carried.cause;
+      keeps = carried.keeps;
+      names = carried.names;
+      attached = carried.attached;
+      unsynced = carried.unsynced;
+      bare = carried.bare;
+      none = carried.none;
+      unfailing = carried.unfailing;
+      fits = carried.fits;
+      idle = λ none. somebody_served c.args.self.now.system c.in-Some.p _ serves none;
+      still = λ none. somebody_served c.args.self.now.system c.in-Some.p _ serves none;
+      calls = carried.calls;
+    }
 
-pub returns-in-Some-clause-still : goal.returns-in-Some-clause-still
-returns-in-Some-clause-still g c none =
-    somebody_served c.args.self.now.system c.in-Some.p _ (ap served_process (sym c.disk.ensures) ∙ sym c.serving.ensures.served ∙ c.in-Some.is) none
-
-pub returns-in-None-clause-ok : goal.returns-in-None-clause-ok
-returns-in-None-clause-ok g c files stands = nothing_carried files _ c.args.self.now.system c.args.self.now.bdos _ (ap served_process (sym c.disk.ensures) ∙ sym c.serving.ensures.served ∙ c.in-None.is) stands
-
-pub returns-in-None-clause-end : goal.returns-in-None-clause-end
-returns-in-None-clause-end g c = nothing_ends _ c.args.self.now.system (ap served_process (sym c.disk.ensures) ∙ sym c.serving.ensures.served ∙ c.in-None.is)
-
-pub returns-in-None-clause-keeps : goal.returns-in-None-clause-keeps
-returns-in-None-clause-keeps g c = keeps_still _ _ _ refl
-
-pub returns-in-None-clause-calls : goal.returns-in-None-clause-calls
-returns-in-None-clause-calls g c = omega arith
+pub returns-in-None : goal.returns-in-None
+returns-in-None g c =
+    let serves = ap served_process (sym c.disk.ensures) ∙ sym c.serving.ensures.served ∙ c.in-None.is in
+    record {
+      ok = λ files stands. nothing_carried files _ c.args.self.now.system c.args.self.now.bdos _ serves stands;
+      err = λ files stands. tt;
+      whole = c.requires.whole;
+      end = nothing_ends _ c.args.self.now.system serves;
+      stops = tt;
+      trace = refl;
+      cause = record { stays = refl; failed = tt };
+      keeps = keeps_still _ _ _ refl;
+      names = refl;
+      attached = λ number. refl;
+      unsynced = λ number was. was;
+      bare = λ none. none;
+      none = λ none. refl;
+      unfailing = λ none. tt;
+      fits = c.requires.holds.fits;
+      idle = λ none. refl;
+      still = λ none. refl;
+      calls = omega arith;
+    }

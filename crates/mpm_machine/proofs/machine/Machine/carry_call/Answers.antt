@@ -64,6 +64,9 @@ returns-in-Err-clause-none g c none = (c.do_turns.ensures.idle (c.requires.holds
 pub returns-in-Err-clause-unfailing : goal.returns-in-Err-clause-unfailing
 returns-in-Err-clause-unfailing g c none = never_both c.do_turns.result _ _ c.in-Err.is (c.do_turns.ensures.unfailing (c.requires.holds.workless none))
 
+pub returns-in-Err-clause-unsynced : goal.returns-in-Err-clause-unsynced
+returns-in-Err-clause-unsynced g c = c.do_turns.ensures.left.kept_unsynced.owed
+
 pub returns-in-Err-clause-calls : goal.returns-in-Err-clause-calls
 returns-in-Err-clause-calls g c = omega (arith, c.do_turns.ensures.calls, c.finish_disk_call-turns.ensures.turns)
 
@@ -108,6 +111,9 @@ returns-in-Ok-clause-none g c none = (c.do_turns.ensures.idle (c.requires.holds.
 pub returns-in-Ok-clause-fits : goal.returns-in-Ok-clause-fits
 returns-in-Ok-clause-fits g c =
     subst (λ (k : Kept). FitsDrives g.D.Drives.attached g.D.Drives.disks k.mounted k.cached c.do_turns.new.drives) (sym c.end_call.ensures.kept) c.do_turns.ensures.left.fits
+
+pub returns-in-Ok-clause-unsynced : goal.returns-in-Ok-clause-unsynced
+returns-in-Ok-clause-unsynced g c = c.do_turns.ensures.left.kept_unsynced.owed
 
 pub returns-in-Ok-clause-calls : goal.returns-in-Ok-clause-calls
 returns-in-Ok-clause-calls g c = omega (arith, c.do_turns.ensures.calls, c.finish_disk_call-turns.ensures.turns)
@@ -154,6 +160,9 @@ returns-in-Err-end_call-clause-none g c none = (c.do_turns.ensures.idle (c.requi
 pub returns-in-Err-end_call-clause-fits : goal.returns-in-Err-end_call-clause-fits
 returns-in-Err-end_call-clause-fits g c =
     subst (λ (k : Kept). FitsDrives g.D.Drives.attached g.D.Drives.disks k.mounted k.cached c.do_turns.new.drives) (sym c.end_call.ensures.kept) c.do_turns.ensures.left.fits
+
+pub returns-in-Err-end_call-clause-unsynced : goal.returns-in-Err-end_call-clause-unsynced
+returns-in-Err-end_call-clause-unsynced g c = c.do_turns.ensures.left.kept_unsynced.owed
 
 pub returns-in-Err-end_call-clause-calls : goal.returns-in-Err-end_call-clause-calls
 returns-in-Err-end_call-clause-calls g c = omega (arith, c.do_turns.ensures.calls, c.finish_disk_call-turns.ensures.turns)

@@ -1,9 +1,9 @@
-use Rattle.std.proofs.Common.{◌≡◌, ◌∙◌, ap, arith}
+use Rattle.std.proofs.Common.{◌≡◌, ◌∙◌, true, is_some, ap, arith}
 use Rattle.mpm_kernel.specs.Kernel.{Kernel}
 use Rattle.mpm_output.specs.Outside.{Faults, seen}
 use Rattle.mpm_machine.specs.declared.machine.Machine.{Machine}
 use Rattle.mpm_machine.specs.declared.system.System.{System}
-use Rattle.mpm_machine.proofs.EndStepLaws.{ended_sound, has_ended, has_ended_to, serving_stopped, serving_stops, ending_stopped, ended_stops, ends_served, ended_begun, ended_filed, ended_own, ended_turn_steps, ended_whole, ended_nobody_due, ended_no_completions, ended_steps, workless_paid}
+use Rattle.mpm_machine.proofs.EndStepLaws.{ended_sound, ended_still, has_ended, has_ended_to, serving_stopped, serving_stops, ending_stopped, ended_stops, ends_served, ended_begun, ended_filed, ended_own, ended_turn_steps, ended_whole, ended_nobody_due, ended_no_completions, ended_steps, workless_paid}
 use Rattle.mpm_machine.proofs.BehindLaws.{rest_images}
 use Rattle.mpm_machine.proofs.CarryingLaws.{keeps_paid, stopped_behind}
 use Rattle.mpm_machine.proofs.machine.Machine.end_step.Goals as goal
@@ -66,12 +66,13 @@ returns g c =
     let wrote = c.in_default-end_all.ensures.wrote.ok in
     let faults : g.S.Sink.faults c.end_all.new.sink ≡ g.S.Sink.faults c.args.sink.now = ap (λ (f : Faults). f.sink) wrote.faults ∙ c.in_default.ensures.cause.stays in
     let picks = ap (λ (k : Kernel). record paid.system { kernel = k }) c.pick.ensures.kernel in
-    let step = has_ended instruction o m n old.system served.system ended paid.system new c.in_default.ensures.step ends wrote c.pay.ensures.system picks in
+    let same = λ (some : is_some ended.kernel.disk.served ≡ true). ap (λ (machine : Machine). machine.bdos) (c.pay.ensures.served some) in
+    let step = has_ended instruction o m n old.system served.system ended paid.system new c.in_default.ensures.step same ends wrote c.pay.ensures.system picks in
     let so = ends_served instruction served.system ended paid.system new c.in_default.ensures.whole ends c.pay.ensures.system picks in
     record {
       ok = λ disks files stands.
           has_ended_to instruction files o m n old.system served.system ended paid.system new served.bdos paid.bdos disks (c.in_default.ensures.ok disks files stands) ends wrote
-          c.pay.ensures.system picks c.pay.ensures.rest (λ some. ap (λ (machine : Machine). machine.bdos) (c.pay.ensures.served some)) c.pay.ensures.filing;
+          c.pay.ensures.system picks c.pay.ensures.rest same c.pay.ensures.filing;
       err = λ disks files stands. tt;
       stands = λ disks files stands. tt;
       step = step;
@@ -84,6 +85,7 @@ returns g c =
       filed = ended_filed instruction served.system new so c.in_default.ensures.filed;
       own = ended_own instruction served.system new served.bdos paid.bdos so c.pay.ensures.rest c.in_default.ensures.own;
       turn_steps = ended_turn_steps instruction o m old.system served.system new so c.in_default.ensures.step;
+      stays = λ some still. same (ended_still o m old.system served.system ended c.in_default.ensures.step ends some still) ∙ c.serve_disk.ensures.stays some still;
       kept = keeps_paid old.bdos served.bdos paid.bdos c.serve_disk.ensures.kept c.pay.ensures.rest;
       workless = λ none less. workless_paid served.bdos paid.bdos c.pay.ensures.rest (c.serve_disk.ensures.workless none less);
       trace = wrote.trace ∙ c.serve_disk.ensures.trace;

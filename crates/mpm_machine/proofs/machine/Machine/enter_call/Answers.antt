@@ -1,6 +1,6 @@
 use Rattle.std.proofs.Common.{◌∙◌, refl, sym, ap}
 use Rattle.mpm_service.specs.Disk.{served_process}
-use Rattle.mpm_machine.proofs.WorkLaws.{served_by_some, unserved_by_some}
+use Rattle.mpm_machine.proofs.WorkLaws.{served_by_some, unserved_by_some, not_both}
 use Rattle.mpm_machine.proofs.EnterLaws.{starts_whole, starts_lives, starts_filed, begins_so, begun_is, enters_so, has_entered, enters_whole, owns_entered, nobody_starts, none_enters_so, nobody_entered, unserved_begun, unserved_own, has_entered_nobody, has_entered_still, goes_on}
 use Rattle.mpm_machine.proofs.machine.Machine.enter_call.Goals as goal
 
@@ -15,7 +15,7 @@ returns-then-is_some-clause-ok c disks files stands =
 pub returns-then-is_some-clause-entered : goal.returns-then-is_some-clause-entered
 returns-then-is_some-clause-entered c =
     let old = c.args.self.now.system in
-    has_entered_still old
+    has_entered_still c.args.self.now.bdos old
     (served_by_some old.kernel.disk c.serving.result c.is_some.result (c.serving.ensures.served ∙ ap served_process c.disk.ensures) c.is_some.ensures c.if-is_some.true)
 
 -- one that waits enters
@@ -49,9 +49,10 @@ returns-in-Starts c =
       some = c.start_call-turns.ensures.some;
     }) in
     let is = begun_is turns old c.turn_disk.new.self c.begin_disk_call.new.self c.turn_disk.ensures.kernel c.begin_disk_call.ensures.kernel in
-    let has = has_entered old _ p turns c.args.self.now.bdos new is starts none c.requires.filed begins in
+    let has = has_entered old _ p turns c.args.self.now.bdos new is starts none c.requires.filed c.start_call-turns.ensures.kept begins in
     record {
       ok = λ disks files stands. enters_so old _ p turns c.args.self.now.bdos new disks files is starts none c.requires.filed begins stands;
+      served = λ some. absurd (not_both old.kernel.disk.served none some);
       entered = has;
       whole = enters_whole old _ c.requires.whole has;
       begun = c.begin_disk_call.ensures.begun;
@@ -72,7 +73,8 @@ returns-in_default c =
     let still = nobody_entered old.kernel kernel c.turn_disk.ensures.kernel none nobody in
     record {
       ok = λ disks files stands. none_enters_so old kernel c.args.self.now.bdos disks files c.turn_disk.ensures.kernel none nobody stands;
-      entered = has_entered_nobody old kernel c.turn_disk.ensures.kernel none nobody;
+      served = λ some. absurd (not_both old.kernel.disk.served none some);
+      entered = has_entered_nobody c.args.self.now.bdos old kernel c.turn_disk.ensures.kernel none nobody;
       whole = starts_whole old kernel c.turn_disk.ensures.kernel c.requires.whole;
       begun = unserved_begun kernel still;
       own = unserved_own kernel c.args.self.now.bdos.service still;

@@ -14,7 +14,7 @@ use Rattle.mpm_machine.specs.DiskStep.{told_of_call, call_over}
 use Rattle.mpm_machine.specs.After.{HasAnswered, HasStoppedAnswering}
 use Rattle.mpm_machine.proofs.DiskStepLaws.{whole_passed}
 use Rattle.mpm_machine.proofs.EnterLaws.{nothing_passes, has_passed_none, passed_filed, filed_if_passed}
-use Rattle.mpm_machine.proofs.ServeLaws.{passed_is, works_last, works_on, never_on, own_last, none_behind, pass_over, pass_stops, has_passed_over, has_stopped_over, nobody_behind, none_holds, passes_so, has_passed_so, begun_so, own_so}
+use Rattle.mpm_machine.proofs.ServeLaws.{last_is_over, passed_is, works_last, works_on, never_on, own_last, none_behind, pass_over, pass_stops, has_passed_over, has_stopped_over, nobody_behind, none_holds, passes_so, has_passed_so, begun_so, own_so}
 use Rattle.mpm_machine.proofs.WorkLaws.{nobody_served, somebody_served}
 use Rattle.mpm_machine.proofs.machine.Machine.pass_turn.Goals as goal
 
@@ -30,7 +30,7 @@ pub returns-then-is_none-clause-step : goal.returns-then-is_none-clause-step
 returns-then-is_none-clause-step g c =
     let old = c.args.self.now.system in
     let none = (nobody_served old.kernel.disk c.serving.result c.is_none.result (c.serving.ensures.served ∙ ap served_process c.disk.ensures) c.is_none.ensures c.if-is_none.true) in
-    has_passed_none _ old none
+    has_passed_none c.args.self.now.bdos _ old none
 
 -- its turn was the last
 
@@ -75,8 +75,8 @@ returns-then-last-clause-step g c =
     let works = works_last old.kernel.disk c.turn_disk.result c.in-Work.p c.in-Work.last c.turn_disk.ensures.answer c.in-Work.is c.if-last.true in
     let o = seen g.S.Sink.written g.S.Sink.faults c.args.render.now c.args.sink.now in
     let n = seen g.S.Sink.written g.S.Sink.faults c.answer_call.new.render c.answer_call.new.sink in
-    has_passed_over c.answer_call.result c.in-Work.p o n old c.answer_call.new.self.system works
-    (subst (λ (passed : System). OnOk c.answer_call.result (HasAnswered c.in-Work.p o n passed c.answer_call.new.self.system))
+    has_passed_over c.answer_call.result c.args.self.now.bdos c.in-Work.p o n old c.answer_call.new.self.system works
+    (subst (λ (passed : System). OnOk c.answer_call.result (HasAnswered c.args.self.now.bdos c.in-Work.p o n passed c.answer_call.new.self.system))
     (passed_is old c.turn_disk.new.self c.turn_disk.ensures.kernel) c.answer_call.ensures.told)
 
 pub returns-then-last-clause-stops : goal.returns-then-last-clause-stops
@@ -96,8 +96,8 @@ returns-then-last-clause-begun g c =
     let o = seen g.S.Sink.written g.S.Sink.faults c.args.render.now c.args.sink.now in
     let n = seen g.S.Sink.written g.S.Sink.faults c.answer_call.new.render c.answer_call.new.sink in
     none_holds c.answer_call.result (λ (call : Served). 0 < call.left) c.answer_call.new.self.system.kernel.disk
-    (nobody_behind c.answer_call.result c.in-Work.p o n old c.answer_call.new.self.system works
-    (subst (λ (passed : System). OnOk c.answer_call.result (HasAnswered c.in-Work.p o n passed c.answer_call.new.self.system))
+    (nobody_behind c.answer_call.result c.args.self.now.bdos c.in-Work.p o n old c.answer_call.new.self.system works
+    (subst (λ (passed : System). OnOk c.answer_call.result (HasAnswered c.args.self.now.bdos c.in-Work.p o n passed c.answer_call.new.self.system))
     (passed_is old c.turn_disk.new.self c.turn_disk.ensures.kernel) c.answer_call.ensures.told))
 
 pub returns-then-last-clause-own : goal.returns-then-last-clause-own
@@ -108,13 +108,18 @@ returns-then-last-clause-own g c =
     let n = seen g.S.Sink.written g.S.Sink.faults c.answer_call.new.render c.answer_call.new.sink in
     let new = c.answer_call.new.self in
     none_holds c.answer_call.result (λ (call : Served). IsOwn new.system.kernel.dispatcher.procs call.p new.bdos.service) new.system.kernel.disk
-    (nobody_behind c.answer_call.result c.in-Work.p o n old new.system works
-    (subst (λ (passed : System). OnOk c.answer_call.result (HasAnswered c.in-Work.p o n passed new.system))
+    (nobody_behind c.answer_call.result c.args.self.now.bdos c.in-Work.p o n old new.system works
+    (subst (λ (passed : System). OnOk c.answer_call.result (HasAnswered c.args.self.now.bdos c.in-Work.p o n passed new.system))
     (passed_is old c.turn_disk.new.self c.turn_disk.ensures.kernel) c.answer_call.ensures.told))
 
 pub returns-then-last-clause-filed : goal.returns-then-last-clause-filed
 returns-then-last-clause-filed g c =
-    filed_if_passed c.answer_call.result _ _ c.args.self.now.system c.answer_call.new.self.system c.requires.whole c.requires.filed (returns-then-last-clause-step g c)
+    filed_if_passed c.answer_call.result c.args.self.now.bdos _ _ c.args.self.now.system c.answer_call.new.self.system c.requires.whole c.requires.filed (returns-then-last-clause-step g c)
+
+pub returns-then-last-clause-stays : goal.returns-then-last-clause-stays
+returns-then-last-clause-stays g c some still =
+    let old = c.args.self.now.system in
+    absurd (last_is_over old c.in-Work.p (works_last old.kernel.disk c.turn_disk.result c.in-Work.p c.in-Work.last c.turn_disk.ensures.answer c.in-Work.is c.if-last.true) still)
 
 pub returns-then-last-clause-workless : goal.returns-then-last-clause-workless
 returns-then-last-clause-workless g c none less = ap has_work c.answer_call.ensures.idle
@@ -133,7 +138,7 @@ returns-else-last-clause-step g c =
     let old = c.args.self.now.system in
     let some = somebody_served old.kernel.disk c.serving.result c.is_none.result (c.serving.ensures.served ∙ ap served_process c.disk.ensures) c.is_none.ensures c.if-is_none.false in
     let more = works_on old.kernel.disk c.turn_disk.result c.in-Work.p c.in-Work.last c.turn_disk.ensures.answer c.in-Work.is c.if-last.false in
-    has_passed_so _ old c.turn_disk.new.self c.turn_disk.ensures.kernel some more
+    has_passed_so c.args.self.now.bdos _ old c.turn_disk.new.self c.turn_disk.ensures.kernel some more
 
 pub returns-else-last-clause-whole : goal.returns-else-last-clause-whole
 returns-else-last-clause-whole g c =
@@ -153,7 +158,7 @@ returns-in_default g c =
     let old = c.args.self.now.system in
     let some = somebody_served old.kernel.disk c.serving.result c.is_none.result (c.serving.ensures.served ∙ ap served_process c.disk.ensures) c.is_none.ensures c.if-is_none.false in
     let more = never_on old.kernel.disk c.turn_disk.result c.turn_disk.ensures.answer c.in_default.not-Work in
-    let step = has_passed_so (seen g.S.Sink.written g.S.Sink.faults c.args.render.now c.args.sink.now) old c.turn_disk.new.self c.turn_disk.ensures.kernel some more in
+    let step = has_passed_so c.args.self.now.bdos (seen g.S.Sink.written g.S.Sink.faults c.args.render.now c.args.sink.now) old c.turn_disk.new.self c.turn_disk.ensures.kernel some more in
     record {
       ok = λ disks files stands. passes_so files _ old c.turn_disk.new.self c.args.self.now.bdos disks c.turn_disk.ensures.kernel some more stands;
       err = λ disks files stands. tt;
@@ -165,6 +170,7 @@ returns-in_default g c =
       whole = subst IsWhole (sym (passed_is old c.turn_disk.new.self c.turn_disk.ensures.kernel)) (whole_passed old c.requires.whole);
       completed = ap (λ (k : Kernel). k.dispatcher.completed) c.turn_disk.ensures.kernel ∙ c.requires.completed;
       kept = refl;
+      stays = λ some still. refl;
       workless = λ none less. less;
       trace = refl;
       cause = record { later = omega arith; stays = refl; failed = tt };

@@ -1,4 +1,4 @@
-use Rattle.std.proofs.Common.{◌≡◌, ◌≤◌, ◌<◌, ◌+◌, ◌-◌, ◌*◌, ℕ, List, Option}
+use Rattle.std.proofs.Common.{◌≡◌, ◌≤◌, ◌<◌, ◌+◌, ◌-◌, ◌*◌, ℕ, true, List, Option}
 use Rattle.mpm_output.specs.Outside.{seen}
 use Rattle.mpm_machine.specs.State.{State, IsWhole, NoCompletions, StandsWithDrives}
 use Rattle.mpm_machine.specs.Holding.{HoldsDrives}
@@ -8,29 +8,32 @@ use Rattle.mpm_machine.specs.Faults.{counts}
 use Rattle.mpm_machine.specs.After.{after, HasRun}
 use Rattle.mpm_machine.proofs.machine.Machine.run.Given as goal
 
-abbrev pub invariant-loop-done : goal.invariant-loop-done
-invariant-loop-done g l = record {
+abbrev pub invariant-loop-left : goal.invariant-loop-left
+invariant-loop-left g l = record {
+  done : ℕ;
+  is : done + l.left ≡ l.n;
   stands : (s : State) (first : Option (List ℕ))
       → StandsWithDrives l.initial.self l.initial.render (g.S.Sink.written l.initial.sink) (g.D.Drives.disks l.initial.drives) s first
-      → StandsWithDrives l.self l.render (g.S.Sink.written l.sink) (g.D.Drives.disks l.drives) (after l.done s) first;
-  ran : HasRun l.done (seen g.S.Sink.written g.S.Sink.faults l.initial.render l.initial.sink) (seen g.S.Sink.written g.S.Sink.faults l.render l.sink) l.initial.self.system l.self.system;
-  due : 0 < l.done → NobodyDue l.self.system.kernel;
-  few : l.done ≤ l.n;
+      → StandsWithDrives l.self l.render (g.S.Sink.written l.sink) (g.D.Drives.disks l.drives) (after done s) first;
+  ran : HasRun done (seen g.S.Sink.written g.S.Sink.faults l.initial.render l.initial.sink) (seen g.S.Sink.written g.S.Sink.faults l.render l.sink) l.initial.self.system l.self.system;
+  due : 0 < done → NobodyDue l.self.system.kernel;
+  few : done ≤ l.n;
   whole : IsWhole l.self.system;
   no_completions : NoCompletions l.self.system;
-  steps : l.self.system.steps ≡ l.initial.self.system.steps + l.done;
+  steps : l.self.system.steps ≡ l.initial.self.system.steps + done;
   faults : counts g.S.Sink.faults g.D.Drives.faults l.sink l.drives ≡ counts g.S.Sink.faults g.D.Drives.faults l.initial.sink l.initial.drives;
   trace : l.render.trace ≡ l.initial.render.trace;
   holds : HoldsDrives g.D.Drives.attached g.D.Drives.disks l.self.system.kernel l.self.bdos l.drives;
   names : g.D.Drives.failed_names l.drives ≡ g.D.Drives.failed_names l.initial.drives;
   keeps : KeepsMounted (g.D.Drives.disks l.initial.drives) (g.D.Drives.disks l.drives) l.initial.self.bdos.mounted l.self.bdos.mounted;
   bare : HasNoDrive l.initial.self.bdos.mounted → HasNoDrive l.self.bdos.mounted;
-  still : l.done ≡ 0 → l.drives ≡ l.initial.drives;
+  still : done ≡ 0 → l.drives ≡ l.initial.drives;
   none : HasNoDrive l.initial.self.bdos.mounted → l.drives ≡ l.initial.drives;
-  calls : 0 < l.initial.self.system.kernel.disk.turn_steps → l.steps ≤ l.initial.steps + 20 * l.done;
+  calls : 0 < l.initial.self.system.kernel.disk.turn_steps → l.steps ≤ l.initial.steps + 20 * done;
   turn_steps : l.self.system.kernel.disk.turn_steps ≡ l.initial.self.system.kernel.disk.turn_steps;
   attached : (number : ℕ) → g.D.Drives.attached l.drives number ≡ g.D.Drives.attached l.initial.drives number;
+  unsynced : (number : ℕ) → g.D.Drives.unsynced l.initial.drives number ≡ true → g.D.Drives.unsynced l.drives number ≡ true;
 }
 
-abbrev pub decreases-loop-done : goal.decreases-loop-done
-decreases-loop-done g l = l.n - l.done
+abbrev pub decreases-loop-left : goal.decreases-loop-left
+decreases-loop-left g l = l.left

@@ -1,7 +1,9 @@
-use Rattle.std.proofs.Common.{◌∙◌, ap, subst}
+use Rattle.std.proofs.Common.{◌≡◌, ◌∙◌, true, is_some, sym, ap, subst}
 use Rattle.mpm_machine.specs.declared.machine.Machine.{Machine}
 use Rattle.mpm_machine.specs.DiskStep.{call_entered, files_served}
-use Rattle.mpm_machine.specs.After.{EntersFor}
+use Rattle.mpm_machine.specs.declared.system.System.{System}
+use Rattle.mpm_machine.specs.After.{ServesEntered, EntersFor}
+use Rattle.mpm_machine.proofs.ServeLaws.{still_served}
 use Rattle.mpm_machine.proofs.EnterLaws.{paid_whole, paid_begun, paid_filed, paid_own, entered_behind, has_served_to, has_served, served_filed}
 use Rattle.mpm_machine.proofs.EndStepLaws.{served_nobody, keeps_then, keeps_entered, keeps_none, workless_paid}
 use Rattle.mpm_machine.proofs.CarryingLaws.{keeps_paid}
@@ -35,7 +37,7 @@ pub returns-clause-step : goal.returns-clause-step
 returns-clause-step g c =
     let has = c.enter_call.ensures.entered in
     has_served has.turns _ _ c.args.self.now.system c.pass_turn.new.self.system c.enter_call.new.self.system c.in_default.ensures.step
-    (subst (EntersFor has.turns) c.pay.ensures.system has.its)
+    (subst (EntersFor has.turns) c.pay.ensures.system has.its) (subst (ServesEntered c.enter_call.new.self.bdos) c.pay.ensures.system has.entered)
     (has.is ∙ ap (call_entered has.turns) c.pay.ensures.system)
 
 pub returns-clause-filed : goal.returns-clause-filed
@@ -49,6 +51,15 @@ returns-clause-kept g c =
     keeps_then c.args.self.now.bdos c.pay.new.self.bdos c.enter_call.new.self.bdos
     (keeps_paid c.args.self.now.bdos c.pass_turn.new.self.bdos c.pay.new.self.bdos c.pass_turn.ensures.kept c.pay.ensures.rest)
     (keeps_entered c.pay.new.self.bdos c.enter_call.new.self.bdos c.enter_call.ensures.kept)
+
+pub returns-clause-stays : goal.returns-clause-stays
+returns-clause-stays g c some still =
+    let has = c.in_default.ensures.step in
+    let there = subst (λ (s : System). is_some s.kernel.disk.served ≡ true) (sym has.system) (still_served has.told c.args.self.now.system some still) in
+    let same = c.pay.ensures.served there in
+    let bdos = λ (machine : Machine). machine.bdos in
+    ap bdos (c.enter_call.ensures.served (subst (λ (machine : Machine). is_some machine.system.kernel.disk.served ≡ true) (sym same) there))
+    ∙ ap bdos same ∙ c.pass_turn.ensures.stays some still
 
 pub returns-clause-workless : goal.returns-clause-workless
 returns-clause-workless g c none less =

@@ -7,7 +7,7 @@ use Rattle.mpm_output.specs.Outside.{seen}
 use Rattle.mpm_output.proofs.WritingLaws.{on_ok_always}
 use Rattle.mpm_machine.specs.Faults.{itself}
 use Rattle.mpm_machine.specs.Settling.{carried}
-use Rattle.mpm_machine.proofs.SettlingLaws.{carried_shows, carried_system, carried_files, carried_images, stops_carrying, err_seen, err_stops, ok_closes, err_closes, stops_settling, keeps_synced, same_still, same_count, none_counted, sink_alone, cause_behind, ok_so}
+use Rattle.mpm_machine.proofs.SettlingLaws.{carried_shows, carried_system, carried_files, carried_images, stops_carrying, err_seen, err_stops, ok_closes, err_closes, stops_settling, keeps_synced, same_still, same_count, none_counted, sink_alone, cause_behind, ok_so, none_synced, some_synced}
 use Rattle.mpm_machine.proofs.machine.Machine.settle.Goals as goal
 
 -- the call in service was carried to its end, and lines are closed
@@ -58,6 +58,11 @@ returns-in-Ok-clause-cause g c = cause_behind itself _ _ _ c.close.result c.in-O
 pub returns-in-Ok-clause-keeps : goal.returns-in-Ok-clause-keeps
 returns-in-Ok-clause-keeps g c = keeps_synced _ _ _ _ _ c.in-Ok.ensures.keeps c.close.ensures.drives.images
 
+pub returns-in-Ok-clause-syncs : goal.returns-in-Ok-clause-syncs
+returns-in-Ok-clause-syncs g c =
+    some_synced c.close.result c.carry.new.self.bdos.mounted (g.D.Drives.unsynced c.args.drives.now) (g.D.Drives.unsynced c.carry.new.drives) (g.D.Drives.unsynced c.close.new.drives) _ _
+    c.in-Ok.ensures.unsynced c.close.ensures.syncs
+
 pub returns-in-Ok-clause-calls : goal.returns-in-Ok-clause-calls
 returns-in-Ok-clause-calls g c =
     omega (arith, c.in-Ok.ensures.calls, c.close.ensures.calls, same_count c.args.self.now.bdos.mounted c.carry.new.self.bdos.mounted c.in-Ok.ensures.keeps.labels)
@@ -83,6 +88,12 @@ returns-in-Ok-clause-none g c none = c.close.ensures.none (none_counted c.carry.
 pub returns-in-Ok-clause-unfailing : goal.returns-in-Ok-clause-unfailing
 returns-in-Ok-clause-unfailing g c none = sink_alone c.close.result c.carry.new.self.bdos.mounted (c.in-Ok.ensures.bare none) c.close.ensures.some
 
+pub returns-in-Ok-clause-trace : goal.returns-in-Ok-clause-trace
+returns-in-Ok-clause-trace g c = c.close.ensures.trace ∙ c.in-Ok.ensures.trace
+
+pub returns-in-Ok-clause-synced : goal.returns-in-Ok-clause-synced
+returns-in-Ok-clause-synced g c = c.close.ensures.synced
+
 -- or it stopped
 
 pub returns-in-Err-clause-err : goal.returns-in-Err-clause-err
@@ -92,8 +103,54 @@ returns-in-Err-clause-err g c s first stands =
 pub returns-in-Err-clause-stops : goal.returns-in-Err-clause-stops
 returns-in-Err-clause-stops g c = stops_settling c.in-Err.fault _ _ c.args.self.now.system c.carry.new.self.system c.in-Err.ensures.stops
 
+pub returns-in-Err-clause-syncs : goal.returns-in-Err-clause-syncs
+returns-in-Err-clause-syncs g c =
+    none_synced c.in-Err.fault c.carry.new.self.bdos.mounted (g.D.Drives.unsynced c.args.drives.now) (g.D.Drives.unsynced c.carry.new.drives) c.in-Err.ensures.unsynced
+
 pub returns-in-Err-clause-calls : goal.returns-in-Err-clause-calls
 returns-in-Err-clause-calls g c = omega (arith, c.in-Err.ensures.calls)
 
 pub returns-in-Err-clause-idle : goal.returns-in-Err-clause-idle
 returns-in-Err-clause-idle g c none = same_still g.D.Drives.attached g.D.Drives.disks g.D.Drives.failed_names c.args.drives.now c.carry.new.drives (c.in-Err.ensures.idle none)
+
+pub returns-in-Err-clause-ok : goal.returns-in-Err-clause-ok
+returns-in-Err-clause-ok g c s first stands = tt
+
+pub returns-in-Err-clause-system : goal.returns-in-Err-clause-system
+returns-in-Err-clause-system g c s first stands = tt
+
+pub returns-in-Err-clause-whole : goal.returns-in-Err-clause-whole
+returns-in-Err-clause-whole g c = tt
+
+pub returns-in-Err-clause-files : goal.returns-in-Err-clause-files
+returns-in-Err-clause-files g c s first stands = tt
+
+pub returns-in-Err-clause-end : goal.returns-in-Err-clause-end
+returns-in-Err-clause-end g c = tt
+
+pub returns-in-Err-clause-trace : goal.returns-in-Err-clause-trace
+returns-in-Err-clause-trace g c = c.in-Err.ensures.trace
+
+pub returns-in-Err-clause-cause : goal.returns-in-Err-clause-cause
+returns-in-Err-clause-cause g c = c.in-Err.ensures.cause
+
+pub returns-in-Err-clause-keeps : goal.returns-in-Err-clause-keeps
+returns-in-Err-clause-keeps g c = c.in-Err.ensures.keeps
+
+pub returns-in-Err-clause-synced : goal.returns-in-Err-clause-synced
+returns-in-Err-clause-synced g c = tt
+
+pub returns-in-Err-clause-all : goal.returns-in-Err-clause-all
+returns-in-Err-clause-all g c none = tt
+
+pub returns-in-Err-clause-names : goal.returns-in-Err-clause-names
+returns-in-Err-clause-names g c = c.in-Err.ensures.names
+
+pub returns-in-Err-clause-attached : goal.returns-in-Err-clause-attached
+returns-in-Err-clause-attached g c = c.in-Err.ensures.attached
+
+pub returns-in-Err-clause-none : goal.returns-in-Err-clause-none
+returns-in-Err-clause-none g c = c.in-Err.ensures.none
+
+pub returns-in-Err-clause-unfailing : goal.returns-in-Err-clause-unfailing
+returns-in-Err-clause-unfailing g c = c.in-Err.ensures.unfailing

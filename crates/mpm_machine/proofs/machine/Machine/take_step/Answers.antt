@@ -1,13 +1,14 @@
 use Rattle.std.proofs.Common.{◌∙◌, Ok, sym, ap, subst, arith}
 use Rattle.mpm_mount.specs.Directories.{Directory}
-use Rattle.std.specs.Prelude.{List, Option}
+use Rattle.std.specs.Prelude.{List, Option, is_some}
+use Rattle.mpm_service.specs.declared.service.Served.{Served}
 use Rattle.std.proofs.lemmas.Bool.{false≢true}
 use Rattle.mpm_output.specs.Outside.{seen}
 use Rattle.mpm_bdos.specs.Serving.{Kept}
 use Rattle.mpm_machine.specs.Mounting.{HasNoDrive, KeepsMounted}
 use Rattle.mpm_machine.specs.Stepping.{files_begun}
 use Rattle.mpm_machine.proofs.DriveLaws.{keeps_both}
-use Rattle.mpm_machine.proofs.FilesStepLaws.{has_stepped, begun_as_before, has_stepped_to, begun_has_stopped, disk_has_stopped, ended_has_stopped, begun_stops_by, ended_stops_by}
+use Rattle.mpm_machine.proofs.FilesStepLaws.{has_stepped, begun_as_before, ended_as_before, has_stepped_to, begun_has_stopped, disk_has_stopped, ended_has_stopped, begun_stops_by, ended_stops_by}
 use Rattle.mpm_machine.proofs.TakeStepLaws.{does_nothing, turn_worked, begun_worked, not_at_once, step_calls, turn_calls, turn_fails_so, write_stops, begun_stops_on, work_cause, begun_cause, begun_fails, ended_fails, ended_stays, holds_ended}
 use Rattle.mpm_machine.proofs.machine.Machine.take_step.Goals as goal
 
@@ -174,7 +175,9 @@ pub returns-in-Ok-end_step-clause-step : goal.returns-in-Ok-end_step-clause-step
 returns-in-Ok-end_step-clause-step g c =
     has_stepped c.in-Ok.instruction _ (seen g.S.Sink.written g.S.Sink.faults c.begin_step.new.render c.begin_step.new.sink) _ c.args.self.now.system c.begin_step.new.self.system c.end_step.new.self.system c.requires.whole c.requires.no_completions
     (begun_as_before c.args.self.now.bdos c.work.new.bdos c.in-Ok.instruction _ _ c.args.self.now.system c.begin_step.new.self.system c.work.ensures.kept c.in-Ok.ensures.step)
-    c.in-Ok-end_step.ensures.step
+    (ended_as_before c.args.self.now.bdos c.work.new.bdos c.begin_step.new.self.bdos c.in-Ok.instruction _ _ c.begin_step.new.self.system c.end_step.new.self.system
+    c.work.ensures.at_rest (λ some. c.begin_step.ensures.kept (sym (ap (λ (call : Option Served). is_some call) c.in-Ok.ensures.served) ∙ some)) c.in-Ok-end_step.ensures.step)
+    (λ less some still. c.end_step.ensures.stays (ap (λ (call : Option Served). is_some call) c.in-Ok.ensures.served ∙ some) still ∙ c.begin_step.ensures.kept some ∙ c.work.ensures.at_rest less)
 
 pub returns-in-Ok-end_step-clause-holds : goal.returns-in-Ok-end_step-clause-holds
 returns-in-Ok-end_step-clause-holds g c =
@@ -214,3 +217,44 @@ returns-in-Ok-end_step-clause-calls g c files stands =
 pub returns-in-Ok-end_step-clause-few : goal.returns-in-Ok-end_step-clause-few
 returns-in-Ok-end_step-clause-few g c some =
     let same = (c.begin_step.ensures.idle (not_at_once c.args.self.now.system some)).2 in omega (arith, same, c.work.ensures.few)
+
+-- what is so of the drives behind what it begins with, and stays so
+
+pub returns-in-Err-begin_step-clause-names : goal.returns-in-Err-begin_step-clause-names
+returns-in-Err-begin_step-clause-names g c = c.begin_step.ensures.names ∙ c.work.ensures.names
+
+pub returns-in-Err-begin_step-clause-attached : goal.returns-in-Err-begin_step-clause-attached
+returns-in-Err-begin_step-clause-attached g c number = c.begin_step.ensures.attached number ∙ c.work.ensures.attached number
+
+pub returns-in-Err-begin_step-clause-unsynced : goal.returns-in-Err-begin_step-clause-unsynced
+returns-in-Err-begin_step-clause-unsynced g c number was = c.begin_step.ensures.unsynced number (c.work.ensures.unsynced number was)
+
+pub returns-in-Err-end_step-clause-names : goal.returns-in-Err-end_step-clause-names
+returns-in-Err-end_step-clause-names g c = c.begin_step.ensures.names ∙ c.work.ensures.names
+
+pub returns-in-Err-end_step-clause-attached : goal.returns-in-Err-end_step-clause-attached
+returns-in-Err-end_step-clause-attached g c number = c.begin_step.ensures.attached number ∙ c.work.ensures.attached number
+
+pub returns-in-Err-end_step-clause-unsynced : goal.returns-in-Err-end_step-clause-unsynced
+returns-in-Err-end_step-clause-unsynced g c number was = c.begin_step.ensures.unsynced number (c.work.ensures.unsynced number was)
+
+pub returns-in-Err-end_step-clause-trace : goal.returns-in-Err-end_step-clause-trace
+returns-in-Err-end_step-clause-trace g c = c.end_step.ensures.trace ∙ c.begin_step.ensures.trace
+
+pub returns-in-Ok-end_step-clause-names : goal.returns-in-Ok-end_step-clause-names
+returns-in-Ok-end_step-clause-names g c = c.begin_step.ensures.names ∙ c.work.ensures.names
+
+pub returns-in-Ok-end_step-clause-attached : goal.returns-in-Ok-end_step-clause-attached
+returns-in-Ok-end_step-clause-attached g c number = c.begin_step.ensures.attached number ∙ c.work.ensures.attached number
+
+pub returns-in-Ok-end_step-clause-unsynced : goal.returns-in-Ok-end_step-clause-unsynced
+returns-in-Ok-end_step-clause-unsynced g c number was = c.begin_step.ensures.unsynced number (c.work.ensures.unsynced number was)
+
+pub returns-in-Ok-end_step-clause-trace : goal.returns-in-Ok-end_step-clause-trace
+returns-in-Ok-end_step-clause-trace g c = c.end_step.ensures.trace ∙ c.begin_step.ensures.trace
+
+pub returns-in-Err-begin_step-clause-bare : goal.returns-in-Err-begin_step-clause-bare
+returns-in-Err-begin_step-clause-bare g c none = c.begin_step.ensures.bare (c.work.ensures.bare none)
+
+pub returns-in-Ok-end_step-clause-turn_steps : goal.returns-in-Ok-end_step-clause-turn_steps
+returns-in-Ok-end_step-clause-turn_steps g c = c.in-Ok-end_step.ensures.turn_steps ∙ c.in-Ok.ensures.turn_steps

@@ -1,8 +1,7 @@
 use Rattle.std.proofs.Common.{◌≡◌, OnOk, subst}
 use Rattle.mpm_machine.specs.State.{Change}
-use Rattle.mpm_output.specs.Outside.{TheSink, by_sink}
-use Rattle.mpm_output.proofs.WritingLaws.{fails_before, emits_after, passes_on}
-use Rattle.mpm_machine.proofs.ChangeLaws.{fails_as, emits_as}
+use Rattle.mpm_output.specs.Outside.{by_sink}
+use Rattle.mpm_machine.proofs.ChangeLaws.{emits_as}
 use Rattle.mpm_machine.proofs.CallLaws.{kept_after, kept_is_taken, done_after}
 use Rattle.mpm_machine.proofs.system.System.call.Goals as goal
 
@@ -16,27 +15,12 @@ serve-outcome-requires g c =
       taken = kept_is_taken c.args.p c.args.seg c.args.self.now c.take_call.new.self c.requires.whole c.requires.lives kept;
     }
 
-pub put_echo-requires : goal.put_echo-requires
-put_echo-requires g c =
-    let kept = kept_after c.args.p c.args.seg c.args.self.now c.take_call.new.self c.requires.whole c.requires.lives c.take_call.ensures in
-    let done = done_after c.args.p c.args.seg c.args.self.now c.take_call.new.self c.serve-outcome.new.self c.serve-outcome.result c.serve-outcome.new.reply
-    c.requires.ready c.take_call.ensures kept c.serve-outcome.ensures.system c.serve-outcome.ensures.outcome c.serve-outcome.ensures.reply in
-    record { whole = done.whole; lives = done.lives }
-
 pub conclude-requires : goal.conclude-requires
 conclude-requires g c =
     let kept = kept_after c.args.p c.args.seg c.args.self.now c.take_call.new.self c.requires.whole c.requires.lives c.take_call.ensures in
     let done = done_after c.args.p c.args.seg c.args.self.now c.take_call.new.self c.serve-outcome.new.self c.serve-outcome.result c.serve-outcome.new.reply
     c.requires.ready c.take_call.ensures kept c.serve-outcome.ensures.system c.serve-outcome.ensures.outcome c.serve-outcome.ensures.reply in
     record { whole = done.whole; lives = done.lives; room = done.room c.requires.room }
-
-pub returns-in_err-put_echo-clause-wrote : goal.returns-in_err-put_echo-clause-wrote
-returns-in_err-put_echo-clause-wrote g c =
-    let kept = kept_after c.args.p c.args.seg c.args.self.now c.take_call.new.self c.requires.whole c.requires.lives c.take_call.ensures in
-    let done = done_after c.args.p c.args.seg c.args.self.now c.take_call.new.self c.serve-outcome.new.self c.serve-outcome.result c.serve-outcome.new.reply
-    c.requires.ready c.take_call.ensures kept c.serve-outcome.ensures.system c.serve-outcome.ensures.outcome c.serve-outcome.ensures.reply in
-    passes_on _ _ _ _ c.from_residual.ensures.0
-    (fails_as TheSink _ _ _ _ done.change (fails_before TheSink _ _ _ _ c.in_err-put_echo.ensures.wrote.err))
 
 pub returns : goal.returns
 returns g c =
@@ -46,5 +30,5 @@ returns g c =
     let P : Change → Type 0 = λ change. OnOk c.conclude.result (c.conclude.new.self ≡ change.system) in
     record {
       system = subst P done.change c.conclude.ensures.system;
-      wrote = emits_as by_sink _ _ _ _ _ done.change (emits_after by_sink _ _ _ _ _ _ c.in_ok-put_echo.ensures.wrote.ok c.conclude.ensures.wrote);
+      wrote = emits_as by_sink _ _ _ _ _ done.change c.conclude.ensures.wrote;
     }

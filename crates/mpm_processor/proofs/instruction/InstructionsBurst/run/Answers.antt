@@ -9,10 +9,10 @@ pub loop-done-preserved : goal.loop-done-preserved
 loop-done-preserved c =
     let paused = c.execute_plain-paused.ensures.paused in
     record {
-      moved = moves_join c.args.self.now.inside (c.loop-done.done + c.execute_plain-paused.result.done) c.execute_prefixed-more.result 0 _ _ _
+      moved = moves_join c.args.self.now.inside (c.loop-done.done + c.execute_plain-paused.result.done) c.execute_others-more.result 0 _ _ _
           (moves_join c.args.self.now.inside c.loop-done.done c.execute_plain-paused.result.done 0 _ _ _ c.loop-done.invariant.moved paused.moved)
-          c.execute_prefixed-more.ensures.moved;
-      count = omega (arith, c.execute_prefixed-more.ensures.count, paused.count, c.loop-done-test.true);
+          c.execute_others-more.ensures.moved;
+      count = omega (arith, c.execute_others-more.ensures.count, paused.count, c.loop-done-test.true);
       segment = search rules;
       common = search rules;
     }
@@ -29,11 +29,11 @@ returns-in-None-clause-ran c =
 pub returns-then-more-eq0-clause-ran : goal.returns-then-more-eq0-clause-ran
 returns-then-more-eq0-clause-ran c =
     let paused = c.execute_plain-paused.ensures.paused in
-    let none : c.execute_prefixed-more.result ≡ 0 = omega (arith, c.if-more-eq0.true) in
+    let none : c.execute_others-more.result ≡ 0 = omega (arith, c.if-more-eq0.true) in
     record {
       count = omega (arith, paused.count, c.loop-done-test.true);
-      moved = moves_stay c.args.self.now.inside (c.loop-done.done + c.execute_plain-paused.result.done) c.execute_prefixed-more.result 0 _ _ _ none
+      moved = moves_stay c.args.self.now.inside (c.loop-done.done + c.execute_plain-paused.result.done) c.execute_others-more.result 0 _ _ _ none
           (moves_join c.args.self.now.inside c.loop-done.done c.execute_plain-paused.result.done 0 _ _ _ c.loop-done.invariant.moved paused.moved)
-          c.execute_prefixed-more.ensures.moved;
-      stopped = λ less. c.execute_prefixed-more.ensures.stopped none;
+          c.execute_others-more.ensures.moved;
+      stopped = λ less. c.execute_others-more.ensures.stopped none;
     }

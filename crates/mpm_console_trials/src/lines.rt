@@ -1,6 +1,5 @@
 //! The lines that consoles, printers and records of calls make, and how often a sink is called for them.
-ghost use Rattle.std.specs.Prelude.{ℕ, Option, Some, ◌≡◌, ◌≤◌, ◌+◌, ◌-◌, ◌^◌, min, OnOk};
-ghost use Rattle.mpm_port.specs.Texts.{appended};
+ghost use Rattle.std.specs.Prelude.{Some, ◌≡◌, ◌+◌, ◌-◌, ◌^◌, min};
 ghost use Rattle.mpm_render.specs.Lines.{IsUnit};
 
 use arrayvec::ArrayVec;

@@ -1,5 +1,6 @@
 //! Whole runs over files, drives and a sink in memory: what comes where a call of one of them fails. What runs write whose
 //! calls all go well is shown by the cases of the built program.
+use crate::play::strings;
 use mpm_port::{MemoryDrives, MemoryFiles, MemorySink};
 use mpm_top::{Status, run_words};
 use std::alloc::Global;
@@ -53,15 +54,6 @@ const NOTHING_FAILS: Failing = Failing {
     call: 0,
     put: 0,
 };
-
-/// Words as they come from a command line.
-fn strings(alloc: Global, words: &[&str]) -> Result<Vec<String>, Fail> {
-    let mut strings = Vec::new(alloc);
-    for word in words {
-        strings.push(String::from_str(alloc, word)?)?;
-    }
-    Ok(strings)
-}
 
 /// Files with one of the name `file`, whose call of that number fails.
 fn files(alloc: Global, bytes: &[u8], fetch: u64) -> Result<MemoryFiles, Fail> {
