@@ -276,6 +276,34 @@ fn opcode_of(fetched: Option<Fetched>) -> Option<u8>
     }
 }
 
+/// A processor that stands in a HALT does no plain instruction: what is at PC is answered. Few stand in one, so that it is code
+/// of its own.
+#[cold]
+#[inline(never)]
+fn pause_in_halt(
+    inside: bool,
+    most: u64,
+    spec: SegmentSpec,
+    regs: &Regs,
+    segment: &mut [u8],
+    common: &mut [u8],
+    devices: &mut Devices,
+) -> Paused
+    requires fits { FitsBelowCommon spec }
+    requires some { 0 < most }
+    requires halted { regs.now.halted ≡ true }
+    ensures paused { IsPaused inside most (view_of spec regs.now segment.old common.old devices.old)
+        (view_of spec regs.now segment.new common.new devices.new) result }
+    ensures segment { length segment.new ≡ length segment.old }
+    ensures common { length common.new ≡ length common.old }
+{
+    let here = fetch(inside, spec, regs.pc, segment, common, devices);
+    Paused {
+        done: 0,
+        opcode: opcode_of(here),
+    }
+}
+
 /// Plain instructions in a row, at most so many: R and the shadow of an EI are changed once for all of them.
 #[inline(always)]
 fn execute_plain(
@@ -295,11 +323,7 @@ fn execute_plain(
     ensures common { length common.new ≡ length common.old }
 {
     if regs.halted {
-        let here = fetch(inside, spec, regs.pc, segment, common, devices);
-        return Paused {
-            done: 0,
-            opcode: opcode_of(here),
-        };
+        return pause_in_halt(inside, most, spec, regs, segment, common, devices);
     }
     for done in 0..most {
         let fetched = match fetch(inside, spec, regs.pc, segment, common, devices) {

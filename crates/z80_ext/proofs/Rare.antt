@@ -1,5 +1,5 @@
 -- Steps of what isn't plain: in a HALT, of HALT and EI, behind EDh, and where nothing is listed; and what stands behind a prefix.
-use Rattle.std.proofs.Common.{◌≡◌, ◌∙◌, ℕ, ◌<◌, Bool, true, false, ◌||◌, ◌&&◌, ◌==◌, List, [], ◌∷◌, Option, None, Some, is_some, get_or, map, if◌then◌else◌, refl, ap, sym, arith}
+use Rattle.std.proofs.Common.{◌≡◌, ◌∙◌, ℕ, ◌<◌, Bool, true, false, ◌||◌, ◌&&◌, ◌==◌, List, [], ◌∷◌, Option, None, Some, is_some, get_or, map, if◌then◌else◌, refl, ap, sym, subst, arith}
 use Rattle.std.specs.Prelude.{IsNone}
 use Rattle.std.specs.List.{range_with_len}
 use Rattle.std.proofs.lemmas.Bool.{eqb-true, false_from_ne_true, and_parts}
@@ -18,7 +18,7 @@ use Rattle.z80_exec.specs.Operands.{quiet}
 use Rattle.z80_exec.specs.Performing.{performed, main_outcome, is_plain}
 use Rattle.z80_ext.specs.declared.index.IndexRegister.{IndexRegister}
 use Rattle.z80_ext.specs.declared.index.IndexRegister.TheVariants as index
-use Rattle.z80_ext.specs.Index.{page_of, bits_page_of}
+use Rattle.z80_ext.specs.Index.{index_behind, page_of, bits_page_of}
 use Rattle.z80_ext.specs.Instruction.{risen, halted_or_enabled, four_from, outcome_of, is_plain_on, is_plain_instr, is_plain_at, instruction}
 use Rattle.z80_ext.proofs.Next.{page_plain, bits_page_plain, tail_plain, main_plain}
 
@@ -89,6 +89,21 @@ unfolding instr_of main_instr_of form_of high_quarter prefixed_instr_of
 iy_is regs memory here =
     ap (λ byte. instr_of (byte ∷ memory (onward regs.pc 1) ∷ memory (onward regs.pc 2) ∷ memory (onward regs.pc 3) ∷ [])) here
 
+pub index_is : (regs : Regs) (memory : ℕ → ℕ) → ((memory regs.pc == 221) || (memory regs.pc == 253)) ≡ true
+    → instr_of (four_from memory regs.pc)
+    ≡ index_instr_of (page_of (index_behind (memory regs.pc))) (bits_page_of (index_behind (memory regs.pc))) (memory (onward regs.pc 1)) (memory (onward regs.pc 2)) (memory (onward regs.pc 3))
+index_is regs memory either = by_prefix (memory regs.pc == 221) (memory regs.pc == 253) refl refl either
+  where
+    Is : ℕ → Type 0
+    Is prefix = instr_of (four_from memory regs.pc) ≡ index_instr_of (page_of (index_behind prefix)) (bits_page_of (index_behind prefix)) (memory (onward regs.pc 1)) (memory (onward regs.pc 2)) (memory (onward regs.pc 3))
+
+    by_prefix : (ix iy : Bool) → (memory regs.pc == 221) ≡ ix → (memory regs.pc == 253) ≡ iy → (ix || iy) ≡ true → Is (memory regs.pc)
+    by_prefix true iy here there either =
+        subst Is (sym (eqb-true (memory regs.pc) 221 here)) (ix_is regs memory (eqb-true (memory regs.pc) 221 here))
+    by_prefix false true here there either =
+        subst Is (sym (eqb-true (memory regs.pc) 253 there)) (iy_is regs memory (eqb-true (memory regs.pc) 253 there))
+    by_prefix false false here there either = absurd (cc either)
+
 pub extended_is : (regs : Regs) (memory : ℕ → ℕ) → memory regs.pc ≡ 237
     → let opcode = memory (onward regs.pc 1) in
     instr_of (four_from memory regs.pc) ≡ extended_instr_by (extended_form_of opcode) opcode (memory (onward regs.pc 2)) (memory (onward regs.pc 3))
@@ -117,23 +132,22 @@ known opcode small =
 
 -- a prefix that is none of the four isn't there
 pub prefix_rare : (regs : Regs) (memory : ℕ → ℕ) → memory regs.pc < 256 → IsNone (form_of (memory regs.pc))
-    → (memory regs.pc ≡ 203 → ⊥) → (memory regs.pc ≡ 221 → ⊥) → (memory regs.pc ≡ 237 → ⊥) → (memory regs.pc ≡ 253 → ⊥)
+    → ((memory regs.pc == 221) || (memory regs.pc == 253)) ≡ false → (memory regs.pc ≡ 203 → ⊥) → (memory regs.pc ≡ 237 → ⊥)
     → is_plain_at regs memory ≡ false
-prefix_rare regs memory small none bits ix extended iy =
+prefix_rare regs memory small none index bits extended =
     let opcode = memory regs.pc in
     absurd (by_form (form_of opcode) (opcode == 203) (opcode == 221) (opcode == 253) (opcode == 237) none
     (false_from_ne_true _ (λ is. bits (eqb-true opcode 203 is)))
-    (false_from_ne_true _ (λ is. ix (eqb-true opcode 221 is)))
-    (false_from_ne_true _ (λ is. iy (eqb-true opcode 253 is)))
+    index
     (false_from_ne_true _ (λ is. extended (eqb-true opcode 237 is)))
     (and_parts _ _ (known opcode small)).1) where
-      by_form : (form : Option Form) (a b c d : Bool) → IsNone form → a ≡ false → b ≡ false → c ≡ false → d ≡ false → (is_some form || ((a || (b || c)) || d)) ≡ true → ⊥
-      by_form (Some form) a b c d none no_bits no_ix no_iy no_extended any = cc none
-      by_form None false false false false none no_bits no_ix no_iy no_extended any = cc any
-      by_form None true b c d none no_bits no_ix no_iy no_extended any = cc no_bits
-      by_form None false true c d none no_bits no_ix no_iy no_extended any = cc no_ix
-      by_form None false false true d none no_bits no_ix no_iy no_extended any = cc no_iy
-      by_form None false false false true none no_bits no_ix no_iy no_extended any = cc no_extended
+      by_form : (form : Option Form) (a b c d : Bool) → IsNone form → a ≡ false → (b || c) ≡ false → d ≡ false → (is_some form || ((a || (b || c)) || d)) ≡ true → ⊥
+      by_form (Some form) a b c d none no_bits no_index no_extended any = cc none
+      by_form None false false false false none no_bits no_index no_extended any = cc any
+      by_form None true b c d none no_bits no_index no_extended any = cc no_bits
+      by_form None false true c d none no_bits no_index no_extended any = cc no_index
+      by_form None false false true d none no_bits no_index no_extended any = cc no_index
+      by_form None false false false true none no_bits no_index no_extended any = cc no_extended
 
 -- what stands behind DDh or FDh and isn't plain isn't listed
 

@@ -1,6 +1,6 @@
 -- What the instructions behind DDh and FDh do: IX or IY stands for HL, its halves for H and L, and (IX+d) or (IY+d) for
 -- (HL). (UM0080, "Z80 Instruction Description", "Indexed Addressing"; for the halves "The Undocumented Z80 Documented".)
-use Rattle.std.specs.Prelude.{ℕ, false, Option, None, Some}
+use Rattle.std.specs.Prelude.{ℕ, ◌==◌, if◌then◌else◌, false, Option, None, Some}
 use Rattle.z80_regs.specs.Words.{onward, back, word_of, low, high, word_from}
 use Rattle.z80_regs.specs.Outcome.{Outcome}
 use Rattle.z80_regs.specs.declared.regs.Regs.{Regs}
@@ -26,6 +26,10 @@ use Rattle.z80_exec.specs.Performing.{behind, number}
 use Rattle.z80_ext.specs.declared.index.IndexRegister.{IndexRegister}
 use Rattle.z80_ext.specs.declared.index.IndexRegister.TheVariants.{Ix, Iy}
 use Rattle.z80_ext.specs.Bits.{memory_bits}
+
+-- the register that stands for HL behind DDh or FDh
+abbrev pub index_behind : ℕ → IndexRegister
+index_behind prefix = if prefix == 253 then Iy else Ix
 
 -- the page behind its prefix, DDh or FDh
 abbrev pub page_of : IndexRegister → Page

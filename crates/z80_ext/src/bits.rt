@@ -198,7 +198,6 @@ fn act_on_operand<B: Bus>(form: BitForm, at: Operand, regs: &mut Regs, bus: &mut
     ensures bus { Leaves B.wrote B.took (operand_bits form at (operand_byte at regs.old (B.byte bus.old)) regs.old).actions bus.old bus.new }
 {
     match (at, form) {
-        (Operand::Memory, form) => act_on_memory(form, hl(regs), regs, bus),
         (at, BitForm::Test(weight)) => test_operand(weight, at, regs, bus),
         (at, BitForm::Change(BitChange::Rotate(shift))) => rotate_operand(shift, at, regs, bus),
         (at, BitForm::Change(change)) => change_operand(change, at, regs, bus),

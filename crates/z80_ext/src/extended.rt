@@ -119,7 +119,7 @@ fn output_operand<B: Bus>(from: Operand, regs: &Regs, bus: &mut B)
 /// What ADC HL,ss, SBC HL,ss, LD (nn),dd and LD dd,(nn) do, but for how they begin. The byte behind the opcode is known, the
 /// last is read where it belongs to the instruction. False comes of all else behind EDh, and then nothing changes. (UM0080,
 /// "16-Bit Arithmetic Group", "16-Bit Load Group".)
-#[inline(always)]
+#[inline]
 #[tactic(auto, unfolding(crate::specs::Extended::extended_performed, crate::specs::Extended::extended_outcome, z80_regs::specs::Outcome::Leaves))]
 pub fn step_pair<B: Bus>(opcode: u8, third: u8, regs: &mut Regs, bus: &mut B) -> bool
     ensures plain { result ≡ is_plain_instr (extended_instr_by (extended_form_of opcode) opcode third (B.byte bus.old (onward regs.old.pc 3))) }

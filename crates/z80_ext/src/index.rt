@@ -1,4 +1,4 @@
-ghost use Rattle.std.specs.Prelude.{◌≡◌, true, false};
+ghost use Rattle.std.specs.Prelude.{◌≡◌, ◌==◌, ◌||◌, true, false};
 ghost use Rattle.std.specs.Bool.{OnTrue, OnFalse};
 ghost use Rattle.z80_regs.specs.Words.{onward};
 ghost use Rattle.z80_regs.specs.Outcome.{Leaves};
@@ -9,6 +9,7 @@ ghost use Rattle.z80_exec.specs.Calculations.{calculated};
 ghost use Rattle.z80_exec.specs.Flow.{relative};
 ghost use Rattle.z80_ext.specs.Instruction.{unbegun_of, is_plain_instr};
 ghost use Rattle.z80_ext.specs.Index.{
+  index_behind,
   index_word,
   with_index,
   index_pair_word,
@@ -41,6 +42,26 @@ pub enum IndexRegister {
     Ix,
     /// Behind FDh.
     Iy,
+}
+
+/// Whether an opcode is a prefix behind which an index register stands for HL.
+#[inline(always)]
+pub fn is_index_prefix(opcode: u8) -> bool
+    ensures { result ≡ ((opcode == 221) || (opcode == 253)) }
+{
+    opcode == 0xDD || opcode == 0xFD
+}
+
+/// The register that stands for HL behind DDh or FDh.
+#[inline(always)]
+pub fn index_behind(prefix: u8) -> IndexRegister
+    ensures { result ≡ index_behind prefix }
+{
+    if prefix == 0xFD {
+        IndexRegister::Iy
+    } else {
+        IndexRegister::Ix
+    }
 }
 
 /// The word in an index register.

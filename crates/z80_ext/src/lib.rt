@@ -19,7 +19,7 @@ ghost use Rattle.z80_ext.specs.Instruction.{IsRareAt, IsLoadUpAt, is_plain_at, h
 use crate::bits::step_bits;
 use crate::block::load_block;
 use crate::extended::{step_extended, step_pair};
-use crate::index::{IndexRegister, step_index};
+use crate::index::{index_behind, is_index_prefix, step_index};
 use crate::stepped::{begin_behind, refresh};
 pub use stepped::{Stepped, begin_all};
 use z80_decode::{Direction, main_form};
@@ -30,7 +30,7 @@ use z80_regs::{Bus, Regs};
 /// Acts as the instruction at PC does, which stands behind a prefix and whose first three bytes are fetched, but for how it
 /// begins. False comes where it isn't plain, and then nothing changes.
 #[inline(always)]
-#[tactic(auto, using(crate::proofs::Rare::bits_is, crate::proofs::Rare::ix_is, crate::proofs::Rare::iy_is, crate::proofs::Rare::extended_is, crate::proofs::Rare::prefix_rare), unfolding(z80_regs::specs::Outcome::Leaves))]
+#[tactic(auto, using(crate::proofs::Rare::bits_is, crate::proofs::Rare::index_is, crate::proofs::Rare::extended_is, crate::proofs::Rare::prefix_rare), unfolding(z80_regs::specs::Outcome::Leaves))]
 fn act_behind<B: Bus>(fetched: Fetched, regs: &mut Regs, bus: &mut B) -> bool
     requires opcode { fetched.opcode ≡ B.byte bus.old regs.old.pc }
     requires first { fetched.first ≡ B.byte bus.old (onward regs.old.pc 1) }
@@ -42,13 +42,15 @@ fn act_behind<B: Bus>(fetched: Fetched, regs: &mut Regs, bus: &mut B) -> bool
     ensures registers_stay { OnFalse result (regs.new ≡ regs.old) }
     ensures bus_stays { OnFalse result (bus.new ≡ bus.old) }
 {
+    if is_index_prefix(fetched.opcode) {
+        let index = index_behind(fetched.opcode);
+        return step_index(index, fetched.first, fetched.second, regs, bus);
+    }
     match fetched.opcode {
         0xcb => {
             step_bits(fetched.first, regs, bus);
             true
         }
-        0xdd => step_index(IndexRegister::Ix, fetched.first, fetched.second, regs, bus),
-        0xfd => step_index(IndexRegister::Iy, fetched.first, fetched.second, regs, bus),
         0xed => step_pair(fetched.first, fetched.second, regs, bus),
         _ => false,
     }

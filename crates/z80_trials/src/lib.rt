@@ -1,5 +1,5 @@
-//! Tests of the Z80: its results and flags, its decoding, and whole instructions over a memory. They stand above the crates
-//! that they try, so that none of these is proved once more for its tests; each sees what any caller of them does.
+//! Tests of the Z80: its results and flags, its decoding, and whole instructions of the main page over a memory. They stand above the
+//! crates that they try, so that none of these is proved once more for its tests; each sees what any caller of them does.
 #![tactic(auto)]
 
 #[cfg(test)]

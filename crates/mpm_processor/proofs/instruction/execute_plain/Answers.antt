@@ -1,22 +1,13 @@
-use Rattle.std.proofs.Common.{◌∙◌, ℕ, Option, ap, sym, refl, subst, rules}
+use Rattle.std.proofs.Common.{◌∙◌, ap, sym, refl, rules}
 use Rattle.mpm_base.proofs.Options.{none_there}
 use Rattle.z80_regs.specs.declared.regs.Regs.{Regs}
 use Rattle.z80_ext.proofs.Begun.{unbegun_runs}
 use Rattle.mpm_banks.specs.Memory.{byte_at}
 use Rattle.mpm_banks.specs.Ports.{port_byte}
-use Rattle.mpm_processor.specs.Moving.{View, view_of, IsPaused}
+use Rattle.mpm_processor.specs.Moving.{View, view_of}
 use Rattle.mpm_processor.proofs.MovingLaws.{moves_to, same_view}
-use Rattle.mpm_processor.proofs.PlainLaws.{begun_view, plain_none, plain_more, paused_halted}
+use Rattle.mpm_processor.proofs.PlainLaws.{begun_view, plain_none, plain_more}
 use Rattle.mpm_processor.proofs.instruction.execute_plain.Goals as goal
-
-pub returns-then-regs-clause-paused : goal.returns-then-regs-clause-paused
-returns-then-regs-clause-paused c =
-    let view : View = view_of c.args.spec c.args.regs.now c.args.segment.now c.args.common.now c.args.devices.now in
-    let new : View = view_of c.args.spec c.args.regs.now c.fetch-here.new.segment c.fetch-here.new.common c.fetch-here.new.devices in
-    let fetched = same_view c.args.spec c.args.regs.now c.args.segment.now c.args.common.now c.args.devices.now _ _ _ c.fetch-here.ensures.segment c.fetch-here.ensures.common c.fetch-here.ensures.devices in
-    let P : Option ℕ → Type 0 = λ opcode. IsPaused c.args.inside c.args.most view new (record { done = 0; opcode = opcode }) in
-    subst P (sym c.opcode_of.ensures)
-    (paused_halted (λ fetched. fetched.opcode) c.args.inside c.args.most c.fetch-here.result view new c.requires.some fetched c.if-regs.true c.fetch-here.ensures.opcode c.fetch-here.ensures.gate)
 
 pub loop-done-init : goal.loop-done-init
 loop-done-init c = record { moved = plain_none c.args.inside _; runs = c.if-regs.false; segment = refl; common = refl }
